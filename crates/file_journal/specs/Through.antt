@@ -1,7 +1,8 @@
--- What stands on a disk from the recovery of a state on, through commands, to the end. A session says what stands through
--- them as `StandsThrough` at the form of its state. What it says of a recovery that gave a state is `content` and `octets`
--- of `IsRestored`, and of one that was refused with this fault `AnswersRecovery` of `Err` of it. An upload says the same
--- of its notes, with `CountsWrites` beside it, since no read comes behind their recovery.
+-- What stands on a disk from the recovery of a state on, through commands, to the end. A session says what stands
+-- through them as `StandsThrough` at the form of its state. What it says of a recovery that gave a state is
+-- `content` and `octets` of `IsRestored`, and of one that was refused with this fault `AnswersRecovery` of `Err` of
+-- it. An upload says the same of its notes, with `CountsWrites` beside it, since no read comes behind their
+-- recovery.
 use Rattle.std.specs.Prelude.{◌≡◌, ℕ, ◌+◌, ◌*◌, ◌<◌, ◌≤◌, List, ◌++◌, length, IfSome}
 use Rattle.disk_model.specs.declared.disk.Disk.{Ghosts}
 use Rattle.file_journal.specs.Calls.{CountsFault, EachImage, Leaves}
