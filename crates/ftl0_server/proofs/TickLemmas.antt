@@ -1,6 +1,7 @@
 -- Ticks at the first places of a server.
-use Rattle.std.proofs.Common.{◌≡◌, ℕ, zero, suc, List, [], ◌∷◌, length, set, drop, map, false, Some, refl, sym, ◌∙◌, ap}
-use Rattle.std.proofs.Common.{subst}
+use Rattle.std.proofs.lemmas.Grind.{common_steps}
+use Rattle.std.proofs.Common.{◌≡◌, ℕ, zero, suc, List, [], ◌∷◌, length, set, drop, map, false, Some, refl, sym, ap}
+use Rattle.std.proofs.Common.{subst, arith}
 use Rattle.std.specs.Prelude.{slice_get}
 use Rattle.std.proofs.lemmas.Option.{same_Some}
 use Rattle.px_base.specs.CallSign.{CallSign}
@@ -62,8 +63,7 @@ own-only me k store places i c at settled =
 -- the place at which the tick comes next
 pub quiet-at : (places : List Place) (i : ℕ) (place : Place) → slice_get places i ≡ Some place → any_pending (drop i places) ≡ false → place_pending place ≡ false
 quiet-at [] i place at none = absurd (never place at)
-quiet-at (p ∷ ps) zero place at none =
-    ap (λ (x : Place). place_pending x) (sym (same_Some p place at)) ∙ (none_first (place_pending p) (any_pending ps) none).0
+quiet-at (p ∷ ps) zero place at none = grind (arith, common_steps, same_Some, none_first)
 quiet-at (p ∷ ps) (suc i) place at none = quiet-at ps i place at none
 
 pub may-tick : (me : CallSign) (k : ℕ) (store : StoreState) (places : List Place) (i : ℕ) (place : Place) → slice_get places i ≡ Some place

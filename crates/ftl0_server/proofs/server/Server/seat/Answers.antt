@@ -1,5 +1,6 @@
 -- The place has no session, and no place has the caller.
-use Rattle.std.proofs.Common.{get_or, sym, ◌∙◌, ap}
+use Rattle.std.proofs.lemmas.Grind.{common_steps}
+use Rattle.std.proofs.Common.{get_or, sym, ◌∙◌, ap, arith}
 use Rattle.std.proofs.lemmas.Option.{same_Some, slice_get-get_or}
 use Rattle.ftl0_session.specs.Uploads.SessionState.{number_of}
 use Rattle.ftl0_session.specs.SessionState.{SessionState, caller_of}
@@ -11,9 +12,7 @@ use Rattle.ftl0_server.proofs.SeatLemmas.{empty-none, new-seated, nobody, settle
 use Rattle.ftl0_server.proofs.server.Server.seat.Goals as goal
 
 pub put-requires : goal.put-requires
-put-requires c =
-    found-passes is_empty_place c.self.inside.places c.args.place c.index-places-place.result
-    (rw (sym c.self.view_is) at c.requires.empty)
+put-requires c = grind (arith, common_steps, found-passes)
 
 pub invariant_of-self : goal.invariant_of-self
 invariant_of-self c =

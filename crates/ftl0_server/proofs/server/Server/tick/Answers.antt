@@ -1,5 +1,6 @@
 -- A tick came at each place, and the disk stays.
-use Rattle.std.proofs.Common.{refl, subst, sym, []}
+use Rattle.std.proofs.lemmas.Grind.{common_steps}
+use Rattle.std.proofs.Common.{refl, subst, sym, [], arith}
 use Rattle.file_store.specs.Store.{Store}
 use Rattle.file_store.specs.OnDisk.{Does}
 use Rattle.file_store.specs.Working.{DoesAmongReads}
@@ -41,5 +42,4 @@ returns-clause-happens g c = λ server is.
     (record { parts = []; by = (refl, ticked, does); since = does.since })
 
 pub returns-clause-puts : goal.returns-clause-puts
-returns-clause-puts g c =
-    puts-among g.D.Disk _ c.args._disk.now c.args._disk.now (puts_none g.D.Disk c.args._disk.now _ (λ failed. cc failed) (g.met.D.Disk.lasts_same c.args._disk.now))
+returns-clause-puts g c = grind (arith, common_steps, puts-among, puts_none)
