@@ -111,7 +111,7 @@ by_places server (Some z) is none fits sends gives =
 pub by_stray : (server : Server) (o : Option Refused) → server.stray ≡ o → SlotsFit server.window server.slots → (sends : ServerSends)
     → sends_by server o ≡ Some sends → ServerLess (server_left server) sends
 by_stray server None is fits sends gives = by_places server (places_next server.window server.slots) refl is fits sends gives
-by_stray server (Some refused) is fits sends gives = grind (arith, common_steps, same_Some)
+by_stray server (Some refused) is fits sends gives = grind (arith, common_steps)
 
 option_cases : {X : Type 0} (o : Option X) → (o ≡ None) ⊎ ((x : X) × (o ≡ Some x))
 option_cases None = inl refl

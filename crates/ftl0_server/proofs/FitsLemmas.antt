@@ -7,13 +7,13 @@ use Rattle.std.specs.Option.{option_map}
 use Rattle.std.proofs.lemmas.Option.{same_Some}
 use Rattle.px_base.specs.CallSign.{CallSign}
 use Rattle.ax25_frames.specs.FrameText.{FrameValue}
-use Rattle.ax25_link.specs.Calls.{after_abandon, after_push}
+use Rattle.ax25_link.specs.Calls.{after_push}
 use Rattle.ax25_link.specs.Ends.{IsEnd, LinkEnd}
 use Rattle.ax25_link.specs.Rows.{after_frame, heard_of}
 use Rattle.ax25_link.specs.Sending.{Sending, next_sending}
 use Rattle.ax25_link.specs.Window.{Window}
 use Rattle.ax25_link.specs.declared.state.Heard.{Heard}
-use Rattle.ax25_link.proofs.Offered.{after_abandon-IsEnd, after_frame-IsEnd, after_push-IsEnd, after_tick-IsEnd, answering_end-IsEnd}
+use Rattle.ax25_link.proofs.Offered.{after_frame-IsEnd, after_push-IsEnd, after_tick-IsEnd, answering_end-IsEnd}
 use Rattle.ftl0_packets.specs.Layout.{Item, packet_text}
 use Rattle.ftl0_session.specs.Lists.Lists.{CallerList}
 use Rattle.file_store.specs.Command.{after_all}
@@ -29,8 +29,8 @@ use Rattle.ftl0_server.specs.Connection.Laws.{QueuedLaw}
 use Rattle.ftl0_server.specs.Connection.Taking.{Progress, after_row, failing_at, fits}
 use Rattle.ftl0_server.specs.Connection.Taking.{giving_up, queued, queuing, taking}
 use Rattle.ftl0_server.specs.Laws.{AreQueued, SlotFits, SlotsFit, SomeStepLaw}
-use Rattle.ftl0_server.specs.Server.{IsSilent, Refused, Server, ServerHappened, ServerSends, called_by, hearing_at}
-use Rattle.ftl0_server.specs.Server.{hearing_by, hearing_stranger, sends_by, sends_of_places, settled}
+use Rattle.ftl0_server.specs.Server.{IsSilent, Refused, Server, ServerHappened, ServerSends, hearing_at}
+use Rattle.ftl0_server.specs.Server.{hearing_by, hearing_stranger, sends_by, settled}
 use Rattle.ftl0_server.specs.ServerStep.{Empties, happening, stepped}
 use Rattle.ftl0_server.specs.Slots.{PlacesSend, Slot, SlotSends, all_freed, connected, first_of, free}
 use Rattle.ftl0_server.specs.Slots.{freed, leaving, left_by}
@@ -55,11 +55,8 @@ places_silent w (slot ∷ slots) h =
     let both = first_none slot slots (slot_next w slot) (places_next w slots) h in
     ap₂ (λ (a : Option SlotSends) (b : Option PlacesSend). first_of (freed slot) (all_freed slots) a b) (freed_silent w slot both.0) (places_silent w slots both.1)
 
-nothing_of : (server : Server) (places : Option PlacesSend) → sends_of_places server places ≡ None → places ≡ None
-nothing_of server places h = grind (arith, common_steps)
-
 silent_by : (server : Server) (stray : Option Refused) → sends_by server stray ≡ None → sends_by (settled server) stray ≡ None
-silent_by server stray h = grind (arith, common_steps, places_silent, nothing_of)
+silent_by server stray h = grind (arith, common_steps, places_silent)
 
 pub silent-settled : (server : Server) → IsSilent server → IsSilent (settled server)
 silent-settled server h = silent_by server server.stray h
@@ -67,14 +64,10 @@ silent-settled server h = silent_by server server.stray h
 -- ---- ends
 
 module _ (w : Window) where
-  replied-fits : (end : LinkEnd) (text : List ℕ) (enough : Bool) → IsEnd w end → IsEnd w (if enough then after_push end text else after_abandon end)
-  replied-fits end text enough is = grind (arith, common_steps, after_push-IsEnd, after_abandon-IsEnd)
-
   given-fits : (end : LinkEnd) (state : State) (lists : List CallerList) (part : ℕ) (row : Row) (failed enough : Bool) (later : Progress) → IsEnd w end
       → IsEnd w later.end
       → IsEnd w (if failed then failing_at end state lists row part else if enough then after_row row later else giving_up end row part).end
-  given-fits end state lists part row failed enough later is last =
-      grind (arith, common_steps, replied-fits, after_abandon-IsEnd)
+  given-fits end state lists part row failed enough later is last = grind (arith, common_steps)
 
   -- after packets
   taking-fits : (caller : CallSign) (moment : ℕ) (store : Store) (lists : List CallerList) (state : State) (end : LinkEnd) (items : List Item)
@@ -88,16 +81,13 @@ module _ (w : Window) where
       (after_push-IsEnd w end (texts row.replies) is))
 
   -- after what is due was queued
-  either-fits : (b : Bool) (one other : Progress) → IsEnd w one.end → IsEnd w other.end → IsEnd w (if b then one else other).end
-  either-fits b one other first second = grind (arith, common_steps)
-
   queuing-fits : (store : Store) (failures : List Failure) (count : ℕ) (progress : Progress) → IsEnd w progress.end
       → IsEnd w (queuing count store failures progress).end
   queuing-fits store failures =
       queuing-holds store failures (λ (now : Progress). IsEnd w now.end) (λ now due is fit. after_push-IsEnd w now.end (packet_text due.packet) fit)
 
   queued-fits : (store : Store) (failures : List Failure) (progress : Progress) → IsEnd w progress.end → IsEnd w (queued store failures progress).end
-  queued-fits store failures progress is = grind (arith, common_steps, either-fits, queuing-fits)
+  queued-fits store failures progress is = grind (arith, common_steps, queuing-fits)
 
   -- after a frame
   heard-fits : (heard : Heard) (moment : ℕ) (store : Store) (lists : List CallerList) (c : Connected) (end : LinkEnd) (octets : List ℕ)
@@ -135,7 +125,7 @@ module _ (w : Window) where
   -- nothing is to be sent at any place
   quiet-at : (slots : List Slot) (place : ℕ) (slot : Slot) → places_next w slots ≡ None → slice_get slots place ≡ Some slot → slot_next w slot ≡ None
   quiet-at [] place slot quiet at = absurd (never slot at)
-  quiet-at (s ∷ slots) zero slot quiet at = grind (arith, common_steps, same_Some, first_none)
+  quiet-at (s ∷ slots) zero slot quiet at = grind (arith, common_steps)
   quiet-at (s ∷ slots) (suc place) slot quiet at = quiet-at slots place slot (first_none s slots (slot_next w s) (places_next w slots) quiet).1 at
 
   quiet-sending : (c : Connected) (o : Option Sending) → option_map (slot_sends (λ end. connected (with_end c end))) o ≡ None → o ≡ None
@@ -146,18 +136,8 @@ module _ (w : Window) where
 abbrev IsFit : Server → Type 0
 IsFit server = SlotsFit server.window server.slots
 
-silent-places : (server : Server) (stray : Option Refused) → sends_by server stray ≡ None → places_next server.window server.slots ≡ None
-silent-places server stray silent = grind (arith, common_steps, nothing_of)
-
-called-fits : (server : Server) (caller : CallSign) (poll : Bool) (moment : ℕ) (place : Option ℕ) → IsFit server → IsFit (called_by server caller poll moment place)
-called-fits server caller poll moment place all =
-    grind (arith, common_steps, after_push-IsEnd, answering_end-IsEnd, fits-set)
-
-by_cases : (b : Bool) (one other : Server) → IsFit one → IsFit other → IsFit (if b then one else other)
-by_cases b one other first second = grind (arith, common_steps)
-
 stranger-fits : (server : Server) (frame : FrameValue) (moment : ℕ) → IsFit server → IsFit (hearing_stranger server frame moment)
-stranger-fits server frame moment all = grind (arith, common_steps, by_cases, called-fits)
+stranger-fits server frame moment all = grind (arith, common_steps, after_push-IsEnd, answering_end-IsEnd, fits-set)
 
 at-fits : (server : Server) (frame : FrameValue) (moment : ℕ) (failures : List Failure) (place : ℕ) (slot : Option Slot) → slice_get server.slots place ≡ slot
     → places_next server.window server.slots ≡ None → IsFit server → IsFit (hearing_at server frame moment failures place slot).after
@@ -180,7 +160,7 @@ by-fits server frame moment failures None quiet all = stranger-fits server frame
 by-fits server frame moment failures (Some place) quiet all = at-fits server frame moment failures place (slice_get server.slots place) refl quiet all
 
 happening-fits : (server : Server) (event : NodeEvent) (failures : List Failure) → IsSilent server → IsFit server → IsFit (happening server event failures).after
-happening-fits server event failures silent all = grind (arith, common_steps, by-fits, silent-places, ticked-fits)
+happening-fits server event failures silent all = grind (arith, common_steps, by-fits, ticked-fits)
 
 -- ---- frames
 
@@ -199,15 +179,8 @@ empties-silent server (frame ∷ frames) last h = empties-silent h.0.after frame
 abbrev IsAllQueued : Server → Type 0
 IsAllQueued server = AreQueued server.store server.slots
 
-queued-cases : (b : Bool) (one other : Server) → IsAllQueued one → IsAllQueued other → IsAllQueued (if b then one else other)
-queued-cases b one other first second = grind (arith, common_steps)
-
-called-queued : (server : Server) (caller : CallSign) (poll : Bool) (moment : ℕ) (place : Option ℕ) → IsAllQueued server
-    → IsAllQueued (called_by server caller poll moment place)
-called-queued server caller poll moment place all = grind (arith, common_steps, queued-set)
-
 stranger-queued : (server : Server) (frame : FrameValue) (moment : ℕ) → IsAllQueued server → IsAllQueued (hearing_stranger server frame moment)
-stranger-queued server frame moment all = grind (arith, common_steps, queued-cases, called-queued)
+stranger-queued server frame moment all = grind (arith, common_steps, queued-set)
 
 at-queued : QueuedLaw → (server : Server) (frame : FrameValue) (moment : ℕ) (failures : List Failure) (place : ℕ) (slot : Option Slot) → IsAllQueued server
     → IsAllQueued (hearing_at server frame moment failures place slot).after
@@ -230,13 +203,9 @@ happening-queued : QueuedLaw → (server : Server) (event : NodeEvent) (failures
     → IsAllQueued (happening server event failures).after
 happening-queued law server event failures all = grind (arith, common_steps, by-queued, ticked-queued)
 
-sent-places : (server : Server) (o : Option PlacesSend) → places_next server.window server.slots ≡ o → IsFit server → IsAllQueued server
-    → (sends : ServerSends) → sends_of_places server o ≡ Some sends → IsAllQueued sends.after
-sent-places server o is fit all sends gives = grind (arith, common_steps, never, same_Some, places-sent)
-
 sent-queued : (server : Server) (o : Option Refused) → IsFit server → IsAllQueued server → (sends : ServerSends) → sends_by server o ≡ Some sends
     → IsAllQueued sends.after
-sent-queued server o fit all sends gives = grind (arith, common_steps, sent-places, same_Some)
+sent-queued server o fit all sends gives = grind (arith, common_steps, never, places-sent, same_Some)
 
 empties-queued : (server : Server) (frames : List FrameValue) (last : Server) → Empties server frames last → IsFit server → IsAllQueued server
     → IsAllQueued last

@@ -1,13 +1,12 @@
 -- What an event makes of a server: where no write and no sync fails no commands are cut off, and the store is the one
 -- after its commands.
 use Rattle.std.proofs.lemmas.Grind.{common_steps}
-use Rattle.std.proofs.Common.{◌≡◌, ℕ, suc, List, [], ◌∷◌, Bool, true, Option, None, Some, refl, ap, sym, ◌∙◌, subst, arith}
+use Rattle.std.proofs.Common.{◌≡◌, ℕ, suc, List, [], ◌∷◌, Bool, Option, None, Some, refl, ap, sym, ◌∙◌, subst, arith}
 use Rattle.std.specs.Prelude.{if◌then◌else◌}
 use Rattle.px_base.specs.CallSign.{CallSign}
 use Rattle.ax25_frames.specs.FrameText.{FrameValue}
 use Rattle.ax25_link.specs.Calls.{after_push}
 use Rattle.ax25_link.specs.Ends.{LinkEnd}
-use Rattle.ax25_link.specs.declared.state.Heard.{Heard}
 use Rattle.ftl0_packets.specs.Items.{texts}
 use Rattle.ftl0_packets.specs.Layout.{Item}
 use Rattle.ftl0_session.specs.Lists.Lists.{CallerList}
@@ -18,12 +17,10 @@ use Rattle.ftl0_session.proofs.WorkingLemmas.{writes-unlisted}
 use Rattle.file_store.specs.Command.{after_all}
 use Rattle.file_store.specs.Store.{Store}
 use Rattle.node.specs.Events.{NodeEvent}
-use Rattle.ftl0_server.specs.Connection.Connected.{Connected}
-use Rattle.ftl0_server.specs.Connection.Hearing.{parts_as}
 use Rattle.ftl0_server.specs.Connection.Taking.{Progress, after_row, fits, giving_up, taking, taking_row}
-use Rattle.ftl0_server.specs.Server.{Refused, Server, ServerSends, called_by, hearing_at, hearing_by, hearing_stranger, refusing, sends_by, sends_of_places}
+use Rattle.ftl0_server.specs.Server.{Refused, Server, ServerSends, hearing_at, sends_by}
 use Rattle.ftl0_server.specs.ServerStep.{Empties, happening}
-use Rattle.ftl0_server.specs.Slots.{PlacesSend, Slot, connected, free, leaving}
+use Rattle.ftl0_server.specs.Slots.{Slot, connected, free, leaving}
 use Rattle.ftl0_server.proofs.QueuedLemmas.{queued-alone}
 
 -- ---- where no write and no sync fails no commands are cut off
@@ -43,29 +40,19 @@ module _ (parts : List ℕ) where
       (fit-uncut row (fits end (texts row.replies)) later (giving_up end row part)
       (taking-uncut caller moment (after_all store row.commands) row.lists row.state (after_push end (texts row.replies)) items (suc part)) refl)
 
-  heard-uncut : (heard : Heard) (moment : ℕ) (store : Store) (lists : List CallerList) (c : Connected) (end : LinkEnd) (octets : List ℕ)
-      → (parts_as heard moment store lists c end octets (failed_reads parts)).cut ≡ []
-  heard-uncut heard moment store lists c end octets = grind (arith, common_steps, taking-uncut)
-
   at-uncut : (server : Server) (frame : FrameValue) (moment place : ℕ) (slot : Option Slot) → (hearing_at server frame moment (failed_reads parts) place slot).cut ≡ []
   at-uncut server frame moment place None = refl
   at-uncut server frame moment place (Some free) = refl
   at-uncut server frame moment place (Some (leaving end)) = refl
-  at-uncut server frame moment place (Some (connected c)) = grind (arith, common_steps, queued-alone, heard-uncut)
-
-  by-uncut : (server : Server) (frame : FrameValue) (moment : ℕ) (place : Option ℕ) → (hearing_by server frame moment (failed_reads parts) place).cut ≡ []
-  by-uncut server frame moment place = grind (arith, common_steps, at-uncut)
+  at-uncut server frame moment place (Some (connected c)) = grind (arith, common_steps, queued-alone, taking-uncut)
 
   pub uncut : (server : Server) (event : NodeEvent) → (happening server event (failed_reads parts)).cut ≡ []
-  uncut server event = grind (arith, common_steps, by-uncut)
+  uncut server event = grind (arith, common_steps, at-uncut)
 
 -- ---- sending changes no store
 
-places_store : (server : Server) (places : Option PlacesSend) (sends : ServerSends) → sends_of_places server places ≡ Some sends → sends.after.store ≡ server.store
-places_store server places sends h = grind (arith, common_steps)
-
 sends_store : (server : Server) (stray : Option Refused) (sends : ServerSends) → sends_by server stray ≡ Some sends → sends.after.store ≡ server.store
-sends_store server stray sends h = grind (arith, common_steps, places_store)
+sends_store server stray sends h = grind (arith, common_steps)
 
 pub empties_store : (server : Server) (frames : List FrameValue) (last : Server) → Empties server frames last → last.store ≡ server.store
 empties_store server [] last h = ap (λ (s : Server). s.store) h.1
@@ -73,25 +60,8 @@ empties_store server (f ∷ frames) last h = empties_store h.0.after frames last
 
 -- ---- an event changes it by its commands
 
-called_store : (server : Server) (frame : FrameValue) (moment : ℕ) (place : Option ℕ) → (called_by server frame.src frame.poll moment place).store ≡ server.store
-called_store server frame moment place = grind (arith, common_steps)
-
-by_refusal : (server : Server) (frame : FrameValue) (refuses : Bool) → (if refuses then refusing server frame.src true else server).store ≡ server.store
-by_refusal server frame refuses = grind (arith, common_steps)
-
 by_call : (b : Bool) (one other : Server) (store : Store) → one.store ≡ store → other.store ≡ store → (if b then one else other).store ≡ store
 by_call b one other store h k = grind (arith, common_steps)
 
-stranger_store : (server : Server) (frame : FrameValue) (moment : ℕ) → (hearing_stranger server frame moment).store ≡ server.store
-stranger_store server frame moment = grind (arith, common_steps, by_call, called_store, by_refusal)
-
-at_store : (server : Server) (frame : FrameValue) (moment : ℕ) (failures : List Failure) (place : ℕ) (slot : Option Slot)
-    → (hearing_at server frame moment failures place slot).after.store ≡ after_all server.store (hearing_at server frame moment failures place slot).done
-at_store server frame moment failures place slot = grind (arith, common_steps)
-
-by_store : (server : Server) (frame : FrameValue) (moment : ℕ) (failures : List Failure) (place : Option ℕ)
-    → (hearing_by server frame moment failures place).after.store ≡ after_all server.store (hearing_by server frame moment failures place).done
-by_store server frame moment failures place = grind (arith, common_steps, stranger_store, at_store)
-
 pub happening_store : (server : Server) (event : NodeEvent) (failures : List Failure) → (happening server event failures).after.store ≡ after_all server.store (happening server event failures).done
-happening_store server event failures = grind (arith, common_steps, by_store)
+happening_store server event failures = grind (arith, common_steps)

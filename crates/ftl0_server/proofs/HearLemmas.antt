@@ -5,7 +5,7 @@ use Rattle.std.proofs.Common.{None, Some, sym, ◌∙◌, ap, subst, inr, arith}
 use Rattle.std.specs.Prelude.{slice_get, ⊤, Result, Ok, Err}
 use Rattle.std.specs.List.{position}
 use Rattle.std.proofs.lemmas.List.Quantifiers.{position-Some}
-use Rattle.std.proofs.lemmas.Option.{same_Some, slice_get-get_or}
+use Rattle.std.proofs.lemmas.Option.{slice_get-get_or}
 use Rattle.px_base.specs.CallSign.{CallSign}
 use Rattle.disk_model.specs.declared.disk.Disk.{Ghosts}
 use Rattle.ax25_frames.specs.FrameText.{FrameValue}
@@ -17,7 +17,6 @@ use Rattle.file_store.specs.Command.{after_all}
 use Rattle.file_store.specs.Store.{Store}
 use Rattle.file_store.specs.State.{StandsOn, StoreState, store_in}
 use Rattle.file_store.specs.Working.{DoesAmongReads}
-use Rattle.file_store.proofs.Offered.{does-among}
 use Rattle.ftl0_session.specs.Uploads.Failures.{Failure, failed_write}
 use Rattle.ftl0_session.proofs.uploads.UploadRows.{same_call-decides}
 use Rattle.ftl0_session.specs.SessionState.{caller_of, working_on}
@@ -37,9 +36,9 @@ use Rattle.ftl0_server.specs.Server.{Server, becoming, heard_at, hearing_at, hea
 use Rattle.ftl0_server.specs.Server.{server_hearing}
 use Rattle.ftl0_server.specs.ServerState.{AllPlaces, IsServer, SaysAs, SendsAs, SendsFor, ServerState, any_pending}
 use Rattle.ftl0_server.specs.ServerState.{has_caller, is_empty_place, place_pending}
-use Rattle.ftl0_server.specs.Slots.{Slot, connected, first_empty, is_callers, is_empty, place_of}
+use Rattle.ftl0_server.specs.Slots.{Slot, connected, first_empty, is_callers, place_of}
 use Rattle.ftl0_server.specs.Slots.{slot_after}
-use Rattle.ftl0_server.proofs.AllPlaces.{all-both, all-get, all-set, all-to, never, same-position, sends-cases}
+use Rattle.ftl0_server.proofs.AllPlaces.{all-both, all-get, all-set, all-to, never, same-position}
 use Rattle.ftl0_server.proofs.NextLemmas.{none_first}
 use Rattle.ftl0_server.proofs.TickLemmas.{all-works, own-only}
 
@@ -70,7 +69,7 @@ found-at caller places i d c found is = slice_get-get_or places i d (found-withi
 -- nothing is pending at any place
 pub quiet-any : (places : List Place) (i : ℕ) (c : ConnectionState) → IsAt places i c → any_pending places ≡ false → is_pending c.link ≡ false
 quiet-any [] i c at none = absurd (never (Talking c) at)
-quiet-any (p ∷ ps) zero c at none = grind (arith, common_steps, same_Some, none_first)
+quiet-any (p ∷ ps) zero c at none = grind (arith, common_steps)
 quiet-any (p ∷ ps) (suc i) c at none = quiet-any ps i c at (none_first (place_pending p) (any_pending ps) none).1
 
 -- the sender's connection may hear the frame
@@ -106,7 +105,7 @@ module _ (self : ServerState) (server : Server) (is : IsServer self server) wher
 
   same-caller : (caller : CallSign) (p : Place) (s : Slot) → ((c : ConnectionState) → p ≡ Talking c → c.link.peer ≡ caller_of c.session)
       → SendsAs server.window p s → has_caller caller p ≡ is_callers caller s
-  same-caller caller p s peer sends = grind (arith, common_steps, sends-cases)
+  same-caller caller p s peer sends = grind (arith, common_steps)
 
   -- the caller's place
   pub same-place_of : (me : CallSign) (k : ℕ) → IsSettled me k self.store self.places → (caller : CallSign)
@@ -117,17 +116,9 @@ module _ (self : ServerState) (server : Server) (is : IsServer self server) wher
       (λ i p s at there sends. same-caller caller p s (λ c talks_is. (settled.seated i c (at ∙ ap (λ (x : Place). Some x) talks_is)).peer_is) sends)
       is.sends.links)
 
-  same-empty : (p : Place) (s : Slot) → SendsAs server.window p s → is_empty_place p ≡ is_empty s
-  same-empty = grind (arith, common_steps, sends-cases)
-
   -- the lowest free place
   pub same-first_empty : position is_empty_place self.places ≡ first_empty server.slots
-  same-first_empty = grind (arith, common_steps, same-position, all-to, same-empty)
-
--- the slot of a connection
-connected-of : (w : Window) (store : StoreState) (c : ConnectionState) (s : Slot) → IsPlace w store (Talking c) s
-    → (d : Connected) × (s ≡ connected d) × IsPlace w store (Talking c) (connected d)
-connected-of w store c s is = grind (arith, common_steps)
+  same-first_empty = grind (arith, common_steps, same-position, all-to)
 
 -- ---- a frame of a connected caller
 
@@ -168,7 +159,7 @@ module _ {D : Type 0} (g : Ghosts D) (old new : ServerState) (server : Server) (
 
   -- the slot of the place
   slot_is : (d : Connected) × (slice_get server.slots place ≡ Some (connected d)) × IsPlace server.window old.store (Talking c) (connected d)
-  slot_is = grind (arith, common_steps, all-get, all-are, connected-of)
+  slot_is = grind (arith, common_steps, all-get, all-are)
 
   pub server-hears : (result : Result ⊤ Stop)
       → ((w : Window) (d : Connected) → IsPlace w old.store (Talking c) (connected d)
@@ -196,11 +187,11 @@ module _ {D : Type 0} (g : Ghosts D) (old new : ServerState) (server : Server) (
     (found : position (has_caller frame.src) old.places ≡ None) (healthy : old.store.journal.failed ≡ false)
     (stands : StandsOn g old.store disk) (lasts : g.lasts disk disk) (same : new.store ≡ old.store) where
   nothing-done : DoesAmongReads g ⊥ 0 old.store new.store disk disk []
-  nothing-done = grind (arith, common_steps, does-among, never)
+  nothing-done = grind (arith, common_steps)
 
   stranger-by : (result : Result ⊤ Stop) → HearsStranger (λ s. hearing_stranger s frame moment) old new result
       → HearsBy g (λ failures. becoming (hearing_stranger server frame moment)) old new disk disk result
-  stranger-by result heard = grind (arith, common_steps, nothing-done)
+  stranger-by result heard = grind (arith, common_steps)
 
   pub stranger-hears : (result : Result ⊤ Stop) → HearsStranger (λ s. hearing_stranger s frame moment) old new result
       → Hears g (server_hearing server frame moment) old new disk disk result

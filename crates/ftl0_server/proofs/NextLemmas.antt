@@ -1,13 +1,12 @@
 -- What the places of a server send next.
 use Rattle.std.proofs.lemmas.Grind.{common_steps}
 use Rattle.std.proofs.Common.{◌≡◌, ℕ, zero, suc, ◌<◌, List, [], ◌∷◌, set, take, Bool, true, false}
-use Rattle.std.proofs.Common.{Option, None, Some, refl, sym, ◌∙◌, ap, subst, arith, length-drop}
-use Rattle.std.specs.Prelude.{slice_get, if◌then◌else◌, ◌||◌}
+use Rattle.std.proofs.Common.{Option, None, Some, refl, sym, ◌∙◌, ap, subst, arith}
+use Rattle.std.specs.Prelude.{slice_get, ◌||◌}
 use Rattle.std.proofs.lemmas.Option.{same_Some}
-use Rattle.ax25_link.specs.Ends.{Farewell, LinkEnd, Reply}
-use Rattle.ax25_link.specs.Kept.{Kept, StandsFor, is_pending, is_there, kept_of}
-use Rattle.ax25_link.specs.Sending.{last_sending, later_sending, next_sending}
-use Rattle.ax25_link.specs.Sending.{sending_after, sends_again, sends_new}
+use Rattle.ax25_link.specs.Ends.{LinkEnd}
+use Rattle.ax25_link.specs.Kept.{Kept, StandsFor, is_pending, kept_of}
+use Rattle.ax25_link.specs.Sending.{next_sending}
 use Rattle.ax25_link.specs.Window.{Window}
 use Rattle.ftl0_server.specs.Calls.{SamePlaces}
 use Rattle.ftl0_server.specs.Places.{GivesOut, PlacesGive, SamePlace}
@@ -15,34 +14,24 @@ use Rattle.ftl0_server.specs.declared.place.Place.{Place}
 use Rattle.ftl0_server.specs.ServerState.{AllPlaces, SendsAs, any_pending, place_most, place_pending, places_most}
 use Rattle.ftl0_server.specs.Slots.{PlacesSend, Slot, SlotSends, first_of, places_next}
 use Rattle.ftl0_server.specs.Slots.{slot_next}
-use Rattle.ftl0_server.proofs.AllPlaces.{never, sends-cases}
+use Rattle.ftl0_server.proofs.AllPlaces.{never}
 
 pub true_no : {X : Type 0} → true ≡ false → X
 true_no same = absurd (let x : ⊥ = cc in x)
 
-later-none : (w : Window) (end : LinkEnd) (again new : Bool) (farewell : Option Farewell) → again ≡ false → new ≡ false → is_there farewell ≡ false
-    → (if again then Some (sends_again w end) else if new then Some (sends_new w end) else last_sending end farewell) ≡ None
-later-none w end again new farewell a n f = grind (arith, common_steps, true_no)
-
-after-none : (w : Window) (end : LinkEnd) (reply : Option Reply) → is_there reply ≡ false → later_sending w end ≡ None → sending_after w end reply ≡ None
-after-none w end reply none later = grind (arith, common_steps, true_no)
-
-none_of : (a b c d : Bool) → (a || b || c || d) ≡ false → (a ≡ false) × (b ≡ false) × (c ≡ false) × (d ≡ false)
-none_of a b c d h = grind (arith, common_steps, true_no)
-
 quiet-end : (w : Window) (end : LinkEnd) → is_pending (kept_of w end) ≡ false → next_sending w end ≡ None
-quiet-end w end none = grind (arith, common_steps, none_of, length-drop, after-none, later-none)
+quiet-end w end none = grind (arith, common_steps)
 
 -- a link with nothing pending sends nothing
 pub quiet-link : (w : Window) (link : Kept) (end : LinkEnd) → StandsFor w link end → is_pending link ≡ false → next_sending w end ≡ None
 quiet-link w link end stands none = quiet-end w end (ap (λ (x : Kept). is_pending x) (sym stands.kept) ∙ none)
 
 pub quiet-slot : (w : Window) (place : Place) (slot : Slot) → SendsAs w place slot → place_pending place ≡ false → slot_next w slot ≡ None
-quiet-slot w = grind (arith, common_steps, sends-cases, quiet-link)
+quiet-slot w = grind (arith, common_steps)
 
 -- neither the first nor the others
 pub none_first : (a b : Bool) → (a || b) ≡ false → (a ≡ false) × (b ≡ false)
-none_first a b h = grind (arith, common_steps, true_no)
+none_first a b h = grind (arith, common_steps)
 
 -- places with nothing pending send nothing
 pub quiet-places : (w : Window) (places : List Place) (slots : List Slot) → AllPlaces (SendsAs w) places slots → any_pending places ≡ false → places_next w slots ≡ None
@@ -56,13 +45,9 @@ quiet-places w (p ∷ ps) (s ∷ ss) all none =
     ap (λ (o : Option SlotSends). first_of s ss o (places_next w ss)) here ∙ ap (λ (o : Option PlacesSend). first_of s ss None o) later
 
 module _ (w : Window) (new : Place) (before out : List ℕ) where
-  first-gives : (s : Slot) (ps : List Place) (ss : List Slot) (later : Option PlacesSend) (o : Option SlotSends) → AllPlaces (SendsAs w) ps ss
-      → GivesOut o w new before out true → PlacesGive (first_of s ss o later) w (new ∷ ps) out true
-  first-gives s ps ss later o all gives = grind (arith, common_steps, true_no)
-
   later-gives : (p : Place) (s : Slot) (ps : List Place) (ss : List Slot) (o : Option PlacesSend) → SendsAs w p s → PlacesGive o w ps out true
       → PlacesGive (first_of s ss None o) w (p ∷ ps) out true
-  later-gives p s ps ss o here gives = grind (arith, common_steps, true_no)
+  later-gives p s ps ss o here gives = grind (arith, common_steps)
 
   -- the first place that has a frame gives it out
   pub next-at : (places : List Place) (slots : List Slot) (i : ℕ) (old : Place) → AllPlaces (SendsAs w) places slots → slice_get places i ≡ Some old
@@ -70,7 +55,7 @@ module _ (w : Window) (new : Place) (before out : List ℕ) where
       → PlacesGive (places_next w slots) w (set places i new) out true
   next-at [] slots i old all at none gives = absurd (never old at)
   next-at (p ∷ ps) [] i old all at none gives = absurd all
-  next-at (p ∷ ps) (s ∷ ss) zero old all at none gives = grind (arith, common_steps, first-gives, same_Some)
+  next-at (p ∷ ps) (s ∷ ss) zero old all at none gives = grind (arith, common_steps)
   next-at (p ∷ ps) (s ∷ ss) (suc i) old all at none gives =
       let parts = none_first (place_pending p) (any_pending (take i ps)) none in
       let here = quiet-slot w p s all.0 parts.0 in
@@ -83,14 +68,14 @@ or-later a b is = grind (arith, common_steps)
 -- one of the places is pending
 pub pending-at : (places : List Place) (i : ℕ) (old : Place) → slice_get places i ≡ Some old → place_pending old ≡ true → any_pending places ≡ true
 pending-at [] i old at is = absurd (never old at)
-pending-at (p ∷ ps) zero old at is = grind (arith, common_steps, same_Some)
+pending-at (p ∷ ps) zero old at is = grind (arith, common_steps)
 pending-at (p ∷ ps) (suc i) old at is = or-later (place_pending p) (any_pending ps) (pending-at ps i old at is)
 
 -- fewer frames are left of all places where fewer are of one
 pub most-at : (places : List Place) (i : ℕ) (old new : Place) → slice_get places i ≡ Some old → place_most new < place_most old
     → places_most (set places i new) < places_most places
 most-at [] i old new at fewer = absurd (never old at)
-most-at (p ∷ ps) zero old new at fewer = grind (arith, common_steps, same_Some)
+most-at (p ∷ ps) zero old new at fewer = grind (arith, common_steps)
 most-at (p ∷ ps) (suc i) old new at fewer = let later = most-at ps i old new at fewer in omega (arith, later)
 
 -- a place is as it was

@@ -3,20 +3,16 @@ use Rattle.std.proofs.lemmas.Grind.{common_steps}
 use Rattle.std.proofs.Common.{◌≡◌, ℕ, zero, suc, List, [], ◌∷◌, map, Bool, true, false, Option, None, Some, sym}
 use Rattle.std.proofs.Common.{◌∙◌, ap, subst, arith}
 use Rattle.std.specs.Prelude.{⊤}
-use Rattle.std.specs.Option.{option_map}
 use Rattle.std.proofs.lemmas.Option.{same_Some}
 use Rattle.px_base.specs.CallSign.{CallSign}
 use Rattle.ax25_frames.specs.FrameText.{FrameText, canonical}
 use Rattle.ax25_link.specs.Refusals.{refusal_frame}
-use Rattle.ax25_link.specs.Sending.{Sending}
 use Rattle.ax25_link.specs.Window.{Window}
 use Rattle.file_store.specs.State.{StoreState, store_in}
 use Rattle.ftl0_session.specs.Uploads.SessionState.{IsHeld, number_of}
 use Rattle.ftl0_session.specs.Downloads.Needs.{IsDueIn}
 use Rattle.ftl0_session.specs.SessionState.{SessionState, caller_of}
-use Rattle.ftl0_server.specs.Connection.Connected.{Connected}
 use Rattle.ftl0_server.specs.Connection.ConnectionState.{ConnectionState}
-use Rattle.ftl0_server.specs.Connection.Hearing.{with_end}
 use Rattle.ftl0_server.specs.declared.place.Place.{Place}
 use Rattle.ftl0_server.specs.declared.place.Place.TheVariants.{Talking}
 use Rattle.ftl0_server.specs.Calls.{HandsOut, SamePlaces}
@@ -25,9 +21,9 @@ use Rattle.ftl0_server.specs.Places.{PlacesGive, SamePlace, SameTalk}
 use Rattle.ftl0_server.specs.Server.{Refused, Server, sends_by, sends_of_places, server_next, settled}
 use Rattle.ftl0_server.specs.ServerState.{AllPlaces, IsServer, SaysAs, SendsAs, SendsFor, ServerState, any_pending}
 use Rattle.ftl0_server.specs.ServerState.{place_pending}
-use Rattle.ftl0_server.specs.Slots.{PlacesSend, Slot, SlotSends, connected, first_of, freed, leaving, places_next}
-use Rattle.ftl0_server.specs.Slots.{slot_next, slot_sends}
-use Rattle.ftl0_server.proofs.AllPlaces.{never, sends-cases}
+use Rattle.ftl0_server.specs.Slots.{PlacesSend, Slot, SlotSends, first_of, freed, places_next}
+use Rattle.ftl0_server.specs.Slots.{slot_next}
+use Rattle.ftl0_server.proofs.AllPlaces.{never}
 use Rattle.ftl0_server.proofs.NextLemmas.{none_first}
 
 -- the DM to a station without a connection goes out
@@ -45,15 +41,8 @@ module _ (store : StoreState) where
   SaysNext p None = ⊤
   SaysNext p (Some sends) = SaysAs store p sends.after
 
-  connected-says : (p : Place) (c : Connected) (o : Option Sending) → SaysAs store p (connected c)
-      → SaysNext p (option_map (slot_sends (λ end. connected (with_end c end))) o)
-  connected-says p c o says = grind (arith, common_steps)
-
-  leaving-says : (p : Place) (c : Connected) (o : Option Sending) → SaysNext p (option_map (slot_sends (λ end. leaving (with_end c end))) o)
-  leaving-says p c o = grind (arith, common_steps)
-
   slot-says : (w : Window) (p : Place) (s : Slot) → SaysAs store p s → SaysNext p (slot_next w s)
-  slot-says w p s says = grind (arith, common_steps, connected-says, leaving-says)
+  slot-says w p s says = grind (arith, common_steps)
 
   abbrev AllSay : List Place → Option PlacesSend → Type 0
   AllSay places None = ⊤
@@ -90,7 +79,7 @@ module _ (old new : ServerState) (server : Server) (before now : List ℕ) (answ
 
   places-sends : (o : Option PlacesSend) → SendsFor old server → PlacesGive o server.window new.places now answer
       → HandsOut SendsFor (sends_of_places server o) old new before now answer
-  places-sends o is gives = grind (arith, common_steps, sends-after)
+  places-sends o is gives = grind (arith, common_steps)
 
   places-next : (o : Option PlacesSend) → IsServer old server → AllSay old.store old.places o → PlacesGive o server.window new.places now answer
       → HandsOut IsServer (sends_of_places server o) old new before now answer
@@ -121,7 +110,7 @@ module _ (old new : ServerState) (server : Server) (before now : List ℕ) (answ
 -- ---- nothing is pending
 
 freed-sends : (w : Window) (p : Place) (s : Slot) → SendsAs w p s → place_pending p ≡ false → SendsAs w p (freed s)
-freed-sends w = grind (arith, common_steps, sends-cases)
+freed-sends w = grind (arith, common_steps)
 
 freed-says : (store : StoreState) (p : Place) (s : Slot) → SaysAs store p s → SaysAs store p (freed s)
 freed-says store p s says = grind (arith, common_steps)

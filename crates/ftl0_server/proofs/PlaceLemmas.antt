@@ -7,7 +7,6 @@ use Rattle.disk_model.specs.declared.disk.Disk.{Ghosts}
 use Rattle.ax25_link.specs.Kept.{StandsFor}
 use Rattle.ax25_link.specs.Window.{Window}
 use Rattle.file_store.specs.State.{StoreState, store_in}
-use Rattle.file_store.proofs.Offered.{among-parked}
 use Rattle.ftl0_session.specs.Lists.Lists.{CallerList}
 use Rattle.ftl0_session.specs.Uploads.Failures.{Failure}
 use Rattle.ftl0_session.specs.Uploads.Others.{KeepsOtherCallers}
@@ -16,7 +15,7 @@ use Rattle.ftl0_session.specs.declared.uploads.phase.Phase.{Phase}
 use Rattle.ftl0_session.specs.SessionState.{caller_of, working_on}
 use Rattle.disk_model.specs.declared.halt.Halt.{Halt as Stop}
 use Rattle.ftl0_server.specs.Connection.ConnectionState.{ConnectionState, HearsBy, IsConnection}
-use Rattle.ftl0_server.specs.declared.connection.fate.Fate.TheVariants.{Ends, Stays}
+use Rattle.ftl0_server.specs.declared.connection.fate.Fate.TheVariants.{Ends}
 use Rattle.ftl0_server.specs.Connection.Hearing.{Happened}
 use Rattle.ftl0_server.specs.AtPlace.{IsOver, IsPlace, PlaceHearsBy, Works}
 use Rattle.ftl0_server.specs.declared.place.Place.TheVariants.{Leaving, Talking}
@@ -37,7 +36,7 @@ module _ {D : Type 0} (g : Ghosts D) (w : Window) (event : List Failure → Happ
 
   pub heard-over : (result : Result ⊤ Stop) → HearsBy g w event (with_disk store disk) (working_on mid lists disk_now) connection Ends result
       → PlaceHearsBy g w event (with_disk store disk) (working_on now lists disk_now) (Leaving connection.link) result
-  heard-over result by = grind (arith, common_steps, left, among-parked)
+  heard-over result by = grind (arith, common_steps)
 
 -- Where it goes on so does the connection.
 module _ {D : Type 0} (g : Ghosts D) (w : Window) (event : List Failure → Happened) (store now : StoreState) (lists : List CallerList) (disk disk_now : D)
@@ -45,10 +44,6 @@ module _ {D : Type 0} (g : Ghosts D) (w : Window) (event : List Failure → Happ
   going : (happened : Happened) → happened.over ≡ false → IsConnection w now connection happened.after
       → IsPlace w now (Talking connection) (slot_after happened)
   going happened over is = grind (arith, common_steps)
-
-  pub heard-going : (result : Result ⊤ Stop) → HearsBy g w event (with_disk store disk) (working_on now lists disk_now) connection Stays result
-      → PlaceHearsBy g w event (with_disk store disk) (working_on now lists disk_now) (Talking connection) result
-  heard-going result by = grind (arith, common_steps, going)
 
 -- What is parked leaves the store and its journal.
 pub parks-store : (before now : StoreState) (p : Phase) → Parks before now p → store_in now ≡ store_in before
@@ -61,4 +56,4 @@ parks-journal before now p parks = grind (arith, common_steps)
 pub works-over : (before mid now : StoreState) (old then : ConnectionState) → caller_of then.session ≡ caller_of old.session
     → KeepsOtherCallers before mid (caller_of old.session) → IsOnlyOut mid then.session.uploads → IsOver mid now then
     → Works before now (Talking old) (Leaving then.link)
-works-over before mid now old then caller others only over = grind (arith, common_steps, others-then)
+works-over before mid now old then caller others only over = grind (arith, common_steps)

@@ -1,28 +1,22 @@
 -- Between the events of a server all that is due was queued, as far as there was room.
 use Rattle.std.proofs.lemmas.Grind.{common_steps}
-use Rattle.std.proofs.Common.{◌≡◌, ℕ, zero, suc, ◌+◌, ◌-◌, List, [], ◌∷◌, ◌++◌, length, set, drop, map, Bool}
+use Rattle.std.proofs.Common.{◌≡◌, ℕ, zero, suc, ◌-◌, List, [], ◌∷◌, ◌++◌, length, set, drop, map, Bool}
 use Rattle.std.proofs.Common.{true, false, Option, None, Some, refl, ◌∙◌, ap, subst, append_assoc}
 use Rattle.std.proofs.Common.{take-append-drop, arith}
-use Rattle.std.specs.Prelude.{if◌then◌else◌, ◌&&◌}
+use Rattle.std.specs.Prelude.{if◌then◌else◌}
 use Rattle.std.specs.List.{concat}
 use Rattle.std.specs.Option.{option_map}
 use Rattle.std.proofs.lemmas.List.{drop-append-le}
 use Rattle.std.proofs.lemmas.Option.{same_Some}
 use Rattle.ax25_link.specs.Ends.{Farewell, IsEnd, LinkEnd, Reply, free_octets, held, most_held}
-use Rattle.ax25_link.specs.Kept.{is_there}
-use Rattle.ax25_link.specs.Rows.{entering}
 use Rattle.ax25_link.specs.Sending.{Sending, after_new, last_sending, later_sending, most_information}
 use Rattle.ax25_link.specs.Sending.{next_piece, next_sending, sending_after, sends_again, sends_new, sends_reply}
-use Rattle.ax25_link.specs.Timer.{trying}
 use Rattle.ax25_link.specs.Window.{Window}
-use Rattle.ax25_link.specs.declared.state.LinkState.TheVariants.{Down}
-use Rattle.ax25_link.specs.declared.state.Why.TheVariants.{NoAnswer}
 use Rattle.ax25_link.proofs.Offered.{after_new-HasPiece, concat-append_one}
 use Rattle.file_store.specs.Command.{after_all}
 use Rattle.file_store.specs.Store.{Store}
 use Rattle.ftl0_session.specs.Uploads.Failures.{Failure}
-use Rattle.ftl0_session.specs.Downloads.Sending.{DuePacket as Download}
-use Rattle.ftl0_session.specs.Table.{State, due_at, in_session}
+use Rattle.ftl0_session.specs.Table.{State, due_at}
 use Rattle.ftl0_server.specs.Connection.Connected.{Connected}
 use Rattle.ftl0_server.specs.Connection.Hearing.{ticking, with_end}
 use Rattle.ftl0_server.specs.Connection.Laws.{IsQueued, QueuedLaw}
@@ -35,18 +29,9 @@ use Rattle.ftl0_server.proofs.AllPlaces.{never}
 
 -- ---- whether anything is due is the state's to tell
 
-no_due : (due : Bool) (one other : Download) → option_map in_session (if due then Some one else None) ≡ None
-    → option_map in_session (if due then Some other else None) ≡ None
-no_due due one other none = grind (arith, common_steps, never)
-
 due-none : (store now : Store) (state : State) (failures others : List Failure) (part other : ℕ) → due_at store state failures part ≡ None
     → due_at now state others other ≡ None
-due-none store now state failures others part other none = grind (arith, common_steps, no_due)
-
--- what was queued stays so, over whatever store, while no octets are freed
-pub queued-stays : (store now : Store) (state : State) (end other : LinkEnd) → free_octets other ≡ free_octets end → IsQueued store state end
-    → IsQueued now state other
-queued-stays store now state end other same given = grind (arith, common_steps, due-none)
+due-none store now state failures others part other none = grind (arith, common_steps)
 
 -- ---- sending frees no octets
 
@@ -94,14 +79,9 @@ module _ (w : Window) (end : LinkEnd) (fits : IsEnd w end) where
 
 -- ---- a tick frees no octets
 
-tick-by : (end : LinkEnd) (down out spent : Bool)
-    → is_there (if down then None else if out && spent then Some NoAnswer else None) ≡ false
-    → free_octets (if down then end else if out then (if spent then entering end Down else trying end) else record end { count = end.count + 1 }) ≡ free_octets end
-tick-by end down out spent stays = grind (arith, common_steps)
-
 ticking-queued : (store : Store) (c : Connected) → IsQueued store c.state c.end → (ticking c).over ≡ false
     → IsQueued store (ticking c).after.state (ticking c).after.end
-ticking-queued store c queued_there stays = grind (arith, common_steps, queued-stays, tick-by)
+ticking-queued store c queued_there stays = grind (arith, common_steps)
 
 -- ---- places
 
@@ -110,7 +90,7 @@ pub left-queued : (store : Store) (over : Bool) (c : Connected) → (over ≡ fa
 left-queued store over c is = grind (arith, common_steps)
 
 slot-stays : (store now : Store) (slot : Slot) → SlotIsQueued store slot → SlotIsQueued now slot
-slot-stays store now slot is = grind (arith, common_steps, queued-stays)
+slot-stays store now slot is = grind (arith, common_steps)
 
 -- over whatever store
 pub all-stay : (store now : Store) (slots : List Slot) → AreQueued store slots → AreQueued now slots
@@ -142,12 +122,11 @@ module _ (store : Store) where
 
   connected-sends : (w : Window) (c : Connected) (o : Option Sending) → next_sending w c.end ≡ o → IsEnd w c.end → IsQueued store c.state c.end
       → (x : SlotSends) → option_map (slot_sends (λ end. connected (with_end c end))) o ≡ Some x → SlotIsQueued store x.after
-  connected-sends w c o is fits there x sends =
-      grind (arith, common_steps, never, sending-leaves, same_Some, queued-stays)
+  connected-sends w c o is fits there x sends = grind (arith, common_steps, never, sending-leaves, same_Some)
 
   leaving-sends : (c : Connected) (o : Option Sending) (x : SlotSends) → option_map (slot_sends (λ end. leaving (with_end c end))) o ≡ Some x
       → SlotIsQueued store x.after
-  leaving-sends c o x sends = grind (arith, common_steps, never, same_Some)
+  leaving-sends c o x sends = grind (arith, common_steps)
 
   slot-sent : (w : Window) (slot : Slot) → SlotFits w slot → SlotIsQueued store slot → (x : SlotSends) → slot_next w slot ≡ Some x → SlotIsQueued store x.after
   slot-sent w free fits is x sends = absurd (never x sends)
@@ -157,7 +136,7 @@ module _ (store : Store) where
   first-sent : (slot : Slot) (slots : List Slot) (o : Option SlotSends) (later : Option PlacesSend)
       → ((x : SlotSends) → o ≡ Some x → SlotIsQueued store x.after) → ((y : PlacesSend) → later ≡ Some y → AreQueued store y.after)
       → AreQueued store (slot ∷ slots) → (z : PlacesSend) → first_of slot slots o later ≡ Some z → AreQueued store z.after
-  first-sent slot slots o later first others all z sends = grind (arith, common_steps, never, same_Some)
+  first-sent slot slots o later first others all z sends = grind (arith, common_steps)
 
   pub places-sent : (w : Window) (slots : List Slot) → SlotsFit w slots → AreQueued store slots → (z : PlacesSend) → places_next w slots ≡ Some z
       → AreQueued store z.after
@@ -173,4 +152,4 @@ queued-alone = queued-keeps
 
 pub heard-queued : QueuedLaw → (store : Store) (failures : List Failure) (progress : Progress) → (queued store failures progress).over ≡ false
     → IsQueued (after_all store (queued store failures progress).done) (queued store failures progress).state (queued store failures progress).end
-heard-queued law store failures progress stays = grind (arith, common_steps, queued-keeps)
+heard-queued law store failures progress stays = grind (arith, common_steps)

@@ -2,10 +2,9 @@
 use Rattle.std.proofs.lemmas.Grind.{common_steps}
 use Rattle.std.proofs.Common.{◌≡◌, ◌≢◌, ℕ, zero, suc, ◌+◌, ◌<◌, List, [], ◌∷◌, length, set, cond, Bool, true, false}
 use Rattle.std.proofs.Common.{not, Option, None, Some, refl, sym, ◌∙◌, ap, subst, inl, inr, arith}
-use Rattle.std.specs.Prelude.{slice_get, nat_lt}
+use Rattle.std.specs.Prelude.{slice_get}
 use Rattle.std.specs.List.{position, prefix_len}
 use Rattle.std.proofs.lemmas.Bool.{lt-ltb}
-use Rattle.std.proofs.lemmas.Option.{same_Some}
 use Rattle.px_base.specs.CallSign.{CallSign}
 use Rattle.ax25_link.proofs.Offered.{slice_get-set_other, slice_get-set_same}
 use Rattle.file_store.specs.State.{StoreState}
@@ -32,19 +31,13 @@ front-step b n m less = grind (arith, common_steps)
 passes-front : (p : Place → Bool) (places : List Place) (j : ℕ) (x : Place) → slice_get places j ≡ Some x → p x ≡ true
     → prefix_len (λ (y : Place). not (p y)) places < length places
 passes-front p [] j x at is = absurd (never x at)
-passes-front p (y ∷ ys) zero x at is = grind (arith, common_steps, same_Some, front-step)
+passes-front p (y ∷ ys) zero x at is = grind (arith, common_steps)
 passes-front p (y ∷ ys) (suc j) x at is =
     front-step (p y) (prefix_len (λ (z : Place). not (p z)) ys) (length ys) (λ not_here. passes-front p ys j x at is)
 
-found-some : (a n : ℕ) → nat_lt a n ≡ true → cond (nat_lt a n) (Some a) None ≡ None → ⊥
-found-some a n is none = grind (arith, common_steps, never)
-
-pub none-passes : (p : Place → Bool) (places : List Place) → position p places ≡ None → (j : ℕ) (x : Place) → slice_get places j ≡ Some x → p x ≡ true → ⊥
-none-passes p places none j x at is = grind (arith, common_steps, found-some, lt-ltb, passes-front)
-
 pub nobody : (caller : CallSign) (places : List Place) → position (has_caller caller) places ≡ None → (j : ℕ) (e : ConnectionState) → IsAt places j e
     → caller_of e.session ≢ caller
-nobody caller places none j e at same = grind (arith, common_steps, none-passes, same_call-decides)
+nobody caller places none j e at same = grind (arith, common_steps, lt-ltb, passes-front, same_call-decides)
 
 -- ---- what holds of a server still
 

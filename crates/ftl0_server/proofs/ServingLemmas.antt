@@ -1,7 +1,7 @@
 -- A server over events, and others behind them; and its store is the one after its commands.
 use Rattle.std.proofs.lemmas.Grind.{common_steps}
-use Rattle.std.proofs.Common.{◌≡◌, ℕ, ◌+◌, List, [], ◌∷◌, ◌++◌, refl, ap, sym, ◌∙◌, subst, append_assoc, append-nil, arith}
-use Rattle.std.proofs.Math.Nat.{add-zero, add_assoc, zero-add}
+use Rattle.std.proofs.Common.{◌≡◌, ℕ, ◌+◌, List, [], ◌∷◌, ◌++◌, refl, ap, sym, ◌∙◌, subst, append_assoc, arith}
+use Rattle.std.proofs.Math.Nat.{add_assoc, zero-add}
 use Rattle.ax25_frames.specs.FrameText.{FrameValue}
 use Rattle.file_store.specs.Command.{Command, after_all}
 use Rattle.file_store.specs.Store.{Store}
@@ -16,7 +16,7 @@ use Rattle.ftl0_server.proofs.HappeningLemmas.{empties_store, happening_store}
 -- one event
 pub serves-one : (server : Server) (event : NodeEvent) (done : List Command) (sent : List FrameValue) (told : ℕ) (next : Server)
     → TakesEvent server event sent done told next → ServesOver server (event ∷ []) sent done told next
-serves-one server event done sent told next taken = grind (arith, common_steps, append-nil, add-zero)
+serves-one server event done sent told next taken = grind (arith, common_steps)
 
 -- events and then others
 pub serves-append :

@@ -64,7 +64,7 @@ at-set places i j p c within at =
 
 -- the same connection at the same place
 pub same-at : (places : List Place) (i : ℕ) (one other : ConnectionState) → IsAt places i one → IsAt places i other → one ≡ other
-same-at places i one other at too = grind (arith, common_steps, same_Some)
+same-at places i one other at too = grind (arith, common_steps)
 
 pub leaving-no : (link : Kept) (c : ConnectionState) → Leaving link ≡ Talking c → ⊥
 leaving-no link c same = cc
@@ -172,7 +172,7 @@ module _ (me : CallSign) (k : ℕ) (before now : StoreState) (places : List Plac
   -- its session is over
   over-own : (link : Kept) → NoOtherOut now (caller_of c.session) None → (number : Option ℕ) → IsUploadOf (set places i (Leaving link)) (caller_of c.session) number
       → NoOtherOut now (caller_of c.session) number
-  over-own link only number is = grind (arith, common_steps, at-set, slice_get_within, leaving-no, other-caller)
+  over-own link only number is = grind (arith, common_steps)
 
   pub settled-over : (link : Kept) → NoOtherOut now (caller_of c.session) None → IsSettled me k now (set places i (Leaving link))
   settled-over link only =

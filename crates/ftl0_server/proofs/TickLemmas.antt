@@ -63,7 +63,7 @@ own-only me k store places i c at settled =
 -- the place at which the tick comes next
 pub quiet-at : (places : List Place) (i : ℕ) (place : Place) → slice_get places i ≡ Some place → any_pending (drop i places) ≡ false → place_pending place ≡ false
 quiet-at [] i place at none = absurd (never place at)
-quiet-at (p ∷ ps) zero place at none = grind (arith, common_steps, same_Some, none_first)
+quiet-at (p ∷ ps) zero place at none = grind (arith, common_steps)
 quiet-at (p ∷ ps) (suc i) place at none = quiet-at ps i place at none
 
 pub may-tick : (me : CallSign) (k : ℕ) (store : StoreState) (places : List Place) (i : ℕ) (place : Place) → slice_get places i ≡ Some place

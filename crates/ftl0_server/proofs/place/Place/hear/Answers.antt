@@ -3,7 +3,7 @@ use Rattle.std.proofs.lemmas.Grind.{common_steps}
 use Rattle.std.proofs.Common.{subst, sym, arith}
 use Rattle.file_store.specs.Store.{Store}
 use Rattle.ftl0_session.specs.Downloads.Needs.{AreComplete}
-use Rattle.ftl0_server.proofs.PlaceLemmas.{heard-going, heard-over, parks-journal, parks-store, works-over}
+use Rattle.ftl0_server.proofs.PlaceLemmas.{heard-over, parks-journal, parks-store, works-over}
 use Rattle.ftl0_server.proofs.place.Place.hear.Goals as goal
 
 pub returns-in-Ends-clause-hears : goal.returns-in-Ends-clause-hears
@@ -18,4 +18,4 @@ returns-in-Ends-clause-complete g c =
     subst (λ (s : Store). AreComplete s c.hear-fate.new.lists) (sym same) c.hear-fate.ensures.fit.fit.complete
 
 pub returns-in_default-clause-hears : goal.returns-in_default-clause-hears
-returns-in_default-clause-hears g c = grind (arith, common_steps, heard-going)
+returns-in_default-clause-hears g c = grind (arith, common_steps)

@@ -4,7 +4,7 @@ use Rattle.std.proofs.Common.{refl, subst, sym, [], arith}
 use Rattle.file_store.specs.Store.{Store}
 use Rattle.file_store.specs.OnDisk.{Does}
 use Rattle.file_store.specs.Working.{DoesAmongReads}
-use Rattle.file_store.proofs.Offered.{does-among, puts-among, puts_none}
+use Rattle.file_store.proofs.Offered.{does-among}
 use Rattle.ftl0_session.proofs.uploads.DoesLemmas.{does-none}
 use Rattle.ftl0_session.specs.Downloads.Needs.{AreComplete}
 use Rattle.ftl0_server.specs.Kept.{server_state}
@@ -42,4 +42,4 @@ returns-clause-happens g c = λ server is.
     (record { parts = []; by = (refl, ticked, does); since = does.since })
 
 pub returns-clause-puts : goal.returns-clause-puts
-returns-clause-puts g c = grind (arith, common_steps, puts-among, puts_none)
+returns-clause-puts g c = grind (arith, common_steps)
