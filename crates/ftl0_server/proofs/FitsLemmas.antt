@@ -1,5 +1,5 @@
 -- Each event of a server has a step: the ends of its links stay such as frames and ticks bring about.
-use Rattle.std.proofs.Common.{◌≡◌, ℕ, zero, suc, List, [], ◌∷◌, set, map, Bool, Option, None, Some}
+use Rattle.std.proofs.Common.{◌≡◌, ℕ, zero, suc, List, [], ◌∷◌, set, map, Bool, Option, None, Some, rules}
 use Rattle.std.proofs.Common.{refl, sym, ap₂, subst, arith}
 use Rattle.std.proofs.lemmas.Grind.{common_steps}
 use Rattle.std.specs.Prelude.{if◌then◌else◌, slice_get}
@@ -24,7 +24,7 @@ use Rattle.ftl0_packets.specs.Items.{texts}
 use Rattle.ftl0_session.specs.Table.{Row, State, row_at}
 use Rattle.ftl0_session.specs.Run.{session_over}
 use Rattle.ftl0_server.specs.Connection.Connected.{Connected}
-use Rattle.ftl0_server.specs.Connection.Hearing.{Happened, hearing, parts_as, parts_of_frame, ticking, with_end}
+use Rattle.ftl0_server.specs.Connection.Hearing.{hearing, parts_as, parts_of_frame, ticking, with_end}
 use Rattle.ftl0_server.specs.Connection.Laws.{QueuedLaw}
 use Rattle.ftl0_server.specs.Connection.Taking.{Progress, after_row, failing_at, fits}
 use Rattle.ftl0_server.specs.Connection.Taking.{giving_up, queued, queuing, taking}
@@ -188,11 +188,7 @@ at-queued law server frame moment failures place None all = all
 at-queued law server frame moment failures place (Some free) all = all
 at-queued law server frame moment failures place (Some (leaving c)) all = all
 at-queued law server frame moment failures place (Some (connected c)) all =
-    let happened : Happened = hearing server.window moment server.store server.lists c frame failures in
-    let now : Store = after_all server.store happened.done in
-    queued-set now server.slots place (slot_after happened) (all-stay server.store now server.slots all)
-    (left-queued now happened.over happened.after
-    (heard-queued law server.store failures (parts_of_frame server.window moment server.store server.lists c frame failures)))
+    search (rules, arith, queued-set, all-stay, left-queued, heard-queued)
 
 by-queued : QueuedLaw → (server : Server) (frame : FrameValue) (moment : ℕ) (failures : List Failure) (place : Option ℕ) → IsAllQueued server
     → IsAllQueued (hearing_by server frame moment failures place).after

@@ -1,6 +1,6 @@
 -- What a frame makes of a server, by what it makes of one place.
 use Rattle.std.proofs.lemmas.Grind.{common_steps}
-use Rattle.std.proofs.Common.{◌≡◌, ℕ, zero, suc, ◌<◌, List, [], ◌∷◌, length, get_or, set, Bool, true, false, Option}
+use Rattle.std.proofs.Common.{◌≡◌, ℕ, zero, suc, ◌<◌, List, [], ◌∷◌, length, get_or, set, Bool, true, false, Option, rules}
 use Rattle.std.proofs.Common.{None, Some, sym, ◌∙◌, ap, subst, inr, arith}
 use Rattle.std.specs.Prelude.{slice_get, ⊤, Result, Ok, Err}
 use Rattle.std.specs.List.{position}
@@ -13,11 +13,10 @@ use Rattle.ax25_frames.specs.Kinds.{FitsControl}
 use Rattle.ax25_link.specs.Kept.{is_pending}
 use Rattle.ax25_link.specs.Window.{Window}
 use Rattle.ftl0_session.specs.Lists.Lists.{CallerList}
-use Rattle.file_store.specs.Command.{after_all}
 use Rattle.file_store.specs.Store.{Store}
 use Rattle.file_store.specs.State.{StandsOn, StoreState, store_in}
 use Rattle.file_store.specs.Working.{DoesAmongReads}
-use Rattle.ftl0_session.specs.Uploads.Failures.{Failure, failed_write}
+use Rattle.ftl0_session.specs.Uploads.Failures.{Failure}
 use Rattle.ftl0_session.proofs.uploads.UploadRows.{same_call-decides}
 use Rattle.ftl0_session.specs.SessionState.{caller_of, working_on}
 use Rattle.ftl0_session.specs.Uploads.SessionState.{with_disk}
@@ -37,7 +36,6 @@ use Rattle.ftl0_server.specs.Server.{server_hearing}
 use Rattle.ftl0_server.specs.ServerState.{AllPlaces, IsServer, SaysAs, SendsAs, SendsFor, ServerState, any_pending}
 use Rattle.ftl0_server.specs.ServerState.{has_caller, is_empty_place, place_pending}
 use Rattle.ftl0_server.specs.Slots.{Slot, connected, first_empty, is_callers, place_of}
-use Rattle.ftl0_server.specs.Slots.{slot_after}
 use Rattle.ftl0_server.proofs.AllPlaces.{all-both, all-get, all-set, all-to, never, same-position}
 use Rattle.ftl0_server.proofs.NextLemmas.{none_first}
 use Rattle.ftl0_server.proofs.TickLemmas.{all-works, own-only}
@@ -80,21 +78,9 @@ may-hear me k store places i d frame found settled none is_for numbers =
     let c = found-talks frame.src places i d found in
     let at = found-at frame.src places i d c.0 found c.1 in
     let seated = settled.seated i c.0 at in
-    let may : MayHear store frame (Talking c.0) = (
-      record {
-        quiet = quiet-any places i c.0 at none;
-        up = seated.up;
-        held = seated.held;
-        only = own-only me k store places i c.0 at settled;
-        due = seated.due;
-      },
-      record {
-        dest = is_for.dest ∙ sym seated.me_is;
-        src = sym c.2 ∙ sym seated.peer_is;
-        via = is_for.via;
-        numbers = numbers;
-      },
-    ) in
+    let only = own-only me k store places i c.0 at settled in
+    let quiet = quiet-any places i c.0 at none in
+    let may : MayHear store frame (Talking c.0) = grind (arith, common_steps) in
     subst (λ (p : Place). MayHear store frame p) (sym c.1) may
 
 -- ---- places and slots
@@ -136,25 +122,14 @@ module _ {D : Type 0} (g : Ghosts D) (old new : ServerState) (server : Server) (
       → IsServer new (record server { slots = set server.slots place s; store = store; lists = lists })
   now-is s store lists here same same_lists =
       let all = all-works server.window old.me old.k old.store new.store old.places server.slots place (Talking c) p s at settled works (all-are old server is) here in
-      record {
-        sends = now-sends s store lists here.0;
-        says =
-            subst (λ (ps : List Place). AllPlaces (SaysAs new.store) ps (set server.slots place s)) (sym places)
-            (all-to (IsPlace server.window new.store) (SaysAs new.store) (set old.places place p) (set server.slots place s) (λ i q t there it both. both.1) all);
-        store = same;
-        lists = same_lists;
-      }
+      let says = all-to (IsPlace server.window new.store) (SaysAs new.store) (set old.places place p) (set server.slots place s) (λ i q t there it both. both.1) all in
+      let sends = now-sends s store lists here.0 in grind (arith, common_steps)
 
   module _ (event : List Failure → Happened) where
     heard-by : (result : Result ⊤ Stop) → PlaceHearsBy g server.window event (with_disk old.store disk) (working_on new.store new.lists disk_now) p result
         → HearsBy g (λ failures. heard_at server place (event failures)) old new disk disk_now result
     heard-by (Ok done) by = grind (arith, common_steps, now-is, never)
-    heard-by (Err stop.Disk) by = (
-      by.0,
-      by.1,
-      now-sends (slot_after (event (failed_write by.0))) (after_all server.store (event (failed_write by.0)).done) (event (failed_write by.0)).lists by.2,
-      by.3,
-    )
+    heard-by (Err stop.Disk) by = search (rules, arith, now-sends)
     heard-by (Err stop.OutOfMemory) by = inr by
 
   -- the slot of the place

@@ -1,6 +1,6 @@
 -- Frames are given out, and then nothing is pending.
 use Rattle.std.proofs.lemmas.Grind.{common_steps}
-use Rattle.std.proofs.Common.{◌≡◌, ℕ, zero, suc, List, [], ◌∷◌, map, Bool, true, false, Option, None, Some, sym}
+use Rattle.std.proofs.Common.{◌≡◌, ℕ, zero, suc, List, [], ◌∷◌, map, Bool, true, false, Option, None, Some, sym, rules}
 use Rattle.std.proofs.Common.{◌∙◌, ap, subst, arith}
 use Rattle.std.specs.Prelude.{⊤}
 use Rattle.std.proofs.lemmas.Option.{same_Some}
@@ -9,9 +9,6 @@ use Rattle.ax25_frames.specs.FrameText.{FrameText, canonical}
 use Rattle.ax25_link.specs.Refusals.{refusal_frame}
 use Rattle.ax25_link.specs.Window.{Window}
 use Rattle.file_store.specs.State.{StoreState, store_in}
-use Rattle.ftl0_session.specs.Uploads.SessionState.{IsHeld, number_of}
-use Rattle.ftl0_session.specs.Downloads.Needs.{IsDueIn}
-use Rattle.ftl0_session.specs.SessionState.{SessionState, caller_of}
 use Rattle.ftl0_server.specs.Connection.ConnectionState.{ConnectionState}
 use Rattle.ftl0_server.specs.declared.place.Place.{Place}
 use Rattle.ftl0_server.specs.declared.place.Place.TheVariants.{Talking}
@@ -131,17 +128,7 @@ all-freed-says store (p ∷ ps) [] all = absurd all
 all-freed-says store (p ∷ ps) (s ∷ ss) all = (freed-says store p s all.0, all-freed-says store ps ss all.1)
 
 pub settles : (self : ServerState) (server : Server) → any_pending self.places ≡ false → IsServer self server → IsServer self (settled server)
-settles self server none is = record {
-  sends = record {
-    me = is.sends.me;
-    window = is.sends.window;
-    stray = is.sends.stray;
-    links = all-freed-sends server.window self.places server.slots none is.sends.links;
-  };
-  says = all-freed-says self.store self.places server.slots is.says;
-  store = is.store;
-  lists = is.lists;
-}
+settles self server none is = search (rules, arith, all-freed-sends, all-freed-says)
 
 -- ---- what holds of a server holds after frames are given out
 
@@ -166,31 +153,19 @@ same-back (p ∷ ps) (q ∷ qs) zero c same at = same-second q c (subst (λ (x :
 same-back (p ∷ ps) (q ∷ qs) (suc i) c same at = same-back ps qs i c same.1 at
 
 pub settled-same : (me : CallSign) (k : ℕ) (store : StoreState) (ps qs : List Place) → SamePlaces ps qs → IsSettled me k store ps → IsSettled me k store qs
-settled-same me k store ps qs same was = record {
-  good = was.good;
-  seated = λ i d at.
-      let c = same-get ps qs i d same at in
-      let seat = was.seated i c.0 c.1 in
-      record {
-        me_is = c.2.stations.me ∙ seat.me_is;
-        peer_is = c.2.stations.peer ∙ seat.peer_is ∙ ap (λ (s : SessionState). caller_of s) (sym c.2.session);
-        answers = c.2.stations.called ∙ seat.answers;
-        k_is = c.2.stations.k ∙ seat.k_is;
-        up = c.2.state ∙ seat.up;
-        held = subst (λ (s : SessionState). IsHeld store s.uploads) (sym c.2.session) seat.held;
-        due = subst (λ (s : SessionState). IsDueIn (store_in store) s.downloads) (sym c.2.session) seat.due;
-      };
-  distinct = λ one other first second a b callers.
-      let c = same-get ps qs one first same a in
-      let e = same-get ps qs other second same b in
-      was.distinct one other c.0 e.0 c.1 e.1 (ap (λ (s : SessionState). caller_of s) (sym c.2.session) ∙ callers ∙ ap (λ (s : SessionState). caller_of s) e.2.session);
-  only = λ caller number is.
-      was.only caller number (
-        λ i c at theirs.
-            let d = same-back ps qs i c same at in
-            is.0 i d.0 d.1 (ap (λ (s : SessionState). caller_of s) d.2.session ∙ theirs) ∙ ap (λ (s : SessionState). number_of s.uploads.phase) d.2.session,
-        λ nobody_has. is.1 (λ i d at theirs.
-            let c = same-get ps qs i d same at in
-            nobody_has i c.0 c.1 (ap (λ (s : SessionState). caller_of s) (sym c.2.session) ∙ theirs)),
-      );
-}
+settled-same me k store ps qs same was =
+    record {
+      good = was.good;
+      seated = λ i d at.
+          let c = same-get ps qs i d same at in
+          let seat = was.seated i c.0 c.1 in grind (arith, common_steps);
+      distinct = λ one other first second a b callers.
+          let c = same-get ps qs one first same a in
+          let e = same-get ps qs other second same b in
+          was.distinct one other c.0 e.0 c.1 e.1 (grind (arith, common_steps));
+      only = λ caller number is.
+          was.only caller number (
+            λ i c at theirs. let d = same-back ps qs i c same at in let own = is.0 i d.0 d.1 in grind (arith, common_steps),
+            λ nobody_has. is.1 (λ i d at theirs. let c = same-get ps qs i d same at in nobody_has i c.0 c.1 (grind (arith, common_steps))),
+          );
+    }

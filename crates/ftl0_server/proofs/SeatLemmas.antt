@@ -1,7 +1,7 @@
 -- A connection is seated at a place that has no session.
 use Rattle.std.proofs.lemmas.Grind.{common_steps}
 use Rattle.std.proofs.Common.{◌≡◌, ◌≢◌, ℕ, zero, suc, ◌+◌, ◌<◌, List, [], ◌∷◌, length, set, cond, Bool, true, false}
-use Rattle.std.proofs.Common.{not, Option, None, Some, refl, sym, ◌∙◌, ap, subst, inl, inr, arith}
+use Rattle.std.proofs.Common.{not, Option, None, Some, refl, sym, ◌∙◌, subst, inl, inr, arith}
 use Rattle.std.specs.Prelude.{slice_get}
 use Rattle.std.specs.List.{position, prefix_len}
 use Rattle.std.proofs.lemmas.Bool.{lt-ltb}
@@ -71,18 +71,11 @@ module _ (me : CallSign) (k : ℕ) (store : StoreState) (places : List Place) (i
         | inl same ↦
             let one : number ≡ None = is.0 i c there (sym same) ∙ no_upload in
             subst (λ (x : Option ℕ). NoOtherOut store caller x) (sym one)
-            (settled.only caller None (
-              λ j e at theirs. absurd (none j e at (theirs ∙ same)),
-              λ nobody_has. refl,
-            ))
+            (settled.only caller None (λ j e at theirs. absurd (none j e at (theirs ∙ same)), λ nobody_has. refl))
         | inr ne ↦
             settled.only caller number (
               λ j e at theirs. is.0 j e (before j e (not-there j e at) at) theirs,
-              λ nobody_has. is.1 (λ j e at theirs.
-                  elim (at-set places i j (Talking c) e within at) [
-                    | inl w ↦ ne (sym theirs ∙ ap (λ (x : ConnectionState). caller_of x.session) (sym (same_talk e w.1)))
-                    | inr w ↦ nobody_has j e w.1 theirs
-                  ]),
+              λ nobody_has. is.1 (λ j e at theirs. let cases = at-set places i j (Talking c) e within at in grind (arith, common_steps, same_talk)),
             )
       ]
 

@@ -1,6 +1,6 @@
 -- What holds of each server stays so, whatever happens at one place.
 use Rattle.std.proofs.lemmas.Grind.{common_steps}
-use Rattle.std.proofs.Common.{◌≡◌, ◌≢◌, ◌⊎◌, ℕ, zero, suc, ◌<◌, List, [], ◌∷◌, length, set, Bool, true, false, Option}
+use Rattle.std.proofs.Common.{◌≡◌, ◌≢◌, ◌⊎◌, ℕ, zero, suc, ◌<◌, List, [], ◌∷◌, length, set, Bool, true, false, Option, rules}
 use Rattle.std.proofs.Common.{None, Some, refl, sym, ◌∙◌, ap, subst, inl, inr, arith}
 use Rattle.std.specs.Prelude.{slice_get}
 use Rattle.std.proofs.lemmas.Bool.Decides.{eqb_tells}
@@ -85,42 +85,21 @@ module _ (me : CallSign) (k : ℕ) (before now : StoreState) (places : List Plac
     pub seated-kept : (j : ℕ) (c : ConnectionState) → j ≢ i → IsAt places j c → IsSeated me k now c
     seated-kept j c ne there =
         let was = settled.seated j c there in
-        record {
-          me_is = was.me_is;
-          peer_is = was.peer_is;
-          answers = was.answers;
-          k_is = was.k_is;
-          up = was.up;
-          held = held-kept before now (caller_of old.session) others (caller_of c.session) (other-caller j c ne there) c.session.uploads.phase was.held;
-          due = (due-kept (store_in before) (store_in now) c.session.downloads complete was.due).0;
-        }
+        let held = held-kept before now (caller_of old.session) others (caller_of c.session) (other-caller j c ne there) c.session.uploads.phase was.held in
+        let due = (due-kept (store_in before) (store_in now) c.session.downloads complete was.due).0 in grind (arith, common_steps)
 
     -- the place is this one now
     module _ (p : Place) (same : (c : ConnectionState) → p ≡ Talking c → caller_of c.session ≡ caller_of old.session)
         (seat : (c : ConnectionState) → p ≡ Talking c → IsSeated me k now c)
         (own : (number : Option ℕ) → IsUploadOf (set places i p) (caller_of old.session) number → NoOtherOut now (caller_of old.session) number) where
       set-seated : (j : ℕ) (c : ConnectionState) → IsAt (set places i p) j c → IsSeated me k now c
-      set-seated j c there =
-          elim (at-set places i j p c within there) [
-            | inl w ↦ seat c w.1
-            | inr w ↦ seated-kept j c w.0 w.1
-          ]
+      set-seated j c there = let cases = at-set places i j p c within there in grind (arith, common_steps, seated-kept)
 
       set-distinct : (one another : ℕ) (first second : ConnectionState) → IsAt (set places i p) one first → IsAt (set places i p) another second
           → caller_of first.session ≡ caller_of second.session → one ≡ another
       set-distinct one another first second a b callers =
-          elim (at-set places i one p first within a) [
-            | inl w ↦
-                elim (at-set places i another p second within b) [
-                  | inl v ↦ w.0 ∙ sym v.0
-                  | inr v ↦ absurd (other-caller another second v.0 v.1 (sym callers ∙ same first w.1))
-                ]
-            | inr w ↦
-                elim (at-set places i another p second within b) [
-                  | inl v ↦ absurd (other-caller one first w.0 w.1 (callers ∙ same second v.1))
-                  | inr v ↦ settled.distinct one another first second w.1 v.1 callers
-                ]
-          ]
+          let here = at-set places i one p first within a in
+          let there = at-set places i another p second within b in grind (arith, common_steps, other-caller)
 
       set-upload : (caller : CallSign) (number : Option ℕ) → caller ≢ caller_of old.session → IsUploadOf (set places i p) caller number
           → IsUploadOf places caller number
@@ -166,8 +145,7 @@ module _ (me : CallSign) (k : ℕ) (before now : StoreState) (places : List Plac
       (subst (λ (x : CallSign). NoOtherOut now x (number_of d.session.uploads.phase)) on.caller on.only)
 
   pub settled-goes_on : (d : ConnectionState) → GoesOn now c d → IsSettled me k now (set places i (Talking d))
-  settled-goes_on d on =
-      settled-set me k before now places i c at settled others complete (Talking d) (goes_on-same d on) (goes_on-seat d on) (goes_on-own d on)
+  settled-goes_on d on = search (rules, arith, settled-set, goes_on-same, goes_on-seat, goes_on-own)
 
   -- its session is over
   over-own : (link : Kept) → NoOtherOut now (caller_of c.session) None → (number : Option ℕ) → IsUploadOf (set places i (Leaving link)) (caller_of c.session) number

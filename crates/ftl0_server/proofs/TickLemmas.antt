@@ -71,13 +71,8 @@ pub may-tick : (me : CallSign) (k : ℕ) (store : StoreState) (places : List Pla
 may-tick me k store places i Free at settled none = tt
 may-tick me k store places i (Talking c) at settled none =
     let seated = settled.seated i c at in
-    record {
-      quiet = quiet-at places i (Talking c) at none;
-      up = seated.up;
-      held = seated.held;
-      only = own-only me k store places i c at settled;
-      due = seated.due;
-    }
+    let only = own-only me k store places i c at settled in
+    let quiet = quiet-at places i (Talking c) at none in grind (arith, common_steps)
 may-tick me k store places i (Leaving link) at settled none = tt
 
 -- the places behind it are as they were

@@ -1,5 +1,5 @@
 -- A tick comes at one place more.
-use Rattle.std.proofs.Common.{◌≡◌, ℕ, suc, ◌+◌, ◌<◌, List, length, set, drop, get_or, Some, false, sym, ◌∙◌, ap, subst, arith, add-one}
+use Rattle.std.proofs.Common.{◌≡◌, ℕ, suc, ◌+◌, ◌<◌, List, length, set, drop, get_or, Some, false, sym, ◌∙◌, ap, subst, arith, add-one, rules}
 use Rattle.std.specs.Prelude.{slice_get}
 use Rattle.std.proofs.lemmas.Option.{slice_get-get_or}
 use Rattle.file_store.specs.EntriesKept.{KeepsComplete}
@@ -14,11 +14,7 @@ use Rattle.ftl0_server.proofs.TickLemmas.{all-works, may-tick, quiet-later, tick
 use Rattle.ftl0_server.proofs.places.tick_all.Goals as goal
 
 pub tick-requires : goal.tick-requires
-tick-requires c =
-    let lt : c.loop-i.i < length c.loop-i.places = omega arith in
-    let at = slice_get-get_or c.loop-i.places c.loop-i.i c.index-places-i.result lt in
-    let working = c.loop-i.invariant.working in
-    may-tick working.0 working.1 c.loop-i.store c.loop-i.places c.loop-i.i (get_or c.loop-i.places c.loop-i.i c.index-places-i.result) at working.2 c.loop-i.invariant.silent
+tick-requires c = search (rules, arith, slice_get-get_or, may-tick)
 
 pub loop-i-preserved : goal.loop-i-preserved
 loop-i-preserved c =

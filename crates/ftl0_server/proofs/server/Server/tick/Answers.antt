@@ -22,8 +22,7 @@ invariant_of-self g c = record {
 pub returns-clause-ticks : goal.returns-clause-ticks
 returns-clause-ticks g c = λ server is.
     let was = rw (sym c.self.view_is) at is in
-    server-ticked (server_state c.self.inside) server c.tick_all.new.places c.tick_all.new.store was
-    (c.tick_all.ensures.ticks server.window server.slots (all-are (server_state c.self.inside) server was)) c.tick_all.ensures.store
+    let all = all-are (server_state c.self.inside) server was in grind (arith, common_steps, server-ticked)
 
 pub returns-clause-happens : goal.returns-clause-happens
 returns-clause-happens g c = λ server is.
