@@ -1,6 +1,6 @@
 -- Facts of each place of a server and the slot at it.
 use Rattle.std.proofs.lemmas.Grind.{common_steps}
-use Rattle.std.proofs.Common.{◌≡◌, ◌≢◌, ℕ, zero, suc, ◌+◌, List, [], ◌∷◌, length, set, map, Bool, false, not, cond, None, Some, refl, sym, ◌∙◌, ap, subst, arith}
+use Rattle.std.proofs.Common.{◌≡◌, ◌≢◌, ℕ, zero, suc, ◌+◌, List, [], ◌∷◌, length, set, Bool, false, not, cond, None, Some, refl, sym, ◌∙◌, ap, subst, arith}
 use Rattle.std.specs.Prelude.{slice_get}
 use Rattle.std.specs.List.{position, prefix_len}
 use Rattle.std.proofs.lemmas.Option.{same_Some}
@@ -50,14 +50,6 @@ module _ (P : Place → Slot → Type 0) where
   all-length [] (s ∷ ss) all = absurd all
   all-length (p ∷ ps) [] all = absurd all
   all-length (p ∷ ps) (s ∷ ss) all = ap suc (all-length ps ss all.1)
-
-  -- the same fact of the slots that they become
-  pub all-map : (change : Slot → Slot) (places : List Place) (slots : List Slot)
-      → AllPlaces (λ place slot. P place (change slot)) places slots → AllPlaces P places (map change slots)
-  all-map change [] [] all = tt
-  all-map change [] (s ∷ ss) all = absurd all
-  all-map change (p ∷ ps) [] all = absurd all
-  all-map change (p ∷ ps) (s ∷ ss) all = (all.0, all-map change ps ss all.1)
 
   module _ (Q : Place → Slot → Type 0) where
     -- one fact gives another at each index

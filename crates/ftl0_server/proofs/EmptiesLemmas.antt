@@ -58,7 +58,7 @@ module _ (w : Window) where
   end-less end slot each None is fits x sends = absurd (never x sends)
   end-less end slot each (Some sending) is fits x sends =
       let s = next_sending-Sends w end sending fits is in
-      subst (λ (y : SlotSends). SlotLess (left_to_send end) y) (same_Some (slot_sends slot sending) x sends) (each sending.after s.fits s.less)
+      let it = each sending.after s.fits s.less in grind (arith, common_steps)
 
   slot-less : (s : Slot) → SlotFits w s → (x : SlotSends) → slot_next w s ≡ Some x → SlotLess (slot_left s) x
   slot-less s fits x sends = grind (arith, common_steps, never, end-less)
@@ -70,14 +70,8 @@ module _ (w : Window) where
       → ((y : PlacesSend) → l ≡ Some y → PlacesLess (slots_left ss) y) → SlotFits w s → SlotsFit w ss → (z : PlacesSend) → first_of s ss o l ≡ Some z
       → PlacesLess (slot_left s + slots_left ss) z
   first-less s ss None None first later fits all z sends = absurd (never z sends)
-  first-less s ss None (Some y) first later fits all z sends =
-      let of = later y refl in
-      let less : slots_left y.after < slots_left ss = of.1 in
-      subst (λ (v : PlacesSend). PlacesLess (slot_left s + slots_left ss) v) (same_Some _ z sends) ((fits, of.0), omega (arith, less))
-  first-less s ss (Some x) l first later fits all z sends =
-      let of = first x refl in
-      let less : slot_left x.after < slot_left s = of.1 in
-      subst (λ (v : PlacesSend). PlacesLess (slot_left s + slots_left ss) v) (same_Some _ z sends) ((of.0, all), omega (arith, less))
+  first-less s ss None (Some y) first later fits all z sends = let of = later y refl in grind (arith, common_steps)
+  first-less s ss (Some x) l first later fits all z sends = let of = first x refl in grind (arith, common_steps)
 
   places-less : (slots : List Slot) → SlotsFit w slots → (z : PlacesSend) → places_next w slots ≡ Some z → PlacesLess (slots_left slots) z
   places-less [] fits z sends = absurd (never z sends)
@@ -104,9 +98,7 @@ by_places : (server : Server) (o : Option PlacesSend) → places_next server.win
     → SlotsFit server.window server.slots → (sends : ServerSends) → sends_of_places server o ≡ Some sends → ServerLess (server_left server) sends
 by_places server None is none fits sends gives = absurd (never sends gives)
 by_places server (Some z) is none fits sends gives =
-    let of = places-less server.window server.slots fits z is in
-    let less : slots_left server.window z.after < slots_left server.window server.slots = of.1 in
-    subst (λ (v : ServerSends). ServerLess (server_left server) v) (same_Some _ sends gives) (of.0, omega (arith, less))
+    let of = places-less server.window server.slots fits z is in grind (arith, common_steps)
 
 pub by_stray : (server : Server) (o : Option Refused) → server.stray ≡ o → SlotsFit server.window server.slots → (sends : ServerSends)
     → sends_by server o ≡ Some sends → ServerLess (server_left server) sends

@@ -19,14 +19,14 @@ use Rattle.ftl0_session.specs.Lists.Lists.{CallerList}
 use Rattle.file_store.specs.Command.{after_all}
 use Rattle.file_store.specs.Store.{Store}
 use Rattle.node.specs.Events.{NodeEvent}
-use Rattle.ftl0_session.specs.Uploads.Failures.{Failure, write_fails}
+use Rattle.ftl0_session.specs.Uploads.Failures.{Failure}
 use Rattle.ftl0_packets.specs.Items.{texts}
 use Rattle.ftl0_session.specs.Table.{Row, State, row_at}
 use Rattle.ftl0_session.specs.Run.{session_over}
 use Rattle.ftl0_server.specs.Connection.Connected.{Connected}
 use Rattle.ftl0_server.specs.Connection.Hearing.{hearing, parts_as, parts_of_frame, ticking, with_end}
 use Rattle.ftl0_server.specs.Connection.Laws.{QueuedLaw}
-use Rattle.ftl0_server.specs.Connection.Taking.{Progress, after_row, failing_at, fits}
+use Rattle.ftl0_server.specs.Connection.Taking.{Progress, after_row, failing_at}
 use Rattle.ftl0_server.specs.Connection.Taking.{giving_up, queued, queuing, taking}
 use Rattle.ftl0_server.specs.Laws.{AreQueued, SlotFits, SlotsFit, SomeStepLaw}
 use Rattle.ftl0_server.specs.Server.{IsSilent, Refused, Server, ServerHappened, ServerSends, hearing_at}
@@ -75,10 +75,9 @@ module _ (w : Window) where
   taking-fits caller moment store lists state end [] failures part is = is
   taking-fits caller moment store lists state end (item ∷ items) failures part is =
       let row : Row = row_at caller moment store lists state item failures part in
-      given-fits end state lists part row (write_fails failures part) (fits end (texts row.replies))
-      (taking caller moment (session_over (after_all store row.commands) row.lists row.state) (after_push end (texts row.replies)) items failures (suc part)) is
-      (taking-fits caller moment (after_all store row.commands) row.lists row.state (after_push end (texts row.replies)) items failures (suc part)
-      (after_push-IsEnd w end (texts row.replies) is))
+      let pushed = after_push-IsEnd w end (texts row.replies) is in
+      let later = taking-fits caller moment (after_all store row.commands) row.lists row.state (after_push end (texts row.replies)) items failures (suc part) pushed in
+      grind (arith, common_steps)
 
   -- after what is due was queued
   queuing-fits : (store : Store) (failures : List Failure) (count : ℕ) (progress : Progress) → IsEnd w progress.end

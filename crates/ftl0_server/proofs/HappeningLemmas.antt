@@ -1,7 +1,7 @@
 -- What an event makes of a server: where no write and no sync fails no commands are cut off, and the store is the one
 -- after its commands.
 use Rattle.std.proofs.lemmas.Grind.{common_steps}
-use Rattle.std.proofs.Common.{◌≡◌, ℕ, suc, List, [], ◌∷◌, Bool, Option, None, Some, refl, ap, sym, ◌∙◌, subst, arith}
+use Rattle.std.proofs.Common.{◌≡◌, ℕ, suc, List, [], ◌∷◌, Bool, Option, None, Some, refl, ap, ◌∙◌, arith}
 use Rattle.std.specs.Prelude.{if◌then◌else◌}
 use Rattle.px_base.specs.CallSign.{CallSign}
 use Rattle.ax25_frames.specs.FrameText.{FrameValue}
@@ -17,7 +17,7 @@ use Rattle.ftl0_session.proofs.WorkingLemmas.{writes-unlisted}
 use Rattle.file_store.specs.Command.{after_all}
 use Rattle.file_store.specs.Store.{Store}
 use Rattle.node.specs.Events.{NodeEvent}
-use Rattle.ftl0_server.specs.Connection.Taking.{Progress, after_row, fits, giving_up, taking, taking_row}
+use Rattle.ftl0_server.specs.Connection.Taking.{Progress, after_row, taking}
 use Rattle.ftl0_server.specs.Server.{Refused, Server, ServerSends, hearing_at, sends_by}
 use Rattle.ftl0_server.specs.ServerStep.{Empties, happening}
 use Rattle.ftl0_server.specs.Slots.{Slot, connected, free, leaving}
@@ -35,10 +35,8 @@ module _ (parts : List ℕ) where
   taking-uncut caller moment store lists state end [] part = refl
   taking-uncut caller moment store lists state end (item ∷ items) part =
       let row : Row = row_at caller moment store lists state item (failed_reads parts) part in
-      let later : Progress = taking caller moment (session_over (after_all store row.commands) row.lists row.state) (after_push end (texts row.replies)) items (failed_reads parts) (suc part) in
-      subst (λ (b : Bool). (taking_row end state lists part b later row).cut ≡ []) (sym (writes-unlisted parts part))
-      (fit-uncut row (fits end (texts row.replies)) later (giving_up end row part)
-      (taking-uncut caller moment (after_all store row.commands) row.lists row.state (after_push end (texts row.replies)) items (suc part)) refl)
+      let later = taking-uncut caller moment (after_all store row.commands) row.lists row.state (after_push end (texts row.replies)) items (suc part) in
+      let unlisted = writes-unlisted parts part in grind (arith, common_steps)
 
   at-uncut : (server : Server) (frame : FrameValue) (moment place : ℕ) (slot : Option Slot) → (hearing_at server frame moment (failed_reads parts) place slot).cut ≡ []
   at-uncut server frame moment place None = refl

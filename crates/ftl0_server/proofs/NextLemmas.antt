@@ -12,7 +12,7 @@ use Rattle.ftl0_server.specs.Calls.{SamePlaces}
 use Rattle.ftl0_server.specs.Places.{GivesOut, PlacesGive, SamePlace}
 use Rattle.ftl0_server.specs.declared.place.Place.{Place}
 use Rattle.ftl0_server.specs.ServerState.{AllPlaces, SendsAs, any_pending, place_most, place_pending, places_most}
-use Rattle.ftl0_server.specs.Slots.{PlacesSend, Slot, SlotSends, first_of, places_next}
+use Rattle.ftl0_server.specs.Slots.{PlacesSend, Slot, first_of, places_next}
 use Rattle.ftl0_server.specs.Slots.{slot_next}
 use Rattle.ftl0_server.proofs.AllPlaces.{never}
 
@@ -40,9 +40,7 @@ quiet-places w [] (s ∷ ss) all none = absurd all
 quiet-places w (p ∷ ps) [] all none = absurd all
 quiet-places w (p ∷ ps) (s ∷ ss) all none =
     let parts = none_first (place_pending p) (any_pending ps) none in
-    let here = quiet-slot w p s all.0 parts.0 in
-    let later = quiet-places w ps ss all.1 parts.1 in
-    ap (λ (o : Option SlotSends). first_of s ss o (places_next w ss)) here ∙ ap (λ (o : Option PlacesSend). first_of s ss None o) later
+    rw (quiet-slot w p s all.0 parts.0, quiet-places w ps ss all.1 parts.1)
 
 module _ (w : Window) (new : Place) (before out : List ℕ) where
   later-gives : (p : Place) (s : Slot) (ps : List Place) (ss : List Slot) (o : Option PlacesSend) → SendsAs w p s → PlacesGive o w ps out true
@@ -58,18 +56,7 @@ module _ (w : Window) (new : Place) (before out : List ℕ) where
   next-at (p ∷ ps) (s ∷ ss) zero old all at none gives = grind (arith, common_steps)
   next-at (p ∷ ps) (s ∷ ss) (suc i) old all at none gives =
       let parts = none_first (place_pending p) (any_pending (take i ps)) none in
-      let here = quiet-slot w p s all.0 parts.0 in
-      subst (λ (o : Option SlotSends). PlacesGive (first_of s ss o (places_next w ss)) w (p ∷ set ps i new) out true) (sym here)
-      (later-gives p s (set ps i new) ss (places_next w ss) all.0 (next-at ps ss i old all.1 at parts.1 gives))
-
-or-later : (a b : Bool) → b ≡ true → (a || b) ≡ true
-or-later a b is = grind (arith, common_steps)
-
--- one of the places is pending
-pub pending-at : (places : List Place) (i : ℕ) (old : Place) → slice_get places i ≡ Some old → place_pending old ≡ true → any_pending places ≡ true
-pending-at [] i old at is = absurd (never old at)
-pending-at (p ∷ ps) zero old at is = grind (arith, common_steps)
-pending-at (p ∷ ps) (suc i) old at is = or-later (place_pending p) (any_pending ps) (pending-at ps i old at is)
+      rw (quiet-slot w p s all.0 parts.0) (later-gives p s (set ps i new) ss (places_next w ss) all.0 (next-at ps ss i old all.1 at parts.1 gives))
 
 -- fewer frames are left of all places where fewer are of one
 pub most-at : (places : List Place) (i : ℕ) (old new : Place) → slice_get places i ≡ Some old → place_most new < place_most old

@@ -1,10 +1,9 @@
 -- Between the events of a server all that is due was queued, as far as there was room.
 use Rattle.std.proofs.lemmas.Grind.{common_steps}
 use Rattle.std.proofs.Common.{◌≡◌, ℕ, zero, suc, ◌-◌, List, [], ◌∷◌, ◌++◌, length, set, drop, map, Bool}
-use Rattle.std.proofs.Common.{true, false, Option, None, Some, refl, ◌∙◌, ap, subst, append_assoc}
+use Rattle.std.proofs.Common.{true, false, Option, None, Some, refl, ap, subst}
 use Rattle.std.proofs.Common.{take-append-drop, arith}
 use Rattle.std.specs.Prelude.{if◌then◌else◌}
-use Rattle.std.specs.List.{concat}
 use Rattle.std.specs.Option.{option_map}
 use Rattle.std.proofs.lemmas.List.{drop-append-le}
 use Rattle.std.proofs.lemmas.Option.{same_Some}
@@ -44,13 +43,8 @@ piece-held w end fits =
     let piece = after_new-HasPiece end in
     let out : drop end.acked (end.sent ++ next_piece end ∷ []) ≡ drop end.acked end.sent ++ next_piece end ∷ [] =
     drop-append-le end.acked end.sent (next_piece end ∷ []) fits.acked in
-    ap (λ (n : ℕ). concat (drop n (after_new end).sent) ++ (after_new end).queued) piece.acked
-    ∙ ap (λ (pieces : List (List ℕ)). concat (drop end.acked pieces) ++ (after_new end).queued) piece.sent
-    ∙ ap (λ (octets : List ℕ). concat (drop end.acked (end.sent ++ next_piece end ∷ [])) ++ octets) piece.queued
-    ∙ ap (λ (pieces : List (List ℕ)). concat pieces ++ drop most_information end.queued) out
-    ∙ ap (λ (octets : List ℕ). octets ++ drop most_information end.queued) (concat-append_one (drop end.acked end.sent) (next_piece end))
-    ∙ append_assoc (concat (drop end.acked end.sent)) (next_piece end) (drop most_information end.queued)
-    ∙ ap (λ (octets : List ℕ). concat (drop end.acked end.sent) ++ octets) (take-append-drop most_information end.queued)
+    let joined = concat-append_one (drop end.acked end.sent) (next_piece end) in
+    let back = take-append-drop most_information end.queued in grind (arith, common_steps)
 
 module _ (w : Window) (end : LinkEnd) (fits : IsEnd w end) where
   -- what is sent leaves the end with as many free octets

@@ -15,7 +15,7 @@ use Rattle.file_store.specs.State.{StoreState, store_in}
 use Rattle.file_store.specs.Upload.{entry_for}
 use Rattle.ftl0_session.specs.Uploads.Others.{KeepsOtherCallers}
 use Rattle.ftl0_session.specs.Uploads.Session.{is_same_call, receiving}
-use Rattle.ftl0_session.specs.Uploads.SessionState.{NoOtherOut, PhaseIsHeld, number_of, state_of}
+use Rattle.ftl0_session.specs.Uploads.SessionState.{NoOtherOut, PhaseIsHeld, state_of}
 use Rattle.ftl0_session.specs.declared.uploads.phase.Phase.{Phase}
 use Rattle.ftl0_session.specs.declared.uploads.phase.Phase.TheVariants as phase
 use Rattle.ftl0_session.proofs.uploads.UploadRows.{same_call-decides}
@@ -140,9 +140,7 @@ module _ (me : CallSign) (k : ℕ) (before now : StoreState) (places : List Plac
       → NoOtherOut now (caller_of c.session) number
   goes_on-own d on number is =
       let here = slice_get-set_same places i (Talking d) (slice_get_within places i (Talking c) at) in
-      let the_number = is.0 i d here on.caller in
-      subst (λ (x : Option ℕ). NoOtherOut now (caller_of c.session) x) (sym the_number)
-      (subst (λ (x : CallSign). NoOtherOut now x (number_of d.session.uploads.phase)) on.caller on.only)
+      let the_number = is.0 i d here on.caller in grind (arith, common_steps)
 
   pub settled-goes_on : (d : ConnectionState) → GoesOn now c d → IsSettled me k now (set places i (Talking d))
   settled-goes_on d on = search (rules, arith, settled-set, goes_on-same, goes_on-seat, goes_on-own)

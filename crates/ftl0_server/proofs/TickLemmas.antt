@@ -1,7 +1,7 @@
 -- Ticks at the first places of a server.
 use Rattle.std.proofs.lemmas.Grind.{common_steps}
 use Rattle.std.proofs.Common.{◌≡◌, ℕ, zero, suc, List, [], ◌∷◌, length, set, drop, map, false, Some, refl, sym, ap}
-use Rattle.std.proofs.Common.{subst, arith}
+use Rattle.std.proofs.Common.{arith}
 use Rattle.std.specs.Prelude.{slice_get}
 use Rattle.std.proofs.lemmas.Option.{same_Some}
 use Rattle.px_base.specs.CallSign.{CallSign}
@@ -53,10 +53,7 @@ pub own-only : (me : CallSign) (k : ℕ) (store : StoreState) (places : List Pla
     → IsSettled me k store places → IsOnlyOut store c.session.uploads
 own-only me k store places i c at settled =
     settled.only (caller_of c.session) (number_of c.session.uploads.phase) (
-      λ j d there same.
-          let here : j ≡ i = settled.distinct j i d c there at same in
-          let one : d ≡ c = same-at places i d c (subst (λ (n : ℕ). IsAt places n d) here there) at in
-          ap (λ (x : ConnectionState). number_of x.session.uploads.phase) (sym one),
+      λ j d there same. let here : j ≡ i = settled.distinct j i d c there at same in grind (arith, common_steps, same-at),
       λ nobody. absurd (nobody i c at refl),
     )
 
