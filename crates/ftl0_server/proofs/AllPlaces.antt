@@ -1,6 +1,6 @@
 -- Facts of each place of a server and the slot at it.
 use Rattle.std.proofs.lemmas.Grind.{common_steps}
-use Rattle.std.proofs.Common.{◌≡◌, ◌≢◌, ℕ, zero, suc, ◌+◌, List, [], ◌∷◌, length, set, Bool, false, not, cond, None, Some, refl, sym, ◌∙◌, ap, subst, arith}
+use Rattle.std.proofs.Common.{◌≡◌, ◌≢◌, ℕ, zero, suc, List, [], ◌∷◌, length, set, Bool, false, not, None, Some, refl, sym, ap, subst, arith}
 use Rattle.std.specs.Prelude.{slice_get}
 use Rattle.std.specs.List.{position, prefix_len}
 use Rattle.std.proofs.lemmas.Option.{same_Some}
@@ -89,10 +89,7 @@ module _ (p : Place → Bool) (q : Slot → Bool) where
   same-front [] [] all = refl
   same-front [] (s ∷ ss) all = absurd all
   same-front (x ∷ xs) [] all = absurd all
-  same-front (x ∷ xs) (s ∷ ss) all =
-      let later = same-front xs ss all.1 in
-      let F : Bool → ℕ → ℕ = λ b n. cond (not b) (1 + n) 0 in
-      ap (λ (b : Bool). F b (prefix_len (λ (y : Place). not (p y)) xs)) all.0 ∙ ap (λ (n : ℕ). F (q s) n) later
+  same-front (x ∷ xs) (s ∷ ss) all = let later = same-front xs ss all.1 in grind (arith, common_steps)
 
   pub same-position : (places : List Place) (slots : List Slot) → AllPlaces (λ place slot. p place ≡ q slot) places slots
       → position p places ≡ position q slots

@@ -114,18 +114,14 @@ pub emptied : (fuel : ℕ) (server : Server) → SlotsFit server.window server.s
 emptied zero server fits few =
     elim (option_cases (server_next server)) [
       | inl none ↦ ([], server, (none, refl))
-      | inr some ↦
-          let of = by_stray server server.stray refl fits some.0 some.1 in
-          let less : server_left some.0.after < server_left server = of.1 in
-          absurd (let x : ⊥ = omega (arith, less, few) in x)
+      | inr some ↦ let of = by_stray server server.stray refl fits some.0 some.1 in absurd (omega (arith, of.1, few))
     ]
 emptied (suc fuel) server fits few =
     elim (option_cases (server_next server)) [
       | inl none ↦ ([], server, (none, refl))
       | inr some ↦
           let of = by_stray server server.stray refl fits some.0 some.1 in
-          let less : server_left some.0.after < server_left server = of.1 in
-          let rest = emptied fuel some.0.after of.0 (omega (arith, less, few)) in
+          let rest = emptied fuel some.0.after of.0 (omega (arith, of.1, few)) in
           (some.0.frame ∷ rest.0, rest.1, (some.0, some.1, refl, rest.2))
     ]
 

@@ -2,14 +2,13 @@
 use Rattle.std.proofs.Common.{◌≡◌, ℕ, zero, suc, List, [], ◌∷◌, set, map, Bool, Option, None, Some, rules}
 use Rattle.std.proofs.Common.{refl, sym, ap₂, subst, arith}
 use Rattle.std.proofs.lemmas.Grind.{common_steps}
-use Rattle.std.specs.Prelude.{if◌then◌else◌, slice_get}
+use Rattle.std.specs.Prelude.{slice_get}
 use Rattle.std.specs.Option.{option_map}
 use Rattle.std.proofs.lemmas.Option.{same_Some}
 use Rattle.px_base.specs.CallSign.{CallSign}
 use Rattle.ax25_frames.specs.FrameText.{FrameValue}
 use Rattle.ax25_link.specs.Calls.{after_push}
 use Rattle.ax25_link.specs.Ends.{IsEnd, LinkEnd}
-use Rattle.ax25_link.specs.Rows.{after_frame, heard_of}
 use Rattle.ax25_link.specs.Sending.{Sending, next_sending}
 use Rattle.ax25_link.specs.Window.{Window}
 use Rattle.ax25_link.specs.declared.state.Heard.{Heard}
@@ -24,17 +23,17 @@ use Rattle.ftl0_packets.specs.Items.{texts}
 use Rattle.ftl0_session.specs.Table.{Row, State, row_at}
 use Rattle.ftl0_session.specs.Run.{session_over}
 use Rattle.ftl0_server.specs.Connection.Connected.{Connected}
-use Rattle.ftl0_server.specs.Connection.Hearing.{hearing, parts_as, parts_of_frame, ticking, with_end}
+use Rattle.ftl0_server.specs.Connection.Hearing.{parts_as, ticking, with_end}
 use Rattle.ftl0_server.specs.Connection.Laws.{QueuedLaw}
-use Rattle.ftl0_server.specs.Connection.Taking.{Progress, after_row, failing_at}
-use Rattle.ftl0_server.specs.Connection.Taking.{giving_up, queued, queuing, taking}
+use Rattle.ftl0_server.specs.Connection.Taking.{Progress}
+use Rattle.ftl0_server.specs.Connection.Taking.{queued, queuing, taking}
 use Rattle.ftl0_server.specs.Laws.{AreQueued, SlotFits, SlotsFit, SomeStepLaw}
 use Rattle.ftl0_server.specs.Server.{IsSilent, Refused, Server, ServerHappened, ServerSends, hearing_at}
 use Rattle.ftl0_server.specs.Server.{hearing_by, hearing_stranger, sends_by, settled}
 use Rattle.ftl0_server.specs.ServerStep.{Empties, happening, stepped}
 use Rattle.ftl0_server.specs.Slots.{PlacesSend, Slot, SlotSends, all_freed, connected, first_of, free}
 use Rattle.ftl0_server.specs.Slots.{freed, leaving, left_by}
-use Rattle.ftl0_server.specs.Slots.{places_next, slot_after, slot_next, slot_sends, slot_ticking}
+use Rattle.ftl0_server.specs.Slots.{places_next, slot_next, slot_sends, slot_ticking}
 use Rattle.ftl0_server.proofs.AllPlaces.{never}
 use Rattle.ftl0_server.proofs.connection.QueuingLemmas.{queuing-holds}
 use Rattle.ftl0_server.proofs.EmptiesLemmas.{by_stray, emptied, server_left}
@@ -64,11 +63,6 @@ silent-settled server h = silent_by server server.stray h
 -- ---- ends
 
 module _ (w : Window) where
-  given-fits : (end : LinkEnd) (state : State) (lists : List CallerList) (part : ℕ) (row : Row) (failed enough : Bool) (later : Progress) → IsEnd w end
-      → IsEnd w later.end
-      → IsEnd w (if failed then failing_at end state lists row part else if enough then after_row row later else giving_up end row part).end
-  given-fits end state lists part row failed enough later is last = grind (arith, common_steps)
-
   -- after packets
   taking-fits : (caller : CallSign) (moment : ℕ) (store : Store) (lists : List CallerList) (state : State) (end : LinkEnd) (items : List Item)
       (failures : List Failure) (part : ℕ) → IsEnd w end → IsEnd w (taking caller moment (session_over store lists state) end items failures part).end
@@ -147,11 +141,7 @@ at-fits server frame moment failures place (Some (connected c)) at quiet all =
     let w = server.window in
     let fit = fits-at w server.slots place (connected c) all at in
     let still = quiet-sending w c (next_sending w c.end) (quiet-at w server.slots place (connected c) quiet at) in
-    let happened = hearing w moment server.store server.lists c frame failures in
-    let heard = queued-fits w server.store failures (parts_of_frame w moment server.store server.lists c frame failures)
-    (heard-fits w (heard_of w c.end frame) moment server.store server.lists c (after_frame w c.end frame) frame.kind.information failures
-    (after_frame-IsEnd w c.end frame fit still)) in
-    fits-set w server.slots place (slot_after happened) all (left-fits w happened.over happened.after heard)
+    let after = after_frame-IsEnd w c.end frame fit still in search (rules, arith, queued-fits, heard-fits, fits-set, left-fits)
 
 by-fits : (server : Server) (frame : FrameValue) (moment : ℕ) (failures : List Failure) (place : Option ℕ) → places_next server.window server.slots ≡ None
     → IsFit server → IsFit (hearing_by server frame moment failures place).after

@@ -17,17 +17,13 @@ use Rattle.ftl0_session.proofs.WorkingLemmas.{writes-unlisted}
 use Rattle.file_store.specs.Command.{after_all}
 use Rattle.file_store.specs.Store.{Store}
 use Rattle.node.specs.Events.{NodeEvent}
-use Rattle.ftl0_server.specs.Connection.Taking.{Progress, after_row, taking}
+use Rattle.ftl0_server.specs.Connection.Taking.{taking}
 use Rattle.ftl0_server.specs.Server.{Refused, Server, ServerSends, hearing_at, sends_by}
 use Rattle.ftl0_server.specs.ServerStep.{Empties, happening}
 use Rattle.ftl0_server.specs.Slots.{Slot, connected, free, leaving}
 use Rattle.ftl0_server.proofs.QueuedLemmas.{queued-alone}
 
 -- ---- where no write and no sync fails no commands are cut off
-
--- by whether the replies fit
-fit-uncut : (row : Row) (b : Bool) (later otherwise : Progress) → later.cut ≡ [] → otherwise.cut ≡ [] → (if b then after_row row later else otherwise).cut ≡ []
-fit-uncut row b later otherwise h k = grind (arith, common_steps)
 
 module _ (parts : List ℕ) where
   taking-uncut : (caller : CallSign) (moment : ℕ) (store : Store) (lists : List CallerList) (state : State) (end : LinkEnd) (items : List Item) (part : ℕ)

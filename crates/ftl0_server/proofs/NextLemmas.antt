@@ -1,11 +1,11 @@
 -- What the places of a server send next.
 use Rattle.std.proofs.lemmas.Grind.{common_steps}
 use Rattle.std.proofs.Common.{◌≡◌, ℕ, zero, suc, ◌<◌, List, [], ◌∷◌, set, take, Bool, true, false}
-use Rattle.std.proofs.Common.{Option, None, Some, refl, sym, ◌∙◌, ap, subst, arith}
+use Rattle.std.proofs.Common.{Option, None, Some, refl, sym, subst, arith}
 use Rattle.std.specs.Prelude.{slice_get, ◌||◌}
 use Rattle.std.proofs.lemmas.Option.{same_Some}
 use Rattle.ax25_link.specs.Ends.{LinkEnd}
-use Rattle.ax25_link.specs.Kept.{Kept, StandsFor, is_pending, kept_of}
+use Rattle.ax25_link.specs.Kept.{is_pending, kept_of}
 use Rattle.ax25_link.specs.Sending.{next_sending}
 use Rattle.ax25_link.specs.Window.{Window}
 use Rattle.ftl0_server.specs.Calls.{SamePlaces}
@@ -21,10 +21,6 @@ true_no same = absurd (let x : ⊥ = cc in x)
 
 quiet-end : (w : Window) (end : LinkEnd) → is_pending (kept_of w end) ≡ false → next_sending w end ≡ None
 quiet-end w end none = grind (arith, common_steps)
-
--- a link with nothing pending sends nothing
-pub quiet-link : (w : Window) (link : Kept) (end : LinkEnd) → StandsFor w link end → is_pending link ≡ false → next_sending w end ≡ None
-quiet-link w link end stands none = quiet-end w end (ap (λ (x : Kept). is_pending x) (sym stands.kept) ∙ none)
 
 pub quiet-slot : (w : Window) (place : Place) (slot : Slot) → SendsAs w place slot → place_pending place ≡ false → slot_next w slot ≡ None
 quiet-slot w = grind (arith, common_steps)

@@ -1,14 +1,14 @@
 -- Frames are given out, and then nothing is pending.
 use Rattle.std.proofs.lemmas.Grind.{common_steps}
 use Rattle.std.proofs.Common.{◌≡◌, ℕ, zero, suc, List, [], ◌∷◌, map, Bool, true, false, Option, None, Some, sym, rules}
-use Rattle.std.proofs.Common.{◌∙◌, ap, subst, arith}
+use Rattle.std.proofs.Common.{◌∙◌, subst, arith}
 use Rattle.std.specs.Prelude.{⊤}
 use Rattle.std.proofs.lemmas.Option.{same_Some}
 use Rattle.px_base.specs.CallSign.{CallSign}
 use Rattle.ax25_frames.specs.FrameText.{FrameText, canonical}
 use Rattle.ax25_link.specs.Refusals.{refusal_frame}
 use Rattle.ax25_link.specs.Window.{Window}
-use Rattle.file_store.specs.State.{StoreState, store_in}
+use Rattle.file_store.specs.State.{StoreState}
 use Rattle.ftl0_server.specs.Connection.ConnectionState.{ConnectionState}
 use Rattle.ftl0_server.specs.declared.place.Place.{Place}
 use Rattle.ftl0_server.specs.declared.place.Place.TheVariants.{Talking}
@@ -81,18 +81,12 @@ module _ (old new : ServerState) (server : Server) (before now : List ℕ) (answ
   places-next : (o : Option PlacesSend) → IsServer old server → AllSay old.store old.places o → PlacesGive o server.window new.places now answer
       → HandsOut IsServer (sends_of_places server o) old new before now answer
   places-next None is say gives = (gives, (none gives).0, (none gives).1)
-  places-next (Some sends) is say gives = (
-    gives.0,
-    record {
-      sends = sends-after sends.after is.sends gives.1;
-      says =
-          subst (λ (s : StoreState). AllPlaces (SaysAs s) new.places sends.after) (sym store) (all-same-say old.store old.places new.places sends.after same say);
-      store = ap (λ (s : StoreState). store_in s) store ∙ is.store;
-      lists = lists ∙ is.lists;
-    },
-    gives.2,
-    gives.3,
-  )
+  places-next (Some sends) is say gives =
+      let all = all-same-say old.store old.places new.places sends.after same say in
+      let after = sends-after sends.after is.sends gives.1 in
+      let stands : IsServer new (record server { slots = sends.after }) =
+      record { sends = after; says = rw store all; store = rw store is.store; lists = lists ∙ is.lists } in
+      (gives.0, stands, gives.2, gives.3)
 
   pub places-out-sends : SendsFor old server → PlacesGive (places_next server.window server.slots) server.window new.places now answer
       → HandsOut SendsFor (server_next server) old new before now answer

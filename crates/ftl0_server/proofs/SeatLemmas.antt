@@ -18,7 +18,7 @@ use Rattle.ftl0_server.specs.declared.place.Place.TheVariants.{Talking}
 use Rattle.ftl0_server.specs.Calls.{IsNew}
 use Rattle.ftl0_server.specs.Kept.{IsAt, IsSeated, IsSettled, IsUploadOf}
 use Rattle.ftl0_server.specs.Server.{Server, with_slot}
-use Rattle.ftl0_server.specs.ServerState.{IsServer, ServerState, has_caller, is_empty_place}
+use Rattle.ftl0_server.specs.ServerState.{IsServer, ServerState, has_caller}
 use Rattle.ftl0_server.specs.Slots.{connected}
 use Rattle.ftl0_server.proofs.AllPlaces.{all-set, never}
 use Rattle.ftl0_server.proofs.SettledLemmas.{at-set, same-call}
@@ -85,10 +85,6 @@ module _ (me : CallSign) (k : ℕ) (store : StoreState) (places : List Place) (i
 -- a new connection of a server's is seated
 pub new-seated : (self : ServerState) (c : ConnectionState) → IsNew self c → IsSeated self.me self.k self.store c
 new-seated self c new = grind (arith, common_steps)
-
--- an empty place has no connection
-pub empty-none : (p : Place) → is_empty_place p ≡ true → (e : ConnectionState) → p ≡ Talking e → ⊥
-empty-none p is e same = grind (arith, common_steps)
 
 -- the server with a new connection at this place
 pub server-seated : (old : ServerState) (server : Server) (place : ℕ) (c : ConnectionState) (d : Connected) → IsServer old server

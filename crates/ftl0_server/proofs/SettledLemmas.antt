@@ -62,10 +62,6 @@ pub at-set : (places : List Place) (i j : ℕ) (p : Place) (c : ConnectionState)
 at-set places i j p c within at =
     grind (arith, common_steps, eqb_tells, same_Some, slice_get-set_same, slice_get-set_other)
 
--- the same connection at the same place
-pub same-at : (places : List Place) (i : ℕ) (one other : ConnectionState) → IsAt places i one → IsAt places i other → one ≡ other
-same-at places i one other at too = grind (arith, common_steps)
-
 pub leaving-no : (link : Kept) (c : ConnectionState) → Leaving link ≡ Talking c → ⊥
 leaving-no link c same = cc
 
@@ -103,7 +99,7 @@ module _ (me : CallSign) (k : ℕ) (before now : StoreState) (places : List Plac
 
       set-upload : (caller : CallSign) (number : Option ℕ) → caller ≢ caller_of old.session → IsUploadOf (set places i p) caller number
           → IsUploadOf places caller number
-      set-upload caller number ne is = grind (arith, common_steps, eqb_tells, same-at, slice_get-set_other, at-set)
+      set-upload caller number ne is = grind (arith, common_steps, eqb_tells, slice_get-set_other, at-set)
 
       pub settled-set : IsSettled me k now (set places i p)
       settled-set = record {

@@ -18,7 +18,7 @@ use Rattle.ftl0_server.specs.ServerState.{AllPlaces, any_pending, place_pending}
 use Rattle.ftl0_server.specs.Slots.{Slot, slot_ticking}
 use Rattle.ftl0_server.proofs.AllPlaces.{all-set-to, never}
 use Rattle.ftl0_server.proofs.NextLemmas.{none_first}
-use Rattle.ftl0_server.proofs.SettledLemmas.{same-at, says-kept}
+use Rattle.ftl0_server.proofs.SettledLemmas.{says-kept}
 
 -- a tick came at the first so many of these
 abbrev pub ticked : ℕ → List Slot → List Slot
@@ -53,7 +53,7 @@ pub own-only : (me : CallSign) (k : ℕ) (store : StoreState) (places : List Pla
     → IsSettled me k store places → IsOnlyOut store c.session.uploads
 own-only me k store places i c at settled =
     settled.only (caller_of c.session) (number_of c.session.uploads.phase) (
-      λ j d there same. let here : j ≡ i = settled.distinct j i d c there at same in grind (arith, common_steps, same-at),
+      λ j d there same. let here : j ≡ i = settled.distinct j i d c there at same in grind (arith, common_steps),
       λ nobody. absurd (nobody i c at refl),
     )
 

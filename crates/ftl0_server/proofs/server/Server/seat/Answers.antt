@@ -7,7 +7,7 @@ use Rattle.ftl0_session.specs.SessionState.{SessionState, caller_of}
 use Rattle.ftl0_server.specs.Kept.{server_state}
 use Rattle.ftl0_server.specs.ServerState.{is_empty_place}
 use Rattle.ftl0_server.proofs.HearLemmas.{found-passes, found-within}
-use Rattle.ftl0_server.proofs.SeatLemmas.{empty-none, new-seated, nobody, settled-seat}
+use Rattle.ftl0_server.proofs.SeatLemmas.{new-seated, nobody, settled-seat}
 use Rattle.ftl0_server.proofs.server.Server.seat.Goals as goal
 
 pub put-requires : goal.put-requires
@@ -21,6 +21,6 @@ invariant_of-self c =
     let empty = found-passes is_empty_place c.self.inside.places c.args.place c.index-places-place.result found in
     let none = nobody (caller_of c.args.connection.session) c.self.inside.places (rw (sym c.self.view_is) at c.requires.stranger) in
     let seated = settled-seat c.self.inside.me c.self.inside.k c.self.inside.store c.self.inside.places c.args.place c.args.connection within
-    (grind (arith, common_steps, empty-none)) c.self.invariant.settled none (new-seated (server_state c.self.inside) c.args.connection (rw (sym c.self.view_is) at c.requires.new))
+    (grind (arith, common_steps)) c.self.invariant.settled none (new-seated (server_state c.self.inside) c.args.connection (rw (sym c.self.view_is) at c.requires.new))
     (ap (λ (s : SessionState). number_of s.uploads.phase) c.requires.new.session) in
     record { settled = rw c.put.ensures seated; complete = c.self.invariant.complete }
