@@ -1,5 +1,6 @@
 -- Facts of each place of a server and the slot at it.
-use Rattle.std.proofs.Common.{◌≡◌, ◌≢◌, ℕ, zero, suc, ◌+◌, List, [], ◌∷◌, length, set, map, Bool, false, not, cond, nat_lt, Option, None, Some, refl, sym, ◌∙◌, ap, subst}
+use Rattle.std.proofs.lemmas.Grind.{common_steps}
+use Rattle.std.proofs.Common.{◌≡◌, ◌≢◌, ℕ, zero, suc, List, [], ◌∷◌, length, set, Bool, false, not, None, Some, refl, sym, ap, subst, arith}
 use Rattle.std.specs.Prelude.{slice_get}
 use Rattle.std.specs.List.{position, prefix_len}
 use Rattle.std.proofs.lemmas.Option.{same_Some}
@@ -25,15 +26,7 @@ suc_same j i same = cc
 pub sends-cases : (w : Window) (P : Place → Slot → Type 0) → P Free free → ((d : ConnectionState) (c : Connected) → StandsFor w d.link c.end → P (Talking d) (connected c))
     → ((link : Kept) → is_pending link ≡ false → P (Leaving link) free) → ((link : Kept) (c : Connected) → StandsFor w link c.end → P (Leaving link) (leaving c))
     → (p : Place) (s : Slot) → SendsAs w p s → P p s
-sends-cases w P none talks silent leaves Free free sends = none
-sends-cases w P none talks silent leaves Free (connected c) sends = absurd sends
-sends-cases w P none talks silent leaves Free (leaving c) sends = absurd sends
-sends-cases w P none talks silent leaves (Talking d) free sends = absurd sends
-sends-cases w P none talks silent leaves (Talking d) (connected c) sends = talks d c sends
-sends-cases w P none talks silent leaves (Talking d) (leaving c) sends = absurd sends
-sends-cases w P none talks silent leaves (Leaving link) free sends = silent link sends
-sends-cases w P none talks silent leaves (Leaving link) (connected c) sends = absurd sends
-sends-cases w P none talks silent leaves (Leaving link) (leaving c) sends = leaves link c sends
+sends-cases w P none talks silent leaves p s sends = grind (arith, common_steps)
 
 module _ (P : Place → Slot → Type 0) where
   -- what holds of the place at an index and its slot
@@ -57,14 +50,6 @@ module _ (P : Place → Slot → Type 0) where
   all-length [] (s ∷ ss) all = absurd all
   all-length (p ∷ ps) [] all = absurd all
   all-length (p ∷ ps) (s ∷ ss) all = ap suc (all-length ps ss all.1)
-
-  -- the same fact of the slots that they become
-  pub all-map : (change : Slot → Slot) (places : List Place) (slots : List Slot)
-      → AllPlaces (λ place slot. P place (change slot)) places slots → AllPlaces P places (map change slots)
-  all-map change [] [] all = tt
-  all-map change [] (s ∷ ss) all = absurd all
-  all-map change (p ∷ ps) [] all = absurd all
-  all-map change (p ∷ ps) (s ∷ ss) all = (all.0, all-map change ps ss all.1)
 
   module _ (Q : Place → Slot → Type 0) where
     -- one fact gives another at each index
@@ -104,15 +89,8 @@ module _ (p : Place → Bool) (q : Slot → Bool) where
   same-front [] [] all = refl
   same-front [] (s ∷ ss) all = absurd all
   same-front (x ∷ xs) [] all = absurd all
-  same-front (x ∷ xs) (s ∷ ss) all =
-      let later = same-front xs ss all.1 in
-      let F : Bool → ℕ → ℕ = λ b n. cond (not b) (1 + n) 0 in
-      ap (λ (b : Bool). F b (prefix_len (λ (y : Place). not (p y)) xs)) all.0 ∙ ap (λ (n : ℕ). F (q s) n) later
+  same-front (x ∷ xs) (s ∷ ss) all = let later = same-front xs ss all.1 in grind (arith, common_steps)
 
   pub same-position : (places : List Place) (slots : List Slot) → AllPlaces (λ place slot. p place ≡ q slot) places slots
       → position p places ≡ position q slots
-  same-position places slots all =
-      let front = same-front places slots all in
-      let size = all-length (λ place slot. p place ≡ q slot) places slots all in
-      let F : ℕ → ℕ → Option ℕ = λ n m. cond (nat_lt n m) (Some n) None in
-      ap (λ (n : ℕ). F n (length places)) front ∙ ap (λ (m : ℕ). F (prefix_len (λ (x : Slot). not (q x)) slots) m) size
+  same-position places slots all = grind (arith, common_steps, same-front, all-length)

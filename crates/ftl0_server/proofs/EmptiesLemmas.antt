@@ -1,4 +1,5 @@
 -- Each server comes to send nothing, by one list of frames.
+use Rattle.std.proofs.lemmas.Grind.{common_steps}
 use Rattle.std.proofs.Common.{◌≡◌, ◌⊎◌, ℕ, zero, suc, ◌+◌, ◌<◌, ◌≤◌, List, [], ◌∷◌, Option, None, Some, refl, sym, ◌∙◌}
 use Rattle.std.proofs.Common.{ap, subst, inl, inr, arith}
 use Rattle.std.specs.Option.{option_map}
@@ -9,13 +10,12 @@ use Rattle.ax25_link.specs.Kept.{count_of}
 use Rattle.ax25_link.specs.Sending.{Sending, next_sending}
 use Rattle.ax25_link.specs.Window.{Window}
 use Rattle.ax25_link.proofs.Offered.{left_to_send, next_sending-Sends}
-use Rattle.ftl0_server.specs.Connection.Hearing.{with_end}
 use Rattle.ftl0_server.specs.AtPlace.{AllFit, PlaceFits}
 use Rattle.ftl0_server.specs.declared.place.Place.{Place}
 use Rattle.ftl0_server.specs.Laws.{OneStepLaw, SlotFits, SlotsFit}
-use Rattle.ftl0_server.specs.Server.{Refused, Server, ServerSends, sends_by, sends_of_places, server_next, settled}
+use Rattle.ftl0_server.specs.Server.{Refused, Server, ServerSends, sends_by, sends_of_places, server_next}
 use Rattle.ftl0_server.specs.ServerState.{AllPlaces, SendsAs, SendsFor, ServerState}
-use Rattle.ftl0_server.specs.ServerStep.{Empties, stepped}
+use Rattle.ftl0_server.specs.ServerStep.{Empties}
 use Rattle.ftl0_server.specs.Slots.{PlacesSend, Slot, SlotSends, connected, first_of, free, leaving, places_next}
 use Rattle.ftl0_server.specs.Slots.{slot_next, slot_sends}
 use Rattle.ftl0_server.proofs.AllPlaces.{never, sends-cases}
@@ -34,17 +34,7 @@ one_way server (f ∷ frames) (e ∷ others) last another h g =
     ((let both : f ∷ frames ≡ e ∷ others = ap (λ (x : FrameValue). x ∷ frames) first ∙ ap (λ (l : List FrameValue). e ∷ l) rest.0 in both), rest.1)
 
 pub one_step : OneStepLaw
-one_step old event failures one other step that =
-    let same = one_way _ one.frames other.frames step.last that.last step.sent that.sent in
-    let all : stepped one.done one.cut one.missed one.halt one.frames one.new ≡ other =
-    rw (
-      step.done_is ∙ sym that.done_is,
-      step.cut_is ∙ sym that.cut_is,
-      step.missed_is ∙ sym that.missed_is,
-      step.halt_is ∙ sym that.halt_is,
-      same.0,
-      step.new_is ∙ ap (λ (s : Server). settled s) same.1 ∙ sym that.new_is,
-    ) refl in all
+one_step old event failures one other step that = grind (arith, common_steps, one_way)
 
 -- ---- fewer frames are left
 
@@ -68,12 +58,10 @@ module _ (w : Window) where
   end-less end slot each None is fits x sends = absurd (never x sends)
   end-less end slot each (Some sending) is fits x sends =
       let s = next_sending-Sends w end sending fits is in
-      subst (λ (y : SlotSends). SlotLess (left_to_send end) y) (same_Some (slot_sends slot sending) x sends) (each sending.after s.fits s.less)
+      let it = each sending.after s.fits s.less in grind (arith, common_steps)
 
   slot-less : (s : Slot) → SlotFits w s → (x : SlotSends) → slot_next w s ≡ Some x → SlotLess (slot_left s) x
-  slot-less free fits x sends = absurd (never x sends)
-  slot-less (connected c) fits x sends = end-less c.end (λ end. connected (with_end c end)) (λ after is less. (is, less)) (next_sending w c.end) refl fits x sends
-  slot-less (leaving c) fits x sends = end-less c.end (λ end. leaving (with_end c end)) (λ after is less. (is, less)) (next_sending w c.end) refl fits x sends
+  slot-less s fits x sends = grind (arith, common_steps, never, end-less)
 
   abbrev PlacesLess : ℕ → PlacesSend → Type 0
   PlacesLess left y = SlotsFit w y.after × (slots_left y.after < left)
@@ -82,14 +70,8 @@ module _ (w : Window) where
       → ((y : PlacesSend) → l ≡ Some y → PlacesLess (slots_left ss) y) → SlotFits w s → SlotsFit w ss → (z : PlacesSend) → first_of s ss o l ≡ Some z
       → PlacesLess (slot_left s + slots_left ss) z
   first-less s ss None None first later fits all z sends = absurd (never z sends)
-  first-less s ss None (Some y) first later fits all z sends =
-      let of = later y refl in
-      let less : slots_left y.after < slots_left ss = of.1 in
-      subst (λ (v : PlacesSend). PlacesLess (slot_left s + slots_left ss) v) (same_Some _ z sends) ((fits, of.0), omega (arith, less))
-  first-less s ss (Some x) l first later fits all z sends =
-      let of = first x refl in
-      let less : slot_left x.after < slot_left s = of.1 in
-      subst (λ (v : PlacesSend). PlacesLess (slot_left s + slots_left ss) v) (same_Some _ z sends) ((of.0, all), omega (arith, less))
+  first-less s ss None (Some y) first later fits all z sends = let of = later y refl in grind (arith, common_steps)
+  first-less s ss (Some x) l first later fits all z sends = let of = first x refl in grind (arith, common_steps)
 
   places-less : (slots : List Slot) → SlotsFit w slots → (z : PlacesSend) → places_next w slots ≡ Some z → PlacesLess (slots_left slots) z
   places-less [] fits z sends = absurd (never z sends)
@@ -116,16 +98,12 @@ by_places : (server : Server) (o : Option PlacesSend) → places_next server.win
     → SlotsFit server.window server.slots → (sends : ServerSends) → sends_of_places server o ≡ Some sends → ServerLess (server_left server) sends
 by_places server None is none fits sends gives = absurd (never sends gives)
 by_places server (Some z) is none fits sends gives =
-    let of = places-less server.window server.slots fits z is in
-    let less : slots_left server.window z.after < slots_left server.window server.slots = of.1 in
-    subst (λ (v : ServerSends). ServerLess (server_left server) v) (same_Some _ sends gives) (of.0, omega (arith, less))
+    let of = places-less server.window server.slots fits z is in grind (arith, common_steps)
 
 pub by_stray : (server : Server) (o : Option Refused) → server.stray ≡ o → SlotsFit server.window server.slots → (sends : ServerSends)
     → sends_by server o ≡ Some sends → ServerLess (server_left server) sends
 by_stray server None is fits sends gives = by_places server (places_next server.window server.slots) refl is fits sends gives
-by_stray server (Some refused) is fits sends gives =
-    let one : count_of server.stray ≡ 1 = ap (λ (o : Option Refused). count_of o) is in
-    subst (λ (v : ServerSends). ServerLess (server_left server) v) (same_Some _ sends gives) (fits, omega (arith, one))
+by_stray server (Some refused) is fits sends gives = grind (arith, common_steps)
 
 option_cases : {X : Type 0} (o : Option X) → (o ≡ None) ⊎ ((x : X) × (o ≡ Some x))
 option_cases None = inl refl
@@ -136,18 +114,14 @@ pub emptied : (fuel : ℕ) (server : Server) → SlotsFit server.window server.s
 emptied zero server fits few =
     elim (option_cases (server_next server)) [
       | inl none ↦ ([], server, (none, refl))
-      | inr some ↦
-          let of = by_stray server server.stray refl fits some.0 some.1 in
-          let less : server_left some.0.after < server_left server = of.1 in
-          absurd (let x : ⊥ = omega (arith, less, few) in x)
+      | inr some ↦ let of = by_stray server server.stray refl fits some.0 some.1 in absurd (omega (arith, of.1, few))
     ]
 emptied (suc fuel) server fits few =
     elim (option_cases (server_next server)) [
       | inl none ↦ ([], server, (none, refl))
       | inr some ↦
           let of = by_stray server server.stray refl fits some.0 some.1 in
-          let less : server_left some.0.after < server_left server = of.1 in
-          let rest = emptied fuel some.0.after of.0 (omega (arith, less, few)) in
+          let rest = emptied fuel some.0.after of.0 (omega (arith, of.1, few)) in
           (some.0.frame ∷ rest.0, rest.1, (some.0, some.1, refl, rest.2))
     ]
 

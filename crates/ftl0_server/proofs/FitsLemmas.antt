@@ -1,41 +1,39 @@
 -- Each event of a server has a step: the ends of its links stay such as frames and ticks bring about.
-use Rattle.std.proofs.Common.{◌≡◌, ℕ, zero, suc, List, [], ◌∷◌, ◌++◌, set, map, Bool, true, false, Option, None, Some}
-use Rattle.std.proofs.Common.{refl, sym, ap, ap₂, subst, inl, arith}
-use Rattle.std.specs.Prelude.{if◌then◌else◌, ◌&&◌, slice_get}
+use Rattle.std.proofs.Common.{◌≡◌, ℕ, zero, suc, List, [], ◌∷◌, set, map, Bool, Option, None, Some, rules}
+use Rattle.std.proofs.Common.{refl, sym, ap₂, subst, arith}
+use Rattle.std.proofs.lemmas.Grind.{common_steps}
+use Rattle.std.specs.Prelude.{slice_get}
 use Rattle.std.specs.Option.{option_map}
 use Rattle.std.proofs.lemmas.Option.{same_Some}
 use Rattle.px_base.specs.CallSign.{CallSign}
 use Rattle.ax25_frames.specs.FrameText.{FrameValue}
-use Rattle.ax25_link.specs.Calls.{after_abandon, after_push}
-use Rattle.ax25_link.specs.Ends.{IsEnd, LinkEnd, answering_end, free_octets}
-use Rattle.ax25_link.specs.Rows.{after_frame, heard_of, is_call}
+use Rattle.ax25_link.specs.Calls.{after_push}
+use Rattle.ax25_link.specs.Ends.{IsEnd, LinkEnd}
 use Rattle.ax25_link.specs.Sending.{Sending, next_sending}
 use Rattle.ax25_link.specs.Window.{Window}
 use Rattle.ax25_link.specs.declared.state.Heard.{Heard}
-use Rattle.ax25_link.specs.declared.state.Heard.TheVariants.{Nothing, Opened, Reopened, Bytes, Closed}
-use Rattle.ax25_link.proofs.Offered.{after_abandon-IsEnd, after_frame-IsEnd, after_push-IsEnd, after_tick-IsEnd, answering_end-IsEnd}
+use Rattle.ax25_link.proofs.Offered.{after_frame-IsEnd, after_push-IsEnd, after_tick-IsEnd, answering_end-IsEnd}
 use Rattle.ftl0_packets.specs.Layout.{Item, packet_text}
-use Rattle.ftl0_packets.specs.Reading.{packets_of}
-use Rattle.ftl0_session.specs.Lists.Lists.{CallerList, has_left}
+use Rattle.ftl0_session.specs.Lists.Lists.{CallerList}
 use Rattle.file_store.specs.Command.{after_all}
 use Rattle.file_store.specs.Store.{Store}
-use Rattle.node.specs.Events.{NodeEvent, hears, ticks}
-use Rattle.ftl0_session.specs.Uploads.Failures.{Failure, write_fails}
+use Rattle.node.specs.Events.{NodeEvent}
+use Rattle.ftl0_session.specs.Uploads.Failures.{Failure}
 use Rattle.ftl0_packets.specs.Items.{texts}
-use Rattle.ftl0_session.specs.Table.{Row, State, fault_reply, greeting, row_at}
+use Rattle.ftl0_session.specs.Table.{Row, State, row_at}
 use Rattle.ftl0_session.specs.Run.{session_over}
-use Rattle.ftl0_server.specs.Connection.Connected.{Connected, answering, caller_of}
-use Rattle.ftl0_server.specs.Connection.Hearing.{Happened, hearing, parts_as, parts_of_frame, ticking, with_end}
+use Rattle.ftl0_server.specs.Connection.Connected.{Connected}
+use Rattle.ftl0_server.specs.Connection.Hearing.{parts_as, ticking, with_end}
 use Rattle.ftl0_server.specs.Connection.Laws.{QueuedLaw}
-use Rattle.ftl0_server.specs.Connection.Taking.{Progress, after_row, failing_at, fits}
-use Rattle.ftl0_server.specs.Connection.Taking.{giving_up, queued, queuing, taking}
+use Rattle.ftl0_server.specs.Connection.Taking.{Progress}
+use Rattle.ftl0_server.specs.Connection.Taking.{queued, queuing, taking}
 use Rattle.ftl0_server.specs.Laws.{AreQueued, SlotFits, SlotsFit, SomeStepLaw}
-use Rattle.ftl0_server.specs.Server.{IsSilent, Refused, Server, ServerHappened, ServerSends, called_by, hearing_at}
-use Rattle.ftl0_server.specs.Server.{hearing_by, hearing_stranger, refusing, sends_by, sends_of_places, settled}
+use Rattle.ftl0_server.specs.Server.{IsSilent, Refused, Server, ServerHappened, ServerSends, hearing_at}
+use Rattle.ftl0_server.specs.Server.{hearing_by, hearing_stranger, sends_by, settled}
 use Rattle.ftl0_server.specs.ServerStep.{Empties, happening, stepped}
-use Rattle.ftl0_server.specs.Slots.{PlacesSend, Slot, SlotSends, all_freed, connected, first_empty, first_of, free}
-use Rattle.ftl0_server.specs.Slots.{freed, leaving, left_by, place_of}
-use Rattle.ftl0_server.specs.Slots.{places_next, slot_after, slot_next, slot_sends, slot_ticking}
+use Rattle.ftl0_server.specs.Slots.{PlacesSend, Slot, SlotSends, all_freed, connected, first_of, free}
+use Rattle.ftl0_server.specs.Slots.{freed, leaving, left_by}
+use Rattle.ftl0_server.specs.Slots.{places_next, slot_next, slot_sends, slot_ticking}
 use Rattle.ftl0_server.proofs.AllPlaces.{never}
 use Rattle.ftl0_server.proofs.connection.QueuingLemmas.{queuing-holds}
 use Rattle.ftl0_server.proofs.EmptiesLemmas.{by_stray, emptied, server_left}
@@ -45,14 +43,10 @@ use Rattle.ftl0_server.proofs.QueuedLemmas.{ticked-queued}
 -- ---- what has nothing to send has nothing to send once its places are settled
 
 first_none : (slot : Slot) (slots : List Slot) (first : Option SlotSends) (later : Option PlacesSend) → first_of slot slots first later ≡ None → (first ≡ None) × (later ≡ None)
-first_none slot slots None None h = (refl, refl)
-first_none slot slots None (Some sends) h = absurd (cc h)
-first_none slot slots (Some sends) later h = absurd (cc h)
+first_none slot slots first later h = grind (arith, common_steps)
 
 freed_silent : (w : Window) (slot : Slot) → slot_next w slot ≡ None → slot_next w (freed slot) ≡ None
-freed_silent w free h = h
-freed_silent w (connected c) h = h
-freed_silent w (leaving c) h = refl
+freed_silent w slot h = grind (arith, common_steps)
 
 places_silent : (w : Window) (slots : List Slot) → places_next w slots ≡ None → places_next w (all_freed slots) ≡ None
 places_silent w [] h = h
@@ -60,14 +54,8 @@ places_silent w (slot ∷ slots) h =
     let both = first_none slot slots (slot_next w slot) (places_next w slots) h in
     ap₂ (λ (a : Option SlotSends) (b : Option PlacesSend). first_of (freed slot) (all_freed slots) a b) (freed_silent w slot both.0) (places_silent w slots both.1)
 
-nothing_of : (server : Server) (places : Option PlacesSend) → sends_of_places server places ≡ None → places ≡ None
-nothing_of server None h = refl
-nothing_of server (Some sends) h = absurd (cc h)
-
 silent_by : (server : Server) (stray : Option Refused) → sends_by server stray ≡ None → sends_by (settled server) stray ≡ None
-silent_by server None h =
-    ap (sends_of_places (settled server)) (places_silent server.window server.slots (nothing_of server (places_next server.window server.slots) h))
-silent_by server (Some refused) h = absurd (cc h)
+silent_by server stray h = grind (arith, common_steps, places_silent)
 
 pub silent-settled : (server : Server) → IsSilent server → IsSilent (settled server)
 silent-settled server h = silent_by server server.stray h
@@ -75,60 +63,35 @@ silent-settled server h = silent_by server server.stray h
 -- ---- ends
 
 module _ (w : Window) where
-  replied-fits : (end : LinkEnd) (text : List ℕ) (enough : Bool) → IsEnd w end → IsEnd w (if enough then after_push end text else after_abandon end)
-  replied-fits end text true is = after_push-IsEnd w end text is
-  replied-fits end text false is = after_abandon-IsEnd w end is
-
-  given-fits : (end : LinkEnd) (state : State) (lists : List CallerList) (part : ℕ) (row : Row) (failed enough : Bool) (later : Progress) → IsEnd w end
-      → IsEnd w later.end
-      → IsEnd w (if failed then failing_at end state lists row part else if enough then after_row row later else giving_up end row part).end
-  given-fits end state lists part row true enough later is last =
-      replied-fits end (texts (fault_reply state ∷ [])) (fits end (texts (fault_reply state ∷ []))) is
-  given-fits end state lists part row false true later is last = last
-  given-fits end state lists part row false false later is last = after_abandon-IsEnd w end is
-
   -- after packets
   taking-fits : (caller : CallSign) (moment : ℕ) (store : Store) (lists : List CallerList) (state : State) (end : LinkEnd) (items : List Item)
       (failures : List Failure) (part : ℕ) → IsEnd w end → IsEnd w (taking caller moment (session_over store lists state) end items failures part).end
   taking-fits caller moment store lists state end [] failures part is = is
   taking-fits caller moment store lists state end (item ∷ items) failures part is =
       let row : Row = row_at caller moment store lists state item failures part in
-      given-fits end state lists part row (write_fails failures part) (fits end (texts row.replies))
-      (taking caller moment (session_over (after_all store row.commands) row.lists row.state) (after_push end (texts row.replies)) items failures (suc part)) is
-      (taking-fits caller moment (after_all store row.commands) row.lists row.state (after_push end (texts row.replies)) items failures (suc part)
-      (after_push-IsEnd w end (texts row.replies) is))
+      let pushed = after_push-IsEnd w end (texts row.replies) is in
+      let later = taking-fits caller moment (after_all store row.commands) row.lists row.state (after_push end (texts row.replies)) items failures (suc part) pushed in
+      grind (arith, common_steps)
 
   -- after what is due was queued
-  either-fits : (b : Bool) (one other : Progress) → IsEnd w one.end → IsEnd w other.end → IsEnd w (if b then one else other).end
-  either-fits true one other first second = first
-  either-fits false one other first second = second
-
   queuing-fits : (store : Store) (failures : List Failure) (count : ℕ) (progress : Progress) → IsEnd w progress.end
       → IsEnd w (queuing count store failures progress).end
   queuing-fits store failures =
       queuing-holds store failures (λ (now : Progress). IsEnd w now.end) (λ now due is fit. after_push-IsEnd w now.end (packet_text due.packet) fit)
 
   queued-fits : (store : Store) (failures : List Failure) (progress : Progress) → IsEnd w progress.end → IsEnd w (queued store failures progress).end
-  queued-fits store failures progress is =
-      either-fits progress.over progress (queuing (free_octets progress.end) (after_all store progress.done) failures progress) is
-      (queuing-fits (after_all store progress.done) failures (free_octets progress.end) progress is)
+  queued-fits store failures progress is = grind (arith, common_steps, queuing-fits)
 
   -- after a frame
   heard-fits : (heard : Heard) (moment : ℕ) (store : Store) (lists : List CallerList) (c : Connected) (end : LinkEnd) (octets : List ℕ)
       (failures : List Failure) → IsEnd w end → IsEnd w (parts_as heard moment store lists c end octets failures).end
-  heard-fits Nothing moment store lists c end octets failures is = is
-  heard-fits Opened moment store lists c end octets failures is = is
-  heard-fits Reopened moment store lists c end octets failures is =
-      after_push-IsEnd w end (packet_text (greeting moment (has_left lists (caller_of c)))) is
-  heard-fits Bytes moment store lists c end octets failures is =
-      taking-fits (caller_of c) moment store lists c.state end (packets_of (c.rest ++ octets)) failures 0 is
-  heard-fits (Closed why) moment store lists c end octets failures is = is
+  heard-fits heard moment store lists c end octets failures is =
+      grind (arith, common_steps, after_push-IsEnd, taking-fits)
 
   -- ---- places
 
   left-fits : (over : Bool) (c : Connected) → IsEnd w c.end → SlotFits w (left_by over c)
-  left-fits false c is = is
-  left-fits true c is = is
+  left-fits over c is = grind (arith, common_steps)
 
   ticked-fits : (slots : List Slot) → SlotsFit w slots → SlotsFit w (map slot_ticking slots)
   ticked-fits [] all = tt
@@ -155,41 +118,19 @@ module _ (w : Window) where
   -- nothing is to be sent at any place
   quiet-at : (slots : List Slot) (place : ℕ) (slot : Slot) → places_next w slots ≡ None → slice_get slots place ≡ Some slot → slot_next w slot ≡ None
   quiet-at [] place slot quiet at = absurd (never slot at)
-  quiet-at (s ∷ slots) zero slot quiet at =
-      subst (λ (x : Slot). slot_next w x ≡ None) (same_Some s slot at) (first_none s slots (slot_next w s) (places_next w slots) quiet).0
+  quiet-at (s ∷ slots) zero slot quiet at = grind (arith, common_steps)
   quiet-at (s ∷ slots) (suc place) slot quiet at = quiet-at slots place slot (first_none s slots (slot_next w s) (places_next w slots) quiet).1 at
 
   quiet-sending : (c : Connected) (o : Option Sending) → option_map (slot_sends (λ end. connected (with_end c end))) o ≡ None → o ≡ None
-  quiet-sending c None quiet = refl
-  quiet-sending c (Some sending) quiet = absurd (cc quiet)
+  quiet-sending c o quiet = grind (arith, common_steps)
 
 -- ---- an event
 
 abbrev IsFit : Server → Type 0
 IsFit server = SlotsFit server.window server.slots
 
-silent-places : (server : Server) (stray : Option Refused) → sends_by server stray ≡ None → places_next server.window server.slots ≡ None
-silent-places server None silent = nothing_of server (places_next server.window server.slots) silent
-silent-places server (Some refused) silent = absurd (cc silent)
-
-called-fits : (server : Server) (caller : CallSign) (poll : Bool) (moment : ℕ) (place : Option ℕ) → IsFit server → IsFit (called_by server caller poll moment place)
-called-fits server caller poll moment None all = all
-called-fits server caller poll moment (Some place) all =
-    let end = answering_end server.me caller poll in
-    let left = has_left server.lists caller in
-    let one = after_push-IsEnd server.window end (packet_text (greeting moment left)) (answering_end-IsEnd server.window server.me caller poll) in
-    fits-set server.window server.slots place (connected (answering server.me caller poll moment left)) all one
-
-by_cases : (b : Bool) (one other : Server) → IsFit one → IsFit other → IsFit (if b then one else other)
-by_cases true one other first second = first
-by_cases false one other first second = second
-
 stranger-fits : (server : Server) (frame : FrameValue) (moment : ℕ) → IsFit server → IsFit (hearing_stranger server frame moment)
-stranger-fits server frame moment all =
-    by_cases (is_call frame.kind.control) (called_by server frame.src frame.poll moment (first_empty server.slots))
-    (if frame.command && frame.poll then refusing server frame.src true else server)
-    (called-fits server frame.src frame.poll moment (first_empty server.slots) all)
-    (by_cases (frame.command && frame.poll) (refusing server frame.src true) server all all)
+stranger-fits server frame moment all = grind (arith, common_steps, after_push-IsEnd, answering_end-IsEnd, fits-set)
 
 at-fits : (server : Server) (frame : FrameValue) (moment : ℕ) (failures : List Failure) (place : ℕ) (slot : Option Slot) → slice_get server.slots place ≡ slot
     → places_next server.window server.slots ≡ None → IsFit server → IsFit (hearing_at server frame moment failures place slot).after
@@ -200,11 +141,7 @@ at-fits server frame moment failures place (Some (connected c)) at quiet all =
     let w = server.window in
     let fit = fits-at w server.slots place (connected c) all at in
     let still = quiet-sending w c (next_sending w c.end) (quiet-at w server.slots place (connected c) quiet at) in
-    let happened = hearing w moment server.store server.lists c frame failures in
-    let heard = queued-fits w server.store failures (parts_of_frame w moment server.store server.lists c frame failures)
-    (heard-fits w (heard_of w c.end frame) moment server.store server.lists c (after_frame w c.end frame) frame.kind.information failures
-    (after_frame-IsEnd w c.end frame fit still)) in
-    fits-set w server.slots place (slot_after happened) all (left-fits w happened.over happened.after heard)
+    let after = after_frame-IsEnd w c.end frame fit still in search (rules, arith, queued-fits, heard-fits, fits-set, left-fits)
 
 by-fits : (server : Server) (frame : FrameValue) (moment : ℕ) (failures : List Failure) (place : Option ℕ) → places_next server.window server.slots ≡ None
     → IsFit server → IsFit (hearing_by server frame moment failures place).after
@@ -212,9 +149,7 @@ by-fits server frame moment failures None quiet all = stranger-fits server frame
 by-fits server frame moment failures (Some place) quiet all = at-fits server frame moment failures place (slice_get server.slots place) refl quiet all
 
 happening-fits : (server : Server) (event : NodeEvent) (failures : List Failure) → IsSilent server → IsFit server → IsFit (happening server event failures).after
-happening-fits server (hears frame moment) failures silent all =
-    by-fits server frame moment failures (place_of frame.src server.slots) (silent-places server server.stray silent) all
-happening-fits server (ticks moment) failures silent all = ticked-fits server.window server.slots all
+happening-fits server event failures silent all = grind (arith, common_steps, by-fits, ticked-fits)
 
 -- ---- frames
 
@@ -233,23 +168,8 @@ empties-silent server (frame ∷ frames) last h = empties-silent h.0.after frame
 abbrev IsAllQueued : Server → Type 0
 IsAllQueued server = AreQueued server.store server.slots
 
-queued-cases : (b : Bool) (one other : Server) → IsAllQueued one → IsAllQueued other → IsAllQueued (if b then one else other)
-queued-cases true one other first second = first
-queued-cases false one other first second = second
-
-called-queued : (server : Server) (caller : CallSign) (poll : Bool) (moment : ℕ) (place : Option ℕ) → IsAllQueued server
-    → IsAllQueued (called_by server caller poll moment place)
-called-queued server caller poll moment None all = all
-called-queued server caller poll moment (Some place) all =
-    queued-set server.store server.slots place (connected (answering server.me caller poll moment (has_left server.lists caller))) all
-    (inl (λ failures part. refl))
-
 stranger-queued : (server : Server) (frame : FrameValue) (moment : ℕ) → IsAllQueued server → IsAllQueued (hearing_stranger server frame moment)
-stranger-queued server frame moment all =
-    queued-cases (is_call frame.kind.control) (called_by server frame.src frame.poll moment (first_empty server.slots))
-    (if frame.command && frame.poll then refusing server frame.src true else server)
-    (called-queued server frame.src frame.poll moment (first_empty server.slots) all)
-    (queued-cases (frame.command && frame.poll) (refusing server frame.src true) server all all)
+stranger-queued server frame moment all = grind (arith, common_steps, queued-set)
 
 at-queued : QueuedLaw → (server : Server) (frame : FrameValue) (moment : ℕ) (failures : List Failure) (place : ℕ) (slot : Option Slot) → IsAllQueued server
     → IsAllQueued (hearing_at server frame moment failures place slot).after
@@ -257,11 +177,7 @@ at-queued law server frame moment failures place None all = all
 at-queued law server frame moment failures place (Some free) all = all
 at-queued law server frame moment failures place (Some (leaving c)) all = all
 at-queued law server frame moment failures place (Some (connected c)) all =
-    let happened : Happened = hearing server.window moment server.store server.lists c frame failures in
-    let now : Store = after_all server.store happened.done in
-    queued-set now server.slots place (slot_after happened) (all-stay server.store now server.slots all)
-    (left-queued now happened.over happened.after
-    (heard-queued law server.store failures (parts_of_frame server.window moment server.store server.lists c frame failures)))
+    search (rules, arith, queued-set, all-stay, left-queued, heard-queued)
 
 by-queued : QueuedLaw → (server : Server) (frame : FrameValue) (moment : ℕ) (failures : List Failure) (place : Option ℕ) → IsAllQueued server
     → IsAllQueued (hearing_by server frame moment failures place).after
@@ -270,19 +186,11 @@ by-queued law server frame moment failures (Some place) all = at-queued law serv
 
 happening-queued : QueuedLaw → (server : Server) (event : NodeEvent) (failures : List Failure) → IsAllQueued server
     → IsAllQueued (happening server event failures).after
-happening-queued law server (hears frame moment) failures all = by-queued law server frame moment failures (place_of frame.src server.slots) all
-happening-queued law server (ticks moment) failures all = ticked-queued server.store server.slots all
-
-sent-places : (server : Server) (o : Option PlacesSend) → places_next server.window server.slots ≡ o → IsFit server → IsAllQueued server
-    → (sends : ServerSends) → sends_of_places server o ≡ Some sends → IsAllQueued sends.after
-sent-places server None is fit all sends gives = absurd (never sends gives)
-sent-places server (Some z) is fit all sends gives =
-    subst (λ (v : ServerSends). IsAllQueued v.after) (same_Some _ sends gives) (places-sent server.store server.window server.slots fit all z is)
+happening-queued law server event failures all = grind (arith, common_steps, by-queued, ticked-queued)
 
 sent-queued : (server : Server) (o : Option Refused) → IsFit server → IsAllQueued server → (sends : ServerSends) → sends_by server o ≡ Some sends
     → IsAllQueued sends.after
-sent-queued server None fit all sends gives = sent-places server (places_next server.window server.slots) refl fit all sends gives
-sent-queued server (Some refused) fit all sends gives = subst (λ (v : ServerSends). IsAllQueued v.after) (same_Some _ sends gives) all
+sent-queued server o fit all sends gives = grind (arith, common_steps, never, places-sent, same_Some)
 
 empties-queued : (server : Server) (frames : List FrameValue) (last : Server) → Empties server frames last → IsFit server → IsAllQueued server
     → IsAllQueued last

@@ -1,24 +1,22 @@
 -- What a frame makes of a server, by what it makes of one place.
-use Rattle.std.proofs.Common.{◌≡◌, ℕ, zero, suc, ◌<◌, List, [], ◌∷◌, length, get_or, set, Bool, true, false, Option}
-use Rattle.std.proofs.Common.{None, Some, refl, sym, ◌∙◌, ap, subst, inl, inr}
+use Rattle.std.proofs.lemmas.Grind.{common_steps}
+use Rattle.std.proofs.Common.{◌≡◌, ℕ, zero, suc, ◌<◌, List, [], ◌∷◌, length, get_or, set, Bool, true, false, Option, rules}
+use Rattle.std.proofs.Common.{None, Some, sym, ◌∙◌, ap, subst, inr, arith}
 use Rattle.std.specs.Prelude.{slice_get, ⊤, Result, Ok, Err}
 use Rattle.std.specs.List.{position}
 use Rattle.std.proofs.lemmas.List.Quantifiers.{position-Some}
-use Rattle.std.proofs.lemmas.Option.{same_Some, slice_get-get_or}
+use Rattle.std.proofs.lemmas.Option.{slice_get-get_or}
 use Rattle.px_base.specs.CallSign.{CallSign}
 use Rattle.disk_model.specs.declared.disk.Disk.{Ghosts}
 use Rattle.ax25_frames.specs.FrameText.{FrameValue}
 use Rattle.ax25_frames.specs.Kinds.{FitsControl}
-use Rattle.ax25_link.specs.Kept.{Kept, is_pending}
-use Rattle.ax25_link.specs.Window.{Window, window_of}
+use Rattle.ax25_link.specs.Kept.{is_pending}
+use Rattle.ax25_link.specs.Window.{Window}
 use Rattle.ftl0_session.specs.Lists.Lists.{CallerList}
-use Rattle.file_store.specs.Command.{after_all}
 use Rattle.file_store.specs.Store.{Store}
 use Rattle.file_store.specs.State.{StandsOn, StoreState, store_in}
 use Rattle.file_store.specs.Working.{DoesAmongReads}
-use Rattle.file_store.proofs.Offered.{does-among, Does-none}
-use Rattle.ftl0_session.specs.Uploads.Failures.{Failure, failed_write}
-use Rattle.ftl0_session.specs.Uploads.Session.{is_same_call}
+use Rattle.ftl0_session.specs.Uploads.Failures.{Failure}
 use Rattle.ftl0_session.proofs.uploads.UploadRows.{same_call-decides}
 use Rattle.ftl0_session.specs.SessionState.{caller_of, working_on}
 use Rattle.ftl0_session.specs.Uploads.SessionState.{with_disk}
@@ -31,15 +29,14 @@ use Rattle.node.specs.Events.{IsFor}
 use Rattle.ftl0_server.specs.AtPlace.{IsPlace, MayHear, PlaceHears, PlaceHearsBy, Works}
 use Rattle.ftl0_server.specs.Calls.{Hears, HearsBy, HearsStranger}
 use Rattle.ftl0_server.specs.declared.place.Place.{Place}
-use Rattle.ftl0_server.specs.declared.place.Place.TheVariants.{Free, Talking, Leaving}
+use Rattle.ftl0_server.specs.declared.place.Place.TheVariants.{Free, Talking}
 use Rattle.ftl0_server.specs.Kept.{IsAt, IsSettled}
 use Rattle.ftl0_server.specs.Server.{Server, becoming, heard_at, hearing_at, hearing_by, hearing_stranger}
 use Rattle.ftl0_server.specs.Server.{server_hearing}
 use Rattle.ftl0_server.specs.ServerState.{AllPlaces, IsServer, SaysAs, SendsAs, SendsFor, ServerState, any_pending}
 use Rattle.ftl0_server.specs.ServerState.{has_caller, is_empty_place, place_pending}
-use Rattle.ftl0_server.specs.Slots.{Slot, connected, first_empty, free, is_callers, is_empty, leaving, place_of}
-use Rattle.ftl0_server.specs.Slots.{slot_after}
-use Rattle.ftl0_server.proofs.AllPlaces.{all-both, all-get, all-set, all-to, never, same-position, sends-cases}
+use Rattle.ftl0_server.specs.Slots.{Slot, connected, first_empty, is_callers, place_of}
+use Rattle.ftl0_server.proofs.AllPlaces.{all-both, all-get, all-set, all-to, never, same-position}
 use Rattle.ftl0_server.proofs.NextLemmas.{none_first}
 use Rattle.ftl0_server.proofs.TickLemmas.{all-works, own-only}
 
@@ -49,9 +46,7 @@ false_no same = absurd (let x : ⊥ = cc in x)
 -- ---- whose connection it is
 
 talks : (caller : CallSign) (p : Place) → has_caller caller p ≡ true → (c : ConnectionState) × (p ≡ Talking c) × (caller_of c.session ≡ caller)
-talks caller Free is = false_no is
-talks caller (Talking c) is = (c, refl, (same_call-decides (caller_of c.session) caller).0 is)
-talks caller (Leaving link) is = false_no is
+talks caller p is = grind (arith, common_steps, false_no, same_call-decides)
 
 -- the place that was found
 pub found-within : (p : Place → Bool) (places : List Place) (i : ℕ) → position p places ≡ Some i → i < length places
@@ -72,8 +67,7 @@ found-at caller places i d c found is = slice_get-get_or places i d (found-withi
 -- nothing is pending at any place
 pub quiet-any : (places : List Place) (i : ℕ) (c : ConnectionState) → IsAt places i c → any_pending places ≡ false → is_pending c.link ≡ false
 quiet-any [] i c at none = absurd (never (Talking c) at)
-quiet-any (p ∷ ps) zero c at none =
-    ap (λ (x : Place). place_pending x) (sym (same_Some p (Talking c) at)) ∙ (none_first (place_pending p) (any_pending ps) none).0
+quiet-any (p ∷ ps) zero c at none = grind (arith, common_steps)
 quiet-any (p ∷ ps) (suc i) c at none = quiet-any ps i c at (none_first (place_pending p) (any_pending ps) none).1
 
 -- the sender's connection may hear the frame
@@ -84,21 +78,9 @@ may-hear me k store places i d frame found settled none is_for numbers =
     let c = found-talks frame.src places i d found in
     let at = found-at frame.src places i d c.0 found c.1 in
     let seated = settled.seated i c.0 at in
-    let may : MayHear store frame (Talking c.0) = (
-      record {
-        quiet = quiet-any places i c.0 at none;
-        up = seated.up;
-        held = seated.held;
-        only = own-only me k store places i c.0 at settled;
-        due = seated.due;
-      },
-      record {
-        dest = is_for.dest ∙ sym seated.me_is;
-        src = sym c.2 ∙ sym seated.peer_is;
-        via = is_for.via;
-        numbers = numbers;
-      },
-    ) in
+    let only = own-only me k store places i c.0 at settled in
+    let quiet = quiet-any places i c.0 at none in
+    let may : MayHear store frame (Talking c.0) = grind (arith, common_steps) in
     subst (λ (p : Place). MayHear store frame p) (sym c.1) may
 
 -- ---- places and slots
@@ -109,9 +91,7 @@ module _ (self : ServerState) (server : Server) (is : IsServer self server) wher
 
   same-caller : (caller : CallSign) (p : Place) (s : Slot) → ((c : ConnectionState) → p ≡ Talking c → c.link.peer ≡ caller_of c.session)
       → SendsAs server.window p s → has_caller caller p ≡ is_callers caller s
-  same-caller caller p s peer sends =
-      sends-cases server.window (λ p s. ((c : ConnectionState) → p ≡ Talking c → c.link.peer ≡ caller_of c.session) → has_caller caller p ≡ is_callers caller s) (λ peer. refl)
-      (λ d c stands peer. ap (λ (x : CallSign). is_same_call x caller) (sym (peer d refl) ∙ ap (λ (k : Kept). k.peer) stands.kept)) (λ link none peer. refl) (λ link c stands peer. refl) p s sends peer
+  same-caller caller p s peer sends = grind (arith, common_steps)
 
   -- the caller's place
   pub same-place_of : (me : CallSign) (k : ℕ) → IsSettled me k self.store self.places → (caller : CallSign)
@@ -122,22 +102,9 @@ module _ (self : ServerState) (server : Server) (is : IsServer self server) wher
       (λ i p s at there sends. same-caller caller p s (λ c talks_is. (settled.seated i c (at ∙ ap (λ (x : Place). Some x) talks_is)).peer_is) sends)
       is.sends.links)
 
-  same-empty : (p : Place) (s : Slot) → SendsAs server.window p s → is_empty_place p ≡ is_empty s
-  same-empty =
-      sends-cases server.window (λ p s. is_empty_place p ≡ is_empty s) refl (λ d c stands. refl) (λ link none. refl) (λ link c stands. refl)
-
   -- the lowest free place
   pub same-first_empty : position is_empty_place self.places ≡ first_empty server.slots
-  same-first_empty =
-      same-position is_empty_place is_empty self.places server.slots
-      (all-to (SendsAs server.window) (λ p s. is_empty_place p ≡ is_empty s) self.places server.slots (λ i p s at there sends. same-empty p s sends) is.sends.links)
-
--- the slot of a connection
-connected-of : (w : Window) (store : StoreState) (c : ConnectionState) (s : Slot) → IsPlace w store (Talking c) s
-    → (d : Connected) × (s ≡ connected d) × IsPlace w store (Talking c) (connected d)
-connected-of w store c free is = absurd is.0
-connected-of w store c (connected d) is = (d, refl, is)
-connected-of w store c (leaving d) is = absurd is.0
+  same-first_empty = grind (arith, common_steps, same-position, all-to)
 
 -- ---- a frame of a connected caller
 
@@ -149,51 +116,25 @@ module _ {D : Type 0} (g : Ghosts D) (old new : ServerState) (server : Server) (
   -- the server that stands now, where the place is this one
   now-sends : (s : Slot) (store : Store) (lists : List CallerList) → SendsAs server.window p s
       → SendsFor new (record server { slots = set server.slots place s; store = store; lists = lists })
-  now-sends s store lists here = record {
-    me = me ∙ is.sends.me;
-    window = is.sends.window ∙ ap (λ (n : ℕ). window_of n) (sym k);
-    stray = stray ∙ is.sends.stray;
-    links =
-        subst (λ (ps : List Place). AllPlaces (SendsAs server.window) ps (set server.slots place s)) (sym places)
-        (all-set (SendsAs server.window) old.places server.slots place p s is.sends.links here);
-  }
+  now-sends s store lists here = grind (arith, common_steps, all-set)
 
   now-is : (s : Slot) (store : Store) (lists : List CallerList) → IsPlace server.window new.store p s → store_in new.store ≡ store → new.lists ≡ lists
       → IsServer new (record server { slots = set server.slots place s; store = store; lists = lists })
   now-is s store lists here same same_lists =
       let all = all-works server.window old.me old.k old.store new.store old.places server.slots place (Talking c) p s at settled works (all-are old server is) here in
-      record {
-        sends = now-sends s store lists here.0;
-        says =
-            subst (λ (ps : List Place). AllPlaces (SaysAs new.store) ps (set server.slots place s)) (sym places)
-            (all-to (IsPlace server.window new.store) (SaysAs new.store) (set old.places place p) (set server.slots place s) (λ i q t there it both. both.1) all);
-        store = same;
-        lists = same_lists;
-      }
+      let says = all-to (IsPlace server.window new.store) (SaysAs new.store) (set old.places place p) (set server.slots place s) (λ i q t there it both. both.1) all in
+      let sends = now-sends s store lists here.0 in grind (arith, common_steps)
 
   module _ (event : List Failure → Happened) where
     heard-by : (result : Result ⊤ Stop) → PlaceHearsBy g server.window event (with_disk old.store disk) (working_on new.store new.lists disk_now) p result
         → HearsBy g (λ failures. heard_at server place (event failures)) old new disk disk_now result
-    heard-by (Ok done) by = (
-      by.0,
-      now-is (slot_after (event [])) (after_all server.store (event []).done) (event []).lists by.2
-          ((by.3.done (λ never. never)).0 ∙ ap (λ (s : Store). after_all s (event []).done) is.store) by.1,
-      by.3,
-    )
-    heard-by (Err stop.Disk) by = (
-      by.0,
-      by.1,
-      now-sends (slot_after (event (failed_write by.0))) (after_all server.store (event (failed_write by.0)).done) (event (failed_write by.0)).lists by.2,
-      by.3,
-    )
+    heard-by (Ok done) by = grind (arith, common_steps, now-is, never)
+    heard-by (Err stop.Disk) by = search (rules, arith, now-sends)
     heard-by (Err stop.OutOfMemory) by = inr by
 
   -- the slot of the place
   slot_is : (d : Connected) × (slice_get server.slots place ≡ Some (connected d)) × IsPlace server.window old.store (Talking c) (connected d)
-  slot_is =
-      let got = all-get (IsPlace server.window old.store) old.places server.slots place (Talking c) (all-are old server is) at in
-      let of = connected-of server.window old.store c got.0 got.2 in
-      (of.0, got.1 ∙ ap (λ (s : Slot). Some s) of.1, of.2)
+  slot_is = grind (arith, common_steps, all-get, all-are)
 
   pub server-hears : (result : Result ⊤ Stop)
       → ((w : Window) (d : Connected) → IsPlace w old.store (Talking c) (connected d)
@@ -221,15 +162,11 @@ module _ {D : Type 0} (g : Ghosts D) (old new : ServerState) (server : Server) (
     (found : position (has_caller frame.src) old.places ≡ None) (healthy : old.store.journal.failed ≡ false)
     (stands : StandsOn g old.store disk) (lasts : g.lasts disk disk) (same : new.store ≡ old.store) where
   nothing-done : DoesAmongReads g ⊥ 0 old.store new.store disk disk []
-  nothing-done =
-      subst (λ (s : StoreState). DoesAmongReads g ⊥ 0 old.store s disk disk []) (sym same)
-      (does-among g ⊥ old.store old.store disk disk [] (Does-none g ⊥ old.store disk (λ never. never) stands healthy lasts))
+  nothing-done = grind (arith, common_steps)
 
   stranger-by : (result : Result ⊤ Stop) → HearsStranger (λ s. hearing_stranger s frame moment) old new result
       → HearsBy g (λ failures. becoming (hearing_stranger server frame moment)) old new disk disk result
-  stranger-by (Ok done) heard = (refl, heard server is, nothing-done)
-  stranger-by (Err stop.Disk) heard = absurd heard
-  stranger-by (Err stop.OutOfMemory) heard = inl nothing-done
+  stranger-by result heard = grind (arith, common_steps)
 
   pub stranger-hears : (result : Result ⊤ Stop) → HearsStranger (λ s. hearing_stranger s frame moment) old new result
       → Hears g (server_hearing server frame moment) old new disk disk result

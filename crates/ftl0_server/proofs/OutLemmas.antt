@@ -1,32 +1,26 @@
 -- Frames are given out, and then nothing is pending.
-use Rattle.std.proofs.Common.{◌≡◌, ℕ, zero, suc, List, [], ◌∷◌, map, Bool, true, false, Option, None, Some, refl, sym}
-use Rattle.std.proofs.Common.{◌∙◌, ap, subst}
+use Rattle.std.proofs.lemmas.Grind.{common_steps}
+use Rattle.std.proofs.Common.{◌≡◌, ℕ, zero, suc, List, [], ◌∷◌, map, Bool, true, false, Option, None, Some, sym, rules}
+use Rattle.std.proofs.Common.{◌∙◌, subst, arith}
 use Rattle.std.specs.Prelude.{⊤}
-use Rattle.std.specs.Option.{option_map}
 use Rattle.std.proofs.lemmas.Option.{same_Some}
 use Rattle.px_base.specs.CallSign.{CallSign}
 use Rattle.ax25_frames.specs.FrameText.{FrameText, canonical}
 use Rattle.ax25_link.specs.Refusals.{refusal_frame}
-use Rattle.ax25_link.specs.Sending.{Sending, next_sending}
-use Rattle.ax25_link.specs.Window.{Window, window_of}
-use Rattle.file_store.specs.State.{StoreState, store_in}
-use Rattle.ftl0_session.specs.Uploads.SessionState.{IsHeld, number_of}
-use Rattle.ftl0_session.specs.Downloads.Needs.{IsDueIn}
-use Rattle.ftl0_session.specs.SessionState.{SessionState, caller_of, state_in}
-use Rattle.ftl0_server.specs.Connection.Connected.{Connected}
+use Rattle.ax25_link.specs.Window.{Window}
+use Rattle.file_store.specs.State.{StoreState}
 use Rattle.ftl0_server.specs.Connection.ConnectionState.{ConnectionState}
-use Rattle.ftl0_server.specs.Connection.Hearing.{with_end}
 use Rattle.ftl0_server.specs.declared.place.Place.{Place}
-use Rattle.ftl0_server.specs.declared.place.Place.TheVariants.{Free, Talking, Leaving}
+use Rattle.ftl0_server.specs.declared.place.Place.TheVariants.{Talking}
 use Rattle.ftl0_server.specs.Calls.{HandsOut, SamePlaces}
 use Rattle.ftl0_server.specs.Kept.{IsAt, IsSettled}
 use Rattle.ftl0_server.specs.Places.{PlacesGive, SamePlace, SameTalk}
 use Rattle.ftl0_server.specs.Server.{Refused, Server, sends_by, sends_of_places, server_next, settled}
 use Rattle.ftl0_server.specs.ServerState.{AllPlaces, IsServer, SaysAs, SendsAs, SendsFor, ServerState, any_pending}
 use Rattle.ftl0_server.specs.ServerState.{place_pending}
-use Rattle.ftl0_server.specs.Slots.{PlacesSend, Slot, SlotSends, connected, first_of, free, freed, leaving, places_next}
-use Rattle.ftl0_server.specs.Slots.{slot_next, slot_sends}
-use Rattle.ftl0_server.proofs.AllPlaces.{never, sends-cases}
+use Rattle.ftl0_server.specs.Slots.{PlacesSend, Slot, SlotSends, first_of, freed, places_next}
+use Rattle.ftl0_server.specs.Slots.{slot_next}
+use Rattle.ftl0_server.proofs.AllPlaces.{never}
 use Rattle.ftl0_server.proofs.NextLemmas.{none_first}
 
 -- the DM to a station without a connection goes out
@@ -34,13 +28,7 @@ pub stray-out : (Stands : ServerState → Server → Type 0) (old new : ServerSt
     → old.me ≡ server.me → old.stray ≡ server.stray → old.stray ≡ Some refused → Stands new (record server { stray = None })
     → now ≡ canonical (refusal_frame old.me refused) → FrameText (refusal_frame old.me refused) now
     → HandsOut Stands (server_next server) old new before now true
-stray-out Stands old new server refused before now me stray is stands octets text =
-    subst (λ (o : Option Refused). HandsOut Stands (sends_by server o) old new before now true) (sym is ∙ stray) (
-      refl,
-      stands,
-      subst (λ (x : CallSign). now ≡ canonical (refusal_frame x refused)) me octets,
-      subst (λ (x : CallSign). FrameText (refusal_frame x refused) now) me text,
-    )
+stray-out Stands old new server refused before now me stray is stands octets text = grind (arith, common_steps)
 
 -- ---- what the places say stays
 
@@ -50,23 +38,8 @@ module _ (store : StoreState) where
   SaysNext p None = ⊤
   SaysNext p (Some sends) = SaysAs store p sends.after
 
-  connected-says : (p : Place) (c : Connected) (o : Option Sending) → SaysAs store p (connected c)
-      → SaysNext p (option_map (slot_sends (λ end. connected (with_end c end))) o)
-  connected-says p c None says = tt
-  connected-says Free c (Some sending) says = tt
-  connected-says (Talking d) c (Some sending) says = record { rest = says.rest; state = says.state }
-  connected-says (Leaving link) c (Some sending) says = tt
-
-  leaving-says : (p : Place) (c : Connected) (o : Option Sending) → SaysNext p (option_map (slot_sends (λ end. leaving (with_end c end))) o)
-  leaving-says p c None = tt
-  leaving-says Free c (Some sending) = tt
-  leaving-says (Talking d) c (Some sending) = tt
-  leaving-says (Leaving link) c (Some sending) = tt
-
   slot-says : (w : Window) (p : Place) (s : Slot) → SaysAs store p s → SaysNext p (slot_next w s)
-  slot-says w p free says = tt
-  slot-says w p (connected c) says = connected-says p c (next_sending w c.end) says
-  slot-says w p (leaving c) says = leaving-says p c (next_sending w c.end)
+  slot-says w p s says = grind (arith, common_steps)
 
   abbrev AllSay : List Place → Option PlacesSend → Type 0
   AllSay places None = ⊤
@@ -74,9 +47,7 @@ module _ (store : StoreState) where
 
   first-says : (p : Place) (ps : List Place) (s : Slot) (ss : List Slot) (o : Option SlotSends) (later : Option PlacesSend) → SaysAs store p s
       → AllPlaces (SaysAs store) ps ss → SaysNext p o → AllSay ps later → AllSay (p ∷ ps) (first_of s ss o later)
-  first-says p ps s ss None None here all next others = tt
-  first-says p ps s ss None (Some sends) here all next others = (here, others)
-  first-says p ps s ss (Some sends) later here all next others = (next, all)
+  first-says p ps s ss o later here all next others = grind (arith, common_steps)
 
   places-say : (w : Window) (places : List Place) (slots : List Slot) → AllPlaces (SaysAs store) places slots → AllSay places (places_next w slots)
   places-say w [] [] all = tt
@@ -86,20 +57,7 @@ module _ (store : StoreState) where
       first-says p ps s ss (slot_next w s) (places_next w ss) all.0 all.1 (slot-says w p s all.0) (places-say w ps ss all.1)
 
   same-says : (p q : Place) (s : Slot) → SamePlace p q → SaysAs store p s → SaysAs store q s
-  same-says Free Free s same says = tt
-  same-says Free (Talking d) s same says = absurd same
-  same-says Free (Leaving link) s same says = absurd same
-  same-says (Talking c) Free s same says = absurd same
-  same-says (Talking c) (Talking d) free same says = tt
-  same-says (Talking c) (Talking d) (connected e) same says = record {
-    rest = same.octets ∙ says.rest;
-    state = ap (λ (x : SessionState). state_in store x) same.session ∙ says.state;
-  }
-  same-says (Talking c) (Talking d) (leaving e) same says = tt
-  same-says (Talking c) (Leaving link) s same says = absurd same
-  same-says (Leaving link) Free s same says = absurd same
-  same-says (Leaving link) (Talking d) s same says = absurd same
-  same-says (Leaving link) (Leaving after) s same says = tt
+  same-says p q s same says = grind (arith, common_steps)
 
   pub all-same-say : (ps qs : List Place) (ss : List Slot) → SamePlaces ps qs → AllPlaces (SaysAs store) ps ss → AllPlaces (SaysAs store) qs ss
   all-same-say [] [] ss same all = all
@@ -114,39 +72,25 @@ module _ (old new : ServerState) (server : Server) (before now : List ℕ) (answ
     (stray_new : new.stray ≡ old.stray) (store : new.store ≡ old.store) (lists : new.lists ≡ old.lists) (same : SamePlaces old.places new.places)
     (none : answer ≡ false → (new ≡ old) × (now ≡ before)) (no_stray : old.stray ≡ None) where
   sends-after : (slots : List Slot) → SendsFor old server → AllPlaces (SendsAs server.window) new.places slots → SendsFor new (record server { slots = slots })
-  sends-after slots is links = record {
-    me = me ∙ is.me;
-    window = is.window ∙ ap (λ (n : ℕ). window_of n) (sym k);
-    stray = stray_new ∙ is.stray;
-    links = links;
-  }
+  sends-after slots is links = grind (arith, common_steps)
 
   places-sends : (o : Option PlacesSend) → SendsFor old server → PlacesGive o server.window new.places now answer
       → HandsOut SendsFor (sends_of_places server o) old new before now answer
-  places-sends None is gives = (gives, (none gives).0, (none gives).1)
-  places-sends (Some sends) is gives = (gives.0, sends-after sends.after is gives.1, gives.2, gives.3)
+  places-sends o is gives = grind (arith, common_steps)
 
   places-next : (o : Option PlacesSend) → IsServer old server → AllSay old.store old.places o → PlacesGive o server.window new.places now answer
       → HandsOut IsServer (sends_of_places server o) old new before now answer
   places-next None is say gives = (gives, (none gives).0, (none gives).1)
-  places-next (Some sends) is say gives = (
-    gives.0,
-    record {
-      sends = sends-after sends.after is.sends gives.1;
-      says =
-          subst (λ (s : StoreState). AllPlaces (SaysAs s) new.places sends.after) (sym store) (all-same-say old.store old.places new.places sends.after same say);
-      store = ap (λ (s : StoreState). store_in s) store ∙ is.store;
-      lists = lists ∙ is.lists;
-    },
-    gives.2,
-    gives.3,
-  )
+  places-next (Some sends) is say gives =
+      let all = all-same-say old.store old.places new.places sends.after same say in
+      let after = sends-after sends.after is.sends gives.1 in
+      let stands : IsServer new (record server { slots = sends.after }) =
+      record { sends = after; says = rw store all; store = rw store is.store; lists = lists ∙ is.lists } in
+      (gives.0, stands, gives.2, gives.3)
 
   pub places-out-sends : SendsFor old server → PlacesGive (places_next server.window server.slots) server.window new.places now answer
       → HandsOut SendsFor (server_next server) old new before now answer
-  places-out-sends is gives =
-      subst (λ (o : Option Refused). HandsOut SendsFor (sends_by server o) old new before now answer) (sym no_stray ∙ is.stray)
-      (places-sends (places_next server.window server.slots) is gives)
+  places-out-sends is gives = grind (arith, common_steps, places-sends)
 
   pub places-out-next : IsServer old server → PlacesGive (places_next server.window server.slots) server.window new.places now answer
       → HandsOut IsServer (server_next server) old new before now answer
@@ -157,15 +101,10 @@ module _ (old new : ServerState) (server : Server) (before now : List ℕ) (answ
 -- ---- nothing is pending
 
 freed-sends : (w : Window) (p : Place) (s : Slot) → SendsAs w p s → place_pending p ≡ false → SendsAs w p (freed s)
-freed-sends w =
-    sends-cases w (λ p s. place_pending p ≡ false → SendsAs w p (freed s)) (λ none. tt) (λ d c stands none. stands) (λ link silent none. none) (λ link c stands none. none)
+freed-sends w = grind (arith, common_steps)
 
 freed-says : (store : StoreState) (p : Place) (s : Slot) → SaysAs store p s → SaysAs store p (freed s)
-freed-says store Free s says = tt
-freed-says store (Talking d) free says = tt
-freed-says store (Talking d) (connected c) says = says
-freed-says store (Talking d) (leaving c) says = tt
-freed-says store (Leaving link) s says = tt
+freed-says store p s says = grind (arith, common_steps)
 
 all-freed-sends : (w : Window) (places : List Place) (slots : List Slot) → any_pending places ≡ false → AllPlaces (SendsAs w) places slots
     → AllPlaces (SendsAs w) places (map freed slots)
@@ -183,29 +122,15 @@ all-freed-says store (p ∷ ps) [] all = absurd all
 all-freed-says store (p ∷ ps) (s ∷ ss) all = (freed-says store p s all.0, all-freed-says store ps ss all.1)
 
 pub settles : (self : ServerState) (server : Server) → any_pending self.places ≡ false → IsServer self server → IsServer self (settled server)
-settles self server none is = record {
-  sends = record {
-    me = is.sends.me;
-    window = is.sends.window;
-    stray = is.sends.stray;
-    links = all-freed-sends server.window self.places server.slots none is.sends.links;
-  };
-  says = all-freed-says self.store self.places server.slots is.says;
-  store = is.store;
-  lists = is.lists;
-}
+settles self server none is = search (rules, arith, all-freed-sends, all-freed-says)
 
 -- ---- what holds of a server holds after frames are given out
 
 same-first : (p : Place) (d : ConnectionState) → SamePlace p (Talking d) → (c : ConnectionState) × (Some p ≡ Some (Talking c)) × SameTalk c d
-same-first Free d same = absurd same
-same-first (Talking c) d same = (c, refl, same)
-same-first (Leaving link) d same = absurd same
+same-first p d same = grind (arith, common_steps)
 
 same-second : (q : Place) (c : ConnectionState) → SamePlace (Talking c) q → (d : ConnectionState) × (Some q ≡ Some (Talking d)) × SameTalk c d
-same-second Free c same = absurd same
-same-second (Talking d) c same = (d, refl, same)
-same-second (Leaving link) c same = absurd same
+same-second q c same = grind (arith, common_steps)
 
 same-get : (ps qs : List Place) (i : ℕ) (d : ConnectionState) → SamePlaces ps qs → IsAt qs i d → (c : ConnectionState) × IsAt ps i c × SameTalk c d
 same-get [] [] i d same at = absurd (never (Talking d) at)
@@ -222,31 +147,19 @@ same-back (p ∷ ps) (q ∷ qs) zero c same at = same-second q c (subst (λ (x :
 same-back (p ∷ ps) (q ∷ qs) (suc i) c same at = same-back ps qs i c same.1 at
 
 pub settled-same : (me : CallSign) (k : ℕ) (store : StoreState) (ps qs : List Place) → SamePlaces ps qs → IsSettled me k store ps → IsSettled me k store qs
-settled-same me k store ps qs same was = record {
-  good = was.good;
-  seated = λ i d at.
-      let c = same-get ps qs i d same at in
-      let seat = was.seated i c.0 c.1 in
-      record {
-        me_is = c.2.stations.me ∙ seat.me_is;
-        peer_is = c.2.stations.peer ∙ seat.peer_is ∙ ap (λ (s : SessionState). caller_of s) (sym c.2.session);
-        answers = c.2.stations.called ∙ seat.answers;
-        k_is = c.2.stations.k ∙ seat.k_is;
-        up = c.2.state ∙ seat.up;
-        held = subst (λ (s : SessionState). IsHeld store s.uploads) (sym c.2.session) seat.held;
-        due = subst (λ (s : SessionState). IsDueIn (store_in store) s.downloads) (sym c.2.session) seat.due;
-      };
-  distinct = λ one other first second a b callers.
-      let c = same-get ps qs one first same a in
-      let e = same-get ps qs other second same b in
-      was.distinct one other c.0 e.0 c.1 e.1 (ap (λ (s : SessionState). caller_of s) (sym c.2.session) ∙ callers ∙ ap (λ (s : SessionState). caller_of s) e.2.session);
-  only = λ caller number is.
-      was.only caller number (
-        λ i c at theirs.
-            let d = same-back ps qs i c same at in
-            is.0 i d.0 d.1 (ap (λ (s : SessionState). caller_of s) d.2.session ∙ theirs) ∙ ap (λ (s : SessionState). number_of s.uploads.phase) d.2.session,
-        λ nobody_has. is.1 (λ i d at theirs.
-            let c = same-get ps qs i d same at in
-            nobody_has i c.0 c.1 (ap (λ (s : SessionState). caller_of s) (sym c.2.session) ∙ theirs)),
-      );
-}
+settled-same me k store ps qs same was =
+    record {
+      good = was.good;
+      seated = λ i d at.
+          let c = same-get ps qs i d same at in
+          let seat = was.seated i c.0 c.1 in grind (arith, common_steps);
+      distinct = λ one other first second a b callers.
+          let c = same-get ps qs one first same a in
+          let e = same-get ps qs other second same b in
+          was.distinct one other c.0 e.0 c.1 e.1 (grind (arith, common_steps));
+      only = λ caller number is.
+          was.only caller number (
+            λ i c at theirs. let d = same-back ps qs i c same at in let own = is.0 i d.0 d.1 in grind (arith, common_steps),
+            λ nobody_has. is.1 (λ i d at theirs. let c = same-get ps qs i d same at in nobody_has i c.0 c.1 (grind (arith, common_steps))),
+          );
+    }

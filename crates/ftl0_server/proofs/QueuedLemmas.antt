@@ -1,31 +1,25 @@
 -- Between the events of a server all that is due was queued, as far as there was room.
-use Rattle.std.proofs.Common.{◌≡◌, ℕ, zero, suc, ◌+◌, ◌-◌, ◌<◌, List, [], ◌∷◌, ◌++◌, length, set, drop, map, Bool}
-use Rattle.std.proofs.Common.{true, false, Option, None, Some, refl, sym, ◌∙◌, ap, subst, inl, inr, append_assoc}
-use Rattle.std.proofs.Common.{take-append-drop}
-use Rattle.std.specs.Prelude.{if◌then◌else◌, ◌&&◌}
-use Rattle.std.specs.List.{concat}
+use Rattle.std.proofs.lemmas.Grind.{common_steps}
+use Rattle.std.proofs.Common.{◌≡◌, ℕ, zero, suc, ◌-◌, List, [], ◌∷◌, ◌++◌, length, set, drop, map, Bool}
+use Rattle.std.proofs.Common.{true, false, Option, None, Some, refl, ap, subst}
+use Rattle.std.proofs.Common.{take-append-drop, arith}
+use Rattle.std.specs.Prelude.{if◌then◌else◌}
 use Rattle.std.specs.Option.{option_map}
 use Rattle.std.proofs.lemmas.List.{drop-append-le}
 use Rattle.std.proofs.lemmas.Option.{same_Some}
 use Rattle.ax25_link.specs.Ends.{Farewell, IsEnd, LinkEnd, Reply, free_octets, held, most_held}
-use Rattle.ax25_link.specs.Kept.{is_there}
-use Rattle.ax25_link.specs.Rows.{entering}
 use Rattle.ax25_link.specs.Sending.{Sending, after_new, last_sending, later_sending, most_information}
 use Rattle.ax25_link.specs.Sending.{next_piece, next_sending, sending_after, sends_again, sends_new, sends_reply}
-use Rattle.ax25_link.specs.Timer.{after_tick, is_down, is_spent, runs_out, trying}
 use Rattle.ax25_link.specs.Window.{Window}
-use Rattle.ax25_link.specs.declared.state.LinkState.TheVariants.{Down}
-use Rattle.ax25_link.specs.declared.state.Why.TheVariants.{NoAnswer}
 use Rattle.ax25_link.proofs.Offered.{after_new-HasPiece, concat-append_one}
-use Rattle.file_store.specs.Command.{Command, after_all}
+use Rattle.file_store.specs.Command.{after_all}
 use Rattle.file_store.specs.Store.{Store}
-use Rattle.ftl0_session.specs.Uploads.Failures.{Failure, read_fails}
-use Rattle.ftl0_session.specs.Downloads.Sending.{DuePacket as Download, due_packet, is_due}
-use Rattle.ftl0_session.specs.Table.{State, download_part, due_at, in_session}
+use Rattle.ftl0_session.specs.Uploads.Failures.{Failure}
+use Rattle.ftl0_session.specs.Table.{State, due_at}
 use Rattle.ftl0_server.specs.Connection.Connected.{Connected}
 use Rattle.ftl0_server.specs.Connection.Hearing.{ticking, with_end}
 use Rattle.ftl0_server.specs.Connection.Laws.{IsQueued, QueuedLaw}
-use Rattle.ftl0_server.specs.Connection.Taking.{Progress, enough_free, queued}
+use Rattle.ftl0_server.specs.Connection.Taking.{Progress, queued}
 use Rattle.ftl0_server.proofs.connection.QueuingLemmas.{KeepsRest, queued-keeps}
 use Rattle.ftl0_server.specs.Laws.{AreQueued, SlotFits, SlotIsQueued, SlotsFit}
 use Rattle.ftl0_server.specs.Slots.{PlacesSend, Slot, SlotSends, all_freed, connected, first_of, free, leaving, left_by}
@@ -34,22 +28,9 @@ use Rattle.ftl0_server.proofs.AllPlaces.{never}
 
 -- ---- whether anything is due is the state's to tell
 
-no_due : (due : Bool) (one other : Download) → option_map in_session (if due then Some one else None) ≡ None
-    → option_map in_session (if due then Some other else None) ≡ None
-no_due true one other none = absurd (never (in_session one) (sym none))
-no_due false one other none = refl
-
 due-none : (store now : Store) (state : State) (failures others : List Failure) (part other : ℕ) → due_at store state failures part ≡ None
     → due_at now state others other ≡ None
-due-none store now state failures others part other none =
-    no_due (is_due (download_part state)) (due_packet store (download_part state) (read_fails failures part))
-    (due_packet now (download_part state) (read_fails others other)) none
-
--- what was queued stays so, over whatever store, while no octets are freed
-pub queued-stays : (store now : Store) (state : State) (end other : LinkEnd) → free_octets other ≡ free_octets end → IsQueued store state end
-    → IsQueued now state other
-queued-stays store now state end other same (inl none) = inl (λ failures part. due-none store now state failures failures part part (none failures part))
-queued-stays store now state end other same (inr few) = inr (subst (λ (n : ℕ). n < enough_free) (sym same) few)
+due-none store now state failures others part other none = grind (arith, common_steps)
 
 -- ---- sending frees no octets
 
@@ -62,13 +43,8 @@ piece-held w end fits =
     let piece = after_new-HasPiece end in
     let out : drop end.acked (end.sent ++ next_piece end ∷ []) ≡ drop end.acked end.sent ++ next_piece end ∷ [] =
     drop-append-le end.acked end.sent (next_piece end ∷ []) fits.acked in
-    ap (λ (n : ℕ). concat (drop n (after_new end).sent) ++ (after_new end).queued) piece.acked
-    ∙ ap (λ (pieces : List (List ℕ)). concat (drop end.acked pieces) ++ (after_new end).queued) piece.sent
-    ∙ ap (λ (octets : List ℕ). concat (drop end.acked (end.sent ++ next_piece end ∷ [])) ++ octets) piece.queued
-    ∙ ap (λ (pieces : List (List ℕ)). concat pieces ++ drop most_information end.queued) out
-    ∙ ap (λ (octets : List ℕ). octets ++ drop most_information end.queued) (concat-append_one (drop end.acked end.sent) (next_piece end))
-    ∙ append_assoc (concat (drop end.acked end.sent)) (next_piece end) (drop most_information end.queued)
-    ∙ ap (λ (octets : List ℕ). concat (drop end.acked end.sent) ++ octets) (take-append-drop most_information end.queued)
+    let joined = concat-append_one (drop end.acked end.sent) (next_piece end) in
+    let back = take-append-drop most_information end.queued in grind (arith, common_steps)
 
 module _ (w : Window) (end : LinkEnd) (fits : IsEnd w end) where
   -- what is sent leaves the end with as many free octets
@@ -97,30 +73,18 @@ module _ (w : Window) (end : LinkEnd) (fits : IsEnd w end) where
 
 -- ---- a tick frees no octets
 
-tick-by : (end : LinkEnd) (down out spent : Bool)
-    → is_there (if down then None else if out && spent then Some NoAnswer else None) ≡ false
-    → free_octets (if down then end else if out then (if spent then entering end Down else trying end) else record end { count = end.count + 1 }) ≡ free_octets end
-tick-by end true out spent stays = refl
-tick-by end false false spent stays = refl
-tick-by end false true false stays = refl
-tick-by end false true true stays = absurd (cc stays)
-
 ticking-queued : (store : Store) (c : Connected) → IsQueued store c.state c.end → (ticking c).over ≡ false
     → IsQueued store (ticking c).after.state (ticking c).after.end
-ticking-queued store c queued_there stays =
-    queued-stays store store c.state c.end (after_tick c.end) (tick-by c.end (is_down c.end.state) (runs_out c.end) (is_spent c.end) stays) queued_there
+ticking-queued store c queued_there stays = grind (arith, common_steps)
 
 -- ---- places
 
 -- what is left of a connection whose session goes on
 pub left-queued : (store : Store) (over : Bool) (c : Connected) → (over ≡ false → IsQueued store c.state c.end) → SlotIsQueued store (left_by over c)
-left-queued store false c is = is refl
-left-queued store true c is = tt
+left-queued store over c is = grind (arith, common_steps)
 
 slot-stays : (store now : Store) (slot : Slot) → SlotIsQueued store slot → SlotIsQueued now slot
-slot-stays store now free is = tt
-slot-stays store now (connected c) is = queued-stays store now c.state c.end c.end refl is
-slot-stays store now (leaving c) is = tt
+slot-stays store now slot is = grind (arith, common_steps)
 
 -- over whatever store
 pub all-stay : (store now : Store) (slots : List Slot) → AreQueued store slots → AreQueued now slots
@@ -152,17 +116,11 @@ module _ (store : Store) where
 
   connected-sends : (w : Window) (c : Connected) (o : Option Sending) → next_sending w c.end ≡ o → IsEnd w c.end → IsQueued store c.state c.end
       → (x : SlotSends) → option_map (slot_sends (λ end. connected (with_end c end))) o ≡ Some x → SlotIsQueued store x.after
-  connected-sends w c None is fits there x sends = absurd (never x sends)
-  connected-sends w c (Some sending) is fits there x sends =
-      let same = sending-leaves w c.end fits sending is in
-      subst (λ (y : SlotSends). SlotIsQueued store y.after) (same_Some (slot_sends (λ end. connected (with_end c end)) sending) x sends)
-      (queued-stays store store c.state c.end sending.after same there)
+  connected-sends w c o is fits there x sends = grind (arith, common_steps, never, sending-leaves, same_Some)
 
   leaving-sends : (c : Connected) (o : Option Sending) (x : SlotSends) → option_map (slot_sends (λ end. leaving (with_end c end))) o ≡ Some x
       → SlotIsQueued store x.after
-  leaving-sends c None x sends = absurd (never x sends)
-  leaving-sends c (Some sending) x sends =
-      subst (λ (y : SlotSends). SlotIsQueued store y.after) (same_Some (slot_sends (λ end. leaving (with_end c end)) sending) x sends) tt
+  leaving-sends c o x sends = grind (arith, common_steps)
 
   slot-sent : (w : Window) (slot : Slot) → SlotFits w slot → SlotIsQueued store slot → (x : SlotSends) → slot_next w slot ≡ Some x → SlotIsQueued store x.after
   slot-sent w free fits is x sends = absurd (never x sends)
@@ -172,11 +130,7 @@ module _ (store : Store) where
   first-sent : (slot : Slot) (slots : List Slot) (o : Option SlotSends) (later : Option PlacesSend)
       → ((x : SlotSends) → o ≡ Some x → SlotIsQueued store x.after) → ((y : PlacesSend) → later ≡ Some y → AreQueued store y.after)
       → AreQueued store (slot ∷ slots) → (z : PlacesSend) → first_of slot slots o later ≡ Some z → AreQueued store z.after
-  first-sent slot slots None None first others all z sends = absurd (never z sends)
-  first-sent slot slots None (Some y) first others all z sends =
-      subst (λ (v : PlacesSend). AreQueued store v.after) (same_Some _ z sends) (all.0, others y refl)
-  first-sent slot slots (Some x) later first others all z sends =
-      subst (λ (v : PlacesSend). AreQueued store v.after) (same_Some _ z sends) (first x refl, all.1)
+  first-sent slot slots o later first others all z sends = grind (arith, common_steps)
 
   pub places-sent : (w : Window) (slots : List Slot) → SlotsFit w slots → AreQueued store slots → (z : PlacesSend) → places_next w slots ≡ Some z
       → AreQueued store z.after
@@ -192,7 +146,4 @@ queued-alone = queued-keeps
 
 pub heard-queued : QueuedLaw → (store : Store) (failures : List Failure) (progress : Progress) → (queued store failures progress).over ≡ false
     → IsQueued (after_all store (queued store failures progress).done) (queued store failures progress).state (queued store failures progress).end
-heard-queued law store failures progress stays =
-    let same = queued-keeps store failures progress in
-    subst (λ (commands : List Command). IsQueued (after_all store commands) (queued store failures progress).state (queued store failures progress).end) (sym same.done)
-    (law store failures progress (sym same.over ∙ stays))
+heard-queued law store failures progress stays = grind (arith, common_steps)

@@ -1,6 +1,7 @@
 -- A server over events, and others behind them; and its store is the one after its commands.
-use Rattle.std.proofs.Common.{◌≡◌, ℕ, ◌+◌, List, [], ◌∷◌, ◌++◌, refl, ap, sym, ◌∙◌, subst, append_assoc, append-nil}
-use Rattle.std.proofs.Math.Nat.{add-zero, add_assoc, zero-add}
+use Rattle.std.proofs.lemmas.Grind.{common_steps}
+use Rattle.std.proofs.Common.{◌≡◌, ℕ, ◌+◌, List, [], ◌∷◌, ◌++◌, refl, ap, sym, ◌∙◌, append_assoc, arith, rules}
+use Rattle.std.proofs.Math.Nat.{add_assoc, zero-add}
 use Rattle.ax25_frames.specs.FrameText.{FrameValue}
 use Rattle.file_store.specs.Command.{Command, after_all}
 use Rattle.file_store.specs.Store.{Store}
@@ -15,16 +16,14 @@ use Rattle.ftl0_server.proofs.HappeningLemmas.{empties_store, happening_store}
 -- one event
 pub serves-one : (server : Server) (event : NodeEvent) (done : List Command) (sent : List FrameValue) (told : ℕ) (next : Server)
     → TakesEvent server event sent done told next → ServesOver server (event ∷ []) sent done told next
-serves-one server event done sent told next taken =
-    (done, sent, told, next, [], [], 0, taken, sym (append-nil sent), sym (append-nil done), sym (add-zero told), (refl, refl, refl, refl))
+serves-one server event done sent told next taken = grind (arith, common_steps)
 
 -- events and then others
 pub serves-append :
     (server : Server) (events : List NodeEvent) (frames : List FrameValue) (commands : List Command) (missed : ℕ) (mid : Server) (others : List NodeEvent) (more : List FrameValue) (further : List Command)
     (other : ℕ) (now : Server) → ServesOver server events frames commands missed mid → ServesOver mid others more further other now
     → ServesOver server (events ++ others) (frames ++ more) (commands ++ further) (missed + other) now
-serves-append server [] frames commands missed mid others more further other now h k =
-    rw (h.0, h.1, h.2, sym h.3) (subst (λ (n : ℕ). ServesOver mid others more further n now) (sym (zero-add other)) k)
+serves-append server [] frames commands missed mid others more further other now h k = search (rules, arith, zero-add)
 serves-append server (e ∷ events) frames commands missed mid others more further other now h k = (
   h.0,
   h.1,

@@ -1,6 +1,7 @@
 -- What holds of each server stays so, whatever happens at one place.
-use Rattle.std.proofs.Common.{◌≡◌, ◌≢◌, ◌⊎◌, ℕ, zero, suc, ◌<◌, List, [], ◌∷◌, length, set, Bool, true, false, Option}
-use Rattle.std.proofs.Common.{None, Some, refl, sym, ◌∙◌, ap, subst, inl, inr}
+use Rattle.std.proofs.lemmas.Grind.{common_steps}
+use Rattle.std.proofs.Common.{◌≡◌, ◌≢◌, ◌⊎◌, ℕ, zero, suc, ◌<◌, List, [], ◌∷◌, length, set, Bool, true, false, Option, rules}
+use Rattle.std.proofs.Common.{None, Some, refl, sym, ◌∙◌, ap, subst, inl, inr, arith}
 use Rattle.std.specs.Prelude.{slice_get}
 use Rattle.std.proofs.lemmas.Bool.Decides.{eqb_tells}
 use Rattle.std.proofs.lemmas.Option.{same_Some, slice_get_within}
@@ -13,25 +14,23 @@ use Rattle.file_store.specs.Store.{partial}
 use Rattle.file_store.specs.State.{StoreState, store_in}
 use Rattle.file_store.specs.Upload.{entry_for}
 use Rattle.ftl0_session.specs.Uploads.Others.{KeepsOtherCallers}
-use Rattle.ftl0_session.specs.Uploads.Session.{State as Uploading, is_same_call, receiving}
-use Rattle.ftl0_session.specs.Uploads.SessionState.{NoOtherOut, PhaseIsHeld, number_of, state_of}
+use Rattle.ftl0_session.specs.Uploads.Session.{is_same_call, receiving}
+use Rattle.ftl0_session.specs.Uploads.SessionState.{NoOtherOut, PhaseIsHeld, state_of}
 use Rattle.ftl0_session.specs.declared.uploads.phase.Phase.{Phase}
 use Rattle.ftl0_session.specs.declared.uploads.phase.Phase.TheVariants as phase
 use Rattle.ftl0_session.proofs.uploads.UploadRows.{same_call-decides}
 use Rattle.ftl0_session.proofs.downloads.DueLemmas.{due-kept}
 use Rattle.ftl0_session.specs.SessionState.{caller_of}
-use Rattle.ftl0_session.specs.Table.{state_by}
 use Rattle.ftl0_server.specs.Connection.ConnectionState.{ConnectionState}
 use Rattle.ftl0_server.specs.AtPlace.{GoesOn, Works}
 use Rattle.ftl0_server.specs.declared.place.Place.{Place}
 use Rattle.ftl0_server.specs.declared.place.Place.TheVariants.{Free, Talking, Leaving}
 use Rattle.ftl0_server.specs.Kept.{IsAt, IsSeated, IsSettled, IsUploadOf}
 use Rattle.ftl0_server.specs.ServerState.{SaysAs}
-use Rattle.ftl0_server.specs.Slots.{Slot, connected, free, leaving}
+use Rattle.ftl0_server.specs.Slots.{Slot}
 
 bool-cases : (b : Bool) → (b ≡ true) ⊎ (b ≡ false)
-bool-cases true = inl refl
-bool-cases false = inr refl
+bool-cases b = grind (arith, common_steps)
 
 pub same-call : (one other : CallSign) → (one ≡ other) ⊎ (one ≢ other)
 same-call one other =
@@ -43,9 +42,7 @@ same-call one other =
 module _ (before now : StoreState) (caller : CallSign) (others : KeepsOtherCallers before now caller) where
   -- the upload of another caller's session stays held, with the same octets that wait
   pub held-kept : (other : CallSign) → other ≢ caller → (p : Phase) → PhaseIsHeld before other p → PhaseIsHeld now other p
-  held-kept other ne phase.Command held = tt
-  held-kept other ne (phase.Receiving up) held = (others.uploads up (λ same. ne (sym held.1 ∙ same)) held.0, held.1)
-  held-kept other ne phase.Aborting held = tt
+  held-kept other ne p held = grind (arith, common_steps)
 
   pub state-kept : (other : CallSign) → other ≢ caller → (p : Phase) → PhaseIsHeld before other p → state_of now p ≡ state_of before p
   state-kept other ne phase.Command held = refl
@@ -57,25 +54,13 @@ module _ (before now : StoreState) (caller : CallSign) (others : KeepsOtherCalle
   state-kept other ne phase.Aborting held = refl
 
   pub out-kept : (other : CallSign) (number : Option ℕ) → other ≢ caller → NoOtherOut before other number → NoOtherOut now other number
-  out-kept other number ne only n entry found theirs own =
-      let was = others.entries n entry (λ same. ne (sym theirs ∙ same)) found in
-      was.1 ∙ only n entry was.0 theirs own
+  out-kept other number ne only n entry found theirs own = grind (arith, common_steps)
 
 -- the connection at a place of places of which one is another now
 pub at-set : (places : List Place) (i j : ℕ) (p : Place) (c : ConnectionState) → i < length places → IsAt (set places i p) j c
     → ((j ≡ i) × (p ≡ Talking c)) ⊎ ((j ≢ i) × IsAt places j c)
 at-set places i j p c within at =
-    elim (eqb_tells j i) [
-      | inl w ↦
-          let here : slice_get (set places i p) i ≡ Some (Talking c) = subst (λ (n : ℕ). slice_get (set places i p) n ≡ Some (Talking c)) w.1 at in
-          inl (w.1, same_Some p (Talking c) (sym (slice_get-set_same places i p within) ∙ here))
-      | inr w ↦ inr (w.1, sym (slice_get-set_other places i j p w.1) ∙ at)
-    ]
-
--- the same connection at the same place
-pub same-at : (places : List Place) (i : ℕ) (one other : ConnectionState) → IsAt places i one → IsAt places i other → one ≡ other
-same-at places i one other at too =
-    let same : Talking one ≡ Talking other = same_Some (Talking one) (Talking other) (sym at ∙ too) in cc
+    grind (arith, common_steps, eqb_tells, same_Some, slice_get-set_same, slice_get-set_other)
 
 pub leaving-no : (link : Kept) (c : ConnectionState) → Leaving link ≡ Talking c → ⊥
 leaving-no link c same = cc
@@ -96,59 +81,25 @@ module _ (me : CallSign) (k : ℕ) (before now : StoreState) (places : List Plac
     pub seated-kept : (j : ℕ) (c : ConnectionState) → j ≢ i → IsAt places j c → IsSeated me k now c
     seated-kept j c ne there =
         let was = settled.seated j c there in
-        record {
-          me_is = was.me_is;
-          peer_is = was.peer_is;
-          answers = was.answers;
-          k_is = was.k_is;
-          up = was.up;
-          held = held-kept before now (caller_of old.session) others (caller_of c.session) (other-caller j c ne there) c.session.uploads.phase was.held;
-          due = (due-kept (store_in before) (store_in now) c.session.downloads complete was.due).0;
-        }
+        let held = held-kept before now (caller_of old.session) others (caller_of c.session) (other-caller j c ne there) c.session.uploads.phase was.held in
+        let due = (due-kept (store_in before) (store_in now) c.session.downloads complete was.due).0 in grind (arith, common_steps)
 
     -- the place is this one now
     module _ (p : Place) (same : (c : ConnectionState) → p ≡ Talking c → caller_of c.session ≡ caller_of old.session)
         (seat : (c : ConnectionState) → p ≡ Talking c → IsSeated me k now c)
         (own : (number : Option ℕ) → IsUploadOf (set places i p) (caller_of old.session) number → NoOtherOut now (caller_of old.session) number) where
       set-seated : (j : ℕ) (c : ConnectionState) → IsAt (set places i p) j c → IsSeated me k now c
-      set-seated j c there =
-          elim (at-set places i j p c within there) [
-            | inl w ↦ seat c w.1
-            | inr w ↦ seated-kept j c w.0 w.1
-          ]
+      set-seated j c there = let cases = at-set places i j p c within there in grind (arith, common_steps, seated-kept)
 
       set-distinct : (one another : ℕ) (first second : ConnectionState) → IsAt (set places i p) one first → IsAt (set places i p) another second
           → caller_of first.session ≡ caller_of second.session → one ≡ another
       set-distinct one another first second a b callers =
-          elim (at-set places i one p first within a) [
-            | inl w ↦
-                elim (at-set places i another p second within b) [
-                  | inl v ↦ w.0 ∙ sym v.0
-                  | inr v ↦ absurd (other-caller another second v.0 v.1 (sym callers ∙ same first w.1))
-                ]
-            | inr w ↦
-                elim (at-set places i another p second within b) [
-                  | inl v ↦ absurd (other-caller one first w.0 w.1 (callers ∙ same second v.1))
-                  | inr v ↦ settled.distinct one another first second w.1 v.1 callers
-                ]
-          ]
+          let here = at-set places i one p first within a in
+          let there = at-set places i another p second within b in grind (arith, common_steps, other-caller)
 
       set-upload : (caller : CallSign) (number : Option ℕ) → caller ≢ caller_of old.session → IsUploadOf (set places i p) caller number
           → IsUploadOf places caller number
-      set-upload caller number ne is = (
-        λ j c there theirs. elim (eqb_tells j i) [
-          | inl w ↦
-              let here : IsAt places i c = subst (λ (n : ℕ). IsAt places n c) w.1 there in
-              let one : c ≡ old = same-at places i c old here at in
-              absurd (ne (sym theirs ∙ ap (λ (x : ConnectionState). caller_of x.session) one))
-          | inr w ↦ is.0 j c (slice_get-set_other places i j p w.1 ∙ there) theirs
-        ],
-        λ nobody. is.1 (λ j c there theirs.
-            elim (at-set places i j p c within there) [
-              | inl w ↦ ne (sym theirs ∙ same c w.1)
-              | inr w ↦ nobody j c w.1 theirs
-            ]),
-      )
+      set-upload caller number ne is = grind (arith, common_steps, eqb_tells, slice_get-set_other, at-set)
 
       pub settled-set : IsSettled me k now (set places i p)
       settled-set = record {
@@ -176,19 +127,7 @@ module _ (me : CallSign) (k : ℕ) (before now : StoreState) (places : List Plac
     (settled : IsSettled me k before places) (others : KeepsOtherCallers before now (caller_of c.session))
     (complete : KeepsComplete (store_in before) (store_in now)) where
   goes_on-seat : (d : ConnectionState) → GoesOn now c d → (e : ConnectionState) → Talking d ≡ Talking e → IsSeated me k now e
-  goes_on-seat d on e is =
-      let one : d ≡ e = cc in
-      let was = settled.seated i c at in
-      let seat : IsSeated me k now d = record {
-        me_is = on.stations.me ∙ was.me_is;
-        peer_is = on.stations.peer ∙ was.peer_is ∙ sym on.caller;
-        answers = on.stations.called ∙ was.answers;
-        k_is = on.stations.k ∙ was.k_is;
-        up = on.up;
-        held = on.held;
-        due = on.due;
-      } in
-      subst (λ (x : ConnectionState). IsSeated me k now x) one seat
+  goes_on-seat d on e is = grind (arith, common_steps)
 
   goes_on-same : (d : ConnectionState) → GoesOn now c d → (e : ConnectionState) → Talking d ≡ Talking e → caller_of e.session ≡ caller_of c.session
   goes_on-same d on e is = let one : d ≡ e = cc in ap (λ (x : ConnectionState). caller_of x.session) (sym one) ∙ on.caller
@@ -197,24 +136,15 @@ module _ (me : CallSign) (k : ℕ) (before now : StoreState) (places : List Plac
       → NoOtherOut now (caller_of c.session) number
   goes_on-own d on number is =
       let here = slice_get-set_same places i (Talking d) (slice_get_within places i (Talking c) at) in
-      let the_number = is.0 i d here on.caller in
-      subst (λ (x : Option ℕ). NoOtherOut now (caller_of c.session) x) (sym the_number)
-      (subst (λ (x : CallSign). NoOtherOut now x (number_of d.session.uploads.phase)) on.caller on.only)
+      let the_number = is.0 i d here on.caller in grind (arith, common_steps)
 
   pub settled-goes_on : (d : ConnectionState) → GoesOn now c d → IsSettled me k now (set places i (Talking d))
-  settled-goes_on d on =
-      settled-set me k before now places i c at settled others complete (Talking d) (goes_on-same d on) (goes_on-seat d on) (goes_on-own d on)
+  settled-goes_on d on = search (rules, arith, settled-set, goes_on-same, goes_on-seat, goes_on-own)
 
   -- its session is over
   over-own : (link : Kept) → NoOtherOut now (caller_of c.session) None → (number : Option ℕ) → IsUploadOf (set places i (Leaving link)) (caller_of c.session) number
       → NoOtherOut now (caller_of c.session) number
-  over-own link only number is =
-      let none : number ≡ None = is.1 (λ j e there theirs.
-      elim (at-set places i j (Leaving link) e (slice_get_within places i (Talking c) at) there) [
-        | inl w ↦ leaving-no link e w.1
-        | inr w ↦ other-caller me k before now places i c at settled others j e w.0 w.1 theirs
-      ]) in
-      subst (λ (x : Option ℕ). NoOtherOut now (caller_of c.session) x) (sym none) only
+  over-own link only number is = grind (arith, common_steps)
 
   pub settled-over : (link : Kept) → NoOtherOut now (caller_of c.session) None → IsSettled me k now (set places i (Leaving link))
   settled-over link only =
@@ -223,10 +153,7 @@ module _ (me : CallSign) (k : ℕ) (before now : StoreState) (places : List Plac
 -- nothing changes
 unchanged : (me : CallSign) (k : ℕ) (before now : StoreState) (places : List Place) (i : ℕ) (old new : Place) → slice_get places i ≡ Some old
     → IsSettled me k before places → now ≡ before → new ≡ old → IsSettled me k now (set places i new)
-unchanged me k before now places i old new at settled store same =
-    let one : set places i old ≡ places = set-get places i old at in
-    let all : set places i new ≡ places = ap (λ (x : Place). set places i x) same ∙ one in
-    subst (λ (x : List Place). IsSettled me k now x) (sym all) (subst (λ (x : StoreState). IsSettled me k x places) (sym store) settled)
+unchanged me k before now places i old new at settled store same = grind (arith, common_steps, set-get)
 
 -- whatever the place becomes
 pub settled-works : (me : CallSign) (k : ℕ) (before now : StoreState) (places : List Place) (i : ℕ) (old new : Place) → slice_get places i ≡ Some old
@@ -241,16 +168,5 @@ settled-works me k before now places i (Leaving link) new at settled works compl
 pub says-kept : (me : CallSign) (k : ℕ) (before now : StoreState) (places : List Place) (i : ℕ) (old new : Place) → slice_get places i ≡ Some old
     → IsSettled me k before places → Works before now old new → (j : ℕ) (place : Place) (slot : Slot) → j ≢ i → slice_get places j ≡ Some place
     → SaysAs before place slot → SaysAs now place slot
-says-kept me k before now places i Free new at settled works j place slot ne there says =
-    subst (λ (x : StoreState). SaysAs x place slot) (sym works.0) says
-says-kept me k before now places i (Leaving link) new at settled works j place slot ne there says =
-    subst (λ (x : StoreState). SaysAs x place slot) (sym works.0) says
-says-kept me k before now places i (Talking c) new at settled works j Free slot ne there says = tt
-says-kept me k before now places i (Talking c) new at settled works j (Leaving link) slot ne there says = tt
-says-kept me k before now places i (Talking c) new at settled works j (Talking d) free ne there says = tt
-says-kept me k before now places i (Talking c) new at settled works j (Talking d) (leaving e) ne there says = tt
-says-kept me k before now places i (Talking c) new at settled works j (Talking d) (connected e) ne there says =
-    let other = other-caller me k before now places i c at settled works.0 j d ne there in
-    let held = (settled.seated j d there).held in
-    let same = state-kept before now (caller_of c.session) works.0 (caller_of d.session) other d.session.uploads.phase held in
-    record { rest = says.rest; state = ap (λ (x : Uploading). state_by x d.session.downloads) same ∙ says.state }
+says-kept me k before now places i old new at settled works j place slot ne there says =
+    grind (arith, common_steps, other-caller, state-kept)

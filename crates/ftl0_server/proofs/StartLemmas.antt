@@ -1,5 +1,6 @@
 -- What the recovery of the store refuses.
-use Rattle.std.proofs.Common.{◌≡◌, ℕ, List, Option, sym, ◌∙◌, ap}
+use Rattle.std.proofs.lemmas.Grind.{common_steps}
+use Rattle.std.proofs.Common.{◌≡◌, ℕ, List, Option, sym, ◌∙◌, ap, arith}
 use Rattle.std.specs.Prelude.{Result, Err}
 use Rattle.file_store.proofs.Offered.{told_weaker}
 use Rattle.file_store.specs.Recovery.{RefusesExactly, RefusesRecovery}
@@ -20,6 +21,4 @@ module _ {A B : Type 0} (result : Result A StoreFault) (other : Result B StoreFa
   }
 
   pub refuses-other : (blocks : ℕ) (content : Option (List ℕ)) → RefusesRecovery blocks content result → RefusesRecovery blocks content other
-  refuses-other blocks content refuses no_disk no_memory =
-      told_weaker content (λ before. RefusesExactly blocks before result) (λ before. RefusesExactly blocks before other) (λ before told. exactly blocks before)
-      (refuses (λ same. no_disk (back fault.Disk same)) (λ same. no_memory (back fault.OutOfMemory same)))
+  refuses-other blocks content refuses no_disk no_memory = grind (arith, common_steps, told_weaker, exactly, back)

@@ -1,5 +1,6 @@
 -- A tick at each place makes the server's tick; and what a frame of a station without a connection is.
-use Rattle.std.proofs.Common.{◌≡◌, ℕ, List, map, Bool, true, false, refl, sym, ◌∙◌, ap}
+use Rattle.std.proofs.lemmas.Grind.{common_steps}
+use Rattle.std.proofs.Common.{◌≡◌, ℕ, List, map, Bool, true, false, sym, ◌∙◌, ap, arith}
 use Rattle.std.specs.Prelude.{if◌then◌else◌, ◌&&◌}
 use Rattle.ax25_frames.specs.FrameText.{FrameValue}
 use Rattle.ax25_link.specs.Rows.{is_call}
@@ -7,24 +8,14 @@ use Rattle.file_store.specs.State.{StoreState, store_in}
 use Rattle.ftl0_server.specs.AtPlace.{IsPlace}
 use Rattle.ftl0_server.specs.declared.place.Place.{Place}
 use Rattle.ftl0_server.specs.Server.{Server, called_by, hearing_stranger, refusing, server_ticking}
-use Rattle.ftl0_server.specs.ServerState.{AllPlaces, IsServer, SaysAs, SendsAs, ServerState}
+use Rattle.ftl0_server.specs.ServerState.{AllPlaces, IsServer, ServerState}
 use Rattle.ftl0_server.specs.Slots.{first_empty, slot_ticking}
 use Rattle.ftl0_server.proofs.AllPlaces.{all-to}
 
 pub server-ticked : (old : ServerState) (server : Server) (places : List Place) (store : StoreState) → IsServer old server
     → AllPlaces (IsPlace server.window store) places (map slot_ticking server.slots) → store_in store ≡ store_in old.store
     → IsServer (record old { places = places; store = store }) (server_ticking server)
-server-ticked old server places store is all same = record {
-  sends = record {
-    me = is.sends.me;
-    window = is.sends.window;
-    stray = is.sends.stray;
-    links = all-to (IsPlace server.window store) (SendsAs server.window) places (map slot_ticking server.slots) (λ i p s at there both. both.0) all;
-  };
-  says = all-to (IsPlace server.window store) (SaysAs store) places (map slot_ticking server.slots) (λ i p s at there both. both.1) all;
-  store = same ∙ is.store;
-  lists = is.lists;
-}
+server-ticked old server places store is all same = grind (arith, common_steps, all-to)
 
 -- the frame is SABM, or is refused, or passed over
 module _ (server : Server) (frame : FrameValue) (moment : ℕ) where
@@ -49,13 +40,10 @@ module _ (server : Server) (frame : FrameValue) (moment : ℕ) where
   stranger-passed no_call asks = ap (λ (b : Bool). by_poll b) (sym asks) ∙ ap (λ (b : Bool). by_call b) (sym no_call)
 
 pub both-true : (a b : Bool) → a ≡ true → b ≡ true → (a && b) ≡ true
-both-true true b one other = other
-both-true false b one other = one
+both-true a b one other = grind (arith, common_steps)
 
 pub first-false : (a b : Bool) → a ≡ false → (a && b) ≡ false
-first-false true b one = absurd (let x : ⊥ = cc in x)
-first-false false b one = refl
+first-false a b one = grind (arith, common_steps)
 
 pub second-false : (a b : Bool) → b ≡ false → (a && b) ≡ false
-second-false true b other = other
-second-false false b other = refl
+second-false a b other = grind (arith, common_steps)

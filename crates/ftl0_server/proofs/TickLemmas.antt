@@ -1,6 +1,7 @@
 -- Ticks at the first places of a server.
-use Rattle.std.proofs.Common.{◌≡◌, ℕ, zero, suc, List, [], ◌∷◌, length, set, drop, map, false, Some, refl, sym, ◌∙◌, ap}
-use Rattle.std.proofs.Common.{subst}
+use Rattle.std.proofs.lemmas.Grind.{common_steps}
+use Rattle.std.proofs.Common.{◌≡◌, ℕ, zero, suc, List, [], ◌∷◌, length, set, drop, map, false, Some, refl, sym, ap}
+use Rattle.std.proofs.Common.{arith}
 use Rattle.std.specs.Prelude.{slice_get}
 use Rattle.std.proofs.lemmas.Option.{same_Some}
 use Rattle.px_base.specs.CallSign.{CallSign}
@@ -17,7 +18,7 @@ use Rattle.ftl0_server.specs.ServerState.{AllPlaces, any_pending, place_pending}
 use Rattle.ftl0_server.specs.Slots.{Slot, slot_ticking}
 use Rattle.ftl0_server.proofs.AllPlaces.{all-set-to, never}
 use Rattle.ftl0_server.proofs.NextLemmas.{none_first}
-use Rattle.ftl0_server.proofs.SettledLemmas.{same-at, says-kept}
+use Rattle.ftl0_server.proofs.SettledLemmas.{says-kept}
 
 -- a tick came at the first so many of these
 abbrev pub ticked : ℕ → List Slot → List Slot
@@ -52,18 +53,14 @@ pub own-only : (me : CallSign) (k : ℕ) (store : StoreState) (places : List Pla
     → IsSettled me k store places → IsOnlyOut store c.session.uploads
 own-only me k store places i c at settled =
     settled.only (caller_of c.session) (number_of c.session.uploads.phase) (
-      λ j d there same.
-          let here : j ≡ i = settled.distinct j i d c there at same in
-          let one : d ≡ c = same-at places i d c (subst (λ (n : ℕ). IsAt places n d) here there) at in
-          ap (λ (x : ConnectionState). number_of x.session.uploads.phase) (sym one),
+      λ j d there same. let here : j ≡ i = settled.distinct j i d c there at same in grind (arith, common_steps),
       λ nobody. absurd (nobody i c at refl),
     )
 
 -- the place at which the tick comes next
 pub quiet-at : (places : List Place) (i : ℕ) (place : Place) → slice_get places i ≡ Some place → any_pending (drop i places) ≡ false → place_pending place ≡ false
 quiet-at [] i place at none = absurd (never place at)
-quiet-at (p ∷ ps) zero place at none =
-    ap (λ (x : Place). place_pending x) (sym (same_Some p place at)) ∙ (none_first (place_pending p) (any_pending ps) none).0
+quiet-at (p ∷ ps) zero place at none = grind (arith, common_steps)
 quiet-at (p ∷ ps) (suc i) place at none = quiet-at ps i place at none
 
 pub may-tick : (me : CallSign) (k : ℕ) (store : StoreState) (places : List Place) (i : ℕ) (place : Place) → slice_get places i ≡ Some place
@@ -71,13 +68,8 @@ pub may-tick : (me : CallSign) (k : ℕ) (store : StoreState) (places : List Pla
 may-tick me k store places i Free at settled none = tt
 may-tick me k store places i (Talking c) at settled none =
     let seated = settled.seated i c at in
-    record {
-      quiet = quiet-at places i (Talking c) at none;
-      up = seated.up;
-      held = seated.held;
-      only = own-only me k store places i c at settled;
-      due = seated.due;
-    }
+    let only = own-only me k store places i c at settled in
+    let quiet = quiet-at places i (Talking c) at none in grind (arith, common_steps)
 may-tick me k store places i (Leaving link) at settled none = tt
 
 -- the places behind it are as they were

@@ -1,4 +1,5 @@
 -- Each place may be ended once those before it are.
+use Rattle.std.proofs.lemmas.Grind.{common_steps}
 use Rattle.std.proofs.Common.{◌≡◌, length, arith, rules}
 use Rattle.ftl0_server.proofs.EndLemmas.{end-here, end-later}
 use Rattle.ftl0_server.proofs.places.end_all.Goals as goal
@@ -7,7 +8,7 @@ pub end-requires-2 : goal.end-requires-2
 end-requires-2 c =
     let size : length c.args.places ≡ 8 = search rules in
     let may1 = end-later c.args.store.now c.end.new.store c.args.places 0 c.first-1.given.0 (omega (arith, size)) c.requires c.first-1.given.1 c.end.ensures in
-    end-here c.end.new.store c.args.places 1 c.second-1.given.0 (omega (arith, size)) may1 c.second-1.given.1
+    grind (arith, common_steps, end-here, end-later)
 
 pub end-requires-3 : goal.end-requires-3
 end-requires-3 c =

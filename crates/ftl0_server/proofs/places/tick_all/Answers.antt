@@ -1,24 +1,22 @@
 -- A tick comes at one place more.
-use Rattle.std.proofs.Common.{◌≡◌, ℕ, suc, ◌+◌, ◌<◌, List, length, set, drop, get_or, Some, false, sym, ◌∙◌, ap, subst, arith, add-one}
+use Rattle.std.proofs.Common.{◌≡◌, ℕ, suc, ◌+◌, ◌<◌, List, length, get_or, Some, sym, ◌∙◌, ap, subst, arith, add-one, rules}
 use Rattle.std.specs.Prelude.{slice_get}
 use Rattle.std.proofs.lemmas.Option.{slice_get-get_or}
 use Rattle.file_store.specs.EntriesKept.{KeepsComplete}
 use Rattle.file_store.specs.Store.{Store}
 use Rattle.file_store.specs.State.{store_in}
 use Rattle.ftl0_server.specs.AtPlace.{IsPlace}
-use Rattle.ftl0_server.specs.ServerState.{AllPlaces, any_pending}
+use Rattle.ftl0_server.specs.ServerState.{AllPlaces}
 use Rattle.ftl0_server.specs.Slots.{Slot, slot_ticking}
 use Rattle.ftl0_server.proofs.AllPlaces.{all-get, all-length}
 use Rattle.ftl0_server.proofs.SettledLemmas.{settled-works}
 use Rattle.ftl0_server.proofs.TickLemmas.{all-works, may-tick, quiet-later, ticked, ticked-all, ticked-get, ticked-set}
+use Rattle.px_base.specs.CallSign.{CallSign}
+use Rattle.ftl0_server.specs.Kept.{IsSettled}
 use Rattle.ftl0_server.proofs.places.tick_all.Goals as goal
 
 pub tick-requires : goal.tick-requires
-tick-requires c =
-    let lt : c.loop-i.i < length c.loop-i.places = omega arith in
-    let at = slice_get-get_or c.loop-i.places c.loop-i.i c.index-places-i.result lt in
-    let working = c.loop-i.invariant.working in
-    may-tick working.0 working.1 c.loop-i.store c.loop-i.places c.loop-i.i (get_or c.loop-i.places c.loop-i.i c.index-places-i.result) at working.2 c.loop-i.invariant.silent
+tick-requires c = search (rules, arith, slice_get-get_or, may-tick)
 
 pub loop-i-preserved : goal.loop-i-preserved
 loop-i-preserved c =
@@ -28,18 +26,13 @@ loop-i-preserved c =
     let working = c.loop-i.invariant.working in
     let works = c.tick.ensures.works in
     let kept = subst (λ (s : Store). KeepsComplete (store_in c.loop-i.store) s) (sym c.tick.ensures.store) (λ number entry found whole. found) in
+    let settles = λ (me : CallSign) (k : ℕ) (h : IsSettled me k c.loop-i.store c.loop-i.places).
+    settled-works me k c.loop-i.store c.tick.new.store c.loop-i.places c.loop-i.i old c.tick.new.self at h works kept in
     let step : c.loop-i.i + 1 ≡ suc c.loop-i.i = add-one c.loop-i.i in
     record {
-      silent =
-          subst (λ (n : ℕ). any_pending (drop n (set c.loop-i.places c.loop-i.i c.tick.new.self)) ≡ false) (sym step)
-          (quiet-later c.loop-i.places c.loop-i.i c.tick.new.self c.loop-i.invariant.silent);
-      working = (
-        working.0,
-        working.1,
-        settled-works working.0 working.1 c.loop-i.store c.tick.new.store c.loop-i.places c.loop-i.i old c.tick.new.self at working.2 works kept,
-      );
-      settled = λ me k h.
-          settled-works me k c.loop-i.store c.tick.new.store c.loop-i.places c.loop-i.i old c.tick.new.self at (c.loop-i.invariant.settled me k h) works kept;
+      silent = rw step (quiet-later c.loop-i.places c.loop-i.i c.tick.new.self c.loop-i.invariant.silent);
+      working = (working.0, working.1, settles working.0 working.1 working.2);
+      settled = λ me k h. settles me k (c.loop-i.invariant.settled me k h);
       ticks = λ w slots all.
           let was = c.loop-i.invariant.ticks w slots all in
           let got = all-get (IsPlace w c.loop-i.store) c.loop-i.places (ticked c.loop-i.i slots) c.loop-i.i old was at in
@@ -47,8 +40,7 @@ loop-i-preserved c =
           let next =
           all-works w working.0 working.1 c.loop-i.store c.tick.new.store c.loop-i.places (ticked c.loop-i.i slots) c.loop-i.i old c.tick.new.self (slot_ticking got.0) at working.2 works was
           (c.tick.ensures.ticks w got.0 got.2) in
-          subst (λ (ss : List Slot). AllPlaces (IsPlace w c.tick.new.store) (set c.loop-i.places c.loop-i.i c.tick.new.self) ss)
-          (ticked-set c.loop-i.i slots got.0 here ∙ ap (λ (n : ℕ). ticked n slots) (sym step)) next;
+          rw (step, sym (ticked-set c.loop-i.i slots got.0 here)) next;
       store = c.tick.ensures.store ∙ c.loop-i.invariant.store;
       journal = c.tick.ensures.journal ∙ c.loop-i.invariant.journal;
     }

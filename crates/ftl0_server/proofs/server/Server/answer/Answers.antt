@@ -1,8 +1,7 @@
 -- A session begins at the lowest free place, or the station is refused.
-use Rattle.std.proofs.Common.{ℕ, List, Option, subst, sym, ◌∙◌}
-use Rattle.px_base.specs.CallSign.{CallSign}
-use Rattle.ax25_link.specs.Window.{Window}
-use Rattle.ftl0_session.specs.Lists.Lists.{CallerList, has_left}
+use Rattle.std.proofs.lemmas.Grind.{common_steps}
+use Rattle.std.proofs.Common.{ℕ, Option, subst, sym, ◌∙◌, arith}
+use Rattle.ftl0_session.specs.Lists.Lists.{has_left}
 use Rattle.ftl0_server.specs.Connection.Connected.{answering}
 use Rattle.ftl0_server.specs.Connection.ConnectionState.{IsConnection}
 use Rattle.ftl0_server.specs.Kept.{server_state}
@@ -23,16 +22,8 @@ pub returns-in-Ok-clause-heard : goal.returns-in-Ok-clause-heard
 returns-in-Ok-clause-heard c = λ server is.
     let was = rw (sym c.self.view_is) at is in
     let answered = c.in-Ok.ensures.connection c.args.self.now.store in
-    let with_window =
-    subst (λ (w : Window). IsConnection w c.args.self.now.store c.in-Ok.connection (answering c.self.inside.me c.args.caller c.args.poll c.args.moment (has_left c.self.inside.lists c.args.caller)))
-    (sym was.sends.window) answered in
-    let with_me =
-    subst (λ (me : CallSign). IsConnection server.window c.args.self.now.store c.in-Ok.connection (answering me c.args.caller c.args.poll c.args.moment (has_left c.self.inside.lists c.args.caller)))
-    was.sends.me with_window in
-    let talks =
-    subst (λ (lists : List CallerList). IsConnection server.window c.args.self.now.store c.in-Ok.connection (answering server.me c.args.caller c.args.poll c.args.moment (has_left lists c.args.caller)))
-    was.lists with_me in
     let answer = answering server.me c.args.caller c.args.poll c.args.moment (has_left server.lists c.args.caller) in
+    let talks : IsConnection server.window c.args.self.now.store c.in-Ok.connection answer = grind (arith, common_steps) in
     let seated = server-seated c.args.self.now server c.in-Some.place c.in-Ok.connection answer is talks in
     let there = subst (λ (s : ServerState). IsServer s (with_slot server c.in-Some.place (connected answer))) (sym c.seat.ensures.seats) seated in
     subst (λ (o : Option ℕ). IsServer c.seat.new.self (called_by server c.args.caller c.args.poll c.args.moment o))

@@ -1,5 +1,5 @@
 -- The frame is heard at the place of its sender's connection.
-use Rattle.std.proofs.Common.{get_or, set, refl, ap, subst, sym, ◌∙◌}
+use Rattle.std.proofs.Common.{set, refl, ap, subst, sym, ◌∙◌}
 use Rattle.std.proofs.lemmas.Option.{slice_get-get_or}
 use Rattle.ax25_frames.specs.Values.{value_of}
 use Rattle.ax25_link.specs.Kept.{is_there}
@@ -11,6 +11,7 @@ use Rattle.ftl0_server.specs.Slots.{connected}
 use Rattle.ftl0_server.proofs.HearLemmas.{found-at, found-talks, found-within, may-hear, server-hears}
 use Rattle.ftl0_server.proofs.NextLemmas.{none_first}
 use Rattle.ftl0_server.proofs.SettledLemmas.{settled-works}
+use Rattle.std.proofs.Common.{rules, arith}
 use Rattle.ftl0_server.proofs.server.Server.hear_at.Goals as goal
 
 pub hear-requires-clause-may : goal.hear-requires-clause-may
@@ -24,13 +25,7 @@ pub invariant_of-self : goal.invariant_of-self
 invariant_of-self g c =
     let found = rw (sym c.self.view_is) at c.requires.place in
     let within = found-within (has_caller (value_of c.args.frame.now).src) c.self.inside.places c.args.place found in
-    record {
-      settled =
-          settled-works c.self.inside.me c.self.inside.k c.self.inside.store c.hear.new.store c.self.inside.places c.args.place
-          (get_or c.self.inside.places c.args.place c.index-places-place.result) c.hear.new.self
-          (slice_get-get_or c.self.inside.places c.args.place c.index-places-place.result within) c.self.invariant.settled c.hear.ensures.works c.hear.ensures.kept;
-      complete = c.hear.ensures.complete;
-    }
+    let at = slice_get-get_or c.self.inside.places c.args.place c.index-places-place.result within in search (rules, arith, settled-works)
 
 pub returns-clause-hears : goal.returns-clause-hears
 returns-clause-hears g c = λ server is.

@@ -1,20 +1,17 @@
 -- By what the frame is.
-use Rattle.std.proofs.Common.{◌≡◌, false, subst, sym, ◌∙◌}
+use Rattle.std.proofs.lemmas.Grind.{common_steps}
+use Rattle.std.proofs.Common.{◌≡◌, false, subst, sym, ◌∙◌, arith}
 use Rattle.std.specs.Prelude.{◌&&◌}
 use Rattle.ax25_frames.specs.Values.{value_of}
-use Rattle.ftl0_server.specs.Server.{Server, called_by, hearing_stranger}
+use Rattle.ftl0_server.specs.Server.{Server}
 use Rattle.ftl0_server.specs.ServerState.{IsServer}
-use Rattle.ftl0_server.specs.Slots.{first_empty}
 use Rattle.ftl0_server.proofs.HearLemmas.{stranger-at}
 use Rattle.ftl0_server.proofs.StepLemmas.{both-true, first-false, second-false, stranger-asks, stranger-calls, stranger-passed}
 use Rattle.ftl0_server.proofs.server.Server.hear_stranger.Goals as goal
 use Rattle.ftl0_server.proofs.server.Server.hear_stranger.Goals.{else-frame-via-then-frame+else-frame-2, else-frame-via-else-frame}
 
 pub returns-then-is_call-clause-heard : goal.returns-then-is_call-clause-heard
-returns-then-is_call-clause-heard c =
-    let frame = value_of c.args.frame.now in
-    stranger-at (λ s. called_by s frame.src frame.poll c.args.moment (first_empty s.slots)) (λ s. hearing_stranger s frame c.args.moment) c.args.self.now c.answer.new.self c.answer.result
-    (λ s. stranger-calls s frame c.args.moment (sym c.is_call.ensures ∙ c.if-is_call.true)) c.answer.ensures.heard
+returns-then-is_call-clause-heard c = grind (arith, common_steps, stranger-at, stranger-calls)
 
 pub returns-then-frame-2-clause-heard : goal.returns-then-frame-2-clause-heard
 returns-then-frame-2-clause-heard c = λ server is.

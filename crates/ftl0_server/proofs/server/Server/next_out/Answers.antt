@@ -1,5 +1,6 @@
 -- The DM to a station without a connection comes first, then the places' frames.
-use Rattle.std.proofs.Common.{◌≡◌, None, false, List, refl, sym, ◌∙◌, ap, subst}
+use Rattle.std.proofs.lemmas.Grind.{common_steps}
+use Rattle.std.proofs.Common.{◌≡◌, None, false, List, sym, ◌∙◌, ap, subst, arith, rules}
 use Rattle.ftl0_server.specs.declared.place.Place.{Place}
 use Rattle.ftl0_server.specs.declared.server.Server.TheInside.{Inside}
 use Rattle.ftl0_server.specs.Kept.{server_state}
@@ -17,46 +18,22 @@ pub returns-in-Some-clause-next : goal.returns-in-Some-clause-next
 returns-in-Some-clause-next c = λ server is.
     let was = rw (sym c.self.view_is) at is in
     let new : ServerState = record (server_state c.self.inside) { stray = None } in
-    let stands : IsServer new (record server { stray = None }) = record {
-      sends = record { me = was.sends.me; window = was.sends.window; stray = refl; links = was.sends.links };
-      says = was.says;
-      store = was.store;
-      lists = was.lists;
-    } in
+    let stands : IsServer new (record server { stray = None }) = grind (arith, common_steps) in
     rw (sym c.self.view_is)
     (stray-out IsServer (server_state c.self.inside) new server c.in-Some.stray c.args.out.now.items c.write.new.out.items was.sends.me was.sends.stray
     c.in-Some.is stands c.write.ensures.octets c.write.ensures.text)
 
 pub returns-in-Some-clause-same : goal.returns-in-Some-clause-same
-returns-in-Some-clause-same c =
-    let new : ServerState = record (server_state c.self.inside) { stray = None } in
-    rw (sym c.self.view_is)
-    (record { me = refl; k = refl; places = same_places c.self.inside.places; store = refl; lists = refl })
+returns-in-Some-clause-same c = grind (arith, common_steps, same_places)
 
 pub invariant_of-self-in-None : goal.invariant_of-self-in-None
-invariant_of-self-in-None c = record {
-  settled =
-      settled-same c.self.inside.me c.self.inside.k c.self.inside.store c.self.inside.places c.next_of.new.places c.next_of.ensures.same c.self.invariant.settled;
-  complete = c.self.invariant.complete;
-}
+invariant_of-self-in-None c = search (rules, arith, settled-same)
 
 pub returns-in-None-clause-sends : goal.returns-in-None-clause-sends
-returns-in-None-clause-sends c = λ server is.
-    let was = rw (sym c.self.view_is) at is in
-    let new : ServerState = record (server_state c.self.inside) { places = c.next_of.new.places } in
-    rw (sym c.self.view_is)
-    (places-out-sends (server_state c.self.inside) new server c.args.out.now.items c.next_of.new.out.items c.next_of.result refl refl refl refl refl c.next_of.ensures.same
-    (λ no. (ap (λ (ps : List Place). as_state c.self.inside ps) (c.next_of.ensures.none no).0, (c.next_of.ensures.none no).1))
-    c.in-None.is was (c.next_of.ensures.gives server.window server.slots was.links))
+returns-in-None-clause-sends c = grind (arith, common_steps, places-out-sends)
 
 pub returns-in-None-clause-next : goal.returns-in-None-clause-next
-returns-in-None-clause-next c = λ server is.
-    let was = rw (sym c.self.view_is) at is in
-    let new : ServerState = record (server_state c.self.inside) { places = c.next_of.new.places } in
-    rw (sym c.self.view_is)
-    (places-out-next (server_state c.self.inside) new server c.args.out.now.items c.next_of.new.out.items c.next_of.result refl refl refl refl refl c.next_of.ensures.same
-    (λ no. (ap (λ (ps : List Place). as_state c.self.inside ps) (c.next_of.ensures.none no).0, (c.next_of.ensures.none no).1))
-    c.in-None.is was (c.next_of.ensures.gives server.window server.slots was.sends.links))
+returns-in-None-clause-next c = grind (arith, common_steps, places-out-next)
 
 pub returns-in-None-clause-settles : goal.returns-in-None-clause-settles
 returns-in-None-clause-settles c = λ no server is.

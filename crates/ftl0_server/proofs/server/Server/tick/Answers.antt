@@ -1,13 +1,11 @@
 -- A tick came at each place, and the disk stays.
-use Rattle.std.proofs.Common.{refl, subst, sym, []}
+use Rattle.std.proofs.lemmas.Grind.{common_steps}
+use Rattle.std.proofs.Common.{refl, subst, sym, [], arith}
 use Rattle.file_store.specs.Store.{Store}
-use Rattle.file_store.specs.OnDisk.{Does}
 use Rattle.file_store.specs.Working.{DoesAmongReads}
-use Rattle.file_store.proofs.Offered.{does-among, puts-among, puts_none}
 use Rattle.ftl0_session.proofs.uploads.DoesLemmas.{does-none}
 use Rattle.ftl0_session.specs.Downloads.Needs.{AreComplete}
 use Rattle.ftl0_server.specs.Kept.{server_state}
-use Rattle.ftl0_server.specs.ServerState.{ServerState}
 use Rattle.ftl0_server.proofs.HearLemmas.{all-are}
 use Rattle.ftl0_server.proofs.StepLemmas.{server-ticked}
 use Rattle.ftl0_server.proofs.server.Server.tick.Goals as goal
@@ -21,25 +19,18 @@ invariant_of-self g c = record {
 pub returns-clause-ticks : goal.returns-clause-ticks
 returns-clause-ticks g c = λ server is.
     let was = rw (sym c.self.view_is) at is in
-    server-ticked (server_state c.self.inside) server c.tick_all.new.places c.tick_all.new.store was
-    (c.tick_all.ensures.ticks server.window server.slots (all-are (server_state c.self.inside) server was)) c.tick_all.ensures.store
+    let all = all-are (server_state c.self.inside) server was in grind (arith, common_steps, server-ticked)
 
 pub returns-clause-happens : goal.returns-clause-happens
 returns-clause-happens g c = λ server is.
     let was = rw (sym c.self.view_is) at is in
-    let new : ServerState = record (server_state c.self.inside) { places = c.tick_all.new.places; store = c.tick_all.new.store } in
-    let ticked = server-ticked (server_state c.self.inside) server c.tick_all.new.places c.tick_all.new.store was
-    (c.tick_all.ensures.ticks server.window server.slots (all-are (server_state c.self.inside) server was)) c.tick_all.ensures.store in
+    let ticked = returns-clause-ticks g c server is in
     let healthy = rw (sym c.self.view_is) at c.requires.healthy in
     let stands = rw (sym c.self.view_is) at c.requires.stands_on in
-    let nothing : Does g.D.Disk ⊥ c.self.inside.store c.tick_all.new.store c.args._disk.now c.args._disk.now [] =
-    does-none g.D.Disk c.self.inside.store c.tick_all.new.store c.args._disk.now healthy stands c.tick_all.ensures.store c.tick_all.ensures.journal
-    (g.met.D.Disk.lasts_same c.args._disk.now) in
-    let does : DoesAmongReads g.D.Disk ⊥ 0 c.self.inside.store c.tick_all.new.store c.args._disk.now c.args._disk.now [] =
-    does-among g.D.Disk ⊥ c.self.inside.store c.tick_all.new.store c.args._disk.now c.args._disk.now [] nothing in
+    let lasts = g.met.D.Disk.lasts_same c.args._disk.now in
+    let does : DoesAmongReads g.D.Disk ⊥ 0 c.self.inside.store c.tick_all.new.store c.args._disk.now c.args._disk.now [] = grind (arith, common_steps, does-none) in
     rw (sym c.self.view_is)
     (record { parts = []; by = (refl, ticked, does); since = does.since })
 
 pub returns-clause-puts : goal.returns-clause-puts
-returns-clause-puts g c =
-    puts-among g.D.Disk _ c.args._disk.now c.args._disk.now (puts_none g.D.Disk c.args._disk.now _ (λ failed. cc failed) (g.met.D.Disk.lasts_same c.args._disk.now))
+returns-clause-puts g c = grind (arith, common_steps)
