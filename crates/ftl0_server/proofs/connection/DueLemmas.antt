@@ -1,4 +1,5 @@
 -- How a connection queues what is due, behind the packets of a frame.
+use Rattle.std.proofs.lemmas.Grind.{common_steps}
 use Rattle.std.proofs.Common.{◌≡◌, ◌⊎◌, inl, inr, ℕ, suc, ◌+◌, ◌<◌, ◌≤◌, Bool, true, false, List, [], ◌++◌, refl}
 use Rattle.std.proofs.Common.{ap, sym, ◌∙◌, subst, arith, append-nil}
 use Rattle.std.specs.Prelude.{All, Some, Result, Ok, Err, ⊤}
@@ -13,8 +14,7 @@ use Rattle.file_store.specs.Store.{Store}
 use Rattle.file_store.specs.State.{StandsOn, StoreState, store_in}
 use Rattle.file_store.specs.Working.{DoesAmongReads, one_if}
 use Rattle.file_store.proofs.Offered.{among-at, among-same, among-then, does-among, Does-none, puts-among-then}
-use Rattle.ftl0_session.specs.Uploads.Failures.{Failure, failed_reads, failed_write, read_fails}
-use Rattle.ftl0_session.specs.Downloads.Needs.{IsDueIn}
+use Rattle.ftl0_session.specs.Uploads.Failures.{Failure, failed_reads, read_fails}
 use Rattle.disk_model.specs.declared.halt.Halt.{Halt as Stop}
 use Rattle.disk_model.specs.declared.halt.Halt.TheVariants as stop
 use Rattle.ftl0_session.specs.SessionState.{WorkingOn, state_in}
@@ -61,8 +61,7 @@ module _ {D : Type 0} (g : Ghosts D) (lasts : (disk : D) → g.lasts disk disk) 
     queues-none (inl none) w progress stands stood =
         still w progress stands stood
         (sym (queuing-none (store_in store) (failed_reads []) (free_octets progress.end) progress (ap (λ (s : State). next_due (store_in store) s false) (sym stood) ∙ none false)))
-    queues-none (inr few) w progress stands stood =
-        still w progress stands stood (sym (queuing-fewer (store_in store) (failed_reads []) (free_octets progress.end) progress (few w progress.end stands)))
+    queues-none (inr few) w progress stands stood = grind (arith, common_steps, still, queuing-fewer)
 
   -- ---- one packet, and then the others
 
@@ -119,16 +118,7 @@ module _ {D : Type 0} (g : Ghosts D) (lasts : (disk : D) → g.lasts disk disk) 
   -- ---- what is left for the next event
 
   pub keeps-then : (a b c : StoreState) (d e f : D) (old mid new : ConnectionState) → KeepsFit g a b d e old mid → KeepsFit g b c e f mid new → KeepsFit g a c d f old new
-  keeps-then a b c d e f old mid new first second = record {
-    same = second.same ∙ first.same;
-    puts = puts-among-then g on ⊥ ⊥ d e f (λ never. never) first.puts second.puts;
-    stands_on = subst (λ (s : StoreState). StandsOn g s f) first.same second.stands_on;
-    due = subst (λ (s : StoreState). IsDueIn (store_in s) new.session.downloads) first.same second.due;
-    uploads = second.uploads ∙ first.uploads;
-    octets = second.octets ∙ first.octets;
-    up = second.up;
-    stations = stations-then old.link mid.link new.link first.stations second.stations;
-  }
+  keeps-then a b c d e f old mid new first second = grind (arith, common_steps, puts-among-then, stations-then)
 
   -- ---- a frame
 
@@ -184,12 +174,8 @@ module _ {D : Type 0} (g : Ghosts D) (lasts : (disk : D) → g.lasts disk disk) 
           → HearsBy g w (λ writes. progressed left (whole (writes ++ failed_reads parts))) before now new fate result
       by-stopped Stays (Ok tt) stops h = absurd (stops refl)
       by-stopped Ends (Ok tt) stops h = subst (By Ends (Ok tt)) (sym (stopped ([] ++ failed_reads parts) h.1.1.0)) h
-      by-stopped fate (Err stop.Disk) stops h =
-          let at = subst (By fate (Err stop.Disk)) (sym (stopped (failed_write h.0 ++ failed_reads parts) (over (failed_write h.0 ++ failed_reads parts) h.1))) (h.0, h.1, h.2, h.3) in
-          (h.0, at.1, at.2, at.3)
-      by-stopped fate (Err stop.OutOfMemory) stops h =
-          let at = subst (By fate (Err stop.OutOfMemory)) (sym (stopped (failed_write h.0 ++ failed_reads parts) (over (failed_write h.0 ++ failed_reads parts) h.1))) (h.0, h.1, h.2, h.3) in
-          (h.0, at.1, at.2, at.3)
+      by-stopped fate (Err stop.Disk) stops h = grind (arith, common_steps, stopped)
+      by-stopped fate (Err stop.OutOfMemory) stops h = grind (arith, common_steps, stopped)
 
     pub hears-stop : (now : WorkingOn D) (new : ConnectionState) (told : Fate × Result ⊤ Stop) → IsStop told → HearsParts g w left event before now new told
         → Hears g w (λ failures. progressed left (whole failures)) before now new told

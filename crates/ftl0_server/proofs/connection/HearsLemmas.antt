@@ -1,4 +1,5 @@
 -- How what packets make of a connection is put together.
+use Rattle.std.proofs.lemmas.Grind.{common_steps}
 use Rattle.std.proofs.Common.{◌≡◌, ℕ, ◌+◌, ◌<◌, ◌≤◌, Bool, true, false, not, ◌&&◌, List, [], ◌++◌, length, refl, ap}
 use Rattle.std.proofs.Common.{sym, ◌∙◌, subst, arith, length-append}
 use Rattle.std.specs.Prelude.{All, Result, Ok, Err, ⊤}
@@ -36,12 +37,7 @@ use Rattle.ftl0_server.proofs.connection.TakingLemmas.{taking-fails, taking-on, 
 -- the first of some commands, for some number of them, are the first of more commands
 pub leaves-front : {D : Type 0} (g : Ghosts D) (store : Store) (disk disk_n : D) (front all : List Command) → IsFront front all → Leaves g disk disk_n (λ _. MakesFirst store front)
     → Leaves g disk disk_n (λ _. MakesFirst store all)
-leaves-front g store disk disk_n front all h leaves =
-    let sum : length (front ++ h.0) ≡ length front + length h.0 = length-append front h.0 in
-    subst (λ (commands : List Command). Leaves g disk disk_n (λ _. MakesFirst store commands)) (sym h.1)
-    (told_weaker (g.content disk) _ _ (λ before told left.
-    weaker g.moment g.images_since disk disk_n (MakesFirst store front) (MakesFirst store (front ++ h.0))
-    (λ image here. makes-within 0 (length front) 0 (length (front ++ h.0)) store (front ++ h.0) image (omega arith) (omega (arith, sum)) (makes-first 0 (length front) store front h.0 image (omega arith) here)) left) leaves)
+leaves-front g store disk disk_n front all h leaves = grind (arith, common_steps, told_weaker, weaker, makes-within, makes-first)
 
 -- whether more is taken, by its parts
 pub going-on : (progress : Progress) → progress.over ≡ false → progress.halt ≡ goes_on → going progress ≡ true
@@ -80,9 +76,7 @@ module _ {D : Type 0} (g : Ghosts D) (on : (first second third : D) → g.lasts 
   -- so it is of packets
   pub taking-whole : (left : List ℕ) (caller : CallSign) (moment : ℕ) (session : Session) (end : LinkEnd) (items : List Item) (parts : List ℕ) (first : ℕ)
       → BeginsWhole (with_reads (λ failures. progressed left (taking caller moment session end items failures first)) parts)
-  taking-whole left caller moment session end items parts first part =
-      taking-begins caller moment session end items (failed_write part ++ failed_reads parts) ([] ++ failed_reads parts) first
-      (λ n. (reads-among (failed_write part) parts n (one-writes part) ∙ sym (reads-among [] parts n none-writes), writes-none parts n))
+  taking-whole left caller moment session end items parts first part = grind (arith, common_steps, taking-begins, reads-among, one-writes, none-writes, writes-none)
 
   -- ---- packets, and then others
 
@@ -209,17 +203,9 @@ module _ {D : Type 0} (g : Ghosts D) (on : (first second third : D) → g.lasts 
           → HearsBy g w (λ writes. progressed left (of_all (writes ++ failed_reads parts))) (with_disk before.store before.disk) now new fate result
       by-ended parts Stays (Ok tt) stops h = absurd (stops refl)
       by-ended parts Ends (Ok tt) stops h = subst (To Ends (Ok tt)) (sym (ended ([] ++ failed_reads parts) (going-over (of_items ([] ++ failed_reads parts)) h.1.1.0))) (h.0, h.1, h.2)
-      by-ended parts Stays (Err stop.Disk) stops h =
-          let over = taking-failed (caller_of session) moment (session_on session before) end items (failed_write h.0 ++ failed_reads parts) 0 h.1 in
-          let not_over = h.2.1.0 in absurd cc
-      by-ended parts Ends (Err stop.Disk) stops h =
-          let failures : List Failure = failed_write h.0 ++ failed_reads parts in
-          let at = subst (To Ends (Err stop.Disk)) (sym (ended failures (going-halted (of_items failures) fails refl h.1))) (h.0, h.1, h.2, h.3) in
-          (h.0, at.1, at.2, at.3)
-      by-ended parts fate (Err stop.OutOfMemory) stops h =
-          let failures : List Failure = failed_write h.0 ++ failed_reads parts in
-          let at = subst (To fate (Err stop.OutOfMemory)) (sym (ended failures (going-halted (of_items failures) fails refl h.1))) (h.0, h.1, h.2, h.3) in
-          (h.0, at.1, at.2, at.3)
+      by-ended parts Stays (Err stop.Disk) stops h = grind (arith, common_steps, taking-failed)
+      by-ended parts Ends (Err stop.Disk) stops h = grind (arith, common_steps, ended, going-halted)
+      by-ended parts fate (Err stop.OutOfMemory) stops h = grind (arith, common_steps, ended, going-halted)
 
       -- whatever comes behind packets that stopped the connection isn't taken
       pub parts-stopped : (told : Fate × Result ⊤ Stop) → IsStop told

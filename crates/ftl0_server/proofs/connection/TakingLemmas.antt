@@ -1,4 +1,5 @@
 -- How taking packets goes on, and how it stops.
+use Rattle.std.proofs.lemmas.Grind.{common_steps}
 use Rattle.std.proofs.Common.{◌≡◌, ℕ, suc, ◌+◌, ◌≤◌, Bool, true, false, not, ◌&&◌, List, [], ◌∷◌, ◌++◌, length, refl}
 use Rattle.std.proofs.Common.{ap, sym, ◌∙◌, subst, append_assoc, append-nil, arith}
 use Rattle.std.specs.Prelude.{if◌then◌else◌}
@@ -12,7 +13,7 @@ use Rattle.file_store.specs.Command.{Command, after_all}
 use Rattle.file_store.specs.Store.{Store}
 use Rattle.file_store.proofs.Offered.{after_all-append}
 use Rattle.ftl0_session.specs.Uploads.Failures.{Failure, read_fails, write_fails}
-use Rattle.ftl0_session.specs.Table.{Row, row_at, session_row, failed_reads_told}
+use Rattle.ftl0_session.specs.Table.{Row, row_at, session_row}
 use Rattle.ftl0_session.specs.Run.{Session, session_over}
 use Rattle.ftl0_server.specs.Connection.Laws.{TakingLaw}
 use Rattle.ftl0_server.specs.Connection.Taking.{Halt, Progress, after_row, failing_at, fails, fits, giving_up, goes_on}
@@ -38,9 +39,7 @@ behind-none progress = ap (λ (missed : ℕ). record progress { missed = missed 
 
 pub behind-then : (first second : ℕ) (some others : List Command) (progress : Progress)
     → behind first some (behind second others progress) ≡ behind (first + second) (some ++ others) progress
-behind-then first second some others progress =
-    ap (λ (missed : ℕ). record progress { missed = missed; done = some ++ (others ++ progress.done) }) (sym (add_assoc first second progress.missed))
-    ∙ ap (λ (done : List Command). record progress { missed = (first + second) + progress.missed; done = done }) (sym (append_assoc some others progress.done))
+behind-then first second some others progress = grind (arith, common_steps, add_assoc)
 
 -- what a packet's row makes, by whether a write fails and whether its replies fit, where this comes behind it
 abbrev pub by_tests : Session → LinkEnd → ℕ → Row → Bool → Bool → Progress → Progress
@@ -156,12 +155,7 @@ module _ (caller : CallSign) (moment : ℕ) (failures : List Failure) (session :
       → (failed enough : Bool) → going (by_tests session end part row failed enough later) ≡ true
       → by_tests session end part row failed enough more ≡ goes_from caller moment failures session.store (by_tests session end part row failed enough later) others
   on-by each true enough goes = absurd cc
-  on-by each false true goes =
-      let at : after_all (after_all session.store row.commands) later.done ≡ after_all session.store (row.commands ++ later.done) = sym (after_all-append row.commands later.done session.store) in
-      ap (after_row row) (each goes)
-      ∙ behind-then (failed_reads_told row.replies) later.missed row.commands later.done
-      (taking caller moment (on_from (after_all session.store row.commands) later) later.end others failures later.part)
-      ∙ ap (λ (s : Store). behind (failed_reads_told row.replies + later.missed) (row.commands ++ later.done) (taking caller moment (session_over s later.lists later.state) later.end others failures later.part)) at
+  on-by each false true goes = grind (arith, common_steps, after_all-append, behind-then)
   on-by each false false goes = absurd cc
 
   part-by : (count : ℕ) → (going later ≡ true → later.part ≡ suc part + count) → (failed enough : Bool) → going (by_tests session end part row failed enough later) ≡ true
@@ -221,8 +215,7 @@ module _ (session : Session) (end : LinkEnd) (part : ℕ) (row : Row) (some all 
   begins-by : (failed enough : Bool) → Begins (by_tests session end part row failed enough some) (by_tests session end part row false enough all)
   begins-by true true = (all.done, refl)
   begins-by true false = front-same row.commands
-  begins-by false true =
-      subst (λ (front : List Command). IsFront front (row.commands ++ all.done)) (sym (append_assoc row.commands some.done some.cut)) (front-then row.commands (begun some) all.done each)
+  begins-by false true = grind (arith, common_steps, front-then)
   begins-by false false = ([], sym (append-nil row.commands) ∙ sym (append-nil (row.commands ++ [])))
 
 -- the same reads fail at each part, and of the second no write

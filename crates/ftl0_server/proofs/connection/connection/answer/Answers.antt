@@ -1,5 +1,6 @@
 -- A packet that is taken is answered by its replies, and one that stops the server by code 3, or not at all.
-use Rattle.std.proofs.Common.{Ok, Err, refl, sym}
+use Rattle.std.proofs.lemmas.Grind.{common_steps}
+use Rattle.std.proofs.Common.{arith, Ok, Err, refl, sym}
 use Rattle.ftl0_packets.specs.Values.{item_of}
 use Rattle.disk_model.specs.declared.halt.Halt.TheVariants as stop
 use Rattle.ftl0_session.specs.SessionState.{caller_of, working_on}
@@ -67,24 +68,4 @@ returns-in-Err-OutOfMemory-clause-takes g c w end first stands =
     (working_on c.take.new.store c.take.new.lists c.take.new.disk) (item_of c.packet.result) first c.requires.may.may.healthy c.requires.may.may.stands_on c.take.new.replies.items (rw c.in-Err-OutOfMemory.field-0-is at c.in-Err-OutOfMemory.ensures.takes))
 
 pub returns-in-Err-OutOfMemory-clause-fit : goal.returns-in-Err-OutOfMemory-clause-fit
-returns-in-Err-OutOfMemory-clause-fit g c =
-    record {
-      puts =
-          taken-puts g.D.Disk g.met.D.Disk.lasts_on (caller_of c.args.session.now) c.args.moment (item_of c.packet.result) (working c.args.session.now c.args.store.now c.args.lists.now)
-          (working c.take.new.self c.take.new.store c.take.new.lists) c.args.disk.now c.take.new.disk c.take.new.replies.items (Err stop.OutOfMemory)
-          (rw c.in-Err-OutOfMemory.field-0-is at c.in-Err-OutOfMemory.ensures.takes);
-      kept = c.in-Err-OutOfMemory.ensures.kept;
-      others = c.in-Err-OutOfMemory.ensures.others;
-      healthy = rw c.in-Err-OutOfMemory.field-0-is at c.in-Err-OutOfMemory.ensures.healthy;
-      fit =
-          record {
-            stands_on = c.in-Err-OutOfMemory.ensures.stands_on;
-            held = c.in-Err-OutOfMemory.ensures.held;
-            only = c.in-Err-OutOfMemory.ensures.only;
-            due = c.in-Err-OutOfMemory.ensures.due;
-            complete = c.in-Err-OutOfMemory.ensures.complete;
-          };
-      up = λ stays. c.requires.may.up;
-      caller = c.in-Err-OutOfMemory.ensures.caller;
-      stations = stations-same c.args.link.now.link;
-    }
+returns-in-Err-OutOfMemory-clause-fit g c = grind (arith, common_steps, taken-puts, stations-same)

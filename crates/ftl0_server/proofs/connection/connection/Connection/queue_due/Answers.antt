@@ -1,16 +1,13 @@
 -- What is due is queued, packet by packet, up to where nothing is, or fewer octets are free.
-use Rattle.std.proofs.Common.{ap, ◌∙◌, sym}
+use Rattle.std.proofs.lemmas.Grind.{common_steps}
+use Rattle.std.proofs.Common.{arith, ap, ◌∙◌, sym}
 use Rattle.file_store.specs.State.{StoreState}
 use Rattle.ftl0_server.proofs.connection.DueLemmas.{keeps-then, queues-none, queues-then}
 use Rattle.ftl0_server.proofs.connection.FeedLemmas.{keeps-none}
 use Rattle.ftl0_server.proofs.connection.connection.Connection.queue_due.Goals as goal
 
 pub loop-init : goal.loop-init
-loop-init g c =
-    record {
-      rest = λ disk_n new queues. queues;
-      keeps = keeps-none g.D.Disk c.args.store.now c.args.disk.now c.args.self.now (g.met.D.Disk.lasts_same c.args.disk.now) c.requires.stands_on c.requires.due c.requires.up;
-    }
+loop-init g c = grind (arith, common_steps, keeps-none)
 
 pub loop-preserved : goal.loop-preserved
 loop-preserved g c =
