@@ -1,7 +1,8 @@
 -- What the link told decides what becomes of the connection.
-use Rattle.std.proofs.Common.{◌≡◌, [], Ok, ap, sym, ◌∙◌, refl, inl, inr}
+use Rattle.std.proofs.lemmas.Grind.{common_steps}
+use Rattle.std.proofs.Common.{arith, [], Ok, ap, sym, ◌∙◌, refl}
 use Rattle.ax25_frames.specs.Values.{value_of}
-use Rattle.ax25_link.specs.declared.state.Heard.TheVariants.{Nothing, Opened, Reopened, Bytes, Closed}
+use Rattle.ax25_link.specs.declared.state.Heard.TheVariants.{Nothing, Reopened, Bytes, Closed}
 use Rattle.ax25_link.specs.Kept.{Kept}
 use Rattle.ax25_link.specs.Rows.{after_frame}
 use Rattle.ftl0_packets.specs.Reading.{under_way}
@@ -10,7 +11,6 @@ use Rattle.ftl0_session.specs.SessionState.{caller_of, working_on}
 use Rattle.ftl0_session.specs.Table.{command}
 use Rattle.ftl0_server.specs.declared.connection.fate.Fate.TheVariants.{Stays, Ends}
 use Rattle.ftl0_server.specs.Connection.Connected.{greeted}
-use Rattle.ftl0_server.specs.Connection.ConnectionState.{ConnectionState}
 use Rattle.ftl0_server.specs.Connection.Hearing.{with_end}
 use Rattle.ftl0_server.specs.Connection.Inside.{connection_state}
 use Rattle.ftl0_server.proofs.connection.FeedLemmas.{fit-anew, fit-heard}
@@ -32,15 +32,7 @@ returns-in-Nothing-clause-hears g c =
     (record { link = c.take.ensures.after w d.end is.link; rest = ap under_way c.take.ensures.keeps.reader ∙ is.rest; state = is.state }))))
 
 pub returns-in-Nothing-clause-fit : goal.returns-in-Nothing-clause-fit
-returns-in-Nothing-clause-fit g c =
-    let a = c.self.inside in
-    let up = ap (λ (s : ConnectionState). s.link.state) c.self.view_is ∙ c.requires.up in
-    rw (sym c.self.view_is)
-    (fit-heard g.D.Disk (working_on c.args.store.now c.args.lists.now c.args.disk.now) a.link.link c.take.new.self.link a.session Stays (g.met.D.Disk.lasts_same c.args.disk.now)
-    (rw (sym c.self.view_is) at c.requires.may) (λ stays. c.take.ensures.up up (λ reason closed. elim c.in-Nothing.is [
-      | inl is ↦ absurd (let same : Nothing ≡ Closed reason = sym is ∙ closed in cc)
-      | inr is ↦ absurd (let same : Opened ≡ Closed reason = sym is ∙ closed in cc)
-    ])) c.take.ensures.keeps.stations)
+returns-in-Nothing-clause-fit g c = grind (arith, common_steps, fit-heard)
 
 pub returns-in-Reopened-clause-hears : goal.returns-in-Reopened-clause-hears
 returns-in-Reopened-clause-hears g c =
@@ -84,19 +76,7 @@ returns-in-Bytes-clause-hears g c =
     (record { link = stands; rest = ap under_way c.in-Bytes.ensures.keeps.reader ∙ is.rest; state = is.state }) c.take_packets.ensures.feeds)))
 
 pub returns-in-Bytes-clause-fit : goal.returns-in-Bytes-clause-fit
-returns-in-Bytes-clause-fit g c =
-    let a = c.self.inside in
-    let fit = c.take_packets.ensures.fit in
-    rw (sym c.self.view_is) (record {
-      puts = fit.puts;
-      kept = fit.kept;
-      others = fit.others;
-      healthy = fit.healthy;
-      fit = fit.fit;
-      up = fit.up;
-      caller = fit.caller;
-      stations = stations-then a.link.link c.take.new.self.link c.take_packets.new.link.link c.take.ensures.keeps.stations fit.stations;
-    })
+returns-in-Bytes-clause-fit g c = grind (arith, common_steps, stations-then)
 
 pub returns-in-Closed-clause-hears : goal.returns-in-Closed-clause-hears
 returns-in-Closed-clause-hears g c =
@@ -109,8 +89,4 @@ returns-in-Closed-clause-hears g c =
     (c.in-Closed.ensures.after w d.end is.link)))
 
 pub returns-in-Closed-clause-fit : goal.returns-in-Closed-clause-fit
-returns-in-Closed-clause-fit g c =
-    let a = c.self.inside in
-    rw (sym c.self.view_is)
-    (fit-heard g.D.Disk (working_on c.args.store.now c.args.lists.now c.args.disk.now) a.link.link c.take.new.self.link a.session Ends (g.met.D.Disk.lasts_same c.args.disk.now)
-    (rw (sym c.self.view_is) at c.requires.may) (λ stays. absurd cc) c.take.ensures.keeps.stations)
+returns-in-Closed-clause-fit g c = grind (arith, common_steps, fit-heard)
