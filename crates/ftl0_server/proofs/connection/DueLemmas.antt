@@ -2,7 +2,7 @@
 use Rattle.std.proofs.lemmas.Grind.{common_steps}
 use Rattle.std.proofs.Common.{◌≡◌, ◌⊎◌, inl, inr, ℕ, suc, ◌+◌, ◌<◌, ◌≤◌, Bool, true, false, List, [], ◌++◌, refl}
 use Rattle.std.proofs.Common.{ap, sym, ◌∙◌, subst, arith, append-nil}
-use Rattle.std.specs.Prelude.{All, Some, Result, Ok, Err, ⊤}
+use Rattle.std.specs.Prelude.{All, Some, Result, Ok, ⊤}
 use Rattle.std.proofs.Math.Nat.{add-zero, add_assoc}
 use Rattle.std.proofs.lemmas.List.Elements.{All-append, All-nil, All-weaker}
 use Rattle.disk_model.specs.declared.disk.Disk.{Ghosts}
@@ -21,7 +21,7 @@ use Rattle.ftl0_session.specs.SessionState.{WorkingOn, state_in}
 use Rattle.ftl0_session.specs.Table.{State, due_at, next_due, tells_failed_read}
 use Rattle.ftl0_session.specs.Uploads.SessionState.{WithDisk}
 use Rattle.ftl0_server.specs.declared.connection.fate.Fate.{Fate}
-use Rattle.ftl0_server.specs.declared.connection.fate.Fate.TheVariants.{Stays, Ends}
+use Rattle.ftl0_server.specs.declared.connection.fate.Fate.TheVariants.{Stays}
 use Rattle.ftl0_server.specs.Connection.ConnectionState.{ConnectionState, Hears, HearsBy}
 use Rattle.ftl0_server.specs.Connection.Feeding.{AreFree, HearsParts, IsNothingDue, KeepsFit, Queued, QueuesDue}
 use Rattle.ftl0_server.specs.Connection.Feeding.{QueuesPacket}
@@ -172,10 +172,7 @@ module _ {D : Type 0} (g : Ghosts D) (lasts : (disk : D) → g.lasts disk disk) 
 
       by-stopped : (fate : Fate) (result : Result ⊤ Stop) → IsStop (fate, result) → HearsBy g w (λ writes. progressed left (event (writes ++ failed_reads parts))) before now new fate result
           → HearsBy g w (λ writes. progressed left (whole (writes ++ failed_reads parts))) before now new fate result
-      by-stopped Stays (Ok tt) stops h = absurd (stops refl)
-      by-stopped Ends (Ok tt) stops h = subst (By Ends (Ok tt)) (sym (stopped ([] ++ failed_reads parts) h.1.1.0)) h
-      by-stopped fate (Err stop.Disk) stops h = grind (arith, common_steps, stopped)
-      by-stopped fate (Err stop.OutOfMemory) stops h = grind (arith, common_steps, stopped)
+      by-stopped fate arg1 stops h = grind (arith, common_steps, stopped, common_steps)
 
     pub hears-stop : (now : WorkingOn D) (new : ConnectionState) (told : Fate × Result ⊤ Stop) → IsStop told → HearsParts g w left event before now new told
         → Hears g w (λ failures. progressed left (whole failures)) before now new told

@@ -23,7 +23,7 @@ use Rattle.ftl0_session.specs.SessionState.{SessionState, WorkingOn, caller_of}
 use Rattle.ftl0_session.specs.Uploads.SessionState.{WithDisk, with_disk}
 use Rattle.ftl0_session.specs.Run.{Session}
 use Rattle.ftl0_server.specs.declared.connection.fate.Fate.{Fate}
-use Rattle.ftl0_server.specs.declared.connection.fate.Fate.TheVariants.{Stays, Ends}
+use Rattle.ftl0_server.specs.declared.connection.fate.Fate.TheVariants.{Stays}
 use Rattle.ftl0_server.specs.Connection.ConnectionState.{ConnectionState, HearsBy, with_nothing_left, with_reads}
 use Rattle.ftl0_server.specs.Connection.Feeding.{HearsParts, IsAmong, IsGoing, TakesPackets, session_on, taking_some}
 use Rattle.ftl0_server.specs.Connection.Hearing.{Happened, progressed}
@@ -47,8 +47,7 @@ going-over : (progress : Progress) → progress.over ≡ true → going progress
 going-over progress over = rw over refl
 
 not-both : (b : Bool) → (b && false) ≡ false
-not-both true = refl
-not-both false = refl
+not-both arg0 = grind (arith, common_steps)
 
 going-halted : (progress : Progress) (halt : Halt) → is_going halt ≡ false → progress.halt ≡ halt → going progress ≡ false
 going-halted progress halt never is = ap (λ (h : Halt). not progress.over && is_going h) is ∙ ap (λ (b : Bool). not progress.over && b) never ∙ not-both (not progress.over)
@@ -201,11 +200,7 @@ module _ {D : Type 0} (g : Ghosts D) (on : (first second third : D) → g.lasts 
       by-ended : (parts : List ℕ) (fate : Fate) (result : Result ⊤ Stop) → IsStop (fate, result)
           → HearsBy g w (λ writes. progressed [] (of_items (writes ++ failed_reads parts))) (with_disk before.store before.disk) now (with_nothing_left new.link new.session) fate result
           → HearsBy g w (λ writes. progressed left (of_all (writes ++ failed_reads parts))) (with_disk before.store before.disk) now new fate result
-      by-ended parts Stays (Ok tt) stops h = absurd (stops refl)
-      by-ended parts Ends (Ok tt) stops h = subst (To Ends (Ok tt)) (sym (ended ([] ++ failed_reads parts) (going-over (of_items ([] ++ failed_reads parts)) h.1.1.0))) (h.0, h.1, h.2)
-      by-ended parts Stays (Err stop.Disk) stops h = grind (arith, common_steps, taking-failed)
-      by-ended parts Ends (Err stop.Disk) stops h = grind (arith, common_steps, ended, going-halted)
-      by-ended parts fate (Err stop.OutOfMemory) stops h = grind (arith, common_steps, ended, going-halted)
+      by-ended parts fate arg2 stops h = grind (arith, common_steps, ended, going-over, common_steps, taking-failed, going-halted)
 
       -- whatever comes behind packets that stopped the connection isn't taken
       pub parts-stopped : (told : Fate × Result ⊤ Stop) → IsStop told

@@ -1,6 +1,6 @@
 -- What the packets of the octets of a frame make of a connection.
 use Rattle.std.proofs.lemmas.Grind.{common_steps}
-use Rattle.std.proofs.Common.{arith, ◌≡◌, ◌⊎◌, inl, inr, ℕ, List, ◌++◌, refl, ap, sym, subst, Ok, Err}
+use Rattle.std.proofs.Common.{arith, ◌≡◌, ◌⊎◌, inl, inr, ℕ, List, ◌++◌, sym, subst}
 use Rattle.std.specs.Prelude.{Result, ⊤}
 use Rattle.px_base.specs.CallSign.{CallSign}
 use Rattle.disk_model.specs.declared.disk.Disk.{Ghosts}
@@ -15,7 +15,6 @@ use Rattle.ftl0_session.specs.Table.{State}
 use Rattle.ftl0_session.specs.Uploads.SessionState.{with_disk}
 use Rattle.ftl0_session.specs.Run.{session_over}
 use Rattle.ftl0_server.specs.declared.connection.fate.Fate.{Fate}
-use Rattle.ftl0_server.specs.declared.connection.fate.Fate.TheVariants.{Stays, Ends}
 use Rattle.ftl0_server.specs.Connection.Connected.{Connected}
 use Rattle.ftl0_server.specs.Connection.ConnectionState.{ConnectionState, IsConnection}
 use Rattle.ftl0_server.specs.Connection.Feeding.{FeedsAll, HearsParts, IsGoing, carrying}
@@ -24,9 +23,7 @@ use Rattle.ftl0_server.proofs.connection.HearsLemmas.{IsStop, parts-stopped, par
 
 -- the connection goes on, or it stops
 going-or : (told : Fate × Result ⊤ Stop) → IsGoing told ⊎ IsStop told
-going-or (Stays, Ok done) = inl refl
-going-or (Stays, Err why) = inr (λ going. (let same : Err why ≡ Ok tt = ap (λ (t : Fate × Result ⊤ Stop). t.1) going in cc same))
-going-or (Ends, result) = inr (λ going. (let same : Ends ≡ Stays = ap (λ (t : Fate × Result ⊤ Stop). t.0) going in cc same))
+going-or arg0 = grind (arith, common_steps)
 
 module _ {D : Type 0} (g : Ghosts D) (on : (first second third : D) → g.lasts first second → g.lasts second third → g.lasts first third) (moment : ℕ) (old new : ConnectionState) (octets : List ℕ)
     (before now : WorkingOn D) (told : Fate × Result ⊤ Stop) (peer : old.link.peer ≡ caller_of old.session) (w : Window) (c : Connected) (is : IsConnection w before.store old c) where

@@ -81,9 +81,7 @@ module _ (caller : CallSign) (moment : ℕ) where
 module _ (session : Session) (end : LinkEnd) (part : ℕ) (row : Row) (later more : Progress) (each : going later ≡ false → more ≡ later) where
   ended-by : (failed enough : Bool) → going (by_tests session end part row failed enough later) ≡ false
       → by_tests session end part row failed enough more ≡ by_tests session end part row failed enough later
-  ended-by true enough stops = refl
-  ended-by false true stops = ap (after_row row) (each stops)
-  ended-by false false stops = refl
+  ended-by arg0 enough stops = grind (arith, common_steps)
 
 module _ (caller : CallSign) (moment : ℕ) where
   -- whatever comes behind packets at which the taking stops isn't taken
@@ -103,9 +101,7 @@ IsOverAtFault progress = progress.halt ≡ fails → progress.over ≡ true
 
 module _ (session : Session) (end : LinkEnd) (part : ℕ) (row : Row) (later : Progress) (each : IsOverAtFault later) where
   over-by : (failed enough : Bool) → IsOverAtFault (by_tests session end part row failed enough later)
-  over-by true enough halts = refl
-  over-by false true halts = each halts
-  over-by false false halts = refl
+  over-by arg0 enough halts = grind (arith, common_steps)
 
 -- a write or a sync fails at a part from this one on
 abbrev pub FailsFrom : ℕ → List Failure → Type 0
@@ -116,9 +112,7 @@ fails-later part failures h = (h.0, omega (arith, h.1), h.2)
 
 module _ (session : Session) (end : LinkEnd) (part : ℕ) (failures : List Failure) (row : Row) (later : Progress) (each : later.halt ≡ fails → FailsFrom (suc part) failures) where
   fails-by : (failed enough : Bool) → write_fails failures part ≡ failed → (by_tests session end part row failed enough later).halt ≡ fails → FailsFrom part failures
-  fails-by true enough is halts = (part, omega arith, is)
-  fails-by false true is halts = fails-later part failures (each halts)
-  fails-by false false is halts = absurd cc
+  fails-by arg0 enough is halts = grind (arith, common_steps, fails-later)
 
 module _ (caller : CallSign) (moment : ℕ) where
   pub taking-failed : (session : Session) (end : LinkEnd) (items : List Item) (failures : List Failure) (part : ℕ)
@@ -154,15 +148,11 @@ module _ (caller : CallSign) (moment : ℕ) (failures : List Failure) (session :
   on-by : (going later ≡ true → more ≡ goes_from caller moment failures (after_all session.store row.commands) later others)
       → (failed enough : Bool) → going (by_tests session end part row failed enough later) ≡ true
       → by_tests session end part row failed enough more ≡ goes_from caller moment failures session.store (by_tests session end part row failed enough later) others
-  on-by each true enough goes = absurd cc
-  on-by each false true goes = grind (arith, common_steps, after_all-append, behind-then)
-  on-by each false false goes = absurd cc
+  on-by each arg1 enough goes = grind (arith, common_steps, common_steps, after_all-append, behind-then)
 
   part-by : (count : ℕ) → (going later ≡ true → later.part ≡ suc part + count) → (failed enough : Bool) → going (by_tests session end part row failed enough later) ≡ true
       → (by_tests session end part row failed enough later).part ≡ part + suc count
-  part-by count each true enough goes = absurd cc
-  part-by count each false true goes = let there = each goes in omega arith
-  part-by count each false false goes = absurd cc
+  part-by count each arg2 enough goes = grind (arith, common_steps)
 
 module _ (caller : CallSign) (moment : ℕ) where
   -- what comes behind packets after which it goes on is taken from there
