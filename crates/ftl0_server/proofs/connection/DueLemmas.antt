@@ -112,8 +112,7 @@ module _ {D : Type 0} (g : Ghosts D) (lasts : (disk : D) → g.lasts disk disk) 
         }
 
     pub queues-then : QueuesDue g store disk_m disk_n mid new → QueuesDue g store disk disk_n old new
-    queues-then more w progress stands state =
-        queued-one w progress stands state (more w (after_due one.due progress) (one.queued w progress.end stands) one.state)
+    queues-then more w progress stands state = grind (arith, queued-one)
 
   -- ---- what is left for the next event
 

@@ -145,15 +145,7 @@ module _ {D : Type 0} (g : Ghosts D) (on : (first second third : D) → g.lasts 
           h.1,
           among-then g on ⊥ ⊥ made.missed part.missed before.store between.store now.store before.disk between.disk now.disk made.done part.done (λ never. never) one.by.2 h.2,
         )
-    by-then parts later fate (Err stop.Disk) h =
-        let part : Progress = part_of (failed_write h.0 ++ failed_reads parts) in
-        let at = subst (By fate (Err stop.Disk)) (sym (same-fault h.0 parts later h.1)) (
-          h.0,
-          h.1,
-          h.2,
-          cuts-among-then g on ⊤ made.missed part.missed before.store between.store now.store before.disk between.disk now.disk made.done part.done part.cut one.by.2 h.3,
-        ) in
-        (h.0, at.1, at.2, at.3)
+    by-then parts later fate (Err stop.Disk) h = grind (arith, same-fault, cuts-among-then)
     by-then parts later fate (Err stop.OutOfMemory) h =
         let part : Progress = part_of (failed_write h.0 ++ failed_reads parts) in
         let at = subst (By fate (Err stop.OutOfMemory)) (sym (same-fault h.0 parts later h.1)) (

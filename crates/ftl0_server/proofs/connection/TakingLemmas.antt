@@ -1,4 +1,5 @@
 -- How taking packets goes on, and how it stops.
+use Rattle.std.proofs.Common.{rules}
 use Rattle.std.proofs.lemmas.Grind.{common_steps}
 use Rattle.std.proofs.Common.{◌≡◌, ℕ, suc, ◌+◌, ◌≤◌, Bool, true, false, not, ◌&&◌, List, [], ◌∷◌, ◌++◌, length, refl}
 use Rattle.std.proofs.Common.{ap, sym, ◌∙◌, subst, append_assoc, append-nil, arith}
@@ -237,17 +238,4 @@ module _ (session : Session) (end : LinkEnd) (part : ℕ) (row : Row) (later : P
   row-by false false none = front-same row.commands
 
 pub taking-law : TakingLaw
-taking-law caller moment session end items item more failures goes not_over none =
-    let before : Progress = taking caller moment session end items failures 0 in
-    let now : Session = on_from session.store before in
-    let on : going before ≡ true = rw (not_over, goes) refl in
-    let all : taking caller moment session end (items ++ item ∷ more) failures 0 ≡ goes_from caller moment failures session.store before (item ∷ more) =
-    taking-on caller moment session end items (item ∷ more) failures 0 on in
-    let at : before.part ≡ length items = (let there = taking-part caller moment session end items failures 0 on in omega arith) in
-    let row : Row = row_in caller moment now item failures (length items) in
-    let P : ℕ → Type 0 = λ n. IsFront row.commands (taking caller moment now before.end (item ∷ more) failures n).done in
-    let one : P before.part =
-    subst P (sym at)
-    (row-by now before.end (length items) row (later_of caller moment now before.end more failures (length items) row)
-    (write_fails failures (length items)) (fits before.end (texts row.replies)) none) in
-    record { others = one.0; done_is = ap (λ (p : Progress). p.done) all ∙ ap (λ (commands : List Command). before.done ++ commands) one.1 }
+taking-law caller moment session end items item more failures goes not_over none = search (rules, taking-on, taking-part, row-by)
