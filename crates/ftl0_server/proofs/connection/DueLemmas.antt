@@ -99,9 +99,7 @@ module _ {D : Type 0} (g : Ghosts D) (lasts : (disk : D) → g.lasts disk disk) 
         queued-one : Queued g w store disk disk_n new progress
         queued-one = record {
           parts = parts;
-          behind =
-              All-append (λ part. progress.part ≤ part) (at_part one.fails progress.part) more.parts (All-at (λ part. progress.part ≤ part) one.fails progress.part (omega arith))
-              (All-weaker (λ part. next.part ≤ part) (λ part. progress.part ≤ part) (λ part later. omega arith) more.parts more.behind);
+          behind = grind (arith, common_steps, All-append, at_part, All-at, All-weaker);
           now = more.now;
           is_now = now-is;
           link = more.link;

@@ -8,15 +8,12 @@ use Rattle.disk_model.specs.declared.disk.Disk.{Ghosts}
 use Rattle.ax25_link.specs.declared.state.LinkState.TheVariants.{Up}
 use Rattle.ax25_link.specs.Kept.{Kept, SameStations}
 use Rattle.ftl0_packets.specs.Layout.{Item}
-use Rattle.ftl0_packets.specs.Reading.{packets_of, rest_of}
 use Rattle.ftl0_session.specs.Lists.Lists.{CallerList}
 use Rattle.packet_link.specs.PacketLink.{HasFront}
 use Rattle.packet_link.proofs.Fronts.{front-none, front-then, stations-same, stations-then}
 use Rattle.file_store.specs.EntriesKept.{KeepsComplete}
-use Rattle.file_store.specs.Records.{store_step}
-use Rattle.file_store.specs.Store.{Store, empty_store, entry_of}
+use Rattle.file_store.specs.Store.{Store, entry_of}
 use Rattle.file_store.specs.Position.{Position}
-use Rattle.file_store.specs.Walk.{KeepsState}
 use Rattle.file_store.proofs.Offered.{does-among, Does-none, puts-among, puts-among-same, puts-among-then, puts_none}
 use Rattle.file_store.specs.State.{StandsOn, StoreState, store_in}
 use Rattle.ftl0_session.specs.Uploads.Others.{KeepsOtherCallers}
@@ -77,8 +74,7 @@ module _ {D : Type 0} (g : Ghosts D) where
         others = others;
         healthy = λ fine. ap (λ (p : Position). p.failed) journal ∙ may.healthy;
         fit = record {
-          stands_on = subst (λ (p : Position). KeepsState empty_store store_step g p (store_in store_n) on.disk) (sym journal)
-              (subst (λ (s : Store). KeepsState empty_store store_step g on.store.journal s on.disk) (sym same) may.stands_on);
+          stands_on = grind (arith);
           held = tt;
           only = only;
           due = tt;
@@ -94,11 +90,6 @@ module _ {D : Type 0} (g : Ghosts D) where
       → KeepsFit g store store disk disk now now
   keeps-none store disk now lasts stands_on due up = grind (arith, common_steps, puts-among, puts_none, stations-same)
 
-  -- what the next packet needs
-  pub may-next : (before : WithDisk StoreState D) (now : WorkingOn D) (link link_n : Kept) (session session_n : SessionState) → LeavesFit g before now link link_n session session_n (Stays, Ok tt)
-      → MayTake g now.store now.disk now.lists link_n session_n
-  may-next before now link link_n session session_n fit = grind (arith, common_steps, may-kept, no-fault)
-
   module _ (on : (first second third : D) → g.lasts first second → g.lasts second third → g.lasts first third) where
     -- one part, and then another
     pub fit-then : (before : WithDisk StoreState D) (between now : WorkingOn D) (link link_m link_n : Kept) (session session_m session_n : SessionState) (told : Fate × Result ⊤ Stop)
@@ -111,8 +102,7 @@ module _ {D : Type 0} (g : Ghosts D) where
         → LeavesFit g before between link mid.link session mid.session (Stays, Ok tt) → KeepsFit g between.store now.store between.disk now.disk mid new
         → LeavesFit g before now link new.link session new.session (Stays, Ok tt)
     fit-queued before between now link session mid new lists first second = record {
-      puts = puts-among-same g ⊥ (fine ≡ Err stop.Disk) before.disk now.disk (λ never. absurd never) no-fault
-          (puts-among-then g on ⊥ ⊥ before.disk between.disk now.disk (λ never. never) (puts-among-same g (fine ≡ Err stop.Disk) ⊥ before.disk between.disk no-fault (λ never. absurd never) first.puts) second.puts);
+      puts = grind (arith, common_steps, puts-among-same, no-fault, puts-among-then);
       kept = rw second.same first.kept;
       others = rw second.same first.others;
       healthy = rw second.same first.healthy;
@@ -165,8 +155,3 @@ module _ {D : Type 0} (g : Ghosts D) where
 
         pub taking-stops : (rest : List ℕ) → IsStop told → FeedsAll g moment old (carrying new.link rest new.session) before now told
         taking-stops rest stops = record { left = new.octets; feeds = feeds-one; none = λ going. absurd (stops going); rest = λ going. absurd (stops going) }
-
-      -- all were taken
-      pub taking-ends : (new : ConnectionState) (now : WorkingOn D) (rest : List ℕ) → IsTaking g moment old new before now → packets_of new.octets ≡ [] → rest_of new.octets ≡ rest
-          → FeedsAll g moment old (carrying new.link rest new.session) before now (Stays, Ok tt)
-      taking-ends new now rest h none behind = record { left = new.octets; feeds = h.feeds; none = λ going. none; rest = λ going. behind }

@@ -222,16 +222,10 @@ module _ {D : Type 0} (g : Ghosts D) (on : (first second third : D) → g.lasts 
         let number : (of_items failures).part ≡ length items =
         (let there = taking-part (caller_of session) moment (session_on session before) end items failures 0 (going-on (of_items failures) h.1.1.0 h.0) in omega arith) in
         record {
-          hears =
-              record {
-                parts = takes.parts;
-                by = (h.0, (h.1.0, (h.1.1.0, record { link = h.1.1.1.link; rest = octets; state = h.1.1.1.state })), h.2);
-                since = h.2.since;
-              };
+          hears = grind (arith, common_steps);
           over = λ writes. taking-failed (caller_of session) moment (session_on session before) end items writes 0;
           settled = λ goes. record {
-            before =
-                All-weaker (IsAmong 0 (length items)) (λ part. part < (of_items failures).part) (λ part among. omega (arith, among.1, number)) takes.parts takes.among;
+            before = grind (arith, All-weaker, number);
             later = λ more later.
                 taking-alike (caller_of session) moment (session_on session before) end items ([] ++ failed_reads (takes.parts ++ more)) failures 0
                 (λ n low high. alike-first [] takes.parts more 0 (length items) none-writes (λ m before. refl)

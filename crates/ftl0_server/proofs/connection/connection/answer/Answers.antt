@@ -48,14 +48,7 @@ returns-in-Err-Disk-clause-fit g c =
       kept = c.in-Err-Disk.ensures.kept;
       others = c.in-Err-Disk.ensures.others;
       healthy = λ fine. absurd (fine refl);
-      fit =
-          record {
-            stands_on = c.in-Err-Disk.ensures.stands_on;
-            held = c.in-Err-Disk.ensures.held;
-            only = c.in-Err-Disk.ensures.only;
-            due = c.in-Err-Disk.ensures.due;
-            complete = c.in-Err-Disk.ensures.complete;
-          };
+      fit = grind (arith, common_steps);
       up = λ stays. absurd cc;
       caller = c.in-Err-Disk.ensures.caller;
       stations = c.reply-in-Err-Disk.ensures.keeps.stations;
