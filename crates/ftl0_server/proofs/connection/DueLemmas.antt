@@ -27,7 +27,7 @@ use Rattle.ftl0_server.specs.Connection.Feeding.{AreFree, HearsParts, IsNothingD
 use Rattle.ftl0_server.specs.Connection.Feeding.{QueuesPacket}
 use Rattle.ftl0_server.specs.Connection.Hearing.{progressed}
 use Rattle.ftl0_server.specs.Connection.Taking.{Progress, after_due, enough_free, fails, queued, queuing}
-use Rattle.ftl0_server.proofs.connection.FailureLemmas.{All-at, among-at as among-one, among-first, among-second}
+use Rattle.ftl0_server.proofs.connection.FailureLemmas.{alike-second, All-at, among-at as among-one, among-first}
 use Rattle.ftl0_server.proofs.connection.FailureLemmas.{at_part, none-writes, reads-among}
 use Rattle.packet_link.proofs.Fronts.{stations-then}
 use Rattle.ftl0_server.proofs.connection.HearsLemmas.{IsStop}
@@ -88,13 +88,10 @@ module _ {D : Type 0} (g : Ghosts D) (lasts : (disk : D) → g.lasts disk disk) 
 
         now-is : more.now ≡ queuing (free_octets progress.end) (store_in store) (failed_reads parts) progress
         now-is =
-            let free : ℕ = free_octets progress.end in
-            let enough : enough_free ≤ free = one.enough w progress.end stands in
             let alike : (part : ℕ) → next.part ≤ part → read_fails (failed_reads more.parts) part ≡ read_fails (failed_reads parts) part =
-            λ part later.
-            reads-among [] more.parts part none-writes ∙ sym (among-second next.part part (at_part one.fails progress.part) more.parts here later) ∙ sym (reads-among [] parts part none-writes) in
+            λ part later. sym (alike-second [] (at_part one.fails progress.part) more.parts next.part (suc part) none-writes here part later (omega arith)).0 in
             more.is_now ∙ queuing-alike (store_in store) (failed_reads more.parts) (free_octets next.end) (failed_reads parts) next alike
-            ∙ queuing-next (store_in store) (failed_reads parts) progress one.due is-due enough
+            ∙ queuing-next (store_in store) (failed_reads parts) progress one.due is-due (one.enough w progress.end stands)
 
         queued-one : Queued g w store disk disk_n new progress
         queued-one = record {
@@ -136,18 +133,12 @@ module _ {D : Type 0} (g : Ghosts D) (lasts : (disk : D) → g.lasts disk disk) 
         let all : List Failure = [] ++ failed_reads (heard.hears.parts ++ q.parts) in
         let stores : after_all (store_in before.it) made.done ≡ store_in between.store = sym (h.2.done (λ never. never)).0 in
         let alike : (part : ℕ) → made.part ≤ part → read_fails all part ≡ read_fails (failed_reads q.parts) part =
-        λ part later.
-        reads-among [] (heard.hears.parts ++ q.parts) part none-writes ∙ among-second made.part part heard.hears.parts q.parts settled.before later ∙ sym (reads-among [] q.parts part none-writes) in
+        λ part later. (alike-second [] heard.hears.parts q.parts made.part (suc part) none-writes settled.before part later (omega arith)).0 in
         let now_is : whole all ≡ q.now =
         ap (queued (store_in before.it) all) (settled.later q.parts q.behind) ∙ queued-on (store_in before.it) all made h.1.1.0
         ∙ ap (λ (s : Store). queuing (free_octets made.end) s all made) stores ∙ queuing-alike (store_in between.store) all (free_octets made.end) (failed_reads q.parts) made alike ∙ sym q.is_now in
         let rest : KeepsRest made q.now = rw q.is_now (queuing-keeps (store_in between.store) (failed_reads q.parts) (free_octets made.end) made) in
-        let joined : DoesAmongReads g ⊥ (made.missed + q.missed) before.it between.store before.disk now.disk (made.done ++ []) =
-        among-then g on ⊥ ⊥ made.missed q.missed before.it between.store between.store before.disk between.disk now.disk made.done [] (λ never. never) h.2 q.reads in
-        let does : DoesAmongReads g ⊥ q.now.missed before.it now.store before.disk now.disk q.now.done =
-        rw same
-        (among-at g ⊥ q.now.missed before.it between.store before.disk now.disk (made.done ++ []) q.now.done (append-nil made.done ∙ sym rest.done)
-        (among-same g ⊥ ⊥ (made.missed + q.missed) q.now.missed before.it between.store before.disk now.disk (made.done ++ []) (λ never. never) (λ never. never) (sym q.missed_is) joined)) in
+        let does : DoesAmongReads g ⊥ q.now.missed before.it now.store before.disk now.disk q.now.done = grind (arith, among-at, among-same, among-then, append-nil) in
         let by =
         subst (λ p. HearsBy g w (λ writes. progressed left p) before now new Stays (Ok tt)) (sym now_is) (
           rest.halt ∙ h.0,

@@ -15,11 +15,8 @@ loop-preserved g c =
     record {
       rest = λ disk_n new queues.
           c.loop.invariant.rest disk_n new
-          (queues-then g.D.Disk g.met.D.Disk.lasts_same g.met.D.Disk.lasts_on c.args.store.now c.loop.disk c.queue_next.new.disk disk_n c.loop.self c.queue_next.new.self new
-          (rw keeps.same at c.loop-test.ensures.next) queues);
-      keeps =
-          keeps-then g.D.Disk g.met.D.Disk.lasts_same g.met.D.Disk.lasts_on c.args.store.now c.loop.store c.queue_next.new.store c.args.disk.now c.loop.disk c.queue_next.new.disk c.args.self.now c.loop.self
-          c.queue_next.new.self keeps c.queue_next.ensures.keeps;
+          (queues-then g.D.Disk g.met.D.Disk.lasts_same g.met.D.Disk.lasts_on _ _ c.queue_next.new.disk _ c.loop.self c.queue_next.new.self new (rw keeps.same at c.loop-test.ensures.next) queues);
+      keeps = keeps-then g.D.Disk g.met.D.Disk.lasts_same g.met.D.Disk.lasts_on _ _ _ _ _ _ c.args.self.now c.loop.self c.queue_next.new.self keeps c.queue_next.ensures.keeps;
     }
 
 pub returns-clause-queues : goal.returns-clause-queues
@@ -27,6 +24,5 @@ returns-clause-queues g c =
     let keeps = c.loop.invariant.keeps in
     let next = c.loop-test.ensures.next in
     let rest =
-    queues-none g.D.Disk g.met.D.Disk.lasts_same g.met.D.Disk.lasts_on c.loop.store c.loop.disk c.queue_next.new.disk c.loop.self c.queue_next.new.self
-    (ap (λ (s : StoreState). s.journal.failed) keeps.same ∙ c.requires.healthy) (rw (sym keeps.same) at keeps.stands_on) next.0 next.1 next.2 next.3 in
+    queues-none g.D.Disk g.met.D.Disk.lasts_same g.met.D.Disk.lasts_on _ _ c.queue_next.new.disk c.loop.self c.queue_next.new.self (ap (λ (s : StoreState). s.journal.failed) keeps.same ∙ c.requires.healthy) (rw (sym keeps.same) at keeps.stands_on) next.0 next.1 next.2 next.3 in
     c.loop.invariant.rest c.queue_next.new.disk c.queue_next.new.self (rw keeps.same at rest)
