@@ -140,14 +140,7 @@ module _ {D : Type 0} (g : Ghosts D) (lasts : (disk : D) → g.lasts disk disk) 
         let rest : KeepsRest made q.now = rw q.is_now (queuing-keeps (store_in between.store) (failed_reads q.parts) (free_octets made.end) made) in
         let does : DoesAmongReads g ⊥ q.now.missed before.it now.store before.disk now.disk q.now.done = grind (arith, among-at, among-same, among-then, append-nil) in
         let by =
-        subst (λ p. HearsBy g w (λ writes. progressed left p) before now new Stays (Ok tt)) (sym now_is) (
-          rest.halt ∙ h.0,
-          (
-            lists ∙ h.1.0 ∙ sym rest.lists,
-            (rest.over ∙ h.1.1.0, record { link = q.link; rest = octets ∙ is.rest; state = ap (λ (s : StoreState). state_in s new.session) same ∙ q.state }),
-          ),
-          does,
-        ) in
+        subst (λ p. HearsBy g w (λ writes. progressed left p) before now new Stays (Ok tt)) (sym now_is) (grind arith) in
         record { parts = heard.hears.parts ++ q.parts; by = by; since = by.2.since }
 
     -- it stopped, and nothing is queued
@@ -160,7 +153,7 @@ module _ {D : Type 0} (g : Ghosts D) (lasts : (disk : D) → g.lasts disk disk) 
 
       by-stopped : (fate : Fate) (result : Result ⊤ Stop) → IsStop (fate, result) → HearsBy g w (λ writes. progressed left (event (writes ++ failed_reads parts))) before now new fate result
           → HearsBy g w (λ writes. progressed left (whole (writes ++ failed_reads parts))) before now new fate result
-      by-stopped fate arg1 stops h = grind (arith, common_steps, stopped, common_steps)
+      by-stopped fate result stops h = grind (arith, common_steps, stopped)
 
     pub hears-stop : (now : WorkingOn D) (new : ConnectionState) (told : Fate × Result ⊤ Stop) → IsStop told → HearsParts g w left event before now new told
         → Hears g w (λ failures. progressed left (whole failures)) before now new told

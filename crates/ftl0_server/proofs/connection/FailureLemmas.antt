@@ -75,10 +75,10 @@ abbrev pub at_part : Bool → ℕ → List ℕ
 at_part fails part = if fails then part ∷ [] else []
 
 pub among-at : (fails : Bool) (part : ℕ) → is_among part (at_part fails part) ≡ fails
-among-at arg0 part = grind (arith, common_steps, or-false, eq-eqb)
+among-at fails part = grind (arith, common_steps, or-false, eq-eqb)
 
 pub All-at : (P : ℕ → Type 0) (fails : Bool) (part : ℕ) → P part → All P (at_part fails part)
-All-at arg0 arg1 part here = grind (arith, common_steps, All-cons, All-nil)
+All-at P fails part here = grind (arith, common_steps, All-cons, All-nil)
 
 -- such a part fails to be read, whatever writes fail
 pub reads-at : (writes : List Failure) (fails : Bool) (part : ℕ) → AreWrites writes → read_fails (writes ++ failed_reads (at_part fails part)) part ≡ fails

@@ -74,7 +74,7 @@ module _ {D : Type 0} (g : Ghosts D) where
         others = others;
         healthy = λ fine. ap (λ (p : Position). p.failed) journal ∙ may.healthy;
         fit = record {
-          stands_on = grind (arith);
+          stands_on = grind arith;
           held = tt;
           only = only;
           due = tt;
@@ -124,11 +124,7 @@ module _ {D : Type 0} (g : Ghosts D) where
           takes = λ w end first stands. record {
             parts = [];
             among = All-nil (IsAmong first 0);
-            by = (
-              refl,
-              (refl, (refl, record { link = stands; rest = refl; state = refl })),
-              does-among g ⊥ before.store before.store before.disk before.disk [] (Does-none g ⊥ before.store before.disk (λ never. never) may.may.stands_on may.may.healthy lasts),
-            );
+            by = (refl, (refl, (refl, record { link = stands; rest = refl; state = refl })), does-among g ⊥ _ _ _ _ [] (Does-none g ⊥ _ _ (λ never. never) may.may.stands_on may.may.healthy lasts));
           };
         };
         fit = fit-heard before old.link old.link old.session Stays lasts may.may (λ stays. may.up) (stations-same old.link);

@@ -34,7 +34,7 @@ use Rattle.ftl0_server.specs.Connection.Taking.{resting, taking}
 
 -- the session's upload was given up, and the store and its journal are as they were
 pub parks-same : (store store_n : StoreState) (of : Phase) → Parks store store_n of → (store_in store_n ≡ store_in store) × (store_n.journal ≡ store.journal)
-parks-same store store_n arg2 same = grind (arith, common_steps)
+parks-same store store_n of parks = grind (arith, common_steps)
 
 module _ {D : Type 0} (g : Ghosts D) (lasts : (disk : D) → g.lasts disk disk) (w : Window) (left : List ℕ) (end : LinkEnd) (state : State) (on : WorkingOn D) (store_n : StoreState)
     (connection : ConnectionState) (healthy : on.store.journal.failed ≡ false) (stands_on : StandsOn g on.store on.disk) (same : store_in store_n ≡ store_in on.store) (journal : store_n.journal ≡ on.store.journal) where

@@ -30,7 +30,7 @@ use Rattle.ftl0_server.specs.Connection.Hearing.{Happened, progressed}
 use Rattle.ftl0_server.specs.Connection.Taking.{Halt, Progress, fails, goes_on, taking}
 use Rattle.ftl0_server.proofs.connection.FailureLemmas.{AreWrites, alike-first, alike-second, none-writes, one-writes}
 use Rattle.ftl0_server.proofs.connection.FailureLemmas.{other-part, reads-among, same-part, writes-none}
-use Rattle.ftl0_server.proofs.connection.TakingLemmas.{IsFront, behind, front-part, goes_from, going, is_going, on_from}
+use Rattle.ftl0_server.proofs.connection.TakingLemmas.{IsFront, behind, front-part, going, is_going, on_from}
 use Rattle.ftl0_server.proofs.connection.TakingLemmas.{taking-alike, taking-begins, taking-ended, taking-failed}
 use Rattle.ftl0_server.proofs.connection.TakingLemmas.{taking-fails, taking-on, taking-part}
 
@@ -47,7 +47,7 @@ going-over : (progress : Progress) → progress.over ≡ true → going progress
 going-over progress over = rw over refl
 
 not-both : (b : Bool) → (b && false) ≡ false
-not-both arg0 = grind (arith, common_steps)
+not-both b = grind (arith, common_steps)
 
 going-halted : (progress : Progress) (halt : Halt) → is_going halt ≡ false → progress.halt ≡ halt → going progress ≡ false
 going-halted progress halt never is = ap (λ (h : Halt). not progress.over && is_going h) is ∙ ap (λ (b : Bool). not progress.over && b) never ∙ not-both (not progress.over)
@@ -112,17 +112,12 @@ module _ {D : Type 0} (g : Ghosts D) (on : (first second third : D) → g.lasts 
         let these : taking (caller_of old.session) moment (session_on old.session before) end items all first ≡ made =
         taking-alike (caller_of old.session) moment (session_on old.session before) end items all ([] ++ failed_reads one.parts) first
         (alike-first writes one.parts parts first next are none later) in
-        let from : CallSign → Session → ℕ → Progress = λ caller session part. taking caller moment session made.end others all part in
         let stores : after_all (store_in before.store) made.done ≡ store_in between.store = sym (one.by.2.done (λ never. never)).0 in
         let here : on_from (store_in before.store) made ≡ session_on mid.session between = rw (stores, sym one.by.1.0, sym one.by.1.1.1.state) refl in
-        taking-on (caller_of old.session) moment (session_on old.session before) end items others all first (subst (λ (p : Progress). going p ≡ true) (sym these) goes)
-        ∙ ap (λ (p : Progress). goes_from (caller_of old.session) moment all (store_in before.store) p others) these
-        ∙ ap (behind made.missed made.done) (
-        ap (λ (n : ℕ). from (caller_of old.session) (on_from (store_in before.store) made) n) number
-        ∙ ap (λ (session : Session). from (caller_of old.session) session next) here
-        ∙ ap (λ (caller : CallSign). from caller (session_on mid.session between) next) (sym callers)
-        ∙ taking-alike (caller_of mid.session) moment (session_on mid.session between) made.end others all (writes ++ failed_reads parts) next
-        (alike-second writes one.parts parts next (next + length others) are ahead))
+        rw (taking-on (caller_of old.session) moment (session_on old.session before) end items others all first (rw these goes), these, number, here, callers)
+        (ap (behind made.missed made.done)
+        (taking-alike (caller_of old.session) moment (session_on mid.session between) made.end others all (writes ++ failed_reads parts) next
+        (alike-second writes one.parts parts next (next + length others) are ahead)))
 
     -- so it is where a write of the others fails
     same-fault : (part : ℕ) (parts : List ℕ) → All (λ part. next ≤ part) parts → (part_of (failed_write part ++ failed_reads parts)).halt ≡ fails
@@ -192,7 +187,7 @@ module _ {D : Type 0} (g : Ghosts D) (on : (first second third : D) → g.lasts 
       by-ended : (parts : List ℕ) (fate : Fate) (result : Result ⊤ Stop) → IsStop (fate, result)
           → HearsBy g w (λ writes. progressed [] (of_items (writes ++ failed_reads parts))) (with_disk before.store before.disk) now (with_nothing_left new.link new.session) fate result
           → HearsBy g w (λ writes. progressed left (of_all (writes ++ failed_reads parts))) (with_disk before.store before.disk) now new fate result
-      by-ended parts fate arg2 stops h = grind (arith, common_steps, ended, going-over, common_steps, taking-failed, going-halted)
+      by-ended parts fate result stops h = grind (arith, common_steps, ended, going-over, taking-failed, going-halted)
 
       -- whatever comes behind packets that stopped the connection isn't taken
       pub parts-stopped : (told : Fate × Result ⊤ Stop) → IsStop told

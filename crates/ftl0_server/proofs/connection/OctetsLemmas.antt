@@ -23,7 +23,7 @@ use Rattle.ftl0_server.proofs.connection.HearsLemmas.{IsStop, parts-stopped, par
 
 -- the connection goes on, or it stops
 going-or : (told : Fate × Result ⊤ Stop) → IsGoing told ⊎ IsStop told
-going-or arg0 = grind (arith, common_steps)
+going-or told = grind (arith, common_steps)
 
 module _ {D : Type 0} (g : Ghosts D) (on : (first second third : D) → g.lasts first second → g.lasts second third → g.lasts first third) (moment : ℕ) (old new : ConnectionState) (octets : List ℕ)
     (before now : WorkingOn D) (told : Fate × Result ⊤ Stop) (peer : old.link.peer ≡ caller_of old.session) (w : Window) (c : Connected) (is : IsConnection w before.store old c) where

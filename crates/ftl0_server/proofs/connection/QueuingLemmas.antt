@@ -89,7 +89,7 @@ module _ (store : Store) where
 -- what is left as it was, whether the session goes on or not
 module _ (store : Store) (failures : List Failure) (progress : Progress) where
   keeps-whether : (over : Bool) (now : Progress) → KeepsRest progress now → KeepsRest progress (if over then progress else now)
-  keeps-whether arg0 now h = grind (arith, common_steps)
+  keeps-whether over now h = grind (arith, common_steps)
 
   pub queued-keeps : KeepsRest progress (queued store failures progress)
   queued-keeps = grind (arith, common_steps, keeps-whether, queuing-keeps)

@@ -2,7 +2,7 @@
 use Rattle.std.proofs.Common.{rules}
 use Rattle.std.proofs.lemmas.Grind.{common_steps}
 use Rattle.std.proofs.Common.{◌≡◌, ℕ, suc, ◌+◌, ◌≤◌, Bool, true, false, not, ◌&&◌, List, [], ◌∷◌, ◌++◌, length, refl}
-use Rattle.std.proofs.Common.{ap, sym, ◌∙◌, subst, append_assoc, append-nil, arith}
+use Rattle.std.proofs.Common.{ap, sym, ◌∙◌, append_assoc, append-nil, arith}
 use Rattle.std.specs.Prelude.{if◌then◌else◌}
 use Rattle.std.proofs.Math.Nat.{add_assoc, zero-add}
 use Rattle.px_base.specs.CallSign.{CallSign}
@@ -14,7 +14,7 @@ use Rattle.file_store.specs.Command.{Command, after_all}
 use Rattle.file_store.specs.Store.{Store}
 use Rattle.file_store.proofs.Offered.{after_all-append}
 use Rattle.ftl0_session.specs.Uploads.Failures.{Failure, read_fails, write_fails}
-use Rattle.ftl0_session.specs.Table.{Row, row_at, session_row}
+use Rattle.ftl0_session.specs.Table.{Row, row_at}
 use Rattle.ftl0_session.specs.Run.{Session, session_over}
 use Rattle.ftl0_server.specs.Connection.Laws.{TakingLaw}
 use Rattle.ftl0_server.specs.Connection.Taking.{Halt, Progress, after_row, failing_at, fails, fits, giving_up, goes_on}
@@ -70,19 +70,17 @@ module _ (caller : CallSign) (moment : ℕ) where
   taking-alike session end [] some others part alike = refl
   taking-alike session end (item ∷ items) some others part alike =
       let here = alike part (omega arith) (omega arith) in
-      let row : Bool → Row = λ reads. session_row caller moment session.store session.lists session.state item reads in
-      let whole : Bool → Bool → List Failure → Progress =
-      λ reads writes failures. taking_row end session.state session.lists part writes (later_of session end items failures part (row reads)) (row reads) in
-      ap (λ (b : Bool). whole b (write_fails some part) some) here.0 ∙ ap (λ (b : Bool). whole (read_fails others part) b some) here.1
-      ∙ ap (λ (later : Progress). taking_row end session.state session.lists part (write_fails others part) later (row (read_fails others part)))
-      (taking-alike (behind_row session (row (read_fails others part))) (after_push end (texts (row (read_fails others part)).replies)) items some others (suc part) (λ n low high. alike n (omega arith) (omega arith)))
+      let row : Row = row_in session item others part in
+      rw (here.0, here.1)
+      (ap (λ (later : Progress). taking_row end session.state session.lists part (write_fails others part) later row)
+      (taking-alike (behind_row session row) (after_push end (texts row.replies)) items some others (suc part) (λ n low high. alike n (omega arith) (omega arith))))
 
 -- ---- packets at which the taking stops
 
 module _ (session : Session) (end : LinkEnd) (part : ℕ) (row : Row) (later more : Progress) (each : going later ≡ false → more ≡ later) where
   ended-by : (failed enough : Bool) → going (by_tests session end part row failed enough later) ≡ false
       → by_tests session end part row failed enough more ≡ by_tests session end part row failed enough later
-  ended-by arg0 enough stops = grind (arith, common_steps)
+  ended-by failed enough stops = grind (arith, common_steps)
 
 module _ (caller : CallSign) (moment : ℕ) where
   -- whatever comes behind packets at which the taking stops isn't taken
@@ -102,7 +100,7 @@ IsOverAtFault progress = progress.halt ≡ fails → progress.over ≡ true
 
 module _ (session : Session) (end : LinkEnd) (part : ℕ) (row : Row) (later : Progress) (each : IsOverAtFault later) where
   over-by : (failed enough : Bool) → IsOverAtFault (by_tests session end part row failed enough later)
-  over-by arg0 enough halts = grind (arith, common_steps)
+  over-by failed enough halts = grind (arith, common_steps)
 
 -- a write or a sync fails at a part from this one on
 abbrev pub FailsFrom : ℕ → List Failure → Type 0
@@ -113,7 +111,7 @@ fails-later part failures h = (h.0, omega (arith, h.1), h.2)
 
 module _ (session : Session) (end : LinkEnd) (part : ℕ) (failures : List Failure) (row : Row) (later : Progress) (each : later.halt ≡ fails → FailsFrom (suc part) failures) where
   fails-by : (failed enough : Bool) → write_fails failures part ≡ failed → (by_tests session end part row failed enough later).halt ≡ fails → FailsFrom part failures
-  fails-by arg0 enough is halts = grind (arith, common_steps, fails-later)
+  fails-by failed enough is halts = grind (arith, common_steps, fails-later)
 
 module _ (caller : CallSign) (moment : ℕ) where
   pub taking-failed : (session : Session) (end : LinkEnd) (items : List Item) (failures : List Failure) (part : ℕ)
@@ -149,11 +147,11 @@ module _ (caller : CallSign) (moment : ℕ) (failures : List Failure) (session :
   on-by : (going later ≡ true → more ≡ goes_from caller moment failures (after_all session.store row.commands) later others)
       → (failed enough : Bool) → going (by_tests session end part row failed enough later) ≡ true
       → by_tests session end part row failed enough more ≡ goes_from caller moment failures session.store (by_tests session end part row failed enough later) others
-  on-by each arg1 enough goes = grind (arith, common_steps, common_steps, after_all-append, behind-then)
+  on-by each failed enough goes = grind (arith, common_steps, after_all-append, behind-then)
 
   part-by : (count : ℕ) → (going later ≡ true → later.part ≡ suc part + count) → (failed enough : Bool) → going (by_tests session end part row failed enough later) ≡ true
       → (by_tests session end part row failed enough later).part ≡ part + suc count
-  part-by count each arg2 enough goes = grind (arith, common_steps)
+  part-by count each failed enough goes = grind (arith, common_steps)
 
 module _ (caller : CallSign) (moment : ℕ) where
   -- what comes behind packets after which it goes on is taken from there
@@ -218,16 +216,10 @@ module _ (caller : CallSign) (moment : ℕ) where
       → Begins (taking caller moment session end items some part) (taking caller moment session end items all part)
   taking-begins session end [] some all part are = ([], refl)
   taking-begins session end (item ∷ items) some all part are =
-      let row : Bool → Row = λ reads. session_row caller moment session.store session.lists session.state item reads in
-      let of_all : Row = row (read_fails all part) in
-      let whole : Bool → Bool → Type 0 =
-      λ reads writes. Begins (taking_row end session.state session.lists part (write_fails some part) (later_of caller moment session end items some part (row reads)) (row reads))
-      (taking_row end session.state session.lists part writes (later_of caller moment session end items all part of_all) of_all) in
-      subst (λ (b : Bool). whole b (write_fails all part)) (sym (are part).0)
-      (subst (λ (b : Bool). whole (read_fails all part) b) (sym (are part).1)
-      (begins-by session end part of_all (later_of caller moment session end items some part of_all) (later_of caller moment session end items all part of_all)
-      (taking-begins (behind_row session of_all) (after_push end (texts of_all.replies)) items some all (suc part) are)
-      (write_fails some part) (fits end (texts of_all.replies))))
+      let row : Row = row_in caller moment session item all part in
+      rw ((are part).0, (are part).1)
+      (begins-by session end part row _ _ (taking-begins (behind_row session row) (after_push end (texts row.replies)) items some all (suc part) are)
+      (write_fails some part) (fits end (texts row.replies)))
 
 -- ---- the row of one packet among others
 
