@@ -77,11 +77,6 @@ module _ (caller : CallSign) (moment : ℕ) where
 
 -- ---- packets at which the taking stops
 
-module _ (session : Session) (end : LinkEnd) (part : ℕ) (row : Row) (later more : Progress) (each : going later ≡ false → more ≡ later) where
-  ended-by : (failed enough : Bool) → going (by_tests session end part row failed enough later) ≡ false
-      → by_tests session end part row failed enough more ≡ by_tests session end part row failed enough later
-  ended-by failed enough stops = grind (arith, common_steps)
-
 module _ (caller : CallSign) (moment : ℕ) where
   -- whatever comes behind packets at which the taking stops isn't taken
   pub taking-ended : (session : Session) (end : LinkEnd) (items others : List Item) (failures : List Failure) (part : ℕ)
@@ -90,17 +85,12 @@ module _ (caller : CallSign) (moment : ℕ) where
   taking-ended session end [] others failures part stops = absurd cc
   taking-ended session end (item ∷ items) others failures part stops =
       let row : Row = row_in caller moment session item failures part in
-      ended-by session end part row (later_of caller moment session end items failures part row) (later_of caller moment session end (items ++ others) failures part row)
-      (taking-ended (behind_row session row) (after_push end (texts row.replies)) items others failures (suc part))
-      (write_fails failures part) (fits end (texts row.replies)) stops
+      let each = taking-ended (behind_row session row) (after_push end (texts row.replies)) items others failures (suc part) in
+      grind (arith, common_steps)
 
 -- where the disk failed the session is over
 abbrev pub IsOverAtFault : Progress → Type 0
 IsOverAtFault progress = progress.halt ≡ fails → progress.over ≡ true
-
-module _ (session : Session) (end : LinkEnd) (part : ℕ) (row : Row) (later : Progress) (each : IsOverAtFault later) where
-  over-by : (failed enough : Bool) → IsOverAtFault (by_tests session end part row failed enough later)
-  over-by failed enough halts = grind (arith, common_steps)
 
 -- a write or a sync fails at a part from this one on
 abbrev pub FailsFrom : ℕ → List Failure → Type 0
@@ -119,17 +109,15 @@ module _ (caller : CallSign) (moment : ℕ) where
   taking-failed session end [] failures part halts = absurd cc
   taking-failed session end (item ∷ items) failures part halts =
       let row : Row = row_in caller moment session item failures part in
-      over-by session end part row (later_of caller moment session end items failures part row)
-      (taking-failed (behind_row session row) (after_push end (texts row.replies)) items failures (suc part))
-      (write_fails failures part) (fits end (texts row.replies)) halts
+      let each = taking-failed (behind_row session row) (after_push end (texts row.replies)) items failures (suc part) in
+      grind (arith, common_steps)
 
   pub taking-fails : (session : Session) (end : LinkEnd) (items : List Item) (failures : List Failure) (part : ℕ)
       → (taking caller moment session end items failures part).halt ≡ fails → FailsFrom part failures
   taking-fails session end [] failures part halts = absurd cc
   taking-fails session end (item ∷ items) failures part halts =
       let row : Row = row_in caller moment session item failures part in
-      fails-by session end part failures row (later_of caller moment session end items failures part row)
-      (taking-fails (behind_row session row) (after_push end (texts row.replies)) items failures (suc part))
+      fails-by session end part failures row _ (taking-fails (behind_row session row) (after_push end (texts row.replies)) items failures (suc part))
       (write_fails failures part) (fits end (texts row.replies)) refl halts
 
 -- ---- packets after which it goes on
@@ -142,17 +130,6 @@ abbrev pub goes_from : CallSign → ℕ → List Failure → Store → Progress 
 goes_from caller moment failures store from others =
     behind from.missed from.done (taking caller moment (on_from store from) from.end others failures from.part)
 
-module _ (caller : CallSign) (moment : ℕ) (failures : List Failure) (session : Session) (end : LinkEnd) (part : ℕ) (row : Row) (others : List Item)
-    (later more : Progress) where
-  on-by : (going later ≡ true → more ≡ goes_from caller moment failures (after_all session.store row.commands) later others)
-      → (failed enough : Bool) → going (by_tests session end part row failed enough later) ≡ true
-      → by_tests session end part row failed enough more ≡ goes_from caller moment failures session.store (by_tests session end part row failed enough later) others
-  on-by each failed enough goes = grind (arith, common_steps, after_all-append, behind-then)
-
-  part-by : (count : ℕ) → (going later ≡ true → later.part ≡ suc part + count) → (failed enough : Bool) → going (by_tests session end part row failed enough later) ≡ true
-      → (by_tests session end part row failed enough later).part ≡ part + suc count
-  part-by count each failed enough goes = grind (arith, common_steps)
-
 module _ (caller : CallSign) (moment : ℕ) where
   -- what comes behind packets after which it goes on is taken from there
   pub taking-on : (session : Session) (end : LinkEnd) (items others : List Item) (failures : List Failure) (part : ℕ)
@@ -162,9 +139,8 @@ module _ (caller : CallSign) (moment : ℕ) where
   taking-on session end [] others failures part goes = behind-none (taking caller moment session end others failures part)
   taking-on session end (item ∷ items) others failures part goes =
       let row : Row = row_in caller moment session item failures part in
-      on-by caller moment failures session end part row others (later_of caller moment session end items failures part row) (later_of caller moment session end (items ++ others) failures part row)
-      (taking-on (behind_row session row) (after_push end (texts row.replies)) items others failures (suc part))
-      (write_fails failures part) (fits end (texts row.replies)) goes
+      let each = taking-on (behind_row session row) (after_push end (texts row.replies)) items others failures (suc part) in
+      grind (arith, common_steps, after_all-append, behind-then)
 
   -- each of the packets is a part
   pub taking-part : (session : Session) (end : LinkEnd) (items : List Item) (failures : List Failure) (part : ℕ)
@@ -172,9 +148,8 @@ module _ (caller : CallSign) (moment : ℕ) where
   taking-part session end [] failures part goes = omega arith
   taking-part session end (item ∷ items) failures part goes =
       let row : Row = row_in caller moment session item failures part in
-      part-by caller moment failures session end part row items (later_of caller moment session end items failures part row) (later_of caller moment session end items failures part row)
-      (length items) (taking-part (behind_row session row) (after_push end (texts row.replies)) items failures (suc part))
-      (write_fails failures part) (fits end (texts row.replies)) goes
+      let each = taking-part (behind_row session row) (after_push end (texts row.replies)) items failures (suc part) in
+      grind (arith, common_steps)
 
 -- ---- what is done is a front of what is done where no write fails
 
