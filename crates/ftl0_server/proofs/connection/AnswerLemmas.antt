@@ -1,7 +1,8 @@
 -- How a connection answers one packet.
-use Rattle.std.proofs.Common.{◌≡◌, ℕ, ◌+◌, suc, Bool, true, false, not, List, [], ◌∷◌, ◌++◌, refl, ap, sym, ◌∙◌, subst}
-use Rattle.std.proofs.Common.{arith, append-nil}
-use Rattle.std.specs.Prelude.{Result, Ok, Err, IsErrOf, IsTrue, ⊤, if◌then◌else◌}
+use Rattle.std.proofs.lemmas.Grind.{common_steps}
+use Rattle.std.proofs.Common.{◌≡◌, ℕ, ◌+◌, suc, Bool, true, false, not, List, [], ◌∷◌, ◌++◌, refl, sym, ◌∙◌, subst}
+use Rattle.std.proofs.Common.{arith}
+use Rattle.std.specs.Prelude.{Result, Ok, Err, IsErrOf, ⊤, if◌then◌else◌}
 use Rattle.std.proofs.Math.Nat.{add-zero}
 use Rattle.px_base.specs.CallSign.{CallSign}
 use Rattle.disk_model.specs.declared.disk.Disk.{Ghosts}
@@ -49,8 +50,7 @@ module _ {D : Type 0} (g : Ghosts D) (on : (first second third : D) → g.lasts 
 
   -- the failures of the event decide
   one-is : (failures : List Failure) (reads writes : Bool) → read_fails failures first ≡ reads → write_fails failures first ≡ writes → taking_one failures ≡ one writes (row_here reads)
-  one-is failures reads writes is_read is_written =
-      ap (λ (b : Bool). one (write_fails failures first) (row_here b)) is_read ∙ ap (λ (b : Bool). one b (row_here reads)) is_written
+  one-is failures reads writes is_read is_written = grind (arith, common_steps)
 
   -- where a write fails
   one-fails : (reads : Bool) → taking_one (failed_write first ++ failed_reads (at_part reads first)) ≡ one true (row_here reads)
@@ -71,16 +71,7 @@ module _ {D : Type 0} (g : Ghosts D) (on : (first second third : D) → g.lasts 
   row-done : (row : Row) (enough : Bool) (fate : Fate) → is_over fate ≡ not enough → StandsFor w new.link (if enough then after_push end (texts row.replies) else after_abandon end)
       → now.lists ≡ row.lists → state_in now.store new.session ≡ row.state → DoesAmongReads g ⊥ (failed_reads_told row.replies) before.store now.store before.disk now.disk row.commands
       → By (by_tests (session_on session before) end first row false enough (resting (after_push end (texts row.replies)) row.state row.lists (suc first))) fate (Ok tt)
-  row-done row true Stays over stands same state does = (
-    refl,
-    (same, (refl, record { link = stands; rest = refl; state = state })),
-    among-at g ⊥ (failed_reads_told row.replies + 0) before.store now.store before.disk now.disk row.commands (row.commands ++ []) (sym (append-nil row.commands))
-        (among-same g ⊥ ⊥ (failed_reads_told row.replies) (failed_reads_told row.replies + 0) before.store now.store before.disk now.disk row.commands (λ never. never) (λ never. never)
-        (sym (add-zero (failed_reads_told row.replies))) does),
-  )
-  row-done row true Ends over stands same state does = absurd cc
-  row-done row false Stays over stands same state does = absurd cc
-  row-done row false Ends over stands same state does = (refl, (same, (refl, stands)), does)
+  row-done row enough fate over stands same state does = grind (arith, common_steps, among-at, among-same, add-zero)
 
   pub said-done : (fate : Fate) (text replies : List ℕ) → text ≡ replies → is_over fate ≡ not (fits end text) → StandsFor w new.link (replied end text) → Takes (Ok tt) replies → Made (fate, Ok tt)
   said-done fate text replies same over stands takes =
@@ -119,6 +110,4 @@ module _ {D : Type 0} (g : Ghosts D) (on : (first second third : D) → g.lasts 
 pub taken-puts : {D : Type 0} (g : Ghosts D) (on : (first second third : D) → g.lasts first second → g.lasts second third → g.lasts first third) (caller : CallSign) (moment : ℕ) (item : Item)
     (before now : Working) (disk disk_n : D) (replies : List ℕ) (result : Result ⊤ Stop) → TakesPacket g (packet_of caller moment item) (with_disk before disk) (with_disk now disk_n) replies result
     → PutsAmongReads g (IsErrOf result stop.Disk) disk disk_n
-taken-puts g on caller moment item before now disk disk_n replies result takes =
-    puts-among-then g on ⊥ (IsErrOf result stop.Disk) disk takes.disk_then disk_n (λ never. never) (puts-among-reads g (IsTrue takes.fails) ⊥ disk takes.disk_then (λ never. never) takes.reads)
-    (puts-among g (IsErrOf result stop.Disk) takes.disk_then disk_n takes.puts)
+taken-puts g on caller moment item before now disk disk_n replies result takes = grind (arith, common_steps, puts-among-then, puts-among-reads, puts-among)

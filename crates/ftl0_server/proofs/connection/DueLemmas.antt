@@ -1,7 +1,8 @@
 -- How a connection queues what is due, behind the packets of a frame.
+use Rattle.std.proofs.lemmas.Grind.{common_steps}
 use Rattle.std.proofs.Common.{◌≡◌, ◌⊎◌, inl, inr, ℕ, suc, ◌+◌, ◌<◌, ◌≤◌, Bool, true, false, List, [], ◌++◌, refl}
 use Rattle.std.proofs.Common.{ap, sym, ◌∙◌, subst, arith, append-nil}
-use Rattle.std.specs.Prelude.{All, Some, Result, Ok, Err, ⊤}
+use Rattle.std.specs.Prelude.{All, Some, Result, Ok, ⊤}
 use Rattle.std.proofs.Math.Nat.{add-zero, add_assoc}
 use Rattle.std.proofs.lemmas.List.Elements.{All-append, All-nil, All-weaker}
 use Rattle.disk_model.specs.declared.disk.Disk.{Ghosts}
@@ -13,21 +14,20 @@ use Rattle.file_store.specs.Store.{Store}
 use Rattle.file_store.specs.State.{StandsOn, StoreState, store_in}
 use Rattle.file_store.specs.Working.{DoesAmongReads, one_if}
 use Rattle.file_store.proofs.Offered.{among-at, among-same, among-then, does-among, Does-none, puts-among-then}
-use Rattle.ftl0_session.specs.Uploads.Failures.{Failure, failed_reads, failed_write, read_fails}
-use Rattle.ftl0_session.specs.Downloads.Needs.{IsDueIn}
+use Rattle.ftl0_session.specs.Uploads.Failures.{Failure, failed_reads, read_fails}
 use Rattle.disk_model.specs.declared.halt.Halt.{Halt as Stop}
 use Rattle.disk_model.specs.declared.halt.Halt.TheVariants as stop
 use Rattle.ftl0_session.specs.SessionState.{WorkingOn, state_in}
 use Rattle.ftl0_session.specs.Table.{State, due_at, next_due, tells_failed_read}
 use Rattle.ftl0_session.specs.Uploads.SessionState.{WithDisk}
 use Rattle.ftl0_server.specs.declared.connection.fate.Fate.{Fate}
-use Rattle.ftl0_server.specs.declared.connection.fate.Fate.TheVariants.{Stays, Ends}
+use Rattle.ftl0_server.specs.declared.connection.fate.Fate.TheVariants.{Stays}
 use Rattle.ftl0_server.specs.Connection.ConnectionState.{ConnectionState, Hears, HearsBy}
 use Rattle.ftl0_server.specs.Connection.Feeding.{AreFree, HearsParts, IsNothingDue, KeepsFit, Queued, QueuesDue}
 use Rattle.ftl0_server.specs.Connection.Feeding.{QueuesPacket}
 use Rattle.ftl0_server.specs.Connection.Hearing.{progressed}
 use Rattle.ftl0_server.specs.Connection.Taking.{Progress, after_due, enough_free, fails, queued, queuing}
-use Rattle.ftl0_server.proofs.connection.FailureLemmas.{All-at, among-at as among-one, among-first, among-second}
+use Rattle.ftl0_server.proofs.connection.FailureLemmas.{alike-second, All-at, among-at as among-one, among-first}
 use Rattle.ftl0_server.proofs.connection.FailureLemmas.{at_part, none-writes, reads-among}
 use Rattle.packet_link.proofs.Fronts.{stations-then}
 use Rattle.ftl0_server.proofs.connection.HearsLemmas.{IsStop}
@@ -61,8 +61,7 @@ module _ {D : Type 0} (g : Ghosts D) (lasts : (disk : D) → g.lasts disk disk) 
     queues-none (inl none) w progress stands stood =
         still w progress stands stood
         (sym (queuing-none (store_in store) (failed_reads []) (free_octets progress.end) progress (ap (λ (s : State). next_due (store_in store) s false) (sym stood) ∙ none false)))
-    queues-none (inr few) w progress stands stood =
-        still w progress stands stood (sym (queuing-fewer (store_in store) (failed_reads []) (free_octets progress.end) progress (few w progress.end stands)))
+    queues-none (inr few) w progress stands stood = grind (arith, common_steps, still, queuing-fewer)
 
   -- ---- one packet, and then the others
 
@@ -89,20 +88,15 @@ module _ {D : Type 0} (g : Ghosts D) (lasts : (disk : D) → g.lasts disk disk) 
 
         now-is : more.now ≡ queuing (free_octets progress.end) (store_in store) (failed_reads parts) progress
         now-is =
-            let free : ℕ = free_octets progress.end in
-            let enough : enough_free ≤ free = one.enough w progress.end stands in
             let alike : (part : ℕ) → next.part ≤ part → read_fails (failed_reads more.parts) part ≡ read_fails (failed_reads parts) part =
-            λ part later.
-            reads-among [] more.parts part none-writes ∙ sym (among-second next.part part (at_part one.fails progress.part) more.parts here later) ∙ sym (reads-among [] parts part none-writes) in
+            λ part later. sym (alike-second [] (at_part one.fails progress.part) more.parts next.part (suc part) none-writes here part later (omega arith)).0 in
             more.is_now ∙ queuing-alike (store_in store) (failed_reads more.parts) (free_octets next.end) (failed_reads parts) next alike
-            ∙ queuing-next (store_in store) (failed_reads parts) progress one.due is-due enough
+            ∙ queuing-next (store_in store) (failed_reads parts) progress one.due is-due (one.enough w progress.end stands)
 
         queued-one : Queued g w store disk disk_n new progress
         queued-one = record {
           parts = parts;
-          behind =
-              All-append (λ part. progress.part ≤ part) (at_part one.fails progress.part) more.parts (All-at (λ part. progress.part ≤ part) one.fails progress.part (omega arith))
-              (All-weaker (λ part. next.part ≤ part) (λ part. progress.part ≤ part) (λ part later. omega arith) more.parts more.behind);
+          behind = grind (arith, common_steps, All-append, at_part, All-at, All-weaker);
           now = more.now;
           is_now = now-is;
           link = more.link;
@@ -113,22 +107,12 @@ module _ {D : Type 0} (g : Ghosts D) (lasts : (disk : D) → g.lasts disk disk) 
         }
 
     pub queues-then : QueuesDue g store disk_m disk_n mid new → QueuesDue g store disk disk_n old new
-    queues-then more w progress stands state =
-        queued-one w progress stands state (more w (after_due one.due progress) (one.queued w progress.end stands) one.state)
+    queues-then more w progress stands state = grind (arith, queued-one)
 
   -- ---- what is left for the next event
 
   pub keeps-then : (a b c : StoreState) (d e f : D) (old mid new : ConnectionState) → KeepsFit g a b d e old mid → KeepsFit g b c e f mid new → KeepsFit g a c d f old new
-  keeps-then a b c d e f old mid new first second = record {
-    same = second.same ∙ first.same;
-    puts = puts-among-then g on ⊥ ⊥ d e f (λ never. never) first.puts second.puts;
-    stands_on = subst (λ (s : StoreState). StandsOn g s f) first.same second.stands_on;
-    due = subst (λ (s : StoreState). IsDueIn (store_in s) new.session.downloads) first.same second.due;
-    uploads = second.uploads ∙ first.uploads;
-    octets = second.octets ∙ first.octets;
-    up = second.up;
-    stations = stations-then old.link mid.link new.link first.stations second.stations;
-  }
+  keeps-then a b c d e f old mid new first second = grind (arith, common_steps, puts-among-then, stations-then)
 
   -- ---- a frame
 
@@ -149,27 +133,14 @@ module _ {D : Type 0} (g : Ghosts D) (lasts : (disk : D) → g.lasts disk disk) 
         let all : List Failure = [] ++ failed_reads (heard.hears.parts ++ q.parts) in
         let stores : after_all (store_in before.it) made.done ≡ store_in between.store = sym (h.2.done (λ never. never)).0 in
         let alike : (part : ℕ) → made.part ≤ part → read_fails all part ≡ read_fails (failed_reads q.parts) part =
-        λ part later.
-        reads-among [] (heard.hears.parts ++ q.parts) part none-writes ∙ among-second made.part part heard.hears.parts q.parts settled.before later ∙ sym (reads-among [] q.parts part none-writes) in
+        λ part later. (alike-second [] heard.hears.parts q.parts made.part (suc part) none-writes settled.before part later (omega arith)).0 in
         let now_is : whole all ≡ q.now =
         ap (queued (store_in before.it) all) (settled.later q.parts q.behind) ∙ queued-on (store_in before.it) all made h.1.1.0
         ∙ ap (λ (s : Store). queuing (free_octets made.end) s all made) stores ∙ queuing-alike (store_in between.store) all (free_octets made.end) (failed_reads q.parts) made alike ∙ sym q.is_now in
         let rest : KeepsRest made q.now = rw q.is_now (queuing-keeps (store_in between.store) (failed_reads q.parts) (free_octets made.end) made) in
-        let joined : DoesAmongReads g ⊥ (made.missed + q.missed) before.it between.store before.disk now.disk (made.done ++ []) =
-        among-then g on ⊥ ⊥ made.missed q.missed before.it between.store between.store before.disk between.disk now.disk made.done [] (λ never. never) h.2 q.reads in
-        let does : DoesAmongReads g ⊥ q.now.missed before.it now.store before.disk now.disk q.now.done =
-        rw same
-        (among-at g ⊥ q.now.missed before.it between.store before.disk now.disk (made.done ++ []) q.now.done (append-nil made.done ∙ sym rest.done)
-        (among-same g ⊥ ⊥ (made.missed + q.missed) q.now.missed before.it between.store before.disk now.disk (made.done ++ []) (λ never. never) (λ never. never) (sym q.missed_is) joined)) in
+        let does : DoesAmongReads g ⊥ q.now.missed before.it now.store before.disk now.disk q.now.done = grind (arith, among-at, among-same, among-then, append-nil) in
         let by =
-        subst (λ p. HearsBy g w (λ writes. progressed left p) before now new Stays (Ok tt)) (sym now_is) (
-          rest.halt ∙ h.0,
-          (
-            lists ∙ h.1.0 ∙ sym rest.lists,
-            (rest.over ∙ h.1.1.0, record { link = q.link; rest = octets ∙ is.rest; state = ap (λ (s : StoreState). state_in s new.session) same ∙ q.state }),
-          ),
-          does,
-        ) in
+        subst (λ p. HearsBy g w (λ writes. progressed left p) before now new Stays (Ok tt)) (sym now_is) (grind arith) in
         record { parts = heard.hears.parts ++ q.parts; by = by; since = by.2.since }
 
     -- it stopped, and nothing is queued
@@ -182,14 +153,7 @@ module _ {D : Type 0} (g : Ghosts D) (lasts : (disk : D) → g.lasts disk disk) 
 
       by-stopped : (fate : Fate) (result : Result ⊤ Stop) → IsStop (fate, result) → HearsBy g w (λ writes. progressed left (event (writes ++ failed_reads parts))) before now new fate result
           → HearsBy g w (λ writes. progressed left (whole (writes ++ failed_reads parts))) before now new fate result
-      by-stopped Stays (Ok tt) stops h = absurd (stops refl)
-      by-stopped Ends (Ok tt) stops h = subst (By Ends (Ok tt)) (sym (stopped ([] ++ failed_reads parts) h.1.1.0)) h
-      by-stopped fate (Err stop.Disk) stops h =
-          let at = subst (By fate (Err stop.Disk)) (sym (stopped (failed_write h.0 ++ failed_reads parts) (over (failed_write h.0 ++ failed_reads parts) h.1))) (h.0, h.1, h.2, h.3) in
-          (h.0, at.1, at.2, at.3)
-      by-stopped fate (Err stop.OutOfMemory) stops h =
-          let at = subst (By fate (Err stop.OutOfMemory)) (sym (stopped (failed_write h.0 ++ failed_reads parts) (over (failed_write h.0 ++ failed_reads parts) h.1))) (h.0, h.1, h.2, h.3) in
-          (h.0, at.1, at.2, at.3)
+      by-stopped fate result stops h = grind (arith, common_steps, stopped)
 
     pub hears-stop : (now : WorkingOn D) (new : ConnectionState) (told : Fate × Result ⊤ Stop) → IsStop told → HearsParts g w left event before now new told
         → Hears g w (λ failures. progressed left (whole failures)) before now new told

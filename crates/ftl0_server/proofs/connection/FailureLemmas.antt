@@ -1,4 +1,5 @@
 -- Which parts failures list.
+use Rattle.std.proofs.lemmas.Grind.{common_steps}
 use Rattle.std.proofs.Common.{◌≡◌, ◌≢◌, ℕ, ◌<◌, ◌≤◌, Bool, true, false, List, [], ◌∷◌, ◌++◌, refl, ap, sym, ◌∙◌, arith}
 use Rattle.std.proofs.Common.{⊎_elim}
 use Rattle.std.specs.Prelude.{All, ◌==◌, ◌||◌, if◌then◌else◌}
@@ -23,23 +24,18 @@ among-none part (one ∷ parts) others = ap (λ b. b || is_among part parts) (no
 
 -- a part before all of these isn't
 among-later : (low part : ℕ) (parts : List ℕ) → All (λ one. low ≤ one) parts → part < low → is_among part parts ≡ false
-among-later low part parts later before =
-    let apart : All (λ one. one ≢ part) parts = λ k d within. (λ same. (let here : low ≤ part = omega (arith, later k d within, same) in omega arith)) in
-    among-none part parts (recursion_from_All (λ one. one ≢ part) parts apart)
+among-later low part parts later before = grind (arith, common_steps, among-none, recursion_from_All)
 
 -- nor a part behind all of these
 among-before : (high part : ℕ) (parts : List ℕ) → All (λ one. one < high) parts → high ≤ part → is_among part parts ≡ false
-among-before high part parts before later =
-    let apart : All (λ one. one ≢ part) parts = λ k d within. (λ same. (let here : part < high = omega (arith, before k d within, same) in omega arith)) in
-    among-none part parts (recursion_from_All (λ one. one ≢ part) parts apart)
+among-before high part parts before later = grind (arith, common_steps, among-none, recursion_from_All)
 
 among-append : (part : ℕ) (some others : List ℕ) → is_among part (some ++ others) ≡ (is_among part some || is_among part others)
 among-append part some others = list_any-append (λ one. one == part) some others
 
 -- of parts and later ones, those before the later ones are as without them
 pub among-first : (high part : ℕ) (some others : List ℕ) → All (λ one. high ≤ one) others → part < high → is_among part (some ++ others) ≡ is_among part some
-among-first high part some others later before =
-    among-append part some others ∙ ap (λ b. is_among part some || b) (among-later high part others later before) ∙ or-false (is_among part some)
+among-first high part some others later before = grind (arith, common_steps, among-append, is_among, among-later, or-false)
 
 -- and later parts are as without the others
 pub among-second : (low part : ℕ) (some others : List ℕ) → All (λ one. one < low) some → low ≤ part → is_among part (some ++ others) ≡ is_among part others
@@ -59,13 +55,11 @@ one-writes one part = write-unread one part
 
 -- the writes that are listed, where reads are too
 pub writes-among : (writes : List Failure) (parts : List ℕ) (part : ℕ) → write_fails (writes ++ failed_reads parts) part ≡ write_fails writes part
-writes-among writes parts part =
-    writes-behind writes (failed_reads parts) part ∙ ap (λ b. write_fails writes part || b) (writes-unlisted parts part) ∙ or-false (write_fails writes part)
+writes-among writes parts part = grind (arith, common_steps, writes-behind, writes-unlisted, or-false)
 
 -- and the reads
 pub reads-among : (writes : List Failure) (parts : List ℕ) (part : ℕ) → AreWrites writes → read_fails (writes ++ failed_reads parts) part ≡ is_among part parts
-reads-among writes parts part are =
-    reads-behind writes (failed_reads parts) part ∙ ap (λ b. b || read_fails (failed_reads parts) part) (are part) ∙ reads-listed parts part
+reads-among writes parts part are = grind (arith, common_steps, reads-behind, reads-listed)
 
 -- a part at which one write fails is that write's
 pub same-part : (one part : ℕ) (parts : List ℕ) → write_fails (failed_write one ++ failed_reads parts) part ≡ true → one ≡ part
@@ -81,12 +75,10 @@ abbrev pub at_part : Bool → ℕ → List ℕ
 at_part fails part = if fails then part ∷ [] else []
 
 pub among-at : (fails : Bool) (part : ℕ) → is_among part (at_part fails part) ≡ fails
-among-at true part = or-false (part == part) ∙ eq-eqb part part refl
-among-at false part = refl
+among-at fails part = grind (arith, common_steps, or-false, eq-eqb)
 
 pub All-at : (P : ℕ → Type 0) (fails : Bool) (part : ℕ) → P part → All P (at_part fails part)
-All-at P true part here = All-cons P part [] here (All-nil P)
-All-at P false part here = All-nil P
+All-at P fails part here = grind (arith, common_steps, All-cons, All-nil)
 
 -- such a part fails to be read, whatever writes fail
 pub reads-at : (writes : List Failure) (fails : Bool) (part : ℕ) → AreWrites writes → read_fails (writes ++ failed_reads (at_part fails part)) part ≡ fails
@@ -107,15 +99,9 @@ AreAlike low high some others = (part : ℕ) → low ≤ part → part < high �
 -- whatever reads fail at later parts, and whatever writes at no part of these
 pub alike-first : (writes : List Failure) (some others : List ℕ) (low high : ℕ) → AreWrites writes → ((part : ℕ) → part < high → write_fails writes part ≡ false) → All (λ one. high ≤ one) others
     → AreAlike low high (writes ++ failed_reads (some ++ others)) ([] ++ failed_reads some)
-alike-first writes some others low high are none later part from before = (
-  reads-among writes (some ++ others) part are ∙ among-first high part some others later before ∙ sym (reads-listed some part),
-  writes-among writes (some ++ others) part ∙ none part before ∙ sym (writes-unlisted some part),
-)
+alike-first writes some others low high are none later part from before = grind (arith, common_steps, reads-among, among-first, reads-listed, writes-among, writes-unlisted)
 
 -- whatever reads fail at earlier parts
 pub alike-second : (writes : List Failure) (some others : List ℕ) (low high : ℕ) → AreWrites writes → All (λ one. one < low) some
     → AreAlike low high (writes ++ failed_reads (some ++ others)) (writes ++ failed_reads others)
-alike-second writes some others low high are before part from within = (
-  reads-among writes (some ++ others) part are ∙ among-second low part some others before from ∙ sym (reads-among writes others part are),
-  writes-among writes (some ++ others) part ∙ sym (writes-among writes others part),
-)
+alike-second writes some others low high are before part from within = grind (arith, common_steps, reads-among, among-second, writes-among)

@@ -1,5 +1,6 @@
 -- What packets leave for the next one, and how a connection takes octets, piece by piece.
-use Rattle.std.proofs.Common.{◌≡◌, ℕ, ◌+◌, List, [], ◌∷◌, ◌++◌, length, refl, ap, sym, ◌∙◌, subst}
+use Rattle.std.proofs.lemmas.Grind.{common_steps}
+use Rattle.std.proofs.Common.{arith, ◌≡◌, ℕ, ◌+◌, List, [], ◌∷◌, ◌++◌, length, refl, ap, sym, ◌∙◌, subst}
 use Rattle.std.specs.Prelude.{false, None, Result, Ok, Err, ⊤}
 use Rattle.std.proofs.lemmas.List.Elements.{All-nil}
 use Rattle.px_base.specs.CallSign.{CallSign}
@@ -7,15 +8,12 @@ use Rattle.disk_model.specs.declared.disk.Disk.{Ghosts}
 use Rattle.ax25_link.specs.declared.state.LinkState.TheVariants.{Up}
 use Rattle.ax25_link.specs.Kept.{Kept, SameStations}
 use Rattle.ftl0_packets.specs.Layout.{Item}
-use Rattle.ftl0_packets.specs.Reading.{packets_of, rest_of}
 use Rattle.ftl0_session.specs.Lists.Lists.{CallerList}
 use Rattle.packet_link.specs.PacketLink.{HasFront}
 use Rattle.packet_link.proofs.Fronts.{front-none, front-then, stations-same, stations-then}
 use Rattle.file_store.specs.EntriesKept.{KeepsComplete}
-use Rattle.file_store.specs.Records.{store_step}
-use Rattle.file_store.specs.Store.{Store, empty_store, entry_of}
+use Rattle.file_store.specs.Store.{Store, entry_of}
 use Rattle.file_store.specs.Position.{Position}
-use Rattle.file_store.specs.Walk.{KeepsState}
 use Rattle.file_store.proofs.Offered.{does-among, Does-none, puts-among, puts-among-same, puts-among-then, puts_none}
 use Rattle.file_store.specs.State.{StandsOn, StoreState, store_in}
 use Rattle.ftl0_session.specs.Uploads.Others.{KeepsOtherCallers}
@@ -35,13 +33,7 @@ use Rattle.ftl0_server.proofs.connection.Invariants.{IsTaking}
 -- ---- what is left for the next packet
 
 others-then : (a b c : StoreState) (caller : CallSign) → KeepsOtherCallers a b caller → KeepsOtherCallers b c caller → KeepsOtherCallers a c caller
-others-then a b c caller first second = record {
-  uploads = λ up ne holds. second.uploads up ne (first.uploads up ne holds);
-  entries = λ number e ne found.
-      let mid = second.entries number e ne found in
-      let was = first.entries number e ne mid.0 in
-      (was.0, mid.1 ∙ was.1);
-}
+others-then a b c caller first second = grind (arith, common_steps)
 
 pub others-same : (store : StoreState) (caller : CallSign) → KeepsOtherCallers store store caller
 others-same store caller = record { uploads = λ up ne holds. holds; entries = λ number e ne found. (found, refl) }
@@ -63,22 +55,12 @@ module _ {D : Type 0} (g : Ghosts D) where
 
   -- and what is left lets it take one
   pub may-kept : (store : StoreState) (disk : D) (lists : List CallerList) (session : SessionState) → store.journal.failed ≡ false → IsFit g store disk lists session → SessionMayTake g store disk lists session
-  may-kept store disk lists session healthy fit =
-      record { healthy = healthy; stands_on = fit.stands_on; held = fit.held; only = fit.only; due = fit.due; complete = fit.complete }
+  may-kept store disk lists session healthy fit = grind (arith, common_steps)
 
   -- a frame without packets was heard
   pub fit-heard : (on : WorkingOn D) (link link_n : Kept) (session : SessionState) (fate : Fate) → g.lasts on.disk on.disk → SessionMayTake g on.store on.disk on.lists session
       → (fate ≡ Stays → link_n.state ≡ Up) → SameStations link link_n → LeavesFit g (with_disk on.store on.disk) on link link_n session session (fate, Ok tt)
-  fit-heard on link link_n session fate lasts may up stations = record {
-    puts = puts-among g (fine ≡ Err stop.Disk) on.disk on.disk (puts_none g on.disk (fine ≡ Err stop.Disk) no-fault lasts);
-    kept = λ number e found complete. found;
-    others = others-same on.store (caller_of session);
-    healthy = λ fine. may.healthy;
-    fit = fit-kept on.store on.disk on.lists session may;
-    up = up;
-    caller = refl;
-    stations = stations;
-  }
+  fit-heard on link link_n session fate lasts may up stations = grind (arith, common_steps, puts-among, puts_none, no-fault, others-same, fit-kept)
 
   -- a session began anew, over a store that has only given up the upload of the one before
   pub fit-anew : (on : WorkingOn D) (store_n : StoreState) (link link_n : Kept) (session session_n : SessionState) → g.lasts on.disk on.disk → SessionMayTake g on.store on.disk on.lists session
@@ -92,8 +74,7 @@ module _ {D : Type 0} (g : Ghosts D) where
         others = others;
         healthy = λ fine. ap (λ (p : Position). p.failed) journal ∙ may.healthy;
         fit = record {
-          stands_on = subst (λ (p : Position). KeepsState empty_store store_step g p (store_in store_n) on.disk) (sym journal)
-              (subst (λ (s : Store). KeepsState empty_store store_step g on.store.journal s on.disk) (sym same) may.stands_on);
+          stands_on = grind arith;
           held = tt;
           only = only;
           due = tt;
@@ -107,46 +88,21 @@ module _ {D : Type 0} (g : Ghosts D) where
   -- nothing was queued
   pub keeps-none : (store : StoreState) (disk : D) (now : ConnectionState) → g.lasts disk disk → StandsOn g store disk → IsDueIn (store_in store) now.session.downloads → now.link.state ≡ Up
       → KeepsFit g store store disk disk now now
-  keeps-none store disk now lasts stands_on due up = record {
-    same = refl;
-    puts = puts-among g ⊥ disk disk (puts_none g disk ⊥ (λ never. never) lasts);
-    stands_on = stands_on;
-    due = due;
-    uploads = refl;
-    octets = refl;
-    up = up;
-    stations = stations-same now.link;
-  }
-
-  -- what the next packet needs
-  pub may-next : (before : WithDisk StoreState D) (now : WorkingOn D) (link link_n : Kept) (session session_n : SessionState) → LeavesFit g before now link link_n session session_n (Stays, Ok tt)
-      → MayTake g now.store now.disk now.lists link_n session_n
-  may-next before now link link_n session session_n fit =
-      record { up = fit.up refl; may = may-kept now.store now.disk now.lists session_n (fit.healthy no-fault) fit.fit }
+  keeps-none store disk now lasts stands_on due up = grind (arith, common_steps, puts-among, puts_none, stations-same)
 
   module _ (on : (first second third : D) → g.lasts first second → g.lasts second third → g.lasts first third) where
     -- one part, and then another
     pub fit-then : (before : WithDisk StoreState D) (between now : WorkingOn D) (link link_m link_n : Kept) (session session_m session_n : SessionState) (told : Fate × Result ⊤ Stop)
         → LeavesFit g before between link link_m session session_m (Stays, Ok tt) → LeavesFit g (with_disk between.store between.disk) now link_m link_n session_m session_n told
         → LeavesFit g before now link link_n session session_n told
-    fit-then before between now link link_m link_n session session_m session_n told first second = record {
-      puts = puts-among-then g on (fine ≡ Err stop.Disk) (told.1 ≡ Err stop.Disk) before.disk between.disk now.disk no-fault first.puts second.puts;
-      kept = complete-then (store_in before.it) (store_in between.store) (store_in now.store) first.kept second.kept;
-      others = others-then before.it between.store now.store (caller_of session) first.others (rw first.caller at second.others);
-      healthy = second.healthy;
-      fit = second.fit;
-      up = second.up;
-      caller = second.caller ∙ first.caller;
-      stations = stations-then link link_m link_n first.stations second.stations;
-    }
+    fit-then before between now link link_m link_n session session_m session_n told first second = grind (arith, common_steps, puts-among-then, no-fault, complete-then, others-then, stations-then)
 
     -- packets, and then what is due behind them
     pub fit-queued : (before : WithDisk StoreState D) (between now : WorkingOn D) (link : Kept) (session : SessionState) (mid new : ConnectionState) → now.lists ≡ between.lists
         → LeavesFit g before between link mid.link session mid.session (Stays, Ok tt) → KeepsFit g between.store now.store between.disk now.disk mid new
         → LeavesFit g before now link new.link session new.session (Stays, Ok tt)
     fit-queued before between now link session mid new lists first second = record {
-      puts = puts-among-same g ⊥ (fine ≡ Err stop.Disk) before.disk now.disk (λ never. absurd never) no-fault
-          (puts-among-then g on ⊥ ⊥ before.disk between.disk now.disk (λ never. never) (puts-among-same g (fine ≡ Err stop.Disk) ⊥ before.disk between.disk no-fault (λ never. absurd never) first.puts) second.puts);
+      puts = grind (arith, common_steps, puts-among-same, no-fault, puts-among-then);
       kept = rw second.same first.kept;
       others = rw second.same first.others;
       healthy = rw second.same first.healthy;
@@ -168,11 +124,7 @@ module _ {D : Type 0} (g : Ghosts D) where
           takes = λ w end first stands. record {
             parts = [];
             among = All-nil (IsAmong first 0);
-            by = (
-              refl,
-              (refl, (refl, record { link = stands; rest = refl; state = refl })),
-              does-among g ⊥ before.store before.store before.disk before.disk [] (Does-none g ⊥ before.store before.disk (λ never. never) may.may.stands_on may.may.healthy lasts),
-            );
+            by = (refl, (refl, (refl, record { link = stands; rest = refl; state = refl })), does-among g ⊥ _ _ _ _ [] (Does-none g ⊥ _ _ (λ never. never) may.may.stands_on may.may.healthy lasts));
           };
         };
         fit = fit-heard before old.link old.link old.session Stays lasts may.may (λ stays. may.up) (stations-same old.link);
@@ -199,8 +151,3 @@ module _ {D : Type 0} (g : Ghosts D) where
 
         pub taking-stops : (rest : List ℕ) → IsStop told → FeedsAll g moment old (carrying new.link rest new.session) before now told
         taking-stops rest stops = record { left = new.octets; feeds = feeds-one; none = λ going. absurd (stops going); rest = λ going. absurd (stops going) }
-
-      -- all were taken
-      pub taking-ends : (new : ConnectionState) (now : WorkingOn D) (rest : List ℕ) → IsTaking g moment old new before now → packets_of new.octets ≡ [] → rest_of new.octets ≡ rest
-          → FeedsAll g moment old (carrying new.link rest new.session) before now (Stays, Ok tt)
-      taking-ends new now rest h none behind = record { left = new.octets; feeds = h.feeds; none = λ going. none; rest = λ going. behind }

@@ -1,5 +1,6 @@
 -- How a connection hears a frame.
-use Rattle.std.proofs.Common.{◌≡◌, ◌⊎◌, inl, inr, ℕ, ◌<◌, false, true, List, [], ◌++◌, refl, ap, sym, ◌∙◌, subst}
+use Rattle.std.proofs.lemmas.Grind.{common_steps}
+use Rattle.std.proofs.Common.{arith, ◌≡◌, ◌⊎◌, inl, inr, ℕ, ◌<◌, false, true, List, [], ◌++◌, refl, ap, sym, ◌∙◌, subst}
 use Rattle.std.specs.Prelude.{Result, Ok, ⊤}
 use Rattle.std.proofs.lemmas.List.Elements.{All-nil}
 use Rattle.px_base.specs.CallSign.{CallSign}
@@ -33,17 +34,13 @@ use Rattle.ftl0_server.specs.Connection.Taking.{resting, taking}
 
 -- the session's upload was given up, and the store and its journal are as they were
 pub parks-same : (store store_n : StoreState) (of : Phase) → Parks store store_n of → (store_in store_n ≡ store_in store) × (store_n.journal ≡ store.journal)
-parks-same store store_n phase.Command same = (ap store_in same, ap (λ (s : StoreState). s.journal) same)
-parks-same store store_n (phase.Receiving up) parks = (parks.0.store, parks.1)
-parks-same store store_n phase.Aborting same = (ap store_in same, ap (λ (s : StoreState). s.journal) same)
+parks-same store store_n of parks = grind (arith, common_steps)
 
 module _ {D : Type 0} (g : Ghosts D) (lasts : (disk : D) → g.lasts disk disk) (w : Window) (left : List ℕ) (end : LinkEnd) (state : State) (on : WorkingOn D) (store_n : StoreState)
     (connection : ConnectionState) (healthy : on.store.journal.failed ≡ false) (stands_on : StandsOn g on.store on.disk) (same : store_in store_n ≡ store_in on.store) (journal : store_n.journal ≡ on.store.journal) where
   -- nothing was done to the store
   does-nothing : DoesAmongReads g ⊥ 0 on.store store_n on.disk on.disk []
-  does-nothing =
-      among-parked g ⊥ 0 on.store on.store store_n on.disk on.disk [] same journal
-      (does-among g ⊥ on.store on.store on.disk on.disk [] (Does-none g ⊥ on.store on.disk (λ never. never) stands_on healthy (lasts on.disk)))
+  does-nothing = grind (arith, common_steps, among-parked, does-among, Does-none)
 
   -- no packet was taken, and the session goes on
   pub parts-on : IsConnection w store_n connection (record { end = end; rest = left; state = state })
@@ -57,11 +54,7 @@ module _ {D : Type 0} (g : Ghosts D) (lasts : (disk : D) → g.lasts disk disk) 
   -- the session is over
   pub parts-over : StandsFor w connection.link end
       → HearsParts g w left (λ failures. record (resting end state on.lists 0) { over = true }) (with_disk on.store on.disk) (working_on store_n on.lists on.disk) connection (Ends, Ok tt)
-  parts-over stands = record {
-    hears = record { parts = []; by = (refl, (refl, (refl, stands)), does-nothing); since = does-nothing.since };
-    over = λ failures halts. absurd cc;
-    settled = λ goes. absurd (let same : Ends ≡ Stays = ap (λ (t : Fate × Result ⊤ Stop). t.0) goes in cc);
-  }
+  parts-over stands = grind (arith, common_steps, does-nothing)
 
 module _ {D : Type 0} (g : Ghosts D) (w : Window) (moment : ℕ) (frame : FrameValue) (before now : WorkingOn D) (new : ConnectionState) (result : Fate × Result ⊤ Stop) where
   -- what was heard of these octets, by what the link told
@@ -96,5 +89,4 @@ same-peer w link link_n end next stands stands_n same = sym (ap (λ (k : Kept). 
 -- for the caller by the name that the definitions have
 pub anew-at : (w : Window) (store : StoreState) (connection : ConnectionState) (end : LinkEnd) (moment : ℕ) (lists : List CallerList) (caller peer : CallSign) → caller ≡ peer
     → IsConnection w store connection (beginning end moment (has_left lists caller)) → IsConnection w store connection (beginning end moment (has_left lists peer))
-anew-at w store connection end moment lists caller peer same is =
-    subst (λ (c : CallSign). IsConnection w store connection (beginning end moment (has_left lists c))) same is
+anew-at w store connection end moment lists caller peer same is = grind (arith, common_steps)

@@ -1,4 +1,5 @@
 -- How what packets make of a connection is put together.
+use Rattle.std.proofs.lemmas.Grind.{common_steps}
 use Rattle.std.proofs.Common.{◌≡◌, ℕ, ◌+◌, ◌<◌, ◌≤◌, Bool, true, false, not, ◌&&◌, List, [], ◌++◌, length, refl, ap}
 use Rattle.std.proofs.Common.{sym, ◌∙◌, subst, arith, length-append}
 use Rattle.std.specs.Prelude.{All, Result, Ok, Err, ⊤}
@@ -22,26 +23,21 @@ use Rattle.ftl0_session.specs.SessionState.{SessionState, WorkingOn, caller_of}
 use Rattle.ftl0_session.specs.Uploads.SessionState.{WithDisk, with_disk}
 use Rattle.ftl0_session.specs.Run.{Session}
 use Rattle.ftl0_server.specs.declared.connection.fate.Fate.{Fate}
-use Rattle.ftl0_server.specs.declared.connection.fate.Fate.TheVariants.{Stays, Ends}
+use Rattle.ftl0_server.specs.declared.connection.fate.Fate.TheVariants.{Stays}
 use Rattle.ftl0_server.specs.Connection.ConnectionState.{ConnectionState, HearsBy, with_nothing_left, with_reads}
 use Rattle.ftl0_server.specs.Connection.Feeding.{HearsParts, IsAmong, IsGoing, TakesPackets, session_on, taking_some}
 use Rattle.ftl0_server.specs.Connection.Hearing.{Happened, progressed}
 use Rattle.ftl0_server.specs.Connection.Taking.{Halt, Progress, fails, goes_on, taking}
 use Rattle.ftl0_server.proofs.connection.FailureLemmas.{AreWrites, alike-first, alike-second, none-writes, one-writes}
 use Rattle.ftl0_server.proofs.connection.FailureLemmas.{other-part, reads-among, same-part, writes-none}
-use Rattle.ftl0_server.proofs.connection.TakingLemmas.{IsFront, behind, front-part, goes_from, going, is_going, on_from}
+use Rattle.ftl0_server.proofs.connection.TakingLemmas.{IsFront, behind, front-part, going, is_going, on_from}
 use Rattle.ftl0_server.proofs.connection.TakingLemmas.{taking-alike, taking-begins, taking-ended, taking-failed}
 use Rattle.ftl0_server.proofs.connection.TakingLemmas.{taking-fails, taking-on, taking-part}
 
 -- the first of some commands, for some number of them, are the first of more commands
 pub leaves-front : {D : Type 0} (g : Ghosts D) (store : Store) (disk disk_n : D) (front all : List Command) → IsFront front all → Leaves g disk disk_n (λ _. MakesFirst store front)
     → Leaves g disk disk_n (λ _. MakesFirst store all)
-leaves-front g store disk disk_n front all h leaves =
-    let sum : length (front ++ h.0) ≡ length front + length h.0 = length-append front h.0 in
-    subst (λ (commands : List Command). Leaves g disk disk_n (λ _. MakesFirst store commands)) (sym h.1)
-    (told_weaker (g.content disk) _ _ (λ before told left.
-    weaker g.moment g.images_since disk disk_n (MakesFirst store front) (MakesFirst store (front ++ h.0))
-    (λ image here. makes-within 0 (length front) 0 (length (front ++ h.0)) store (front ++ h.0) image (omega arith) (omega (arith, sum)) (makes-first 0 (length front) store front h.0 image (omega arith) here)) left) leaves)
+leaves-front g store disk disk_n front all h leaves = grind (arith, common_steps, told_weaker, weaker, makes-within, makes-first)
 
 -- whether more is taken, by its parts
 pub going-on : (progress : Progress) → progress.over ≡ false → progress.halt ≡ goes_on → going progress ≡ true
@@ -51,8 +47,7 @@ going-over : (progress : Progress) → progress.over ≡ true → going progress
 going-over progress over = rw over refl
 
 not-both : (b : Bool) → (b && false) ≡ false
-not-both true = refl
-not-both false = refl
+not-both b = grind (arith, common_steps)
 
 going-halted : (progress : Progress) (halt : Halt) → is_going halt ≡ false → progress.halt ≡ halt → going progress ≡ false
 going-halted progress halt never is = ap (λ (h : Halt). not progress.over && is_going h) is ∙ ap (λ (b : Bool). not progress.over && b) never ∙ not-both (not progress.over)
@@ -80,9 +75,7 @@ module _ {D : Type 0} (g : Ghosts D) (on : (first second third : D) → g.lasts 
   -- so it is of packets
   pub taking-whole : (left : List ℕ) (caller : CallSign) (moment : ℕ) (session : Session) (end : LinkEnd) (items : List Item) (parts : List ℕ) (first : ℕ)
       → BeginsWhole (with_reads (λ failures. progressed left (taking caller moment session end items failures first)) parts)
-  taking-whole left caller moment session end items parts first part =
-      taking-begins caller moment session end items (failed_write part ++ failed_reads parts) ([] ++ failed_reads parts) first
-      (λ n. (reads-among (failed_write part) parts n (one-writes part) ∙ sym (reads-among [] parts n none-writes), writes-none parts n))
+  taking-whole left caller moment session end items parts first part = grind (arith, common_steps, taking-begins, reads-among, one-writes, none-writes, writes-none)
 
   -- ---- packets, and then others
 
@@ -119,17 +112,12 @@ module _ {D : Type 0} (g : Ghosts D) (on : (first second third : D) → g.lasts 
         let these : taking (caller_of old.session) moment (session_on old.session before) end items all first ≡ made =
         taking-alike (caller_of old.session) moment (session_on old.session before) end items all ([] ++ failed_reads one.parts) first
         (alike-first writes one.parts parts first next are none later) in
-        let from : CallSign → Session → ℕ → Progress = λ caller session part. taking caller moment session made.end others all part in
         let stores : after_all (store_in before.store) made.done ≡ store_in between.store = sym (one.by.2.done (λ never. never)).0 in
         let here : on_from (store_in before.store) made ≡ session_on mid.session between = rw (stores, sym one.by.1.0, sym one.by.1.1.1.state) refl in
-        taking-on (caller_of old.session) moment (session_on old.session before) end items others all first (subst (λ (p : Progress). going p ≡ true) (sym these) goes)
-        ∙ ap (λ (p : Progress). goes_from (caller_of old.session) moment all (store_in before.store) p others) these
-        ∙ ap (behind made.missed made.done) (
-        ap (λ (n : ℕ). from (caller_of old.session) (on_from (store_in before.store) made) n) number
-        ∙ ap (λ (session : Session). from (caller_of old.session) session next) here
-        ∙ ap (λ (caller : CallSign). from caller (session_on mid.session between) next) (sym callers)
-        ∙ taking-alike (caller_of mid.session) moment (session_on mid.session between) made.end others all (writes ++ failed_reads parts) next
-        (alike-second writes one.parts parts next (next + length others) are ahead))
+        rw (taking-on (caller_of old.session) moment (session_on old.session before) end items others all first (rw these goes), these, number, here, callers)
+        (ap (behind made.missed made.done)
+        (taking-alike (caller_of old.session) moment (session_on mid.session between) made.end others all (writes ++ failed_reads parts) next
+        (alike-second writes one.parts parts next (next + length others) are ahead)))
 
     -- so it is where a write of the others fails
     same-fault : (part : ℕ) (parts : List ℕ) → All (λ part. next ≤ part) parts → (part_of (failed_write part ++ failed_reads parts)).halt ≡ fails
@@ -152,15 +140,7 @@ module _ {D : Type 0} (g : Ghosts D) (on : (first second third : D) → g.lasts 
           h.1,
           among-then g on ⊥ ⊥ made.missed part.missed before.store between.store now.store before.disk between.disk now.disk made.done part.done (λ never. never) one.by.2 h.2,
         )
-    by-then parts later fate (Err stop.Disk) h =
-        let part : Progress = part_of (failed_write h.0 ++ failed_reads parts) in
-        let at = subst (By fate (Err stop.Disk)) (sym (same-fault h.0 parts later h.1)) (
-          h.0,
-          h.1,
-          h.2,
-          cuts-among-then g on ⊤ made.missed part.missed before.store between.store now.store before.disk between.disk now.disk made.done part.done part.cut one.by.2 h.3,
-        ) in
-        (h.0, at.1, at.2, at.3)
+    by-then parts later fate (Err stop.Disk) h = grind (arith, same-fault, cuts-among-then)
     by-then parts later fate (Err stop.OutOfMemory) h =
         let part : Progress = part_of (failed_write h.0 ++ failed_reads parts) in
         let at = subst (By fate (Err stop.OutOfMemory)) (sym (same-fault h.0 parts later h.1)) (
@@ -207,19 +187,7 @@ module _ {D : Type 0} (g : Ghosts D) (on : (first second third : D) → g.lasts 
       by-ended : (parts : List ℕ) (fate : Fate) (result : Result ⊤ Stop) → IsStop (fate, result)
           → HearsBy g w (λ writes. progressed [] (of_items (writes ++ failed_reads parts))) (with_disk before.store before.disk) now (with_nothing_left new.link new.session) fate result
           → HearsBy g w (λ writes. progressed left (of_all (writes ++ failed_reads parts))) (with_disk before.store before.disk) now new fate result
-      by-ended parts Stays (Ok tt) stops h = absurd (stops refl)
-      by-ended parts Ends (Ok tt) stops h = subst (To Ends (Ok tt)) (sym (ended ([] ++ failed_reads parts) (going-over (of_items ([] ++ failed_reads parts)) h.1.1.0))) (h.0, h.1, h.2)
-      by-ended parts Stays (Err stop.Disk) stops h =
-          let over = taking-failed (caller_of session) moment (session_on session before) end items (failed_write h.0 ++ failed_reads parts) 0 h.1 in
-          let not_over = h.2.1.0 in absurd cc
-      by-ended parts Ends (Err stop.Disk) stops h =
-          let failures : List Failure = failed_write h.0 ++ failed_reads parts in
-          let at = subst (To Ends (Err stop.Disk)) (sym (ended failures (going-halted (of_items failures) fails refl h.1))) (h.0, h.1, h.2, h.3) in
-          (h.0, at.1, at.2, at.3)
-      by-ended parts fate (Err stop.OutOfMemory) stops h =
-          let failures : List Failure = failed_write h.0 ++ failed_reads parts in
-          let at = subst (To fate (Err stop.OutOfMemory)) (sym (ended failures (going-halted (of_items failures) fails refl h.1))) (h.0, h.1, h.2, h.3) in
-          (h.0, at.1, at.2, at.3)
+      by-ended parts fate result stops h = grind (arith, common_steps, ended, going-over, taking-failed, going-halted)
 
       -- whatever comes behind packets that stopped the connection isn't taken
       pub parts-stopped : (told : Fate × Result ⊤ Stop) → IsStop told
@@ -249,16 +217,10 @@ module _ {D : Type 0} (g : Ghosts D) (on : (first second third : D) → g.lasts 
         let number : (of_items failures).part ≡ length items =
         (let there = taking-part (caller_of session) moment (session_on session before) end items failures 0 (going-on (of_items failures) h.1.1.0 h.0) in omega arith) in
         record {
-          hears =
-              record {
-                parts = takes.parts;
-                by = (h.0, (h.1.0, (h.1.1.0, record { link = h.1.1.1.link; rest = octets; state = h.1.1.1.state })), h.2);
-                since = h.2.since;
-              };
+          hears = grind (arith, common_steps);
           over = λ writes. taking-failed (caller_of session) moment (session_on session before) end items writes 0;
           settled = λ goes. record {
-            before =
-                All-weaker (IsAmong 0 (length items)) (λ part. part < (of_items failures).part) (λ part among. omega (arith, among.1, number)) takes.parts takes.among;
+            before = grind (arith, All-weaker, number);
             later = λ more later.
                 taking-alike (caller_of session) moment (session_on session before) end items ([] ++ failed_reads (takes.parts ++ more)) failures 0
                 (λ n low high. alike-first [] takes.parts more 0 (length items) none-writes (λ m before. refl)

@@ -1,9 +1,9 @@
 -- What the packets of the octets of a frame make of a connection.
-use Rattle.std.proofs.Common.{◌≡◌, ◌⊎◌, inl, inr, ℕ, List, ◌++◌, refl, ap, sym, ◌∙◌, subst, Ok, Err}
+use Rattle.std.proofs.lemmas.Grind.{common_steps}
+use Rattle.std.proofs.Common.{arith, ◌≡◌, ◌⊎◌, inl, inr, ℕ, List, ◌++◌, sym, subst}
 use Rattle.std.specs.Prelude.{Result, ⊤}
 use Rattle.px_base.specs.CallSign.{CallSign}
 use Rattle.disk_model.specs.declared.disk.Disk.{Ghosts}
-use Rattle.ax25_link.specs.Kept.{Kept}
 use Rattle.ax25_link.specs.Window.{Window}
 use Rattle.ftl0_packets.specs.Layout.{Item}
 use Rattle.ftl0_packets.specs.Reading.{packets_of, rest_of}
@@ -15,7 +15,6 @@ use Rattle.ftl0_session.specs.Table.{State}
 use Rattle.ftl0_session.specs.Uploads.SessionState.{with_disk}
 use Rattle.ftl0_session.specs.Run.{session_over}
 use Rattle.ftl0_server.specs.declared.connection.fate.Fate.{Fate}
-use Rattle.ftl0_server.specs.declared.connection.fate.Fate.TheVariants.{Stays, Ends}
 use Rattle.ftl0_server.specs.Connection.Connected.{Connected}
 use Rattle.ftl0_server.specs.Connection.ConnectionState.{ConnectionState, IsConnection}
 use Rattle.ftl0_server.specs.Connection.Feeding.{FeedsAll, HearsParts, IsGoing, carrying}
@@ -24,9 +23,7 @@ use Rattle.ftl0_server.proofs.connection.HearsLemmas.{IsStop, parts-stopped, par
 
 -- the connection goes on, or it stops
 going-or : (told : Fate × Result ⊤ Stop) → IsGoing told ⊎ IsStop told
-going-or (Stays, Ok done) = inl refl
-going-or (Stays, Err why) = inr (λ going. (let same : Err why ≡ Ok tt = ap (λ (t : Fate × Result ⊤ Stop). t.1) going in cc same))
-going-or (Ends, result) = inr (λ going. (let same : Ends ≡ Stays = ap (λ (t : Fate × Result ⊤ Stop). t.0) going in cc same))
+going-or told = grind (arith, common_steps)
 
 module _ {D : Type 0} (g : Ghosts D) (on : (first second third : D) → g.lasts first second → g.lasts second third → g.lasts first third) (moment : ℕ) (old new : ConnectionState) (octets : List ℕ)
     (before now : WorkingOn D) (told : Fate × Result ⊤ Stop) (peer : old.link.peer ≡ caller_of old.session) (w : Window) (c : Connected) (is : IsConnection w before.store old c) where
@@ -38,11 +35,7 @@ module _ {D : Type 0} (g : Ghosts D) (on : (first second third : D) → g.lasts 
 
   -- by the octets, the state and the caller of the definitions' connection
   at-connected : Heard (caller_of old.session) (state_in before.store old.session) old.octets (packets_of (old.octets ++ octets)) → Heard c.end.peer c.state c.rest (packets_of (c.rest ++ octets))
-  at-connected h =
-      let P : CallSign → State → List ℕ → Type 0 = λ caller state waiting. Heard caller state waiting (packets_of (waiting ++ octets)) in
-      subst (λ (waiting : List ℕ). P c.end.peer c.state waiting) is.rest
-      (subst (λ (state : State). P c.end.peer state old.octets) is.state
-      (subst (λ (caller : CallSign). P caller (state_in before.store old.session) old.octets) (sym peer ∙ ap (λ (k : Kept). k.peer) is.link.kept) h))
+  at-connected h = grind (arith, common_steps)
 
   -- they stopped at a packet, or all were taken
   pub hears-all : FeedsAll g moment (carrying old.link (old.octets ++ octets) old.session) new before now told → Heard c.end.peer c.state c.rest (packets_of (c.rest ++ octets))

@@ -1,5 +1,6 @@
 -- How what is due is queued, one packet after another.
-use Rattle.std.proofs.Common.{◌≡◌, inl, inr, ℕ, ◌<◌, ◌≤◌, Bool, true, false, List, refl, ap, sym, subst, arith}
+use Rattle.std.proofs.lemmas.Grind.{common_steps}
+use Rattle.std.proofs.Common.{◌≡◌, inl, inr, ℕ, ◌<◌, ◌≤◌, Bool, true, false, List, refl, ap, arith}
 use Rattle.std.specs.Prelude.{Option, None, Some, if◌then◌else◌}
 use Rattle.ax25_link.specs.Ends.{LinkEnd, free_octets}
 use Rattle.ftl0_packets.specs.Layout.{packet_text}
@@ -79,26 +80,19 @@ module _ (store : Store) where
   -- where the session goes on
   pub queued-on : (failures : List Failure) (progress : Progress) → progress.over ≡ false
       → queued store failures progress ≡ queuing (free_octets progress.end) (after_all store progress.done) failures progress
-  queued-on failures progress going =
-      ap (λ (b : Bool). if b then progress else queuing (free_octets progress.end) (after_all store progress.done) failures progress) going
+  queued-on failures progress going = grind (arith, common_steps)
 
   -- and where it doesn't
   pub queued-over : (failures : List Failure) (progress : Progress) → progress.over ≡ true → queued store failures progress ≡ progress
-  queued-over failures progress over =
-      ap (λ (b : Bool). if b then progress else queuing (free_octets progress.end) (after_all store progress.done) failures progress) over
+  queued-over failures progress over = grind (arith, common_steps)
 
 -- what is left as it was, whether the session goes on or not
 module _ (store : Store) (failures : List Failure) (progress : Progress) where
   keeps-whether : (over : Bool) (now : Progress) → KeepsRest progress now → KeepsRest progress (if over then progress else now)
-  keeps-whether true now h = record { over = refl; lists = refl; done = refl; cut = refl; halt = refl }
-  keeps-whether false now h = h
+  keeps-whether over now h = grind (arith, common_steps)
 
   pub queued-keeps : KeepsRest progress (queued store failures progress)
-  queued-keeps =
-      keeps-whether progress.over (queuing (free_octets progress.end) (after_all store progress.done) failures progress)
-      (queuing-keeps (after_all store progress.done) failures (free_octets progress.end) progress)
+  queued-keeps = grind (arith, common_steps, keeps-whether, queuing-keeps)
 
 pub queued-law : QueuedLaw
-queued-law store failures progress going =
-    subst (λ (p : Progress). IsAtEnd (after_all store progress.done) p) (sym (queued-on store failures progress going))
-    (queuing-ends (after_all store progress.done) failures (free_octets progress.end) progress (omega arith))
+queued-law store failures progress going = grind (arith, common_steps, queued-on, queuing-ends)

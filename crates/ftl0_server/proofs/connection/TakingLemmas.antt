@@ -1,6 +1,8 @@
 -- How taking packets goes on, and how it stops.
+use Rattle.std.proofs.Common.{rules}
+use Rattle.std.proofs.lemmas.Grind.{common_steps}
 use Rattle.std.proofs.Common.{◌≡◌, ℕ, suc, ◌+◌, ◌≤◌, Bool, true, false, not, ◌&&◌, List, [], ◌∷◌, ◌++◌, length, refl}
-use Rattle.std.proofs.Common.{ap, sym, ◌∙◌, subst, append_assoc, append-nil, arith}
+use Rattle.std.proofs.Common.{ap, sym, ◌∙◌, append_assoc, append-nil, arith}
 use Rattle.std.specs.Prelude.{if◌then◌else◌}
 use Rattle.std.proofs.Math.Nat.{add_assoc, zero-add}
 use Rattle.px_base.specs.CallSign.{CallSign}
@@ -12,7 +14,7 @@ use Rattle.file_store.specs.Command.{Command, after_all}
 use Rattle.file_store.specs.Store.{Store}
 use Rattle.file_store.proofs.Offered.{after_all-append}
 use Rattle.ftl0_session.specs.Uploads.Failures.{Failure, read_fails, write_fails}
-use Rattle.ftl0_session.specs.Table.{Row, row_at, session_row, failed_reads_told}
+use Rattle.ftl0_session.specs.Table.{Row, row_at}
 use Rattle.ftl0_session.specs.Run.{Session, session_over}
 use Rattle.ftl0_server.specs.Connection.Laws.{TakingLaw}
 use Rattle.ftl0_server.specs.Connection.Taking.{Halt, Progress, after_row, failing_at, fails, fits, giving_up, goes_on}
@@ -38,9 +40,7 @@ behind-none progress = ap (λ (missed : ℕ). record progress { missed = missed 
 
 pub behind-then : (first second : ℕ) (some others : List Command) (progress : Progress)
     → behind first some (behind second others progress) ≡ behind (first + second) (some ++ others) progress
-behind-then first second some others progress =
-    ap (λ (missed : ℕ). record progress { missed = missed; done = some ++ (others ++ progress.done) }) (sym (add_assoc first second progress.missed))
-    ∙ ap (λ (done : List Command). record progress { missed = (first + second) + progress.missed; done = done }) (sym (append_assoc some others progress.done))
+behind-then first second some others progress = grind (arith, common_steps, add_assoc)
 
 -- what a packet's row makes, by whether a write fails and whether its replies fit, where this comes behind it
 abbrev pub by_tests : Session → LinkEnd → ℕ → Row → Bool → Bool → Progress → Progress
@@ -70,21 +70,12 @@ module _ (caller : CallSign) (moment : ℕ) where
   taking-alike session end [] some others part alike = refl
   taking-alike session end (item ∷ items) some others part alike =
       let here = alike part (omega arith) (omega arith) in
-      let row : Bool → Row = λ reads. session_row caller moment session.store session.lists session.state item reads in
-      let whole : Bool → Bool → List Failure → Progress =
-      λ reads writes failures. taking_row end session.state session.lists part writes (later_of session end items failures part (row reads)) (row reads) in
-      ap (λ (b : Bool). whole b (write_fails some part) some) here.0 ∙ ap (λ (b : Bool). whole (read_fails others part) b some) here.1
-      ∙ ap (λ (later : Progress). taking_row end session.state session.lists part (write_fails others part) later (row (read_fails others part)))
-      (taking-alike (behind_row session (row (read_fails others part))) (after_push end (texts (row (read_fails others part)).replies)) items some others (suc part) (λ n low high. alike n (omega arith) (omega arith)))
+      let row : Row = row_in session item others part in
+      rw (here.0, here.1)
+      (ap (λ (later : Progress). taking_row end session.state session.lists part (write_fails others part) later row)
+      (taking-alike (behind_row session row) (after_push end (texts row.replies)) items some others (suc part) (λ n low high. alike n (omega arith) (omega arith))))
 
 -- ---- packets at which the taking stops
-
-module _ (session : Session) (end : LinkEnd) (part : ℕ) (row : Row) (later more : Progress) (each : going later ≡ false → more ≡ later) where
-  ended-by : (failed enough : Bool) → going (by_tests session end part row failed enough later) ≡ false
-      → by_tests session end part row failed enough more ≡ by_tests session end part row failed enough later
-  ended-by true enough stops = refl
-  ended-by false true stops = ap (after_row row) (each stops)
-  ended-by false false stops = refl
 
 module _ (caller : CallSign) (moment : ℕ) where
   -- whatever comes behind packets at which the taking stops isn't taken
@@ -94,19 +85,12 @@ module _ (caller : CallSign) (moment : ℕ) where
   taking-ended session end [] others failures part stops = absurd cc
   taking-ended session end (item ∷ items) others failures part stops =
       let row : Row = row_in caller moment session item failures part in
-      ended-by session end part row (later_of caller moment session end items failures part row) (later_of caller moment session end (items ++ others) failures part row)
-      (taking-ended (behind_row session row) (after_push end (texts row.replies)) items others failures (suc part))
-      (write_fails failures part) (fits end (texts row.replies)) stops
+      let each = taking-ended (behind_row session row) (after_push end (texts row.replies)) items others failures (suc part) in
+      grind (arith, common_steps)
 
 -- where the disk failed the session is over
 abbrev pub IsOverAtFault : Progress → Type 0
 IsOverAtFault progress = progress.halt ≡ fails → progress.over ≡ true
-
-module _ (session : Session) (end : LinkEnd) (part : ℕ) (row : Row) (later : Progress) (each : IsOverAtFault later) where
-  over-by : (failed enough : Bool) → IsOverAtFault (by_tests session end part row failed enough later)
-  over-by true enough halts = refl
-  over-by false true halts = each halts
-  over-by false false halts = refl
 
 -- a write or a sync fails at a part from this one on
 abbrev pub FailsFrom : ℕ → List Failure → Type 0
@@ -117,9 +101,7 @@ fails-later part failures h = (h.0, omega (arith, h.1), h.2)
 
 module _ (session : Session) (end : LinkEnd) (part : ℕ) (failures : List Failure) (row : Row) (later : Progress) (each : later.halt ≡ fails → FailsFrom (suc part) failures) where
   fails-by : (failed enough : Bool) → write_fails failures part ≡ failed → (by_tests session end part row failed enough later).halt ≡ fails → FailsFrom part failures
-  fails-by true enough is halts = (part, omega arith, is)
-  fails-by false true is halts = fails-later part failures (each halts)
-  fails-by false false is halts = absurd cc
+  fails-by failed enough is halts = grind (arith, common_steps, fails-later)
 
 module _ (caller : CallSign) (moment : ℕ) where
   pub taking-failed : (session : Session) (end : LinkEnd) (items : List Item) (failures : List Failure) (part : ℕ)
@@ -127,17 +109,15 @@ module _ (caller : CallSign) (moment : ℕ) where
   taking-failed session end [] failures part halts = absurd cc
   taking-failed session end (item ∷ items) failures part halts =
       let row : Row = row_in caller moment session item failures part in
-      over-by session end part row (later_of caller moment session end items failures part row)
-      (taking-failed (behind_row session row) (after_push end (texts row.replies)) items failures (suc part))
-      (write_fails failures part) (fits end (texts row.replies)) halts
+      let each = taking-failed (behind_row session row) (after_push end (texts row.replies)) items failures (suc part) in
+      grind (arith, common_steps)
 
   pub taking-fails : (session : Session) (end : LinkEnd) (items : List Item) (failures : List Failure) (part : ℕ)
       → (taking caller moment session end items failures part).halt ≡ fails → FailsFrom part failures
   taking-fails session end [] failures part halts = absurd cc
   taking-fails session end (item ∷ items) failures part halts =
       let row : Row = row_in caller moment session item failures part in
-      fails-by session end part failures row (later_of caller moment session end items failures part row)
-      (taking-fails (behind_row session row) (after_push end (texts row.replies)) items failures (suc part))
+      fails-by session end part failures row _ (taking-fails (behind_row session row) (after_push end (texts row.replies)) items failures (suc part))
       (write_fails failures part) (fits end (texts row.replies)) refl halts
 
 -- ---- packets after which it goes on
@@ -150,26 +130,6 @@ abbrev pub goes_from : CallSign → ℕ → List Failure → Store → Progress 
 goes_from caller moment failures store from others =
     behind from.missed from.done (taking caller moment (on_from store from) from.end others failures from.part)
 
-module _ (caller : CallSign) (moment : ℕ) (failures : List Failure) (session : Session) (end : LinkEnd) (part : ℕ) (row : Row) (others : List Item)
-    (later more : Progress) where
-  on-by : (going later ≡ true → more ≡ goes_from caller moment failures (after_all session.store row.commands) later others)
-      → (failed enough : Bool) → going (by_tests session end part row failed enough later) ≡ true
-      → by_tests session end part row failed enough more ≡ goes_from caller moment failures session.store (by_tests session end part row failed enough later) others
-  on-by each true enough goes = absurd cc
-  on-by each false true goes =
-      let at : after_all (after_all session.store row.commands) later.done ≡ after_all session.store (row.commands ++ later.done) = sym (after_all-append row.commands later.done session.store) in
-      ap (after_row row) (each goes)
-      ∙ behind-then (failed_reads_told row.replies) later.missed row.commands later.done
-      (taking caller moment (on_from (after_all session.store row.commands) later) later.end others failures later.part)
-      ∙ ap (λ (s : Store). behind (failed_reads_told row.replies + later.missed) (row.commands ++ later.done) (taking caller moment (session_over s later.lists later.state) later.end others failures later.part)) at
-  on-by each false false goes = absurd cc
-
-  part-by : (count : ℕ) → (going later ≡ true → later.part ≡ suc part + count) → (failed enough : Bool) → going (by_tests session end part row failed enough later) ≡ true
-      → (by_tests session end part row failed enough later).part ≡ part + suc count
-  part-by count each true enough goes = absurd cc
-  part-by count each false true goes = let there = each goes in omega arith
-  part-by count each false false goes = absurd cc
-
 module _ (caller : CallSign) (moment : ℕ) where
   -- what comes behind packets after which it goes on is taken from there
   pub taking-on : (session : Session) (end : LinkEnd) (items others : List Item) (failures : List Failure) (part : ℕ)
@@ -179,9 +139,8 @@ module _ (caller : CallSign) (moment : ℕ) where
   taking-on session end [] others failures part goes = behind-none (taking caller moment session end others failures part)
   taking-on session end (item ∷ items) others failures part goes =
       let row : Row = row_in caller moment session item failures part in
-      on-by caller moment failures session end part row others (later_of caller moment session end items failures part row) (later_of caller moment session end (items ++ others) failures part row)
-      (taking-on (behind_row session row) (after_push end (texts row.replies)) items others failures (suc part))
-      (write_fails failures part) (fits end (texts row.replies)) goes
+      let each = taking-on (behind_row session row) (after_push end (texts row.replies)) items others failures (suc part) in
+      grind (arith, common_steps, after_all-append, behind-then)
 
   -- each of the packets is a part
   pub taking-part : (session : Session) (end : LinkEnd) (items : List Item) (failures : List Failure) (part : ℕ)
@@ -189,9 +148,8 @@ module _ (caller : CallSign) (moment : ℕ) where
   taking-part session end [] failures part goes = omega arith
   taking-part session end (item ∷ items) failures part goes =
       let row : Row = row_in caller moment session item failures part in
-      part-by caller moment failures session end part row items (later_of caller moment session end items failures part row) (later_of caller moment session end items failures part row)
-      (length items) (taking-part (behind_row session row) (after_push end (texts row.replies)) items failures (suc part))
-      (write_fails failures part) (fits end (texts row.replies)) goes
+      let each = taking-part (behind_row session row) (after_push end (texts row.replies)) items failures (suc part) in
+      grind (arith, common_steps)
 
 -- ---- what is done is a front of what is done where no write fails
 
@@ -221,8 +179,7 @@ module _ (session : Session) (end : LinkEnd) (part : ℕ) (row : Row) (some all 
   begins-by : (failed enough : Bool) → Begins (by_tests session end part row failed enough some) (by_tests session end part row false enough all)
   begins-by true true = (all.done, refl)
   begins-by true false = front-same row.commands
-  begins-by false true =
-      subst (λ (front : List Command). IsFront front (row.commands ++ all.done)) (sym (append_assoc row.commands some.done some.cut)) (front-then row.commands (begun some) all.done each)
+  begins-by false true = grind (arith, common_steps, front-then)
   begins-by false false = ([], sym (append-nil row.commands) ∙ sym (append-nil (row.commands ++ [])))
 
 -- the same reads fail at each part, and of the second no write
@@ -234,16 +191,10 @@ module _ (caller : CallSign) (moment : ℕ) where
       → Begins (taking caller moment session end items some part) (taking caller moment session end items all part)
   taking-begins session end [] some all part are = ([], refl)
   taking-begins session end (item ∷ items) some all part are =
-      let row : Bool → Row = λ reads. session_row caller moment session.store session.lists session.state item reads in
-      let of_all : Row = row (read_fails all part) in
-      let whole : Bool → Bool → Type 0 =
-      λ reads writes. Begins (taking_row end session.state session.lists part (write_fails some part) (later_of caller moment session end items some part (row reads)) (row reads))
-      (taking_row end session.state session.lists part writes (later_of caller moment session end items all part of_all) of_all) in
-      subst (λ (b : Bool). whole b (write_fails all part)) (sym (are part).0)
-      (subst (λ (b : Bool). whole (read_fails all part) b) (sym (are part).1)
-      (begins-by session end part of_all (later_of caller moment session end items some part of_all) (later_of caller moment session end items all part of_all)
-      (taking-begins (behind_row session of_all) (after_push end (texts of_all.replies)) items some all (suc part) are)
-      (write_fails some part) (fits end (texts of_all.replies))))
+      let row : Row = row_in caller moment session item all part in
+      rw ((are part).0, (are part).1)
+      (begins-by session end part row _ _ (taking-begins (behind_row session row) (after_push end (texts row.replies)) items some all (suc part) are)
+      (write_fails some part) (fits end (texts row.replies)))
 
 -- ---- the row of one packet among others
 
@@ -254,17 +205,4 @@ module _ (session : Session) (end : LinkEnd) (part : ℕ) (row : Row) (later : P
   row-by false false none = front-same row.commands
 
 pub taking-law : TakingLaw
-taking-law caller moment session end items item more failures goes not_over none =
-    let before : Progress = taking caller moment session end items failures 0 in
-    let now : Session = on_from session.store before in
-    let on : going before ≡ true = rw (not_over, goes) refl in
-    let all : taking caller moment session end (items ++ item ∷ more) failures 0 ≡ goes_from caller moment failures session.store before (item ∷ more) =
-    taking-on caller moment session end items (item ∷ more) failures 0 on in
-    let at : before.part ≡ length items = (let there = taking-part caller moment session end items failures 0 on in omega arith) in
-    let row : Row = row_in caller moment now item failures (length items) in
-    let P : ℕ → Type 0 = λ n. IsFront row.commands (taking caller moment now before.end (item ∷ more) failures n).done in
-    let one : P before.part =
-    subst P (sym at)
-    (row-by now before.end (length items) row (later_of caller moment now before.end more failures (length items) row)
-    (write_fails failures (length items)) (fits before.end (texts row.replies)) none) in
-    record { others = one.0; done_is = ap (λ (p : Progress). p.done) all ∙ ap (λ (commands : List Command). before.done ++ commands) one.1 }
+taking-law caller moment session end items item more failures goes not_over none = search (rules, taking-on, taking-part, row-by)

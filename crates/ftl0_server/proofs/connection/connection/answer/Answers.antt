@@ -1,9 +1,7 @@
 -- A packet that is taken is answered by its replies, and one that stops the server by code 3, or not at all.
-use Rattle.std.proofs.Common.{Ok, Err, refl, sym}
-use Rattle.ftl0_packets.specs.Values.{item_of}
+use Rattle.std.proofs.lemmas.Grind.{common_steps}
+use Rattle.std.proofs.Common.{arith, Ok, Err, refl, sym}
 use Rattle.disk_model.specs.declared.halt.Halt.TheVariants as stop
-use Rattle.ftl0_session.specs.SessionState.{caller_of, working_on}
-use Rattle.ftl0_session.specs.Taking.{working}
 use Rattle.ftl0_server.proofs.connection.AnswerLemmas.{said-done, said-fault, said-none, taken-puts}
 use Rattle.packet_link.proofs.Fronts.{stations-same}
 use Rattle.ftl0_server.proofs.connection.connection.answer.Goals as goal
@@ -12,16 +10,13 @@ use Rattle.ftl0_server.specs.Connection.ConnectionState.{with_nothing_left}
 pub returns-in-Ok-clause-takes : goal.returns-in-Ok-clause-takes
 returns-in-Ok-clause-takes g c w end first stands =
     rw (sym c.packet.ensures)
-    (said-done g.D.Disk g.met.D.Disk.lasts_on w end c.args.moment c.args.session.now (with_nothing_left c.reply.new.link.link c.take.new.self) (working_on c.args.store.now c.args.lists.now c.args.disk.now)
-    (working_on c.take.new.store c.take.new.lists c.take.new.disk) (item_of c.packet.result) first c.requires.may.may.healthy c.requires.may.may.stands_on c.reply.result c.as_slice.result.now c.take.new.replies.items c.as_slice.ensures.value
+    (said-done g.D.Disk g.met.D.Disk.lasts_on w end _ _ (with_nothing_left c.reply.new.link.link c.take.new.self) _ _ _ first c.requires.may.may.healthy c.requires.may.may.stands_on _ _ _ c.as_slice.ensures.value
     (c.reply.ensures.over w end stands) (c.reply.ensures.queued w end stands) c.in-Ok.ensures.takes)
 
 pub returns-in-Ok-clause-fit : goal.returns-in-Ok-clause-fit
 returns-in-Ok-clause-fit g c =
     record {
-      puts =
-          taken-puts g.D.Disk g.met.D.Disk.lasts_on (caller_of c.args.session.now) c.args.moment (item_of c.packet.result) (working c.args.session.now c.args.store.now c.args.lists.now)
-          (working c.take.new.self c.take.new.store c.take.new.lists) c.args.disk.now c.take.new.disk c.take.new.replies.items (Ok tt) c.in-Ok.ensures.takes;
+      puts = taken-puts g.D.Disk g.met.D.Disk.lasts_on _ _ _ _ _ _ _ _ _ c.in-Ok.ensures.takes;
       kept = c.in-Ok.ensures.kept;
       others = c.in-Ok.ensures.others;
       healthy = c.in-Ok.ensures.healthy;
@@ -34,27 +29,17 @@ returns-in-Ok-clause-fit g c =
 pub returns-in-Err-Disk-clause-takes : goal.returns-in-Err-Disk-clause-takes
 returns-in-Err-Disk-clause-takes g c w end first stands =
     rw (sym c.packet.ensures)
-    (said-fault g.D.Disk g.met.D.Disk.lasts_on w end c.args.moment c.args.session.now (with_nothing_left c.reply-in-Err-Disk.new.link.link c.take.new.self) (working_on c.args.store.now c.args.lists.now c.args.disk.now)
-    (working_on c.take.new.store c.take.new.lists c.take.new.disk) (item_of c.packet.result) first c.requires.may.may.healthy c.requires.may.may.stands_on c.as_slice-in-Err-Disk.result.now c.take.new.replies.items
+    (said-fault g.D.Disk g.met.D.Disk.lasts_on w end _ _ (with_nothing_left c.reply-in-Err-Disk.new.link.link c.take.new.self) _ _ _ first c.requires.may.may.healthy c.requires.may.may.stands_on _ _
     c.as_slice-in-Err-Disk.ensures.value (c.reply-in-Err-Disk.ensures.queued w end stands) (rw c.in-Err-Disk.field-0-is at c.in-Err-Disk.ensures.takes))
 
 pub returns-in-Err-Disk-clause-fit : goal.returns-in-Err-Disk-clause-fit
 returns-in-Err-Disk-clause-fit g c =
     record {
-      puts =
-          taken-puts g.D.Disk g.met.D.Disk.lasts_on (caller_of c.args.session.now) c.args.moment (item_of c.packet.result) (working c.args.session.now c.args.store.now c.args.lists.now)
-          (working c.take.new.self c.take.new.store c.take.new.lists) c.args.disk.now c.take.new.disk c.take.new.replies.items (Err stop.Disk) (rw c.in-Err-Disk.field-0-is at c.in-Err-Disk.ensures.takes);
+      puts = taken-puts g.D.Disk g.met.D.Disk.lasts_on _ _ _ _ _ _ _ _ _ (rw c.in-Err-Disk.field-0-is at c.in-Err-Disk.ensures.takes);
       kept = c.in-Err-Disk.ensures.kept;
       others = c.in-Err-Disk.ensures.others;
       healthy = λ fine. absurd (fine refl);
-      fit =
-          record {
-            stands_on = c.in-Err-Disk.ensures.stands_on;
-            held = c.in-Err-Disk.ensures.held;
-            only = c.in-Err-Disk.ensures.only;
-            due = c.in-Err-Disk.ensures.due;
-            complete = c.in-Err-Disk.ensures.complete;
-          };
+      fit = grind (arith, common_steps);
       up = λ stays. absurd cc;
       caller = c.in-Err-Disk.ensures.caller;
       stations = c.reply-in-Err-Disk.ensures.keeps.stations;
@@ -63,28 +48,8 @@ returns-in-Err-Disk-clause-fit g c =
 pub returns-in-Err-OutOfMemory-clause-takes : goal.returns-in-Err-OutOfMemory-clause-takes
 returns-in-Err-OutOfMemory-clause-takes g c w end first stands =
     rw (sym c.packet.ensures)
-    (said-none g.D.Disk g.met.D.Disk.lasts_on w end c.args.moment c.args.session.now (with_nothing_left c.args.link.now.link c.take.new.self) (working_on c.args.store.now c.args.lists.now c.args.disk.now)
-    (working_on c.take.new.store c.take.new.lists c.take.new.disk) (item_of c.packet.result) first c.requires.may.may.healthy c.requires.may.may.stands_on c.take.new.replies.items (rw c.in-Err-OutOfMemory.field-0-is at c.in-Err-OutOfMemory.ensures.takes))
+    (said-none g.D.Disk g.met.D.Disk.lasts_on w end _ _ (with_nothing_left c.args.link.now.link c.take.new.self) _ _ _ first c.requires.may.may.healthy c.requires.may.may.stands_on _
+    (rw c.in-Err-OutOfMemory.field-0-is at c.in-Err-OutOfMemory.ensures.takes))
 
 pub returns-in-Err-OutOfMemory-clause-fit : goal.returns-in-Err-OutOfMemory-clause-fit
-returns-in-Err-OutOfMemory-clause-fit g c =
-    record {
-      puts =
-          taken-puts g.D.Disk g.met.D.Disk.lasts_on (caller_of c.args.session.now) c.args.moment (item_of c.packet.result) (working c.args.session.now c.args.store.now c.args.lists.now)
-          (working c.take.new.self c.take.new.store c.take.new.lists) c.args.disk.now c.take.new.disk c.take.new.replies.items (Err stop.OutOfMemory)
-          (rw c.in-Err-OutOfMemory.field-0-is at c.in-Err-OutOfMemory.ensures.takes);
-      kept = c.in-Err-OutOfMemory.ensures.kept;
-      others = c.in-Err-OutOfMemory.ensures.others;
-      healthy = rw c.in-Err-OutOfMemory.field-0-is at c.in-Err-OutOfMemory.ensures.healthy;
-      fit =
-          record {
-            stands_on = c.in-Err-OutOfMemory.ensures.stands_on;
-            held = c.in-Err-OutOfMemory.ensures.held;
-            only = c.in-Err-OutOfMemory.ensures.only;
-            due = c.in-Err-OutOfMemory.ensures.due;
-            complete = c.in-Err-OutOfMemory.ensures.complete;
-          };
-      up = λ stays. c.requires.may.up;
-      caller = c.in-Err-OutOfMemory.ensures.caller;
-      stations = stations-same c.args.link.now.link;
-    }
+returns-in-Err-OutOfMemory-clause-fit g c = grind (arith, common_steps, taken-puts, stations-same)

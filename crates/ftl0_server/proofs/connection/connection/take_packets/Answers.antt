@@ -1,16 +1,14 @@
 -- A packet that is found is answered, and the loop stops where that stops.
-use Rattle.std.proofs.Common.{◌≡◌, ◌++◌, true, false, sym}
+use Rattle.std.proofs.lemmas.Grind.{common_steps}
+use Rattle.std.proofs.Common.{arith, ◌≡◌, ◌++◌, true, false, sym}
 use Rattle.ftl0_packets.specs.Reading.{read_item}
 use Rattle.packet_link.specs.PacketLink.{octets_in}
-use Rattle.ftl0_session.specs.SessionState.{working_on}
 use Rattle.ftl0_server.specs.Connection.Feeding.{carrying}
 use Rattle.ftl0_server.proofs.connection.FeedLemmas.{fit-all, taking-next, taking-start, taking-stops}
 use Rattle.ftl0_server.proofs.connection.connection.take_packets.Goals as goal
 
 pub loop-left-init : goal.loop-left-init
-loop-left-init g c =
-    taking-start g.D.Disk g.met.D.Disk.lasts_on c.args.moment (working_on c.args.store.now c.args.lists.now c.args.disk.now)
-    (carrying c.args.link.now.link (octets_in c.args.link.now ++ c.args.octets.now) c.args.session.now) (g.met.D.Disk.lasts_same c.args.disk.now) c.requires
+loop-left-init g c = grind (arith, common_steps, taking-start)
 
 pub returns-then-not-goes_on-clause-feeds : goal.returns-then-not-goes_on-clause-feeds
 returns-then-not-goes_on-clause-feeds g c =

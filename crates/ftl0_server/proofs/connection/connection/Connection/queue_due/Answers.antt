@@ -1,16 +1,13 @@
 -- What is due is queued, packet by packet, up to where nothing is, or fewer octets are free.
-use Rattle.std.proofs.Common.{ap, ◌∙◌, sym}
+use Rattle.std.proofs.lemmas.Grind.{common_steps}
+use Rattle.std.proofs.Common.{arith, ap, ◌∙◌, sym}
 use Rattle.file_store.specs.State.{StoreState}
 use Rattle.ftl0_server.proofs.connection.DueLemmas.{keeps-then, queues-none, queues-then}
 use Rattle.ftl0_server.proofs.connection.FeedLemmas.{keeps-none}
 use Rattle.ftl0_server.proofs.connection.connection.Connection.queue_due.Goals as goal
 
 pub loop-init : goal.loop-init
-loop-init g c =
-    record {
-      rest = λ disk_n new queues. queues;
-      keeps = keeps-none g.D.Disk c.args.store.now c.args.disk.now c.args.self.now (g.met.D.Disk.lasts_same c.args.disk.now) c.requires.stands_on c.requires.due c.requires.up;
-    }
+loop-init g c = grind (arith, common_steps, keeps-none)
 
 pub loop-preserved : goal.loop-preserved
 loop-preserved g c =
@@ -18,11 +15,8 @@ loop-preserved g c =
     record {
       rest = λ disk_n new queues.
           c.loop.invariant.rest disk_n new
-          (queues-then g.D.Disk g.met.D.Disk.lasts_same g.met.D.Disk.lasts_on c.args.store.now c.loop.disk c.queue_next.new.disk disk_n c.loop.self c.queue_next.new.self new
-          (rw keeps.same at c.loop-test.ensures.next) queues);
-      keeps =
-          keeps-then g.D.Disk g.met.D.Disk.lasts_same g.met.D.Disk.lasts_on c.args.store.now c.loop.store c.queue_next.new.store c.args.disk.now c.loop.disk c.queue_next.new.disk c.args.self.now c.loop.self
-          c.queue_next.new.self keeps c.queue_next.ensures.keeps;
+          (queues-then g.D.Disk g.met.D.Disk.lasts_same g.met.D.Disk.lasts_on _ _ c.queue_next.new.disk _ c.loop.self c.queue_next.new.self new (rw keeps.same at c.loop-test.ensures.next) queues);
+      keeps = keeps-then g.D.Disk g.met.D.Disk.lasts_same g.met.D.Disk.lasts_on _ _ _ _ _ _ c.args.self.now c.loop.self c.queue_next.new.self keeps c.queue_next.ensures.keeps;
     }
 
 pub returns-clause-queues : goal.returns-clause-queues
@@ -30,6 +24,5 @@ returns-clause-queues g c =
     let keeps = c.loop.invariant.keeps in
     let next = c.loop-test.ensures.next in
     let rest =
-    queues-none g.D.Disk g.met.D.Disk.lasts_same g.met.D.Disk.lasts_on c.loop.store c.loop.disk c.queue_next.new.disk c.loop.self c.queue_next.new.self
-    (ap (λ (s : StoreState). s.journal.failed) keeps.same ∙ c.requires.healthy) (rw (sym keeps.same) at keeps.stands_on) next.0 next.1 next.2 next.3 in
+    queues-none g.D.Disk g.met.D.Disk.lasts_same g.met.D.Disk.lasts_on _ _ c.queue_next.new.disk c.loop.self c.queue_next.new.self (ap (λ (s : StoreState). s.journal.failed) keeps.same ∙ c.requires.healthy) (rw (sym keeps.same) at keeps.stands_on) next.0 next.1 next.2 next.3 in
     c.loop.invariant.rest c.queue_next.new.disk c.queue_next.new.self (rw keeps.same at rest)

@@ -1,13 +1,12 @@
 -- What is due was queued, or it stands as it stood.
-use Rattle.std.proofs.Common.{◌≡◌, inl, ◌≤◌, ℕ, refl, ap, sym, ◌∙◌, subst, arith}
+use Rattle.std.proofs.lemmas.Grind.{common_steps}
+use Rattle.std.proofs.Common.{◌≡◌, ◌≤◌, ℕ, ap, sym, ◌∙◌, subst, arith}
 use Rattle.ax25_link.specs.Kept.{Kept}
 use Rattle.ax25_link.specs.Queue.{room_of}
 use Rattle.ftl0_packets.specs.Layout.{packet_text}
-use Rattle.ftl0_packets.specs.Reading.{under_way}
 use Rattle.file_store.specs.State.{StoreState}
 use Rattle.ftl0_session.specs.SessionState.{state_in}
 use Rattle.ftl0_session.proofs.WorkingLemmas.{due-among, due-none}
-use Rattle.ftl0_server.specs.Connection.ConnectionState.{ConnectionState}
 use Rattle.ftl0_server.specs.Connection.Feeding.{AreFree}
 use Rattle.ftl0_server.specs.Connection.Taking.{enough_free}
 use Rattle.ftl0_server.proofs.connection.DueLemmas.{does-none}
@@ -16,10 +15,7 @@ use Rattle.packet_link.proofs.Queuing.{packet-some}
 use Rattle.ftl0_server.proofs.connection.connection.Connection.queue_next.Goals as goal
 
 pub returns-then-not-fill-clause-next : goal.returns-then-not-fill-clause-next
-returns-then-not-fill-clause-next g c =
-    let a = c.self.inside in
-    let none = due-none g.D.Disk c.args.store.now _ _ _ _ _ _ c.if-not-fill.ensures.puts in
-    rw (sym c.self.view_is) (refl, ap (λ (s : StoreState). state_in s c.fill.new.self) (sym c.fill.ensures.store) ∙ none.2, none.1, inl none.0)
+returns-then-not-fill-clause-next g c = grind (arith, common_steps, due-none)
 
 pub returns-clause-next : goal.returns-clause-next
 returns-clause-next g c =
@@ -40,32 +36,7 @@ returns-clause-next g c =
     })
 
 pub returns-then-not-fill-clause-keeps : goal.returns-then-not-fill-clause-keeps
-returns-then-not-fill-clause-keeps g c =
-    let a = c.self.inside in
-    let none = due-none g.D.Disk c.args.store.now _ _ _ _ _ _ c.if-not-fill.ensures.puts in
-    let still = does-none g.D.Disk g.met.D.Disk.lasts_same g.met.D.Disk.lasts_on c.args.store.now c.args.disk.now c.requires.healthy c.requires.stands_on in
-    rw (sym c.self.view_is) (record {
-      same = c.fill.ensures.store;
-      puts = rw none.1 still.puts;
-      stands_on = rw c.fill.ensures.store at c.fill.ensures.stands_on;
-      due = rw c.fill.ensures.store at c.fill.ensures.due;
-      uploads = c.fill.ensures.uploads;
-      octets = refl;
-      up = ap (λ (s : ConnectionState). s.link.state) c.self.view_is ∙ c.requires.up;
-      stations = stations-same a.link.link;
-    })
+returns-then-not-fill-clause-keeps g c = grind (arith, common_steps, due-none, does-none, stations-same)
 
 pub returns-clause-keeps : goal.returns-clause-keeps
-returns-clause-keeps g c =
-    let a = c.self.inside in
-    let sent = due-among g.D.Disk c.args.store.now _ _ _ _ _ _ c.if-not-fill.ensures.puts c.requires.healthy c.requires.stands_on in
-    rw (sym c.self.view_is) (record {
-      same = c.fill.ensures.store;
-      puts = sent.does.puts;
-      stands_on = rw c.fill.ensures.store at c.fill.ensures.stands_on;
-      due = rw c.fill.ensures.store at c.fill.ensures.due;
-      uploads = c.fill.ensures.uploads;
-      octets = ap under_way c.push.ensures.keeps.reader;
-      up = c.push.ensures.up;
-      stations = c.push.ensures.keeps.stations;
-    })
+returns-clause-keeps g c = grind (arith, common_steps, due-among)

@@ -1,16 +1,15 @@
 -- What the link told decides what becomes of the connection.
-use Rattle.std.proofs.Common.{◌≡◌, [], Ok, ap, sym, ◌∙◌, refl, inl, inr}
+use Rattle.std.proofs.lemmas.Grind.{common_steps}
+use Rattle.std.proofs.Common.{arith, [], ap, sym, ◌∙◌, refl}
 use Rattle.ax25_frames.specs.Values.{value_of}
-use Rattle.ax25_link.specs.declared.state.Heard.TheVariants.{Nothing, Opened, Reopened, Bytes, Closed}
+use Rattle.ax25_link.specs.declared.state.Heard.TheVariants.{Nothing, Reopened, Bytes, Closed}
 use Rattle.ax25_link.specs.Kept.{Kept}
 use Rattle.ax25_link.specs.Rows.{after_frame}
 use Rattle.ftl0_packets.specs.Reading.{under_way}
 use Rattle.ftl0_session.specs.Lists.Lists.{has_left}
-use Rattle.ftl0_session.specs.SessionState.{caller_of, working_on}
+use Rattle.ftl0_session.specs.SessionState.{caller_of}
 use Rattle.ftl0_session.specs.Table.{command}
-use Rattle.ftl0_server.specs.declared.connection.fate.Fate.TheVariants.{Stays, Ends}
 use Rattle.ftl0_server.specs.Connection.Connected.{greeted}
-use Rattle.ftl0_server.specs.Connection.ConnectionState.{ConnectionState}
 use Rattle.ftl0_server.specs.Connection.Hearing.{with_end}
 use Rattle.ftl0_server.specs.Connection.Inside.{connection_state}
 use Rattle.ftl0_server.proofs.connection.FeedLemmas.{fit-anew, fit-heard}
@@ -22,37 +21,23 @@ use Rattle.ftl0_server.proofs.connection.connection.Connection.take_frame.Goals 
 
 pub returns-in-Nothing-clause-hears : goal.returns-in-Nothing-clause-hears
 returns-in-Nothing-clause-hears g c =
-    let frame = value_of c.args.frame.now in
-    let on = working_on c.args.store.now c.args.lists.now c.args.disk.now in
-    let new = connection_state (record { link = c.take.new.self; session = c.self.inside.session }) in
     rw (sym c.self.view_is) (λ w d is.
-    parts-told g.D.Disk w c.args.moment frame on on new (Stays, Ok tt) (connection_state c.self.inside) c.take.result c.take.ensures.heard d is
-    (parts-quiet g.D.Disk w c.args.moment frame on on new (Stays, Ok tt) c.take.result d (after_frame w d.end frame) frame.kind.information c.in-Nothing.is
-    (parts-on g.D.Disk g.met.D.Disk.lasts_same w d.rest (after_frame w d.end frame) d.state on c.args.store.now new c.requires.may.healthy c.requires.may.stands_on refl refl
+    parts-told g.D.Disk w _ _ _ _ _ _ _ c.take.result c.take.ensures.heard d is
+    (parts-quiet g.D.Disk w _ (value_of c.args.frame.now) _ _ _ _ c.take.result d _ _ c.in-Nothing.is
+    (parts-on g.D.Disk g.met.D.Disk.lasts_same w d.rest _ d.state _ _ _ c.requires.may.healthy c.requires.may.stands_on refl refl
     (record { link = c.take.ensures.after w d.end is.link; rest = ap under_way c.take.ensures.keeps.reader ∙ is.rest; state = is.state }))))
 
 pub returns-in-Nothing-clause-fit : goal.returns-in-Nothing-clause-fit
-returns-in-Nothing-clause-fit g c =
-    let a = c.self.inside in
-    let up = ap (λ (s : ConnectionState). s.link.state) c.self.view_is ∙ c.requires.up in
-    rw (sym c.self.view_is)
-    (fit-heard g.D.Disk (working_on c.args.store.now c.args.lists.now c.args.disk.now) a.link.link c.take.new.self.link a.session Stays (g.met.D.Disk.lasts_same c.args.disk.now)
-    (rw (sym c.self.view_is) at c.requires.may) (λ stays. c.take.ensures.up up (λ reason closed. elim c.in-Nothing.is [
-      | inl is ↦ absurd (let same : Nothing ≡ Closed reason = sym is ∙ closed in cc)
-      | inr is ↦ absurd (let same : Opened ≡ Closed reason = sym is ∙ closed in cc)
-    ])) c.take.ensures.keeps.stations)
+returns-in-Nothing-clause-fit g c = grind (arith, common_steps, fit-heard)
 
 pub returns-in-Reopened-clause-hears : goal.returns-in-Reopened-clause-hears
 returns-in-Reopened-clause-hears g c =
     let a = c.self.inside in
-    let frame = value_of c.args.frame.now in
-    let on = working_on c.args.store.now c.args.lists.now c.args.disk.now in
     let parked = parks-same c.args.store.now c.begin_anew.new.store a.session.uploads.phase c.begin_anew.ensures.parks in
     rw (sym c.self.view_is) (λ w d is.
-    let end = after_frame w d.end frame in
-    parts-told g.D.Disk w c.args.moment frame on (working_on c.begin_anew.new.store c.args.lists.now c.args.disk.now) c.begin_anew.new.self (Stays, Ok tt) (connection_state a) Reopened
-    c.in-Reopened.ensures.heard d is
-    (parts-on g.D.Disk g.met.D.Disk.lasts_same w [] (greeted end c.args.moment (has_left c.args.lists.now d.end.peer)) command on c.begin_anew.new.store c.begin_anew.new.self
+    let end = after_frame w d.end (value_of c.args.frame.now) in
+    parts-told g.D.Disk w _ _ _ _ _ _ _ Reopened c.in-Reopened.ensures.heard d is
+    (parts-on g.D.Disk g.met.D.Disk.lasts_same w [] (greeted end c.args.moment (has_left c.args.lists.now d.end.peer)) command _ _ _
     c.requires.may.healthy c.requires.may.stands_on parked.0 parked.1
     (anew-at w c.begin_anew.new.store c.begin_anew.new.self end c.args.moment c.args.lists.now (caller_of a.session) d.end.peer
     (sym c.self.invariant.peer ∙ ap (λ (k : Kept). k.peer) is.link.kept) (c.begin_anew.ensures.begins w end (c.in-Reopened.ensures.after w d.end is.link)))))
@@ -62,55 +47,31 @@ returns-in-Reopened-clause-fit g c =
     let a = c.self.inside in
     let parked = parks-same c.args.store.now c.begin_anew.new.store a.session.uploads.phase c.begin_anew.ensures.parks in
     rw (sym c.self.view_is)
-    (fit-anew g.D.Disk (working_on c.args.store.now c.args.lists.now c.args.disk.now) c.begin_anew.new.store a.link.link c.begin_anew.new.self.link a.session c.begin_anew.new.self.session
-    (g.met.D.Disk.lasts_same c.args.disk.now) (rw (sym c.self.view_is) at c.requires.may) parked.0 parked.1 c.begin_anew.ensures.session c.begin_anew.ensures.only c.begin_anew.ensures.others
-    c.begin_anew.ensures.up (stations-then a.link.link c.take.new.self.link c.begin_anew.new.self.link c.take.ensures.keeps.stations c.begin_anew.ensures.stations))
+    (fit-anew g.D.Disk _ _ _ _ _ _ (g.met.D.Disk.lasts_same c.args.disk.now) (rw (sym c.self.view_is) at c.requires.may) parked.0 parked.1 c.begin_anew.ensures.session c.begin_anew.ensures.only
+    c.begin_anew.ensures.others c.begin_anew.ensures.up (stations-then a.link.link c.take.new.self.link c.begin_anew.new.self.link c.take.ensures.keeps.stations c.begin_anew.ensures.stations))
 
 pub returns-in-Bytes-clause-hears : goal.returns-in-Bytes-clause-hears
 returns-in-Bytes-clause-hears g c =
     let a = c.self.inside in
     let frame = value_of c.args.frame.now in
-    let before = working_on c.args.store.now c.args.lists.now c.args.disk.now in
-    let now = working_on c.take_packets.new.store c.take_packets.new.lists c.take_packets.new.disk in
     let mid = connection_state (record { link = c.take.new.self; session = a.session }) in
-    let new = connection_state (record { link = c.take_packets.new.link; session = c.take_packets.new.session }) in
     rw (sym c.self.view_is) (λ w d is.
     let end = after_frame w d.end frame in
     let stands = c.in-Bytes.ensures.after w d.end is.link in
-    parts-told g.D.Disk w c.args.moment frame before now new c.take_packets.result (connection_state a) Bytes c.in-Bytes.ensures.heard d is
-    (parts-bytes g.D.Disk w c.args.moment frame before now new c.take_packets.result d end c.information.result.now frame.kind.information
+    parts-told g.D.Disk w _ _ _ _ _ _ _ Bytes c.in-Bytes.ensures.heard d is
+    (parts-bytes g.D.Disk w _ frame _ _ _ _ d end c.information.result.now frame.kind.information
     (same-peer w a.link.link c.take.new.self.link d.end end is.link stands c.take.ensures.keeps.stations.peer) (c.information.ensures (c.in-Bytes.ensures.bytes refl))
-    (hears-all g.D.Disk g.met.D.Disk.lasts_on c.args.moment mid new c.information.result.now before now c.take_packets.result (c.take.ensures.keeps.stations.peer ∙ c.self.invariant.peer) w (with_end d end)
+    (hears-all g.D.Disk g.met.D.Disk.lasts_on _ mid _ c.information.result.now _ _ _ (c.take.ensures.keeps.stations.peer ∙ c.self.invariant.peer) w (with_end d end)
     (record { link = stands; rest = ap under_way c.in-Bytes.ensures.keeps.reader ∙ is.rest; state = is.state }) c.take_packets.ensures.feeds)))
 
 pub returns-in-Bytes-clause-fit : goal.returns-in-Bytes-clause-fit
-returns-in-Bytes-clause-fit g c =
-    let a = c.self.inside in
-    let fit = c.take_packets.ensures.fit in
-    rw (sym c.self.view_is) (record {
-      puts = fit.puts;
-      kept = fit.kept;
-      others = fit.others;
-      healthy = fit.healthy;
-      fit = fit.fit;
-      up = fit.up;
-      caller = fit.caller;
-      stations = stations-then a.link.link c.take.new.self.link c.take_packets.new.link.link c.take.ensures.keeps.stations fit.stations;
-    })
+returns-in-Bytes-clause-fit g c = grind (arith, common_steps, stations-then)
 
 pub returns-in-Closed-clause-hears : goal.returns-in-Closed-clause-hears
 returns-in-Closed-clause-hears g c =
-    let frame = value_of c.args.frame.now in
-    let on = working_on c.args.store.now c.args.lists.now c.args.disk.now in
-    let new = connection_state (record { link = c.take.new.self; session = c.self.inside.session }) in
     rw (sym c.self.view_is) (λ w d is.
-    parts-told g.D.Disk w c.args.moment frame on on new (Ends, Ok tt) (connection_state c.self.inside) (Closed c.in-Closed._why) c.in-Closed.ensures.heard d is
-    (parts-over g.D.Disk g.met.D.Disk.lasts_same w d.rest (after_frame w d.end frame) d.state on c.args.store.now new c.requires.may.healthy c.requires.may.stands_on refl refl
-    (c.in-Closed.ensures.after w d.end is.link)))
+    parts-told g.D.Disk w _ _ _ _ _ _ _ (Closed c.in-Closed._why) c.in-Closed.ensures.heard d is
+    (parts-over g.D.Disk g.met.D.Disk.lasts_same w d.rest _ d.state _ _ _ c.requires.may.healthy c.requires.may.stands_on refl refl (c.in-Closed.ensures.after w d.end is.link)))
 
 pub returns-in-Closed-clause-fit : goal.returns-in-Closed-clause-fit
-returns-in-Closed-clause-fit g c =
-    let a = c.self.inside in
-    rw (sym c.self.view_is)
-    (fit-heard g.D.Disk (working_on c.args.store.now c.args.lists.now c.args.disk.now) a.link.link c.take.new.self.link a.session Ends (g.met.D.Disk.lasts_same c.args.disk.now)
-    (rw (sym c.self.view_is) at c.requires.may) (λ stays. absurd cc) c.take.ensures.keeps.stations)
+returns-in-Closed-clause-fit g c = grind (arith, common_steps, fit-heard)
