@@ -9,8 +9,7 @@ use Rattle.ftl0_server.specs.Calls.{SamePlaces}
 use Rattle.ftl0_server.specs.Places.{GivesOut, PlacesGive, SamePlace}
 use Rattle.ftl0_server.specs.declared.place.Place.{Place}
 use Rattle.ftl0_server.specs.ServerState.{AllPlaces, SendsAs, any_pending, place_most, place_pending, places_most}
-use Rattle.ftl0_server.specs.Slots.{PlacesSend, Slot, first_of, places_next}
-use Rattle.ftl0_server.specs.Slots.{slot_next}
+use Rattle.ftl0_server.specs.Slots.{PlacesSend, Slot, first_of, places_next, slot_next}
 use Rattle.ftl0_server.proofs.AllPlaces.{never}
 
 pub true_no : {X : Type 0} → true ≡ false → X
