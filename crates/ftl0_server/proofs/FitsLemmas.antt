@@ -25,15 +25,13 @@ use Rattle.ftl0_session.specs.Run.{session_over}
 use Rattle.ftl0_server.specs.Connection.Connected.{Connected}
 use Rattle.ftl0_server.specs.Connection.Hearing.{parts_as, ticking, with_end}
 use Rattle.ftl0_server.specs.Connection.Laws.{QueuedLaw}
-use Rattle.ftl0_server.specs.Connection.Taking.{Progress}
-use Rattle.ftl0_server.specs.Connection.Taking.{queued, queuing, taking}
+use Rattle.ftl0_server.specs.Connection.Taking.{Progress, queued, queuing, taking}
 use Rattle.ftl0_server.specs.Laws.{AreQueued, SlotFits, SlotsFit, SomeStepLaw}
 use Rattle.ftl0_server.specs.Server.{IsSilent, Refused, Server, ServerHappened, ServerSends, hearing_at}
 use Rattle.ftl0_server.specs.Server.{hearing_by, hearing_stranger, sends_by, settled}
 use Rattle.ftl0_server.specs.ServerStep.{Empties, happening, stepped}
-use Rattle.ftl0_server.specs.Slots.{PlacesSend, Slot, SlotSends, all_freed, connected, first_of, free}
-use Rattle.ftl0_server.specs.Slots.{freed, leaving, left_by}
-use Rattle.ftl0_server.specs.Slots.{places_next, slot_next, slot_sends, slot_ticking}
+use Rattle.ftl0_server.specs.Slots.{PlacesSend, Slot, SlotSends, all_freed, connected, first_of, free, freed, leaving}
+use Rattle.ftl0_server.specs.Slots.{left_by, places_next, slot_next, slot_sends, slot_ticking}
 use Rattle.ftl0_server.proofs.AllPlaces.{never}
 use Rattle.ftl0_server.proofs.connection.QueuingLemmas.{queuing-holds}
 use Rattle.ftl0_server.proofs.EmptiesLemmas.{by_stray, emptied, server_left}

@@ -80,8 +80,7 @@ may-hear me k store places i d frame found settled none is_for numbers =
     let seated = settled.seated i c.0 at in
     let only = own-only me k store places i c.0 at settled in
     let quiet = quiet-any places i c.0 at none in
-    let may : MayHear store frame (Talking c.0) = grind (arith, common_steps) in
-    subst (λ (p : Place). MayHear store frame p) (sym c.1) may
+    let may : MayHear store frame (Talking c.0) = grind (arith, common_steps) in rw c.1 may
 
 -- ---- places and slots
 

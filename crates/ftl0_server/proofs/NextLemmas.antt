@@ -4,23 +4,16 @@ use Rattle.std.proofs.Common.{◌≡◌, ℕ, zero, suc, ◌<◌, List, [], ◌�
 use Rattle.std.proofs.Common.{Option, None, Some, refl, sym, subst, arith}
 use Rattle.std.specs.Prelude.{slice_get, ◌||◌}
 use Rattle.std.proofs.lemmas.Option.{same_Some}
-use Rattle.ax25_link.specs.Ends.{LinkEnd}
-use Rattle.ax25_link.specs.Kept.{is_pending, kept_of}
-use Rattle.ax25_link.specs.Sending.{next_sending}
 use Rattle.ax25_link.specs.Window.{Window}
 use Rattle.ftl0_server.specs.Calls.{SamePlaces}
 use Rattle.ftl0_server.specs.Places.{GivesOut, PlacesGive, SamePlace}
 use Rattle.ftl0_server.specs.declared.place.Place.{Place}
 use Rattle.ftl0_server.specs.ServerState.{AllPlaces, SendsAs, any_pending, place_most, place_pending, places_most}
-use Rattle.ftl0_server.specs.Slots.{PlacesSend, Slot, first_of, places_next}
-use Rattle.ftl0_server.specs.Slots.{slot_next}
+use Rattle.ftl0_server.specs.Slots.{PlacesSend, Slot, first_of, places_next, slot_next}
 use Rattle.ftl0_server.proofs.AllPlaces.{never}
 
 pub true_no : {X : Type 0} → true ≡ false → X
 true_no same = absurd (let x : ⊥ = cc in x)
-
-quiet-end : (w : Window) (end : LinkEnd) → is_pending (kept_of w end) ≡ false → next_sending w end ≡ None
-quiet-end w end none = grind (arith, common_steps)
 
 pub quiet-slot : (w : Window) (place : Place) (slot : Slot) → SendsAs w place slot → place_pending place ≡ false → slot_next w slot ≡ None
 quiet-slot w = grind (arith, common_steps)

@@ -1,8 +1,7 @@
 -- Between the events of a server all that is due was queued, as far as there was room.
 use Rattle.std.proofs.lemmas.Grind.{common_steps}
-use Rattle.std.proofs.Common.{◌≡◌, ℕ, zero, suc, ◌-◌, List, [], ◌∷◌, ◌++◌, length, set, drop, map, Bool}
-use Rattle.std.proofs.Common.{true, false, Option, None, Some, refl, ap, subst}
-use Rattle.std.proofs.Common.{take-append-drop, arith}
+use Rattle.std.proofs.Common.{◌≡◌, ℕ, zero, suc, ◌-◌, List, [], ◌∷◌, ◌++◌, length, set, drop, map, Bool, true, false}
+use Rattle.std.proofs.Common.{Option, None, Some, refl, ap, subst, take-append-drop, arith}
 use Rattle.std.specs.Prelude.{if◌then◌else◌}
 use Rattle.std.specs.Option.{option_map}
 use Rattle.std.proofs.lemmas.List.{drop-append-le}

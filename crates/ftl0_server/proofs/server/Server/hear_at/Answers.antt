@@ -1,5 +1,5 @@
 -- The frame is heard at the place of its sender's connection.
-use Rattle.std.proofs.Common.{set, refl, ap, subst, sym, ◌∙◌}
+use Rattle.std.proofs.Common.{set, refl, ap, subst, sym, ◌∙◌, rules, arith}
 use Rattle.std.proofs.lemmas.Option.{slice_get-get_or}
 use Rattle.ax25_frames.specs.Values.{value_of}
 use Rattle.ax25_link.specs.Kept.{is_there}
@@ -11,7 +11,6 @@ use Rattle.ftl0_server.specs.Slots.{connected}
 use Rattle.ftl0_server.proofs.HearLemmas.{found-at, found-talks, found-within, may-hear, server-hears}
 use Rattle.ftl0_server.proofs.NextLemmas.{none_first}
 use Rattle.ftl0_server.proofs.SettledLemmas.{settled-works}
-use Rattle.std.proofs.Common.{rules, arith}
 use Rattle.ftl0_server.proofs.server.Server.hear_at.Goals as goal
 
 pub hear-requires-clause-may : goal.hear-requires-clause-may
