@@ -14,7 +14,7 @@ use Rattle.ftl0_packets.specs.Items.{texts}
 use Rattle.ftl0_packets.specs.Layout.{Item}
 use Rattle.file_store.specs.State.{StandsOn}
 use Rattle.file_store.specs.Working.{DoesAmongReads, PutsAmongReads}
-use Rattle.file_store.proofs.Offered.{among-at, among-same, puts-among, puts-among-reads, puts-among-then}
+use Rattle.file_store.proofs.Offered.{among-same, puts-among, puts-among-reads, puts-among-then}
 use Rattle.ftl0_session.specs.Uploads.Failures.{Failure, failed_reads, failed_write, read_fails, write_fails}
 use Rattle.disk_model.specs.declared.halt.Halt.{Halt as Stop}
 use Rattle.disk_model.specs.declared.halt.Halt.TheVariants as stop
@@ -71,7 +71,7 @@ module _ {D : Type 0} (g : Ghosts D) (on : (first second third : D) → g.lasts 
   row-done : (row : Row) (enough : Bool) (fate : Fate) → is_over fate ≡ not enough → StandsFor w new.link (if enough then after_push end (texts row.replies) else after_abandon end)
       → now.lists ≡ row.lists → state_in now.store new.session ≡ row.state → DoesAmongReads g ⊥ (failed_reads_told row.replies) before.store now.store before.disk now.disk row.commands
       → By (by_tests (session_on session before) end first row false enough (resting (after_push end (texts row.replies)) row.state row.lists (suc first))) fate (Ok tt)
-  row-done row enough fate over stands same state does = grind (arith, common_steps, among-at, among-same, add-zero)
+  row-done row enough fate over stands same state does = grind (arith, common_steps, among-same, add-zero)
 
   pub said-done : (fate : Fate) (text replies : List ℕ) → text ≡ replies → is_over fate ≡ not (fits end text) → StandsFor w new.link (replied end text) → Takes (Ok tt) replies → Made (fate, Ok tt)
   said-done fate text replies same over stands takes =
