@@ -82,25 +82,20 @@ module _ {D : Type 0} (g : Ghosts D) (on : (first second third : D) → g.lasts 
         among = All-at (IsAmong first 1) takes.fails first (omega arith, omega arith);
         by =
             subst (λ p. By p fate (Ok tt)) (sym (one-is ([] ++ failed_reads (at_part takes.fails first)) takes.fails false (reads-at [] takes.fails first none-writes) (writes-none (at_part takes.fails first) first)))
-            (row-done row (fits end (texts row.replies)) fate (rw is at over) (rw is at stands) takes.answers.1 takes.answers.2
-            (taken-among g on (caller_of session) moment item (at_work session before).it (at_work new.session now).it before.disk now.disk replies healthy stands_on tt takes));
+            (row-done row _ fate (rw is at over) (rw is at stands) takes.answers.1 takes.answers.2 (taken-among g on _ _ _ _ _ _ _ replies healthy stands_on tt takes));
       }
 
   -- the disk failed, and code 3 is queued, or the link given up
   pub said-fault : (text replies : List ℕ) → text ≡ replies → StandsFor w new.link (replied end text) → Takes (Err stop.Disk) replies → Made (Ends, Err stop.Disk)
   said-fault text replies same stands takes =
-      let at = subst (λ p. By p Ends (Err stop.Disk)) (sym (one-fails takes.fails)) (
-        first,
-        refl,
-        (takes.answers.1, (refl, rw (same ∙ takes.answers.2) at stands)),
-        taken-cut g on (caller_of session) moment item (at_work session before).it (at_work new.session now).it before.disk now.disk replies healthy stands_on takes,
-      ) in
+      let at = subst (λ p. By p Ends (Err stop.Disk)) (sym (one-fails takes.fails))
+      (first, refl, (takes.answers.1, (refl, rw (same ∙ takes.answers.2) at stands)), taken-cut g on _ _ _ _ _ _ _ replies healthy stands_on takes) in
       record { parts = at_part takes.fails first; among = All-at (IsAmong first 1) takes.fails first (omega arith, omega arith); by = (first, at.1, at.2, at.3) }
 
   -- there was no memory for it
   pub said-none : (replies : List ℕ) → Takes (Err stop.OutOfMemory) replies → Made (Stays, Err stop.OutOfMemory)
   said-none replies takes =
-      let none = taken-none g on (caller_of session) moment item (at_work session before).it (at_work new.session now).it before.disk now.disk replies healthy stands_on takes in
+      let none = taken-none g on _ _ _ _ _ _ _ replies healthy stands_on takes in
       let at = subst (λ p. By p Stays (Err stop.OutOfMemory)) (sym (one-fails takes.fails)) (first, refl, refl, rw none.0 none.1) in
       record { parts = at_part takes.fails first; among = All-at (IsAmong first 1) takes.fails first (omega arith, omega arith); by = (first, at.1, at.2, at.3) }
 
