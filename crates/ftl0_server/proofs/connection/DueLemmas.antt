@@ -10,7 +10,6 @@ use Rattle.ax25_link.specs.Ends.{free_octets}
 use Rattle.ax25_link.specs.Kept.{Kept, StandsFor}
 use Rattle.ax25_link.specs.Window.{Window}
 use Rattle.file_store.specs.Command.{after_all}
-use Rattle.file_store.specs.Store.{Store}
 use Rattle.file_store.specs.State.{StandsOn, StoreState, store_in}
 use Rattle.file_store.specs.Working.{DoesAmongReads, one_if}
 use Rattle.file_store.proofs.Offered.{among-same, among-then, does-among, Does-none, puts-among-then}
@@ -135,8 +134,8 @@ module _ {D : Type 0} (g : Ghosts D) (lasts : (disk : D) → g.lasts disk disk) 
         let alike : (part : ℕ) → made.part ≤ part → read_fails all part ≡ read_fails (failed_reads q.parts) part =
         λ part later. (alike-second [] heard.hears.parts q.parts made.part (suc part) none-writes settled.before part later (omega arith)).0 in
         let now_is : whole all ≡ q.now =
-        ap (queued (store_in before.it) all) (settled.later q.parts q.behind) ∙ queued-on (store_in before.it) all made h.1.1.0
-        ∙ ap (λ (s : Store). queuing (free_octets made.end) s all made) stores ∙ queuing-alike (store_in between.store) all (free_octets made.end) (failed_reads q.parts) made alike ∙ sym q.is_now in
+        rw (settled.later q.parts q.behind, queued-on (store_in before.it) all made h.1.1.0, stores, q.is_now)
+        (queuing-alike (store_in between.store) all (free_octets made.end) (failed_reads q.parts) made alike) in
         let rest : KeepsRest made q.now = rw q.is_now (queuing-keeps (store_in between.store) (failed_reads q.parts) (free_octets made.end) made) in
         let does : DoesAmongReads g ⊥ q.now.missed before.it now.store before.disk now.disk q.now.done = grind (arith, among-same, among-then, append-nil) in
         let by =

@@ -124,8 +124,7 @@ module _ {D : Type 0} (g : Ghosts D) (on : (first second third : D) → g.lasts 
         → whole (failed_write part ++ failed_reads (one.parts ++ parts)) ≡ behind made.missed made.done (part_of (failed_write part ++ failed_reads parts))
     same-fault part parts later halts =
         let there = taking-fails (caller_of mid.session) moment (session_on mid.session between) made.end others (failed_write part ++ failed_reads parts) next halts in
-        let is : part ≡ there.0 = same-part part there.0 parts there.2 in
-        same (failed_write part) parts (one-writes part) (λ n low. other-part part n (λ here. (let at : next ≤ there.0 = there.1 in omega (arith, is, here)))) later
+        same (failed_write part) parts (one-writes part) (λ n low. other-part part n (λ here. omega (arith, same-part part there.0 parts there.2, here, there.1))) later
 
     abbrev By : Fate → Result ⊤ Stop → Progress → Type 0
     By fate result p = HearsBy g w (λ failures. progressed [] p) (with_disk before.store before.disk) now (with_nothing_left new.link new.session) fate result
