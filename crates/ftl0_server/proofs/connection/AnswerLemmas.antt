@@ -14,7 +14,7 @@ use Rattle.ftl0_packets.specs.Items.{texts}
 use Rattle.ftl0_packets.specs.Layout.{Item}
 use Rattle.file_store.specs.State.{StandsOn}
 use Rattle.file_store.specs.Working.{DoesAmongReads, PutsAmongReads}
-use Rattle.file_store.proofs.Offered.{among-at, among-same, puts-among, puts-among-reads, puts-among-then}
+use Rattle.file_store.proofs.Offered.{among-same, puts-among, puts-among-reads, puts-among-then}
 use Rattle.ftl0_session.specs.Uploads.Failures.{Failure, failed_reads, failed_write, read_fails, write_fails}
 use Rattle.disk_model.specs.declared.halt.Halt.{Halt as Stop}
 use Rattle.disk_model.specs.declared.halt.Halt.TheVariants as stop
@@ -71,7 +71,7 @@ module _ {D : Type 0} (g : Ghosts D) (on : (first second third : D) → g.lasts 
   row-done : (row : Row) (enough : Bool) (fate : Fate) → is_over fate ≡ not enough → StandsFor w new.link (if enough then after_push end (texts row.replies) else after_abandon end)
       → now.lists ≡ row.lists → state_in now.store new.session ≡ row.state → DoesAmongReads g ⊥ (failed_reads_told row.replies) before.store now.store before.disk now.disk row.commands
       → By (by_tests (session_on session before) end first row false enough (resting (after_push end (texts row.replies)) row.state row.lists (suc first))) fate (Ok tt)
-  row-done row enough fate over stands same state does = grind (arith, common_steps, among-at, among-same, add-zero)
+  row-done row enough fate over stands same state does = grind (arith, common_steps, among-same, add-zero)
 
   pub said-done : (fate : Fate) (text replies : List ℕ) → text ≡ replies → is_over fate ≡ not (fits end text) → StandsFor w new.link (replied end text) → Takes (Ok tt) replies → Made (fate, Ok tt)
   said-done fate text replies same over stands takes =
@@ -82,25 +82,20 @@ module _ {D : Type 0} (g : Ghosts D) (on : (first second third : D) → g.lasts 
         among = All-at (IsAmong first 1) takes.fails first (omega arith, omega arith);
         by =
             subst (λ p. By p fate (Ok tt)) (sym (one-is ([] ++ failed_reads (at_part takes.fails first)) takes.fails false (reads-at [] takes.fails first none-writes) (writes-none (at_part takes.fails first) first)))
-            (row-done row (fits end (texts row.replies)) fate (rw is at over) (rw is at stands) takes.answers.1 takes.answers.2
-            (taken-among g on (caller_of session) moment item (at_work session before).it (at_work new.session now).it before.disk now.disk replies healthy stands_on tt takes));
+            (row-done row _ fate (rw is at over) (rw is at stands) takes.answers.1 takes.answers.2 (taken-among g on _ _ _ _ _ _ _ replies healthy stands_on tt takes));
       }
 
   -- the disk failed, and code 3 is queued, or the link given up
   pub said-fault : (text replies : List ℕ) → text ≡ replies → StandsFor w new.link (replied end text) → Takes (Err stop.Disk) replies → Made (Ends, Err stop.Disk)
   said-fault text replies same stands takes =
-      let at = subst (λ p. By p Ends (Err stop.Disk)) (sym (one-fails takes.fails)) (
-        first,
-        refl,
-        (takes.answers.1, (refl, rw (same ∙ takes.answers.2) at stands)),
-        taken-cut g on (caller_of session) moment item (at_work session before).it (at_work new.session now).it before.disk now.disk replies healthy stands_on takes,
-      ) in
+      let at = subst (λ p. By p Ends (Err stop.Disk)) (sym (one-fails takes.fails))
+      (first, refl, (takes.answers.1, (refl, rw (same ∙ takes.answers.2) at stands)), taken-cut g on _ _ _ _ _ _ _ replies healthy stands_on takes) in
       record { parts = at_part takes.fails first; among = All-at (IsAmong first 1) takes.fails first (omega arith, omega arith); by = (first, at.1, at.2, at.3) }
 
   -- there was no memory for it
   pub said-none : (replies : List ℕ) → Takes (Err stop.OutOfMemory) replies → Made (Stays, Err stop.OutOfMemory)
   said-none replies takes =
-      let none = taken-none g on (caller_of session) moment item (at_work session before).it (at_work new.session now).it before.disk now.disk replies healthy stands_on takes in
+      let none = taken-none g on _ _ _ _ _ _ _ replies healthy stands_on takes in
       let at = subst (λ p. By p Stays (Err stop.OutOfMemory)) (sym (one-fails takes.fails)) (first, refl, refl, rw none.0 none.1) in
       record { parts = at_part takes.fails first; among = All-at (IsAmong first 1) takes.fails first (omega arith, omega arith); by = (first, at.1, at.2, at.3) }
 

@@ -10,10 +10,9 @@ use Rattle.ax25_link.specs.Ends.{free_octets}
 use Rattle.ax25_link.specs.Kept.{Kept, StandsFor}
 use Rattle.ax25_link.specs.Window.{Window}
 use Rattle.file_store.specs.Command.{after_all}
-use Rattle.file_store.specs.Store.{Store}
 use Rattle.file_store.specs.State.{StandsOn, StoreState, store_in}
 use Rattle.file_store.specs.Working.{DoesAmongReads, one_if}
-use Rattle.file_store.proofs.Offered.{among-at, among-same, among-then, does-among, Does-none, puts-among-then}
+use Rattle.file_store.proofs.Offered.{among-same, among-then, does-among, Does-none, puts-among-then}
 use Rattle.ftl0_session.specs.Uploads.Failures.{Failure, failed_reads, read_fails}
 use Rattle.disk_model.specs.declared.halt.Halt.{Halt as Stop}
 use Rattle.disk_model.specs.declared.halt.Halt.TheVariants as stop
@@ -31,7 +30,7 @@ use Rattle.ftl0_server.proofs.connection.FailureLemmas.{alike-second, All-at, am
 use Rattle.ftl0_server.proofs.connection.FailureLemmas.{at_part, none-writes, reads-among}
 use Rattle.packet_link.proofs.Fronts.{stations-then}
 use Rattle.ftl0_server.proofs.connection.HearsLemmas.{IsStop}
-use Rattle.ftl0_server.proofs.connection.QueuingLemmas.{KeepsRest, queued-keeps, queued-on, queued-over, queuing-alike}
+use Rattle.ftl0_server.proofs.connection.QueuingLemmas.{KeepsRest, queued-keeps, queued-on, queuing-alike}
 use Rattle.ftl0_server.proofs.connection.QueuingLemmas.{queuing-fewer, queuing-keeps, queuing-next, queuing-none}
 
 module _ {D : Type 0} (g : Ghosts D) (lasts : (disk : D) → g.lasts disk disk) (on : (first second third : D) → g.lasts first second → g.lasts second third → g.lasts first third) where
@@ -135,25 +134,22 @@ module _ {D : Type 0} (g : Ghosts D) (lasts : (disk : D) → g.lasts disk disk) 
         let alike : (part : ℕ) → made.part ≤ part → read_fails all part ≡ read_fails (failed_reads q.parts) part =
         λ part later. (alike-second [] heard.hears.parts q.parts made.part (suc part) none-writes settled.before part later (omega arith)).0 in
         let now_is : whole all ≡ q.now =
-        ap (queued (store_in before.it) all) (settled.later q.parts q.behind) ∙ queued-on (store_in before.it) all made h.1.1.0
-        ∙ ap (λ (s : Store). queuing (free_octets made.end) s all made) stores ∙ queuing-alike (store_in between.store) all (free_octets made.end) (failed_reads q.parts) made alike ∙ sym q.is_now in
+        rw (settled.later q.parts q.behind, queued-on (store_in before.it) all made h.1.1.0, stores, q.is_now)
+        (queuing-alike (store_in between.store) all (free_octets made.end) (failed_reads q.parts) made alike) in
         let rest : KeepsRest made q.now = rw q.is_now (queuing-keeps (store_in between.store) (failed_reads q.parts) (free_octets made.end) made) in
-        let does : DoesAmongReads g ⊥ q.now.missed before.it now.store before.disk now.disk q.now.done = grind (arith, among-at, among-same, among-then, append-nil) in
+        let does : DoesAmongReads g ⊥ q.now.missed before.it now.store before.disk now.disk q.now.done = grind (arith, among-same, among-then, append-nil) in
         let by =
         subst (λ p. HearsBy g w (λ writes. progressed left p) before now new Stays (Ok tt)) (sym now_is) (grind arith) in
         record { parts = heard.hears.parts ++ q.parts; by = by; since = by.2.since }
 
     -- it stopped, and nothing is queued
     module _ (now : WorkingOn D) (new : ConnectionState) (over : (failures : List Failure) → (event failures).halt ≡ fails → (event failures).over ≡ true) (parts : List ℕ) where
-      stopped : (failures : List Failure) → (event failures).over ≡ true → whole failures ≡ event failures
-      stopped failures is = queued-over (store_in before.it) failures (event failures) is
-
       abbrev By : Fate → Result ⊤ Stop → Progress → Type 0
       By fate result p = HearsBy g w (λ writes. progressed left p) before now new fate result
 
       by-stopped : (fate : Fate) (result : Result ⊤ Stop) → IsStop (fate, result) → HearsBy g w (λ writes. progressed left (event (writes ++ failed_reads parts))) before now new fate result
           → HearsBy g w (λ writes. progressed left (whole (writes ++ failed_reads parts))) before now new fate result
-      by-stopped fate result stops h = grind (arith, common_steps, stopped)
+      by-stopped fate result stops h = grind (arith, common_steps)
 
     pub hears-stop : (now : WorkingOn D) (new : ConnectionState) (told : Fate × Result ⊤ Stop) → IsStop told → HearsParts g w left event before now new told
         → Hears g w (λ failures. progressed left (whole failures)) before now new told

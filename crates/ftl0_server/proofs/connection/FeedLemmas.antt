@@ -1,17 +1,14 @@
 -- What packets leave for the next one, and how a connection takes octets, piece by piece.
 use Rattle.std.proofs.lemmas.Grind.{common_steps}
 use Rattle.std.proofs.Common.{arith, ◌≡◌, ℕ, ◌+◌, List, [], ◌∷◌, ◌++◌, length, refl, ap, sym, ◌∙◌, subst}
-use Rattle.std.specs.Prelude.{false, None, Result, Ok, Err, ⊤}
+use Rattle.std.specs.Prelude.{None, Result, Ok, Err, ⊤}
 use Rattle.std.proofs.lemmas.List.Elements.{All-nil}
-use Rattle.px_base.specs.CallSign.{CallSign}
 use Rattle.disk_model.specs.declared.disk.Disk.{Ghosts}
 use Rattle.ax25_link.specs.declared.state.LinkState.TheVariants.{Up}
 use Rattle.ax25_link.specs.Kept.{Kept, SameStations}
 use Rattle.ftl0_packets.specs.Layout.{Item}
-use Rattle.ftl0_session.specs.Lists.Lists.{CallerList}
 use Rattle.packet_link.specs.PacketLink.{HasFront}
 use Rattle.packet_link.proofs.Fronts.{front-none, front-then, stations-same, stations-then}
-use Rattle.file_store.specs.EntriesKept.{KeepsComplete}
 use Rattle.file_store.specs.Store.{Store, entry_of}
 use Rattle.file_store.specs.Position.{Position}
 use Rattle.file_store.proofs.Offered.{does-among, Does-none, puts-among, puts-among-same, puts-among-then, puts_none}
@@ -21,7 +18,7 @@ use Rattle.ftl0_session.specs.Uploads.SessionState.{NoOtherOut, SessionState as 
 use Rattle.ftl0_session.specs.Downloads.Needs.{AreComplete, IsDueIn}
 use Rattle.disk_model.specs.declared.halt.Halt.{Halt as Stop}
 use Rattle.disk_model.specs.declared.halt.Halt.TheVariants as stop
-use Rattle.ftl0_session.specs.SessionState.{MayTake as SessionMayTake, SessionState, IsFit, caller_of, new_session}
+use Rattle.ftl0_session.specs.SessionState.{MayTake as SessionMayTake, SessionState, caller_of, new_session}
 use Rattle.ftl0_session.specs.SessionState.{WorkingOn, working_on}
 use Rattle.ftl0_server.specs.declared.connection.fate.Fate.{Fate}
 use Rattle.ftl0_server.specs.declared.connection.fate.Fate.TheVariants.{Stays}
@@ -32,15 +29,6 @@ use Rattle.ftl0_server.proofs.connection.Invariants.{IsTaking}
 
 -- ---- what is left for the next packet
 
-others-then : (a b c : StoreState) (caller : CallSign) → KeepsOtherCallers a b caller → KeepsOtherCallers b c caller → KeepsOtherCallers a c caller
-others-then a b c caller first second = grind (arith, common_steps)
-
-pub others-same : (store : StoreState) (caller : CallSign) → KeepsOtherCallers store store caller
-others-same store caller = record { uploads = λ up ne holds. holds; entries = λ number e ne found. (found, refl) }
-
-complete-then : (a b c : Store) → KeepsComplete a b → KeepsComplete b c → KeepsComplete a c
-complete-then a b c first second number e found complete = second number e (first number e found complete) complete
-
 -- no stop
 abbrev pub fine : Result ⊤ Stop
 fine = Ok tt
@@ -49,18 +37,10 @@ pub no-fault : fine ≡ Err stop.Disk → ⊥
 no-fault same = cc
 
 module _ {D : Type 0} (g : Ghosts D) where
-  -- a session that may take a packet leaves what the next one needs, where nothing was taken
-  pub fit-kept : (store : StoreState) (disk : D) (lists : List CallerList) (session : SessionState) → SessionMayTake g store disk lists session → IsFit g store disk lists session
-  fit-kept store disk lists session may = record { stands_on = may.stands_on; held = may.held; only = may.only; due = may.due; complete = may.complete }
-
-  -- and what is left lets it take one
-  pub may-kept : (store : StoreState) (disk : D) (lists : List CallerList) (session : SessionState) → store.journal.failed ≡ false → IsFit g store disk lists session → SessionMayTake g store disk lists session
-  may-kept store disk lists session healthy fit = grind (arith, common_steps)
-
   -- a frame without packets was heard
   pub fit-heard : (on : WorkingOn D) (link link_n : Kept) (session : SessionState) (fate : Fate) → g.lasts on.disk on.disk → SessionMayTake g on.store on.disk on.lists session
       → (fate ≡ Stays → link_n.state ≡ Up) → SameStations link link_n → LeavesFit g (with_disk on.store on.disk) on link link_n session session (fate, Ok tt)
-  fit-heard on link link_n session fate lasts may up stations = grind (arith, common_steps, puts-among, puts_none, no-fault, others-same, fit-kept)
+  fit-heard on link link_n session fate lasts may up stations = grind (arith, common_steps, puts-among, puts_none)
 
   -- a session began anew, over a store that has only given up the upload of the one before
   pub fit-anew : (on : WorkingOn D) (store_n : StoreState) (link link_n : Kept) (session session_n : SessionState) → g.lasts on.disk on.disk → SessionMayTake g on.store on.disk on.lists session
@@ -95,14 +75,14 @@ module _ {D : Type 0} (g : Ghosts D) where
     pub fit-then : (before : WithDisk StoreState D) (between now : WorkingOn D) (link link_m link_n : Kept) (session session_m session_n : SessionState) (told : Fate × Result ⊤ Stop)
         → LeavesFit g before between link link_m session session_m (Stays, Ok tt) → LeavesFit g (with_disk between.store between.disk) now link_m link_n session_m session_n told
         → LeavesFit g before now link link_n session session_n told
-    fit-then before between now link link_m link_n session session_m session_n told first second = grind (arith, common_steps, puts-among-then, no-fault, complete-then, others-then, stations-then)
+    fit-then before between now link link_m link_n session session_m session_n told first second = grind (arith, common_steps, puts-among-then, stations-then)
 
     -- packets, and then what is due behind them
     pub fit-queued : (before : WithDisk StoreState D) (between now : WorkingOn D) (link : Kept) (session : SessionState) (mid new : ConnectionState) → now.lists ≡ between.lists
         → LeavesFit g before between link mid.link session mid.session (Stays, Ok tt) → KeepsFit g between.store now.store between.disk now.disk mid new
         → LeavesFit g before now link new.link session new.session (Stays, Ok tt)
     fit-queued before between now link session mid new lists first second = record {
-      puts = grind (arith, common_steps, puts-among-same, no-fault, puts-among-then);
+      puts = grind (arith, common_steps, puts-among-same, puts-among-then);
       kept = rw second.same first.kept;
       others = rw second.same first.others;
       healthy = rw second.same first.healthy;

@@ -124,8 +124,7 @@ module _ {D : Type 0} (g : Ghosts D) (on : (first second third : D) → g.lasts 
         → whole (failed_write part ++ failed_reads (one.parts ++ parts)) ≡ behind made.missed made.done (part_of (failed_write part ++ failed_reads parts))
     same-fault part parts later halts =
         let there = taking-fails (caller_of mid.session) moment (session_on mid.session between) made.end others (failed_write part ++ failed_reads parts) next halts in
-        let is : part ≡ there.0 = same-part part there.0 parts there.2 in
-        same (failed_write part) parts (one-writes part) (λ n low. other-part part n (λ here. (let at : next ≤ there.0 = there.1 in omega (arith, is, here)))) later
+        same (failed_write part) parts (one-writes part) (λ n low. other-part part n (λ here. omega (arith, same-part part there.0 parts there.2, here, there.1))) later
 
     abbrev By : Fate → Result ⊤ Stop → Progress → Type 0
     By fate result p = HearsBy g w (λ failures. progressed [] p) (with_disk before.store before.disk) now (with_nothing_left new.link new.session) fate result
@@ -135,20 +134,13 @@ module _ {D : Type 0} (g : Ghosts D) (on : (first second third : D) → g.lasts 
         → HearsBy g w (λ writes. progressed [] (whole (writes ++ failed_reads (one.parts ++ parts)))) (with_disk before.store before.disk) now (with_nothing_left new.link new.session) fate result
     by-then parts later fate (Ok done) h =
         let part : Progress = part_of ([] ++ failed_reads parts) in
-        subst (By fate (Ok done)) (sym (same [] parts none-writes (λ n low. refl) later)) (
-          h.0,
-          h.1,
-          among-then g on ⊥ ⊥ made.missed part.missed before.store between.store now.store before.disk between.disk now.disk made.done part.done (λ never. never) one.by.2 h.2,
-        )
+        subst (By fate (Ok done)) (sym (same [] parts none-writes (λ n low. refl) later))
+        (h.0, h.1, among-then g on ⊥ ⊥ made.missed part.missed _ _ _ _ _ _ made.done part.done (λ never. never) one.by.2 h.2)
     by-then parts later fate (Err stop.Disk) h = grind (arith, same-fault, cuts-among-then)
     by-then parts later fate (Err stop.OutOfMemory) h =
         let part : Progress = part_of (failed_write h.0 ++ failed_reads parts) in
-        let at = subst (By fate (Err stop.OutOfMemory)) (sym (same-fault h.0 parts later h.1)) (
-          h.0,
-          h.1,
-          h.2,
-          among-then g on ⊥ ⊥ made.missed part.missed before.store between.store now.store before.disk between.disk now.disk made.done part.done (λ never. never) one.by.2 h.3,
-        ) in
+        let at = subst (By fate (Err stop.OutOfMemory)) (sym (same-fault h.0 parts later h.1))
+        (h.0, h.1, h.2, among-then g on ⊥ ⊥ made.missed part.missed _ _ _ _ _ _ made.done part.done (λ never. never) one.by.2 h.3) in
         (h.0, at.1, at.2, at.3)
 
     -- packets were taken, and then the others

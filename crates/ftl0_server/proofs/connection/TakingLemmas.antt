@@ -4,7 +4,7 @@ use Rattle.std.proofs.lemmas.Grind.{common_steps}
 use Rattle.std.proofs.Common.{◌≡◌, ℕ, suc, ◌+◌, ◌≤◌, Bool, true, false, not, ◌&&◌, List, [], ◌∷◌, ◌++◌, length, refl}
 use Rattle.std.proofs.Common.{ap, sym, ◌∙◌, append_assoc, append-nil, arith}
 use Rattle.std.specs.Prelude.{if◌then◌else◌}
-use Rattle.std.proofs.Math.Nat.{add_assoc, zero-add}
+use Rattle.std.proofs.Math.Nat.{zero-add}
 use Rattle.px_base.specs.CallSign.{CallSign}
 use Rattle.ax25_link.specs.Calls.{after_push}
 use Rattle.ax25_link.specs.Ends.{LinkEnd}
@@ -38,10 +38,6 @@ behind missed done progress = record progress { missed = missed + progress.misse
 behind-none : (progress : Progress) → progress ≡ behind 0 [] progress
 behind-none progress = ap (λ (missed : ℕ). record progress { missed = missed }) (sym (zero-add progress.missed))
 
-pub behind-then : (first second : ℕ) (some others : List Command) (progress : Progress)
-    → behind first some (behind second others progress) ≡ behind (first + second) (some ++ others) progress
-behind-then first second some others progress = grind (arith, common_steps, add_assoc)
-
 -- what a packet's row makes, by whether a write fails and whether its replies fit, where this comes behind it
 abbrev pub by_tests : Session → LinkEnd → ℕ → Row → Bool → Bool → Progress → Progress
 by_tests session end part row failed enough later =
@@ -57,10 +53,6 @@ module _ (caller : CallSign) (moment : ℕ) where
   -- the row of a packet that is the event's part of this number
   abbrev pub row_in : Session → Item → List Failure → ℕ → Row
   row_in session item failures part = row_at caller moment session.store session.lists session.state item failures part
-
-  -- what comes behind a row
-  abbrev pub later_of : Session → LinkEnd → List Item → List Failure → ℕ → Row → Progress
-  later_of session end items failures part row = taking caller moment (behind_row session row) (after_push end (texts row.replies)) items failures (suc part)
 
   -- ---- failures that are alike
 
@@ -96,12 +88,9 @@ IsOverAtFault progress = progress.halt ≡ fails → progress.over ≡ true
 abbrev pub FailsFrom : ℕ → List Failure → Type 0
 FailsFrom part failures = (n : ℕ) × (part ≤ n) × (write_fails failures n ≡ true)
 
-fails-later : (part : ℕ) (failures : List Failure) → FailsFrom (suc part) failures → FailsFrom part failures
-fails-later part failures h = (h.0, omega (arith, h.1), h.2)
-
 module _ (session : Session) (end : LinkEnd) (part : ℕ) (failures : List Failure) (row : Row) (later : Progress) (each : later.halt ≡ fails → FailsFrom (suc part) failures) where
   fails-by : (failed enough : Bool) → write_fails failures part ≡ failed → (by_tests session end part row failed enough later).halt ≡ fails → FailsFrom part failures
-  fails-by failed enough is halts = grind (arith, common_steps, fails-later)
+  fails-by failed enough is halts = grind (arith, common_steps)
 
 module _ (caller : CallSign) (moment : ℕ) where
   pub taking-failed : (session : Session) (end : LinkEnd) (items : List Item) (failures : List Failure) (part : ℕ)
@@ -140,7 +129,7 @@ module _ (caller : CallSign) (moment : ℕ) where
   taking-on session end (item ∷ items) others failures part goes =
       let row : Row = row_in caller moment session item failures part in
       let each = taking-on (behind_row session row) (after_push end (texts row.replies)) items others failures (suc part) in
-      grind (arith, common_steps, after_all-append, behind-then)
+      grind (arith, common_steps, after_all-append)
 
   -- each of the packets is a part
   pub taking-part : (session : Session) (end : LinkEnd) (items : List Item) (failures : List Failure) (part : ℕ)
@@ -160,9 +149,6 @@ IsFront front all = (more : List Command) × (all ≡ front ++ more)
 pub front-same : (commands : List Command) → IsFront commands commands
 front-same commands = ([], sym (append-nil commands))
 
-front-then : (first front all : List Command) → IsFront front all → IsFront (first ++ front) (first ++ all)
-front-then first front all h = (h.0, ap (λ (commands : List Command). first ++ commands) h.1 ∙ sym (append_assoc first front h.0))
-
 -- a front of a front
 pub front-part : (first second all : List Command) → IsFront (first ++ second) all → IsFront first all
 front-part first second all h = (second ++ h.0, h.1 ∙ append_assoc first second h.0)
@@ -179,7 +165,7 @@ module _ (session : Session) (end : LinkEnd) (part : ℕ) (row : Row) (some all 
   begins-by : (failed enough : Bool) → Begins (by_tests session end part row failed enough some) (by_tests session end part row false enough all)
   begins-by true true = (all.done, refl)
   begins-by true false = front-same row.commands
-  begins-by false true = grind (arith, common_steps, front-then)
+  begins-by false true = grind (arith, common_steps)
   begins-by false false = ([], sym (append-nil row.commands) ∙ sym (append-nil (row.commands ++ [])))
 
 -- the same reads fail at each part, and of the second no write
