@@ -1,6 +1,6 @@
 -- How what is due is queued, one packet after another.
 use Rattle.std.proofs.lemmas.Grind.{common_steps}
-use Rattle.std.proofs.Common.{◌≡◌, inl, inr, ℕ, ◌<◌, ◌≤◌, Bool, true, false, List, refl, ap, arith}
+use Rattle.std.proofs.Common.{◌≡◌, inl, inr, ℕ, ◌<◌, ◌≤◌, Bool, false, List, refl, ap, arith}
 use Rattle.std.specs.Prelude.{Option, None, Some, if◌then◌else◌}
 use Rattle.ax25_link.specs.Ends.{LinkEnd, free_octets}
 use Rattle.ftl0_packets.specs.Layout.{packet_text}
@@ -81,10 +81,6 @@ module _ (store : Store) where
   pub queued-on : (failures : List Failure) (progress : Progress) → progress.over ≡ false
       → queued store failures progress ≡ queuing (free_octets progress.end) (after_all store progress.done) failures progress
   queued-on failures progress going = grind (arith, common_steps)
-
-  -- and where it doesn't
-  pub queued-over : (failures : List Failure) (progress : Progress) → progress.over ≡ true → queued store failures progress ≡ progress
-  queued-over failures progress over = grind (arith, common_steps)
 
 -- what is left as it was, whether the session goes on or not
 module _ (store : Store) (failures : List Failure) (progress : Progress) where

@@ -10,8 +10,8 @@ use Rattle.ftl0_server.specs.Connection.ConnectionState.{with_nothing_left}
 pub returns-in-Ok-clause-takes : goal.returns-in-Ok-clause-takes
 returns-in-Ok-clause-takes g c w end first stands =
     rw (sym c.packet.ensures)
-    (said-done g.D.Disk g.met.D.Disk.lasts_on w end _ _ (with_nothing_left c.reply.new.link.link c.take.new.self) _ _ _ first c.requires.may.may.healthy c.requires.may.may.stands_on _ _ _ c.as_slice.ensures.value
-    (c.reply.ensures.over w end stands) (c.reply.ensures.queued w end stands) c.in-Ok.ensures.takes)
+    (said-done g.D.Disk g.met.D.Disk.lasts_on w end _ _ (with_nothing_left c.reply.new.link.link c.take.new.self) _ _ _ first c.requires.may.may.healthy c.requires.may.may.stands_on
+    _ _ _ c.as_slice.ensures.value (c.reply.ensures.over w end stands) (c.reply.ensures.queued w end stands) c.in-Ok.ensures.takes)
 
 pub returns-in-Ok-clause-fit : goal.returns-in-Ok-clause-fit
 returns-in-Ok-clause-fit g c =

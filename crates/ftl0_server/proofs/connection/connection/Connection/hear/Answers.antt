@@ -12,7 +12,8 @@ returns-then-goes_on-clause-hears g c w d is =
     let going = c.goes_on.ensures.0 c.if-goes_on.true in
     let keeps = c.queue_due.ensures.keeps in
     rw going
-    (hears-going g.D.Disk g.met.D.Disk.lasts_same g.met.D.Disk.lasts_on w _ (parts_of_frame w c.args.moment (store_in c.args.store.now) c.args.lists.now d (value_of c.args.frame.now)) _ _ _ c.take_frame-told.new.self _
+    (hears-going g.D.Disk g.met.D.Disk.lasts_same g.met.D.Disk.lasts_on w _ (parts_of_frame w c.args.moment (store_in c.args.store.now) c.args.lists.now d (value_of c.args.frame.now))
+    _ _ _ c.take_frame-told.new.self _
     (rw going at c.take_frame-told.ensures.hears w d is) keeps.same refl keeps.octets c.queue_due.ensures.queues)
 
 pub returns-then-goes_on-clause-fit : goal.returns-then-goes_on-clause-fit

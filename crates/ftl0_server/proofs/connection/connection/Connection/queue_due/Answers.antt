@@ -24,5 +24,6 @@ returns-clause-queues g c =
     let keeps = c.loop.invariant.keeps in
     let next = c.loop-test.ensures.next in
     let rest =
-    queues-none g.D.Disk g.met.D.Disk.lasts_same g.met.D.Disk.lasts_on _ _ c.queue_next.new.disk c.loop.self c.queue_next.new.self (ap (λ (s : StoreState). s.journal.failed) keeps.same ∙ c.requires.healthy) (rw (sym keeps.same) at keeps.stands_on) next.0 next.1 next.2 next.3 in
+    queues-none g.D.Disk g.met.D.Disk.lasts_same g.met.D.Disk.lasts_on _ _ c.queue_next.new.disk c.loop.self c.queue_next.new.self
+    (ap (λ (s : StoreState). s.journal.failed) keeps.same ∙ c.requires.healthy) (rw (sym keeps.same) at keeps.stands_on) next.0 next.1 next.2 next.3 in
     c.loop.invariant.rest c.queue_next.new.disk c.queue_next.new.self (rw keeps.same at rest)
