@@ -1,17 +1,15 @@
 -- What several commands of a call do to the disk of the notes, one list of them after another.
-use Rattle.std.proofs.Common.{◌≡◌, inl, inr, ⊎_elim, ℕ, ◌+◌, ◌-◌, ◌*◌, ◌<◌, ◌≤◌, true, false, List, [], ◌∷◌, ◌++◌, length, take, refl, sym, ◌∙◌, ap, subst, arith, length-append}
-use Rattle.std.specs.Prelude.{nat_le}
-use Rattle.std.proofs.lemmas.Bool.Decides.{leb_tells}
-use Rattle.std.proofs.lemmas.List.{take-append-le, take_all}
-use Rattle.std.proofs.Math.Seq.{take-append-add}
-use Rattle.disk_model.specs.Moments.{LeavesOnly}
+use Rattle.std.proofs.Common.{◌≡◌, inl, inr, ℕ, ◌+◌, ◌*◌, ◌≤◌, false, List, [], ◌∷◌, ◌++◌, length, refl, sym, ◌∙◌, ap, subst, arith, length-append}
+use Rattle.std.specs.Prelude.{IsTrue}
+use Rattle.std.proofs.lemmas.List.{take-append-le}
 use Rattle.disk_model.specs.declared.disk.Disk.{Ghosts}
 use Rattle.file_journal.specs.Calls.{Leaves, images_now}
-use Rattle.file_journal.proofs.Offered.{at_told, if_told, joined, puts_none, puts_on, puts_same, started, told_before, told_weaker, weaker}
-use Rattle.client_notes.specs.Command.{NotesCommand, after}
+use Rattle.file_journal.proofs.Offered.{after_all_append, allowed_append, at_told, first_then, if_told, joined, makes_first, makes_second, makes_within, puts_none, puts_on, puts_same, started, stay_then, told_before, told_weaker, weaker}
+use Rattle.client_notes.specs.Command.{NotesCommand, after, is_allowed}
 use Rattle.client_notes.specs.Laws.{AreAllowed, after_all}
 use Rattle.client_notes.specs.Notes.{Lists}
 use Rattle.client_notes.specs.OnDisk.{Does, IsBeforeOrAfter}
+use Rattle.client_notes.specs.Records.{notes_form}
 use Rattle.client_notes.specs.Several.{DoesSeveral, IsCutAmong, MakesBetween, MakesFirst, StayDone, after_first}
 use Rattle.client_notes.specs.State.{NotesState, StandsFor, StandsOn}
 
@@ -23,47 +21,25 @@ nothing (command ∷ commands) is = absurd (cc is)
 -- ---- two lists of commands
 
 pub after_all-append : (a b : List NotesCommand) (lists : Lists) → after_all lists (a ++ b) ≡ after_all (after_all lists a) b
-after_all-append [] b lists = refl
-after_all-append (command ∷ commands) b lists = after_all-append commands b (after lists command)
+after_all-append = after_all_append after
 
 pub AreAllowed-append : (a b : List NotesCommand) (lists : Lists) → AreAllowed lists a → AreAllowed (after_all lists a) b → AreAllowed lists (a ++ b)
-AreAllowed-append [] b lists ok then = then
-AreAllowed-append (command ∷ commands) b lists ok then = (ok.0, AreAllowed-append commands b (after lists command) ok.1 then)
+AreAllowed-append = allowed_append after (λ (lists : Lists) (command : NotesCommand). IsTrue (is_allowed lists command))
 
 -- ---- the first of some commands
 
--- the first of two lists of commands, within the first list
-pub after_first-append : (count : ℕ) (a b : List NotesCommand) (lists : Lists) → count ≤ length a → after_first count lists (a ++ b) ≡ after_first count lists a
-after_first-append count a b lists few = ap (after_all lists) (take-append-le count a b few)
-
--- and past it
+-- the first of two lists of commands, past the first list
 pub after_first-then : (count : ℕ) (a b : List NotesCommand) (lists : Lists) → after_first (length a + count) lists (a ++ b) ≡ after_first count (after_all lists a) b
-after_first-then count a b lists = ap (after_all lists) (take-append-add a b count) ∙ after_all-append a (take count b) lists
-
-pub after_first-all : (commands : List NotesCommand) (lists : Lists) → after_first (length commands) lists commands ≡ after_all lists commands
-after_first-all commands lists = ap (after_all lists) (take_all (length commands) commands (omega arith))
+after_first-then = first_then notes_form
 
 pub makes-one : (lists : Lists) (command : NotesCommand) (image : List ℕ) → IsBeforeOrAfter lists command image → MakesBetween 0 1 lists (command ∷ []) image
 makes-one lists command image (inl before) = (0, omega arith, omega arith, before)
 makes-one lists command image (inr now) = (1, omega arith, omega arith, now)
 
-pub makes-first : (low high : ℕ) (lists : Lists) (a b : List NotesCommand) (image : List ℕ) → high ≤ length a → MakesBetween low high lists a image → MakesBetween low high lists (a ++ b) image
-makes-first low high lists a b image most makes =
-    (makes.0, makes.1, makes.2, subst (StandsFor image) (sym (after_first-append makes.0 a b lists (omega (arith, makes.2)))) makes.3)
-
--- with wider bounds
-pub makes-within : (low high least most : ℕ) (lists : Lists) (commands : List NotesCommand) (image : List ℕ) → least ≤ low → high ≤ most → MakesBetween low high lists commands image
-    → MakesBetween least most lists commands image
-makes-within low high least most lists commands image below above makes = (makes.0, omega (arith, makes.1), omega (arith, makes.2), makes.3)
-
-pub makes-second : (low high least most : ℕ) (lists middle : Lists) (a b : List NotesCommand) (image : List ℕ) → middle ≡ after_all lists a → least ≤ length a + low → length a + high ≤ most
-    → MakesBetween low high middle b image → MakesBetween least most lists (a ++ b) image
-makes-second low high least most lists middle a b image at below above makes = (
-  length a + makes.0,
-  omega (arith, makes.1),
-  omega (arith, makes.2),
-  subst (StandsFor image) (ap (λ (s : Lists). after_first makes.0 s b) at ∙ sym (after_first-then makes.0 a b lists)) makes.3,
-)
+-- the first list's images are those of both
+pub makes-longer : (lists : Lists) (a b : List NotesCommand) (image : List ℕ) → MakesFirst lists a image → MakesFirst lists (a ++ b) image
+makes-longer lists a b image here =
+    makes_within notes_form 0 (length a) 0 (length (a ++ b)) lists (a ++ b) image (omega arith) (omega (arith, length-append a b)) (makes_first notes_form 0 (length a) lists a b image (omega arith) here)
 
 module _ {D : Type 0} (g : Ghosts D) where
   -- ---- the commands that are done stay
@@ -79,28 +55,7 @@ module _ {D : Type 0} (g : Ghosts D) where
   pub stay-longer : (start done : ℕ) (lists : Lists) (a b : List NotesCommand) (disk_now : D) → StayDone g start done lists a disk_now → StayDone g start done lists (a ++ b) disk_now
   stay-longer start done lists a b disk_now stay count some most image left =
       let sum : length (a ++ b) ≡ length a + length b = length-append a b in
-      makes-within count (length a) count (length (a ++ b)) lists (a ++ b) image (omega arith) (omega arith) (makes-first count (length a) lists a b image (omega arith) (stay count some most image left))
-
-  -- Since so many of the first are done: what might have been left before the second began, or what they leave; and since
-  -- so many of the second are done, they all stay.
-  pub stay-on : (start done : ℕ) (lists middle : Lists) (a b : List NotesCommand) (disk_mid disk_now : D) → middle ≡ after_all lists a → g.moment disk_mid ≡ start + 4 * length a
-      → StayDone g start (length a) lists a disk_mid → LeavesOnly g.moment g.images_since disk_mid disk_now (MakesFirst middle b) → StayDone g (g.moment disk_mid) done middle b disk_now
-      → StayDone g start (length a + done) lists (a ++ b) disk_now
-  stay-on start done lists middle a b disk_mid disk_now at then first leaves second count some most image left =
-      let sum : length (a ++ b) ≡ length a + length b = length-append a b in
-      ⊎_elim
-      (λ (w : (nat_le count (length a) ≡ true) × (count ≤ length a)).
-      let few = w.1 in
-      ⊎_elim
-      (λ was. makes-within count (length a) count (length (a ++ b)) lists (a ++ b) image (omega arith) (omega arith) (makes-first count (length a) lists a b image (omega arith) (first count some few image was)))
-      (λ here. makes-second 0 (length b) count (length (a ++ b)) lists middle a b image at (omega (arith, few)) (omega arith) here)
-      (leaves.each (start + 4 * count) image (omega (arith, few, then)) left))
-      (λ (w : (nat_le count (length a) ≡ false) × (length a < count)).
-      let more = w.1 in
-      let later : start + 4 * count ≡ g.moment disk_mid + 4 * (count - length a) = omega (arith, more, then) in
-      makes-second (count - length a) (length b) count (length (a ++ b)) lists middle a b image at (omega (arith, more)) (omega arith)
-      (second (count - length a) (omega (arith, more)) (omega (arith, more, most)) image (subst (λ (t : ℕ). g.images_since disk_now t image) later left)))
-      (leb_tells count (length a))
+      makes_within notes_form count (length a) count (length (a ++ b)) lists (a ++ b) image (omega arith) (omega arith) (makes_first notes_form count (length a) lists a b image (omega arith) (stay count some most image left))
 
   -- ---- one command
 
@@ -178,7 +133,7 @@ module _ {D : Type 0} (g : Ghosts D) where
         allowed = allowed;
         since = told_weaker (g.content disk) _ _ (λ before told left.
             weaker g.moment g.images_since disk disk_now _ (MakesFirst old.lists (a ++ b))
-            (λ image here. makes-within 0 (length a) 0 (length (a ++ b)) old.lists (a ++ b) image (omega arith) (omega arith) (makes-first 0 (length a) old.lists a b image (omega arith) here)) left) does.since;
+            (makes-longer old.lists a b) left) does.since;
         stay = λ fine. absurd (fine failed);
         calls = λ fine. absurd (fine failed);
         none = λ is. let empty : length (a ++ b) ≡ 0 = ap length is in absurd (omega (arith, sum, few, empty));
@@ -187,10 +142,10 @@ module _ {D : Type 0} (g : Ghosts D) where
         cut = λ again. record {
           count = some.count;
           fewer = omega arith;
-          lists = some.lists ∙ sym (after_first-append some.count a b old.lists (omega arith));
+          lists = some.lists ∙ sym (ap (after_all old.lists) (take-append-le some.count a b (omega arith)));
           failed = some.failed;
           images = told_weaker (g.content disk_now) _ _ (λ now told each image here.
-              makes-first some.count (some.count + 1) old.lists a b image (omega arith) (each image here)) some.images;
+              makes_first notes_form some.count (some.count + 1) old.lists a b image (omega arith) (each image here)) some.images;
           stay = told_weaker (g.content disk) _ _ (λ before told stay. stay-longer (g.moment disk) some.count old.lists a b disk_now stay) some.stay;
           calls = some.calls;
           at_most = some.at_most;
@@ -214,10 +169,10 @@ module _ {D : Type 0} (g : Ghosts D) where
             lists = some.lists ∙ ap (λ (s : Lists). after_first some.count s b) at ∙ sym (after_first-then some.count a b old.lists);
             failed = some.failed;
             images = told_weaker (g.content disk_now) _ _ (λ now told each image here.
-                makes-second some.count (some.count + 1) (length a + some.count) (length a + some.count + 1) old.lists mid.lists a b image at (omega arith) (omega arith) (each image here)) some.images;
+                makes_second notes_form some.count (some.count + 1) (length a + some.count) (length a + some.count + 1) old.lists mid.lists a b image at (omega arith) (omega arith) (each image here)) some.images;
             stay = if_told (g.content disk) _ (λ before told.
                 let middle = told_before (g.content disk_mid) (g.content disk) before (first.puts.told.1, first.puts.told.0) told in
-                stay-on (g.moment disk) some.count old.lists mid.lists a b disk_mid disk_now at (at_told _ before told (first.calls fine)) (at_told _ before told (first.stay fine))
+                stay_then notes_form g (g.moment disk) some.count old.lists mid.lists a b disk_mid disk_now at (at_told _ before told (first.calls fine)) (at_told _ before told (first.stay fine))
                 (at_told _ middle.0 middle.1 since) (at_told _ middle.0 middle.1 some.stay));
             calls = if_told (g.content disk) _ (λ before told.
                 let middle = told_before (g.content disk_mid) (g.content disk) before (first.puts.told.1, first.puts.told.0) told in
@@ -245,15 +200,15 @@ module _ {D : Type 0} (g : Ghosts D) where
               let middle = told_before (g.content disk_mid) (g.content disk) before (first.puts.told.1, first.puts.told.0) told in
               joined g.moment g.images_since disk disk_mid disk_now (MakesFirst old.lists (a ++ b))
               (weaker g.moment g.images_since disk disk_mid _ (MakesFirst old.lists (a ++ b))
-              (λ image here. makes-within 0 (length a) 0 (length (a ++ b)) old.lists (a ++ b) image (omega arith) (omega arith) (makes-first 0 (length a) old.lists a b image (omega arith) here))
+              (makes-longer old.lists a b)
               (at_told _ before told first.since))
               (weaker g.moment g.images_since disk_mid disk_now _ (MakesFirst old.lists (a ++ b))
-              (λ image here. makes-second 0 (length b) 0 (length (a ++ b)) old.lists mid.lists a b image at (omega arith) (omega arith) here)
+              (λ image here. makes_second notes_form 0 (length b) 0 (length (a ++ b)) old.lists mid.lists a b image at (omega arith) (omega arith) here)
               (at_told _ middle.0 middle.1 second.since)));
           stay = λ still. if_told (g.content disk) _ (λ before told.
               let middle = told_before (g.content disk_mid) (g.content disk) before (first.puts.told.1, first.puts.told.0) told in
               subst (λ (n : ℕ). StayDone g (g.moment disk) n old.lists (a ++ b) disk_now) (sym sum)
-              (stay-on (g.moment disk) (length b) old.lists mid.lists a b disk_mid disk_now at (at_told _ before told (first.calls fine)) (at_told _ before told (first.stay fine))
+              (stay_then notes_form g (g.moment disk) (length b) old.lists mid.lists a b disk_mid disk_now at (at_told _ before told (first.calls fine)) (at_told _ before told (first.stay fine))
               (at_told _ middle.0 middle.1 second.since) (at_told _ middle.0 middle.1 (second.stay still))));
           calls = λ still. if_told (g.content disk) _ (λ before told.
               let middle = told_before (g.content disk_mid) (g.content disk) before (first.puts.told.1, first.puts.told.0) told in

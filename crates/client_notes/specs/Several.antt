@@ -1,33 +1,32 @@
 -- What several commands of a call do to the disk of the notes, at every moment of it.
-use Rattle.std.specs.Prelude.{◌≡◌, ℕ, ◌+◌, ◌*◌, ◌<◌, ◌≤◌, List, [], ◌∷◌, ◌++◌, length, take, Bool, false, true, IfSome, IsTrue}
-use Rattle.disk_model.specs.Moments.{LeavesSince}
+use Rattle.std.specs.Prelude.{◌≡◌, ℕ, ◌+◌, ◌*◌, ◌<◌, ◌≤◌, List, [], ◌∷◌, ◌++◌, length, Bool, false, true, IfSome, IsTrue}
 use Rattle.disk_model.specs.declared.disk.Disk.{Ghosts}
 use Rattle.file_journal.specs.Calls.{Leaves, Puts}
+use Rattle.file_journal.specs.Commands as kept
+use Rattle.file_journal.specs.Kept.{by_fours}
 use Rattle.client_notes.specs.Command.{NotesCommand}
 use Rattle.client_notes.specs.Laws.{AreAllowed, after_all}
 use Rattle.client_notes.specs.Notes.{Lists}
 use Rattle.client_notes.specs.OnDisk.{Does, EachImage, Untouched}
-use Rattle.client_notes.specs.State.{NotesState, StandsFor, StandsOn}
+use Rattle.client_notes.specs.Records.{notes_form}
+use Rattle.client_notes.specs.State.{NotesState, StandsOn}
 
 -- the notes after the first so many of these commands
 abbrev pub after_first : ℕ → Lists → List NotesCommand → Lists
-after_first count lists commands = after_all lists (take count commands)
+after_first = kept.after_first notes_form
 
 -- The image stands for the notes after the first of these commands, for some number of them from one number to another.
 abbrev pub MakesBetween : ℕ → ℕ → Lists → List NotesCommand → List ℕ → Type 0
-MakesBetween low high lists commands image =
-    (count : ℕ) × (low ≤ count) × (count ≤ high) × StandsFor image (after_first count lists commands)
+MakesBetween = kept.MakesBetween notes_form
 
 -- the same for any number of them
 abbrev pub MakesFirst : Lists → List NotesCommand → List ℕ → Type 0
-MakesFirst lists commands image = MakesBetween 0 (length commands) lists commands image
+MakesFirst = kept.MakesFirst notes_form
 
 -- Each command takes four calls of the disk. Since the first so many commands are done, one at least, no crash leaves
 -- fewer of them. The first of them began at the moment `start`.
 abbrev pub StayDone : {D : Type 0} → Ghosts D → ℕ → ℕ → Lists → List NotesCommand → D → Type 0
-StayDone g start done lists commands disk_now =
-    (count : ℕ) → 1 ≤ count → count ≤ done
-    → LeavesSince (start + 4 * count) (g.images_since disk_now) (MakesBetween count (length commands) lists commands)
+StayDone g start = kept.StayDone g notes_form (by_fours start)
 
 -- The disk failed in one of the commands: the notes are those that the commands before it made. Each image has these, and
 -- that one or not; and those before it stay. Each of them took four calls of the disk, and that one four at most. The

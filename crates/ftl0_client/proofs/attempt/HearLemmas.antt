@@ -1,6 +1,5 @@
 -- How an attempt hears a frame.
-use Rattle.std.proofs.Common.{◌≡◌, ◌+◌, List, ◌++◌, length, take, drop, refl, ap, sym, ◌∙◌, subst, arith, append_assoc}
-use Rattle.std.proofs.Common.{length-append}
+use Rattle.std.proofs.Common.{◌≡◌, List, ◌++◌, take, drop, refl, ap, sym, ◌∙◌, subst, append_assoc}
 use Rattle.std.specs.Prelude.{Result, Ok, Err, ⊤}
 use Rattle.std.proofs.lemmas.List.{take-append-drop}
 use Rattle.ax25_frames.specs.FrameText.{FrameValue}
@@ -11,7 +10,7 @@ use Rattle.ax25_link.specs.Rows.{after_frame, heard_of}
 use Rattle.ax25_link.specs.Window.{Window}
 use Rattle.ftl0_packets.specs.Layout.{Item}
 use Rattle.client_notes.specs.Calls.{Leaves}
-use Rattle.client_notes.proofs.Offered.{makes-first, makes-within, puts_on, puts_same, Several-then, told_weaker, weaker}
+use Rattle.client_notes.proofs.Offered.{makes-longer, puts_on, puts_same, Several-then, told_weaker, weaker}
 use Rattle.client_notes.specs.Command.{NotesCommand}
 use Rattle.client_notes.specs.Laws.{after_all}
 use Rattle.client_notes.specs.Notes.{Lists}
@@ -32,11 +31,8 @@ module _ {D : Type 0} (g : Ghosts D) where
   -- the first of some commands, for some number of them, are the first of more commands
   leaves-front : (lists : Lists) (disk disk_n : D) (front more : List NotesCommand) → Leaves g disk disk_n (λ _. MakesFirst lists front) → Leaves g disk disk_n (λ _. MakesFirst lists (front ++ more))
   leaves-front lists disk disk_n front more leaves =
-      let sum : length (front ++ more) ≡ length front + length more = length-append front more in
       told_weaker (g.content disk) _ _ (λ before told left.
-      weaker g.moment g.images_since disk disk_n (MakesFirst lists front) (MakesFirst lists (front ++ more))
-      (λ image here. makes-within 0 (length front) 0 (length (front ++ more)) lists (front ++ more) image (omega arith) (omega arith) (makes-first 0 (length front) lists front more image (omega arith) here)) left)
-      leaves
+      weaker g.moment g.images_since disk disk_n (MakesFirst lists front) (MakesFirst lists (front ++ more)) (makes-longer lists front more) left) leaves
 
   module _ (on : (first second third : D) → g.lasts first second → g.lasts second third → g.lasts first third) (old mid new : NotesState) (disk disk_m disk_n : D) (done commands : List NotesCommand)
       (first : DoesSeveral g ⊥ old mid disk disk_m done) where
