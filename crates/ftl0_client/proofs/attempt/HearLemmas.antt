@@ -40,7 +40,7 @@ module _ {D : Type 0} (g : Ghosts D) where
     noted-since : (more : List NotesCommand) (why : Halt) → HasNoted {T = ⊤} g mid new disk_m disk_n commands (Err why) → Leaves g disk disk_n (λ _. MakesFirst old.lists (done ++ (commands ++ more)))
     noted-since more stop.Disk noted =
         subst (λ (all : List NotesCommand). Leaves g disk disk_n (λ _. MakesFirst old.lists all)) (append_assoc done commands more)
-        (leaves-front old.lists disk disk_n (done ++ commands) more (Several-then g on ⊥ ⊤ old mid new disk disk_m disk_n done commands (λ never. never) first noted).since)
+        (leaves-front old.lists disk disk_n (done ++ commands) more (Several-then g on ⊥ ⊤ old mid new disk disk_m disk_n done commands (λ never. never) first noted).does.since)
     noted-since more stop.OutOfMemory noted =
         let some : List NotesCommand = take noted.0 commands in
         let others : List NotesCommand = drop noted.0 commands in
@@ -48,18 +48,18 @@ module _ {D : Type 0} (g : Ghosts D) where
         append_assoc done some (others ++ more)
         ∙ ap (λ (cs : List NotesCommand). done ++ cs) (sym (append_assoc some others more) ∙ ap (λ (cs : List NotesCommand). cs ++ more) (take-append-drop noted.0 commands)) in
         subst (λ (all : List NotesCommand). Leaves g disk disk_n (λ _. MakesFirst old.lists all)) same
-        (leaves-front old.lists disk disk_n (done ++ some) (others ++ more) (Several-then g on ⊥ ⊥ old mid new disk disk_m disk_n done some (λ never. never) first noted.2).since)
+        (leaves-front old.lists disk disk_n (done ++ some) (others ++ more) (Several-then g on ⊥ ⊥ old mid new disk disk_m disk_n done some (λ never. never) first noted.2).does.since)
 
     -- and what is said of the counts
     noted-puts : (why : Halt) → HasNoted {T = ⊤} g mid new disk_m disk_n commands (Err why) → PutsBy g disk disk_n (Err why)
-    noted-puts stop.Disk noted = puts_same g disk disk_n ⊤ _ (λ all. refl) (λ e. tt) (puts_on g on disk disk_m disk_n ⊥ ⊤ (λ never. never) first.puts noted.puts)
-    noted-puts stop.OutOfMemory noted = puts_same g disk disk_n ⊥ _ (λ never. absurd never) (λ e. cc e) (puts_on g on disk disk_m disk_n ⊥ ⊥ (λ never. never) first.puts noted.2.puts)
+    noted-puts stop.Disk noted = puts_same g disk disk_n ⊤ _ (λ all. refl) (λ e. tt) (puts_on g on disk disk_m disk_n ⊥ ⊤ (λ never. never) first.does.puts noted.does.puts)
+    noted-puts stop.OutOfMemory noted = puts_same g disk disk_n ⊥ _ (λ never. absurd never) (λ e. cc e) (puts_on g on disk disk_m disk_n ⊥ ⊥ (λ never. never) first.does.puts noted.2.does.puts)
 
   module _ (on : (first second third : D) → g.lasts first second → g.lasts second third → g.lasts first third) (a : Attempted) (items : List Item) (before now : WithNotes AttemptState D) where
     stopped-since : (why : Halt) → StopsAmong g a items before now why → Leaves g before.disk now.disk (λ _. MakesFirst before.notes.lists (taking before.notes.lists a items).noted)
     stopped-since why h =
         let p : Happened = taking before.notes.lists a h.before in
-        let at : h.notes_then.lists ≡ after_all before.notes.lists p.noted = (h.done.done (λ never. never)).0 in
+        let at : h.notes_then.lists ≡ after_all before.notes.lists p.noted = (h.done.does.done (λ never. never)).0 in
         let front = noted-front before.notes.lists a h.before h.item h.behind h.stops.no_outcome in
         let all : (taking before.notes.lists a items).noted ≡ p.noted ++ ((job_row h.notes_then.lists p.after.job h.item).commands ++ front.0) =
         ap (λ (some : List Item). (taking before.notes.lists a some).noted) h.is_part ∙ front.1
@@ -69,11 +69,11 @@ module _ {D : Type 0} (g : Ghosts D) where
 
     pub hears-since : (w : Window) (event : Happened) (result : Result ⊤ Halt) → event.noted ≡ (taking before.notes.lists a items).noted → HearsBy g w event a items before now result
         → Leaves g before.disk now.disk (λ _. MakesFirst before.notes.lists event.noted)
-    hears-since w event (Ok done) same h = h.1.since
+    hears-since w event (Ok done) same h = h.1.does.since
     hears-since w event (Err why) same h = subst (λ (cs : List NotesCommand). Leaves g before.disk now.disk (λ _. MakesFirst before.notes.lists cs)) (sym same) (stopped-since why h)
 
     pub hears-puts : (w : Window) (event : Happened) (result : Result ⊤ Halt) → HearsBy g w event a items before now result → PutsBy g before.disk now.disk result
-    hears-puts w event (Ok done) h = puts_same g before.disk now.disk ⊥ _ (λ never. absurd never) (λ e. cc e) h.1.puts
+    hears-puts w event (Ok done) h = puts_same g before.disk now.disk ⊥ _ (λ never. absurd never) (λ e. cc e) h.1.does.puts
     hears-puts w event (Err why) h =
         noted-puts on before.notes h.notes_then now.notes before.disk h.disk_then now.disk (taking before.notes.lists a h.before).noted
         (job_row h.notes_then.lists (taking before.notes.lists a h.before).after.job h.item).commands h.done why h.stops.noted
