@@ -20,7 +20,7 @@ module _ {D : Type 0} (g : Ghosts D) (lasts : (disk : D) → g.lasts disk disk) 
     notes_then = new;
     disk_then = disk_n;
     first = does;
-    second = Several-none g failed new disk_n fine does.stands_on (does.done (λ never. never)).1 (lasts disk_n);
+    second = Several-none g failed new disk_n fine does.does.stands_on (does.does.done (λ never. never)).1 (lasts disk_n);
   }
 
 -- commands that were done come before

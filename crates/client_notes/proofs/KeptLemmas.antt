@@ -72,7 +72,7 @@ module _ {D : Type 0} (g : Ghosts D) where
           };
       at_most = does.at_most;
       puts = does.puts;
-      same_magic = ap (λ (p : Position). p.magic) does.journal;
+      journal = does.journal;
     }
       where
         none-done : (count : ℕ) → count < 1 → new.lists ≡ after_first notes_form count old.lists (command ∷ []) → new.lists ≡ old.lists

@@ -30,7 +30,8 @@ pub record IsCut {D : Type 0} (g : Ghosts D) (old new : NotesState) (disk_now : 
   pub images : EachImage g disk_now (IsBeforeOrAfter old.lists command)
 
 -- A call of notes that haven't failed did this command, whose condition holds, in four calls of the disk, or the disk
--- failed in it. A crash since the call began leaves the notes before it or after it. The magic stays.
+-- failed in it. A crash since the call began leaves the notes before it or after it. But for its place, and
+-- whether it failed, the journal is as it was.
 pub record Does {D : Type 0} (g : Ghosts D) (failed : Type 0) (old new : NotesState) (disk disk_now : D)
     (command : NotesCommand) : Type 0 where
   pub stands_on : StandsOn g new disk_now
@@ -41,7 +42,7 @@ pub record Does {D : Type 0} (g : Ghosts D) (failed : Type 0) (old new : NotesSt
   pub cut : failed → IsCut g old new disk_now command
   pub at_most : g.moment disk_now ≤ g.moment disk + 4
   pub puts : Puts g failed disk disk_now
-  pub same_magic : new.journal.magic ≡ old.journal.magic
+  pub journal : new.journal ≡ record old.journal { place = new.journal.place; failed = new.journal.failed }
 
 -- Neither the notes nor the disk is touched.
 pub record Untouched {D : Type 0} (old new : NotesState) (disk disk_now : D) : Type 0 where

@@ -2,9 +2,10 @@
 use Rattle.std.specs.Prelude.{◌≡◌, ◌⊎◌, ◌↔◌, ℕ, List, false, Option, IfSome, Result, IsErrOf}
 use Rattle.disk_model.specs.declared.disk.Disk.{Ghosts}
 use Rattle.file_journal.specs.Calls.{IsQuietNow}
-use Rattle.file_journal.specs.Recovery.{IsFailedSync, IsRecovering, IsSyncedFirst}
+use Rattle.file_journal.specs.Recovery.{IsFailedSync, IsSyncedFirst}
+use Rattle.file_journal.specs.Restoring as kept
 use Rattle.file_journal.specs.Walk.{damaged_at, no_store, state}
-use Rattle.client_notes.specs.Records.{notes_magic}
+use Rattle.client_notes.specs.Records.{notes_form}
 use Rattle.client_notes.specs.State.{NotesState, StandsOn, standing_of}
 use Rattle.client_notes.specs.declared.refusals.StoreFault.{StoreFault}
 use Rattle.client_notes.specs.declared.refusals.StoreFault.TheVariants as fault
@@ -30,9 +31,8 @@ RefusesRecovery content result =
 
 -- The octets stand for what these stand for, and differ from them only as the journal's recovery may leave them: 18
 -- octets or more are left as they are.
-pub record StandsAlike (before image : List ℕ) : Type 0 where
-  pub same : standing_of image ≡ standing_of before
-  pub octets : IsRecovering notes_magic 1 before image
+abbrev pub StandsAlike : List ℕ → List ℕ → Type 0
+StandsAlike = kept.StandsAlike notes_form 1
 
 -- Since the end of the first sync a crash leaves what stands for the same as the content before, and a content of 18
 -- octets or more as it is; only where that sync failed, and the answer is that fault, a crash may leave what it might

@@ -94,7 +94,7 @@ module _ {D : Type 0} (g : Ghosts D) (on : (first second third : D) → g.lasts 
       whole-is : (o : Option ℕ) → o ≡ fault_code (got_of mid.lists at.server at.number) → data_end_row (got_of old.lists at.server at.number) at ≡ whole_row at o
       whole-is o is =
           let octets : got_of mid.lists at.server at.number ≡ got_of old.lists at.server at.number ++ at.rest =
-          ap (λ (l : Lists). got_of l at.server at.number) (first.done (λ never. never)).0 ∙ last-after at.server at.number at.rest old.lists in
+          ap (λ (l : Lists). got_of l at.server at.number) (first.does.done (λ never. never)).0 ∙ last-after at.server at.number at.rest old.lists in
           ap (whole_row at) (sym (is ∙ ap fault_code octets))
 
       -- it has no fault

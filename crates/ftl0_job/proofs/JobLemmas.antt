@@ -76,7 +76,7 @@ module _ {D : Type 0} (g : Ghosts D) where
         → GoBy ending notes_now.lists doing
     goes-on ending goes takes =
         let gives = takes.answers in
-        let lists : notes_now.lists ≡ after_all notes.lists (item_row notes.lists job.work item).commands = (takes.noted.done (λ never. never)).0 in
+        let lists : notes_now.lists ≡ after_all notes.lists (item_row notes.lists job.work item).commands = (takes.noted.does.done (λ never. never)).0 in
         subst (λ (l : Lists). GoBy ending l doing) (sym lists)
         (subst (λ (w : Work). GoBy ending (after_all notes.lists (item_row notes.lists job.work item).commands) w) (sym gives.0)
         (subst (λ (e : Option Ending). GoBy e (after_all notes.lists (item_row notes.lists job.work item).commands) (item_row notes.lists job.work item).state) (sym gives.2)

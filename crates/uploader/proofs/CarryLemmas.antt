@@ -1,6 +1,7 @@
 -- A job is carried out by a client whose notes were recovered.
 use Rattle.std.proofs.Common.{◌≡◌, ℕ, Bool, true, false, List, [], ◌++◌, refl, sym, ◌∙◌, ap, subst, append-nil, Option, None, Some, IfSome}
 use Rattle.std.specs.Prelude.{◌≢◌, Result, Ok, Err, IfErr, IsErrOf}
+use Rattle.file_journal.specs.Position.{Position}
 use Rattle.file_journal.specs.Through.{StandsThrough}
 use Rattle.client_notes.specs.Calls.{Runs}
 use Rattle.client_notes.specs.Walk.{state}
@@ -282,12 +283,12 @@ module _ {A C D : Type 0} (see : Seen D A C) (on : (first second third : D) → 
   -- then the notes at the end are those after all commands,
   pub lists-at-end : ¬ Failed → h.end.notes.lists ≡ after_all start (first ++ run.done)
   lists-at-end fine =
-      (all.done fine).0
+      (all.does.done fine).0
       ∙ ap (after_all start) (ap (λ (cs : List NotesCommand). (first ++ run.done) ++ cs) (cut-none run.ended _ _ _ _ _ _ _ fine h.out.ran.ends_over) ∙ append-nil (first ++ run.done))
 
   -- and each image stands for them
   pub images-at-end : ¬ Failed → EachImage see.disk new.disk (λ image. StandsFor image h.end.notes.lists)
-  images-at-end fine = images-here see.disk h.end.notes.journal new.disk h.end.notes.lists (all.same_magic ∙ h.ready.magic) (all.done fine).1 all.stands_on
+  images-at-end fine = images-here see.disk h.end.notes.journal new.disk h.end.notes.lists (ap (λ (p : Position). p.magic) all.does.journal ∙ h.ready.magic) (all.does.done fine).1 all.does.stands_on
 
   unfoldable pub carries : Carries see old new (asked_of terms start first job) result
   carries = record {

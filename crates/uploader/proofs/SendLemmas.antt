@@ -6,7 +6,7 @@ use Rattle.px_base.specs.Shelves.{Holding, content_of}
 use Rattle.pfh_reader.specs.Faults.{fault_code}
 use Rattle.disk_model.specs.declared.disk.Disk.{Ghosts}
 use Rattle.client_notes.specs.Calls.{Runs}
-use Rattle.client_notes.proofs.Offered.{alike_same, images-here, Several-none, Several-one, Several-same, stops_none, told_weaker}
+use Rattle.client_notes.proofs.Offered.{acked-last, alike_same, begun-fresh, begun-kept, command_runs, counts_writes, images-here, none_moves, not-failed, of_task, Several-none, Several-one, Several-same, stands_through, stops_none, told_weaker}
 use Rattle.client_notes.specs.Walk.{state}
 use Rattle.client_notes.specs.Answers.{StartsBy, answer_of, fresh_task, start_reaches}
 use Rattle.client_notes.specs.Command.{NotesCommand}
@@ -44,7 +44,6 @@ use Rattle.uploader.specs.Sending.{EndsAtStart, IsLastAcked, IsTaskFor, IsUnstar
 use Rattle.uploader.specs.Stops.{stop_of_start}
 use Rattle.uploader.proofs.CarryLemmas.{HasCarried, carries, causes, causes-err, causes-ok, causes-still, images-at-end, never, of_answer, of_turns, outcome-fine, recovered_exactly}
 use Rattle.uploader.proofs.OutcomeLemmas.{acked-in, never-bad, upload-reached}
-use Rattle.client_notes.proofs.Offered.{command_runs, counts_writes, none_moves, stands_through, acked-last, begun-fresh, begun-kept, not-failed, of_task}
 use Rattle.uploader.proofs.StartLemmas.{cut_of, refused-start}
 
 -- nothing is called
@@ -318,7 +317,7 @@ module _ {A C D : Type 0} (see : Seen D A C) (lasts : (disk : D) → see.disk.la
       end = end;
       ready = s.ready;
       starts = starts;
-      out = subst (λ (l : Lists). Carrying job l) (starts.done (λ never_. never_)).0 (subst (λ (j : JobState). Carrying j s.asked.notes.lists) made_is uploads.carries);
+      out = subst (λ (l : Lists). Carrying job l) (starts.does.done (λ never_. never_)).0 (subst (λ (j : JobState). Carrying j s.asked.notes.lists) made_is uploads.carries);
     }
 
     abbrev Answered : Result Sent SendStop → Type 0

@@ -1,6 +1,5 @@
 -- How an attempt hears a frame.
-use Rattle.std.proofs.Common.{◌≡◌, ◌+◌, List, ◌++◌, length, take, drop, refl, ap, sym, ◌∙◌, subst, arith, append_assoc}
-use Rattle.std.proofs.Common.{length-append}
+use Rattle.std.proofs.Common.{◌≡◌, List, ◌++◌, take, drop, refl, ap, sym, ◌∙◌, subst, append_assoc}
 use Rattle.std.specs.Prelude.{Result, Ok, Err, ⊤}
 use Rattle.std.proofs.lemmas.List.{take-append-drop}
 use Rattle.ax25_frames.specs.FrameText.{FrameValue}
@@ -11,7 +10,7 @@ use Rattle.ax25_link.specs.Rows.{after_frame, heard_of}
 use Rattle.ax25_link.specs.Window.{Window}
 use Rattle.ftl0_packets.specs.Layout.{Item}
 use Rattle.client_notes.specs.Calls.{Leaves}
-use Rattle.client_notes.proofs.Offered.{makes-first, makes-within, puts_on, puts_same, Several-then, told_weaker, weaker}
+use Rattle.client_notes.proofs.Offered.{makes-longer, puts_on, puts_same, Several-then, told_weaker, weaker}
 use Rattle.client_notes.specs.Command.{NotesCommand}
 use Rattle.client_notes.specs.Laws.{after_all}
 use Rattle.client_notes.specs.Notes.{Lists}
@@ -32,11 +31,8 @@ module _ {D : Type 0} (g : Ghosts D) where
   -- the first of some commands, for some number of them, are the first of more commands
   leaves-front : (lists : Lists) (disk disk_n : D) (front more : List NotesCommand) → Leaves g disk disk_n (λ _. MakesFirst lists front) → Leaves g disk disk_n (λ _. MakesFirst lists (front ++ more))
   leaves-front lists disk disk_n front more leaves =
-      let sum : length (front ++ more) ≡ length front + length more = length-append front more in
       told_weaker (g.content disk) _ _ (λ before told left.
-      weaker g.moment g.images_since disk disk_n (MakesFirst lists front) (MakesFirst lists (front ++ more))
-      (λ image here. makes-within 0 (length front) 0 (length (front ++ more)) lists (front ++ more) image (omega arith) (omega arith) (makes-first 0 (length front) lists front more image (omega arith) here)) left)
-      leaves
+      weaker g.moment g.images_since disk disk_n (MakesFirst lists front) (MakesFirst lists (front ++ more)) (makes-longer lists front more) left) leaves
 
   module _ (on : (first second third : D) → g.lasts first second → g.lasts second third → g.lasts first third) (old mid new : NotesState) (disk disk_m disk_n : D) (done commands : List NotesCommand)
       (first : DoesSeveral g ⊥ old mid disk disk_m done) where
@@ -44,7 +40,7 @@ module _ {D : Type 0} (g : Ghosts D) where
     noted-since : (more : List NotesCommand) (why : Halt) → HasNoted {T = ⊤} g mid new disk_m disk_n commands (Err why) → Leaves g disk disk_n (λ _. MakesFirst old.lists (done ++ (commands ++ more)))
     noted-since more stop.Disk noted =
         subst (λ (all : List NotesCommand). Leaves g disk disk_n (λ _. MakesFirst old.lists all)) (append_assoc done commands more)
-        (leaves-front old.lists disk disk_n (done ++ commands) more (Several-then g on ⊥ ⊤ old mid new disk disk_m disk_n done commands (λ never. never) first noted).since)
+        (leaves-front old.lists disk disk_n (done ++ commands) more (Several-then g on ⊥ ⊤ old mid new disk disk_m disk_n done commands (λ never. never) first noted).does.since)
     noted-since more stop.OutOfMemory noted =
         let some : List NotesCommand = take noted.0 commands in
         let others : List NotesCommand = drop noted.0 commands in
@@ -52,18 +48,18 @@ module _ {D : Type 0} (g : Ghosts D) where
         append_assoc done some (others ++ more)
         ∙ ap (λ (cs : List NotesCommand). done ++ cs) (sym (append_assoc some others more) ∙ ap (λ (cs : List NotesCommand). cs ++ more) (take-append-drop noted.0 commands)) in
         subst (λ (all : List NotesCommand). Leaves g disk disk_n (λ _. MakesFirst old.lists all)) same
-        (leaves-front old.lists disk disk_n (done ++ some) (others ++ more) (Several-then g on ⊥ ⊥ old mid new disk disk_m disk_n done some (λ never. never) first noted.2).since)
+        (leaves-front old.lists disk disk_n (done ++ some) (others ++ more) (Several-then g on ⊥ ⊥ old mid new disk disk_m disk_n done some (λ never. never) first noted.2).does.since)
 
     -- and what is said of the counts
     noted-puts : (why : Halt) → HasNoted {T = ⊤} g mid new disk_m disk_n commands (Err why) → PutsBy g disk disk_n (Err why)
-    noted-puts stop.Disk noted = puts_same g disk disk_n ⊤ _ (λ all. refl) (λ e. tt) (puts_on g on disk disk_m disk_n ⊥ ⊤ (λ never. never) first.puts noted.puts)
-    noted-puts stop.OutOfMemory noted = puts_same g disk disk_n ⊥ _ (λ never. absurd never) (λ e. cc e) (puts_on g on disk disk_m disk_n ⊥ ⊥ (λ never. never) first.puts noted.2.puts)
+    noted-puts stop.Disk noted = puts_same g disk disk_n ⊤ _ (λ all. refl) (λ e. tt) (puts_on g on disk disk_m disk_n ⊥ ⊤ (λ never. never) first.does.puts noted.does.puts)
+    noted-puts stop.OutOfMemory noted = puts_same g disk disk_n ⊥ _ (λ never. absurd never) (λ e. cc e) (puts_on g on disk disk_m disk_n ⊥ ⊥ (λ never. never) first.does.puts noted.2.does.puts)
 
   module _ (on : (first second third : D) → g.lasts first second → g.lasts second third → g.lasts first third) (a : Attempted) (items : List Item) (before now : WithNotes AttemptState D) where
     stopped-since : (why : Halt) → StopsAmong g a items before now why → Leaves g before.disk now.disk (λ _. MakesFirst before.notes.lists (taking before.notes.lists a items).noted)
     stopped-since why h =
         let p : Happened = taking before.notes.lists a h.before in
-        let at : h.notes_then.lists ≡ after_all before.notes.lists p.noted = (h.done.done (λ never. never)).0 in
+        let at : h.notes_then.lists ≡ after_all before.notes.lists p.noted = (h.done.does.done (λ never. never)).0 in
         let front = noted-front before.notes.lists a h.before h.item h.behind h.stops.no_outcome in
         let all : (taking before.notes.lists a items).noted ≡ p.noted ++ ((job_row h.notes_then.lists p.after.job h.item).commands ++ front.0) =
         ap (λ (some : List Item). (taking before.notes.lists a some).noted) h.is_part ∙ front.1
@@ -73,11 +69,11 @@ module _ {D : Type 0} (g : Ghosts D) where
 
     pub hears-since : (w : Window) (event : Happened) (result : Result ⊤ Halt) → event.noted ≡ (taking before.notes.lists a items).noted → HearsBy g w event a items before now result
         → Leaves g before.disk now.disk (λ _. MakesFirst before.notes.lists event.noted)
-    hears-since w event (Ok done) same h = h.1.since
+    hears-since w event (Ok done) same h = h.1.does.since
     hears-since w event (Err why) same h = subst (λ (cs : List NotesCommand). Leaves g before.disk now.disk (λ _. MakesFirst before.notes.lists cs)) (sym same) (stopped-since why h)
 
     pub hears-puts : (w : Window) (event : Happened) (result : Result ⊤ Halt) → HearsBy g w event a items before now result → PutsBy g before.disk now.disk result
-    hears-puts w event (Ok done) h = puts_same g before.disk now.disk ⊥ _ (λ never. absurd never) (λ e. cc e) h.1.puts
+    hears-puts w event (Ok done) h = puts_same g before.disk now.disk ⊥ _ (λ never. absurd never) (λ e. cc e) h.1.does.puts
     hears-puts w event (Err why) h =
         noted-puts on before.notes h.notes_then now.notes before.disk h.disk_then now.disk (taking before.notes.lists a h.before).noted
         (job_row h.notes_then.lists (taking before.notes.lists a h.before).after.job h.item).commands h.done why h.stops.noted

@@ -39,7 +39,7 @@ use Rattle.uploader.proofs.turns.PromiseLemmas.{nothing-asked}
 module _ {D : Type 0} (g : Ghosts D) (lasts : (disk : D) → g.lasts disk disk) (on : (first second third : D) → g.lasts first second → g.lasts second third → g.lasts first third) where
   some-cut : (P : Type 0) (old new : NotesState) (disk disk_n : D) (commands : List NotesCommand) → P → DoesSeveral g P old new disk disk_n commands → commands ≡ [] → ⊥
   some-cut P old new disk disk_n commands failed does none =
-      let few = (does.cut failed).fewer in
+      let few = (does.does.cut failed).fewer in
       let empty : length commands ≡ 0 = ap (λ (cs : List NotesCommand). length cs) none in
       omega (arith, few, empty)
 
@@ -68,7 +68,7 @@ module _ {D : Type 0} (g : Ghosts D) (lasts : (disk : D) → g.lasts disk disk) 
                 ∙ ap (λ (l : Lists). (taking l start (packets_heard client.window a frame)).noted) (sym lists_are)
                 ∙ ap (λ (items : List Item). (taking old.notes.lists start items).noted) h.is_part
                 ∙ front.1
-                ∙ ap (λ (l : Lists). part.noted ++ ((job_row l part.after.job h.item).commands ++ front.0)) (sym (h.done.done (λ never. never)).0),
+                ∙ ap (λ (l : Lists). part.noted ++ ((job_row l part.after.job h.item).commands ++ front.0)) (sym (h.done.does.done (λ never. never)).0),
           )
 
       halted-among : (why : Halt) → Among why → Halted why

@@ -22,7 +22,7 @@ note_got-requires-clause-allowed g c =
     let is : c.as_slice-in-loop.result.now ≡ take 512 (drop (512 * c.loop.counter) all) =
     c.as_slice-in-loop.ensures.value ∙ c.fill_block-left.ensures.block ∙ ap (take 512) c.loop.invariant.octets in
     block-allowed c.args.server c.args.number n c.loop.counter all c.args.notes.now.lists c.loop.notes.lists c.requires.some (omega arith) c.requires.fits below
-    (c.loop.invariant.noted.done (λ never. never)).0 c.as_slice-in-loop.result.now is
+    (c.loop.invariant.noted.does.done (λ never. never)).0 c.as_slice-in-loop.result.now is
 
 pub returns-in_err-note_got-clause-noted : goal.returns-in_err-note_got-clause-noted
 returns-in_err-note_got-clause-noted g c =

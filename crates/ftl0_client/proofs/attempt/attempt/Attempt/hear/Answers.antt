@@ -38,7 +38,7 @@ returns-clause-hears g c w a is =
     let made = c.in_ok-take_frame.ensures.hears w a is in
     record {
       by = (c.settle.ensures.settles w (taking c.args.notes.now.lists (after_hearing w a frame) (packets_heard w a frame)).after made.0, made.1);
-      since = made.1.since;
+      since = made.1.does.since;
     }
 
 pub returns-clause-puts : goal.returns-clause-puts

@@ -1,0 +1,25 @@
+-- Each whole 512 octets are noted.
+use Rattle.std.proofs.Common.{◌≡◌, [], ◌++◌, rules, sym, subst, refl, arith}
+use Rattle.std.proofs.lemmas.Grind.{common_steps}
+use Rattle.std.specs.Prelude.{⊤, Option, Result, Err}
+use Rattle.client_notes.specs.Notes.{got_of}
+use Rattle.ftl0_job.specs.declared.ending.Ending.{Ending}
+use Rattle.disk_model.specs.declared.halt.Halt.{Halt}
+use Rattle.ftl0_job.specs.Download.{Download, data_row, unnoted, whole_gots, with_rest}
+use Rattle.ftl0_job.specs.Noting.{HasNoted}
+use Rattle.ftl0_job.specs.Row.{Row, goes_on}
+use Rattle.ftl0_job.specs.Taking.{TakesRow, with_notes}
+use Rattle.ftl0_job.proofs.download.Download.take_data.Goals as goal
+
+pub returns-in_err-self-inside : goal.returns-in_err-self-inside
+returns-in_err-self-inside g c =
+    let at : Download = c.args.self.now in
+    let old = c.args.notes.now in
+    let octets = at.rest ++ c.args.octets.now in
+    let why = c.in_err-self-inside.field-0.0 in
+    let stops : c.from_residual.result ≡ Err why = search rules in
+    let few : data_row (got_of old.lists at.server at.number) at c.args.octets.now ≡ goes_on (with_rest at (unnoted octets)) (whole_gots at.server at.number octets) [] = grind (arith, common_steps) in
+    let P : Row Download → Result (Option Ending) Halt → Type 0 = λ row r. TakesRow g.D.Disk row (with_notes at old c.args.disk.now) (with_notes at c.note_blocks.new.notes c.note_blocks.new.disk) [] r in
+    let noted : Download → Type 0 = λ d. HasNoted {T = ⊤} g.D.Disk old c.note_blocks.new.notes c.args.disk.now c.note_blocks.new.disk (whole_gots d.server d.number (d.rest ++ c.args.octets.now)) (Err why) in
+    subst (λ (r : Result (Option Ending) Halt). P (data_row (got_of old.lists at.server at.number) at c.args.octets.now) r) (sym stops)
+    (subst (λ (row : Row Download). P row (Err why)) (sym few) (record { answers = (refl, refl); noted = subst noted c.self.view_is c.in_err-self-inside.ensures.noted }))
