@@ -8,12 +8,13 @@ use Rattle.clap.specs.Words.{App, Rule, first_value, found_of, new_rule, with_ru
 use Rattle.clap.specs.Simple.{new_shape}
 use Rattle.clap.specs.declared.builder.action.ArgAction.TheVariants.{Set}
 use Rattle.clap.specs.declared.parser.matches.ArgMatches.{ArgMatches}
+use Rattle.command_words.specs.declared.body.BodyRequest.{BodyRequest}
 use Rattle.command_words.specs.declared.line.MakeTexts.{MakeTexts}
 use Rattle.command_words.specs.declared.terms.Terms.{Terms}
 use Rattle.command_words.specs.Clients.{ClientTerms, client_options}
 use Rattle.command_words.specs.Grammar.{Line, line_places, line_value}
 use Rattle.command_words.specs.Making.{MakeOptions, make_options, options_given}
-use Rattle.command_words.specs.Words.{serve_options, session_options}
+use Rattle.command_words.specs.Words.{BodyText, serve_options, session_options}
 
 -- an option with a value
 abbrev pub option_of : List ℕ → Rule
@@ -155,3 +156,7 @@ pub record MakeLine (texts : MakeTexts) (words : List (List ℕ)) : Type 0 where
   pub line : Line make_options words 2
   pub places : line_places line ≡ texts.body.now ∷ texts.kept.now ∷ []
   pub options : options_given (line_value line) ≡ options_read texts
+
+-- The words after `pfh-body` are these places.
+abbrev pub BodyLine : BodyRequest → List (List ℕ) → Type 0
+BodyLine asked words = BodyText asked.name.now asked.kept.now words

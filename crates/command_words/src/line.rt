@@ -3,10 +3,10 @@
 ghost use Rattle.std.specs.Prelude.{◌≡◌, List, [], ◌∷◌, false, IfOk, IsErrOf, codes, drop, map, option_copied, string_bytes};
 ghost use Rattle.clap.specs.Words.{app_of, kind_of, rule_of, with_rule};
 ghost use Rattle.command_words.specs.Grammar.{Line};
-ghost use Rattle.command_words.specs.Lines.{FindsLine, MakeLine, RefusesLine, ServeLine, SessionLine, command_of};
+ghost use Rattle.command_words.specs.Lines.{BodyLine, FindsLine, MakeLine, RefusesLine, ServeLine, SessionLine, command_of};
 ghost use Rattle.command_words.specs.Lines.{body_app, make_app, option_of, options_added, place_of, serve_app, session_app};
 ghost use Rattle.command_words.specs.Making.{make_options};
-ghost use Rattle.command_words.specs.Words.{BodyText, NameText, serve_options, session_options};
+ghost use Rattle.command_words.specs.Words.{NameText, serve_options, session_options};
 
 use crate::body::BodyRequest;
 use crate::request::Refusal;
@@ -150,7 +150,7 @@ pub(crate) fn read_make<'a>(alloc: Global, line: &'a [String]) -> Result<MakeTex
 
 /// Reads the words from `pfh-body` on. Takes memory.
 pub(crate) fn read_body<'a>(alloc: Global, line: &'a [String]) -> Result<BodyRequest<'a>, Refusal>
-    ensures texts { IfOk result (λ asked. BodyText asked.name.now asked.kept.now (drop 1 (map string_bytes line.now))) }
+    ensures texts { IfOk result (λ asked. BodyLine asked (drop 1 (map string_bytes line.now))) }
     ensures usage { IsErrOf result Refusal.Usage → Line [] (drop 1 (map string_bytes line.now)) 2 → ⊥ }
     ensures built { IsErrOf result Refusal.NotBuilt → ⊥ }
 {
