@@ -17,8 +17,8 @@ use crate::ids::{
 /// Each id is the standard's, and so are the octets that a header begins with.
 pub fn ids_law()
     ensures start { HEADER_START ≡ header_start }
-    ensures mandatory { (FILE_NUMBER ∷ FILE_NAME ∷ FILE_EXT ∷ FILE_SIZE ∷ CREATE_TIME ∷ LAST_MODIFIED_TIME ∷ SEU_FLAG ∷ FILE_TYPE
-        ∷ BODY_CHECKSUM ∷ HEADER_CHECKSUM ∷ BODY_OFFSET ∷ [])
+    ensures mandatory { (FILE_NUMBER ∷ FILE_NAME ∷ FILE_EXT ∷ FILE_SIZE ∷ CREATE_TIME ∷ LAST_MODIFIED_TIME
+        ∷ SEU_FLAG ∷ FILE_TYPE ∷ BODY_CHECKSUM ∷ HEADER_CHECKSUM ∷ BODY_OFFSET ∷ [])
         ≡ map (λ rule. rule.id) mandatory_items }
     ensures extended { (SOURCE ∷ AX25_UPLOADER ∷ UPLOAD_TIME ∷ DOWNLOAD_COUNT ∷ DESTINATION ∷ AX25_DOWNLOADER ∷ DOWNLOAD_TIME
         ∷ EXPIRE_TIME ∷ PRIORITY ∷ [])
