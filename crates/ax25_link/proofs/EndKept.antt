@@ -4,7 +4,7 @@ use Rattle.std.specs.Prelude.{◌==◌}
 use Rattle.std.proofs.lemmas.Bool.{cond_both, eqb-false}
 use Rattle.px_base.specs.CallSign.{CallSign}
 use Rattle.ax25_frames.specs.declared.control.Control.{Control}
-use Rattle.ax25_frames.specs.declared.control.Control.TheVariants.{I, Rr, Rnr, Rej, Sabm, Disc, Dm, Ua, Frmr, Ui}
+use Rattle.ax25_frames.specs.declared.control.Control.TheVariants.{Sabm}
 use Rattle.ax25_frames.specs.FrameText.{FrameValue}
 use Rattle.ax25_link.specs.declared.state.LinkState.{LinkState}
 use Rattle.ax25_link.specs.declared.state.LinkState.TheVariants.{Calling, Up, Ending, Down}
@@ -46,17 +46,10 @@ Hears-IsEnd w old control information new fits h =
 
 up-IsEnd : (w : Window) (old : LinkEnd) (frame : FrameValue) (control : Control) → IsEnd w old → Quiet old → old.state ≡ Up
     → IsEnd w (up_row w old frame control).after
-up-IsEnd w old frame (I ns nr) fits q up = Hears-IsEnd w old (I ns nr) frame.kind.information _ fits (Hears_up w old frame (I ns nr) fits q up refl)
-up-IsEnd w old frame (Rr nr) fits q up = Hears-IsEnd w old (Rr nr) frame.kind.information _ fits (Hears_up w old frame (Rr nr) fits q up refl)
-up-IsEnd w old frame (Rnr nr) fits q up = Hears-IsEnd w old (Rnr nr) frame.kind.information _ fits (Hears_up w old frame (Rnr nr) fits q up refl)
-up-IsEnd w old frame (Rej nr) fits q up = Hears-IsEnd w old (Rej nr) frame.kind.information _ fits (Hears_up w old frame (Rej nr) fits q up refl)
 up-IsEnd w old frame Sabm fits q up =
     cond_both old.called _ _ (λ (o : Outcome). IsEnd w o.after) (λ e. fits) (λ e. answering_end-IsEnd w old.me old.peer frame.poll)
-up-IsEnd w old frame Disc fits q up = Hears-IsEnd w old Disc frame.kind.information _ fits (Hears_up w old frame Disc fits q up refl)
-up-IsEnd w old frame Dm fits q up = Hears-IsEnd w old Dm frame.kind.information _ fits (Hears_up w old frame Dm fits q up refl)
-up-IsEnd w old frame Ua fits q up = fits
-up-IsEnd w old frame Frmr fits q up = Hears-IsEnd w old Frmr frame.kind.information _ fits (Hears_up w old frame Frmr fits q up refl)
-up-IsEnd w old frame Ui fits q up = fits
+up-IsEnd w old frame control fits q up =
+    Hears-IsEnd w old control frame.kind.information (up_row w old frame control).after fits (Hears_up w old frame control fits q up refl)
 
 row-IsEnd : (w : Window) (old : LinkEnd) (frame : FrameValue) (state : LinkState) → old.state ≡ state → IsEnd w old → Quiet old
     → IsEnd w (row_of_state state w old frame).after
@@ -98,10 +91,8 @@ asking-oldest end =
     (λ e f. (let some = eqb-false (outstanding end) 0 e in omega (arith, some)))
 
 pub timer_reply-oldest : (state : LinkState) (end : LinkEnd) → timer_reply state end ≡ oldest → 1 ≤ outstanding end
-timer_reply-oldest Calling end e = absurd (let x : ⊥ = cc in x)
 timer_reply-oldest Up end e = asking-oldest end e
-timer_reply-oldest Ending end e = absurd (let x : ⊥ = cc in x)
-timer_reply-oldest Down end e = absurd (let x : ⊥ = cc in x)
+timer_reply-oldest state end e = absurd (let x : ⊥ = cc in x)
 
 pub trying-IsEnd : (w : Window) (end : LinkEnd) → IsEnd w end → IsEnd w (trying end)
 trying-IsEnd w end fits =
