@@ -1,5 +1,5 @@
 -- Each step keeps what holds of each end.
-use Rattle.std.proofs.Common.{◌≡◌, ℕ, ◌≤◌, List, length, Some, Bool, true, false, refl, ap, arith}
+use Rattle.std.proofs.Common.{◌≡◌, ℕ, ◌≤◌, List, length, Option, Some, Bool, true, false, refl, ap, arith}
 use Rattle.std.specs.Prelude.{◌==◌}
 use Rattle.std.proofs.lemmas.Bool.{cond_both, eqb-false}
 use Rattle.px_base.specs.CallSign.{CallSign}
@@ -18,16 +18,16 @@ use Rattle.ax25_link.proofs.EndLemmas.{Quiet, quiet, unless_oldest-no}
 use Rattle.ax25_link.proofs.HeardLemmas.{Hears, Hears_up, Hears_calling, Hears_ending, Hears_down}
 
 -- an end with no numbers yet
-begun-IsEnd : (w : Window) (called : Bool) (me peer : CallSign) (state : LinkState) (reply : Reply) → (Some reply ≡ Some oldest → ⊥)
+begun-IsEnd : (w : Window) (called : Bool) (me peer : CallSign) (state : LinkState) (reply : Option Reply) → (reply ≡ Some oldest → ⊥)
     → IsEnd w (begun called me peer state reply)
 begun-IsEnd w called me peer state reply other =
     record { acked = omega arith; window = omega arith; again = omega arith; oldest = λ e. absurd (other e) }
 
 pub calling_end-IsEnd : (w : Window) (me peer : CallSign) → IsEnd w (calling_end me peer)
-calling_end-IsEnd w me peer = begun-IsEnd w true me peer Calling call (λ e. (let x : ⊥ = cc in x))
+calling_end-IsEnd w me peer = begun-IsEnd w true me peer Calling (Some call) (λ e. (let x : ⊥ = cc in x))
 
 pub answering_end-IsEnd : (w : Window) (me peer : CallSign) (poll : Bool) → IsEnd w (answering_end me peer poll)
-answering_end-IsEnd w me peer poll = begun-IsEnd w false me peer Up (accept poll) (λ e. (let x : ⊥ = cc in x))
+answering_end-IsEnd w me peer poll = begun-IsEnd w false me peer Up (Some (accept poll)) (λ e. (let x : ⊥ = cc in x))
 
 pub Hears-IsEnd : (w : Window) (old : LinkEnd) (control : Control) (information : List ℕ) (new : LinkEnd) → IsEnd w old
     → Hears w old control information new → IsEnd w new
