@@ -22,6 +22,18 @@ class Link:
         self.queue, self.sent, self.again = b"", [], []
         self.busy = self.rejects = False
 
+    @staticmethod
+    def idle(k):
+        """An end before its first link."""
+        link = Link(k)
+        link.state, link.timer = "Down", None
+        return link
+
+    def accept(self, poll):
+        """A SABM with this P bit is answered, in Down and while nothing is pending."""
+        assert self.state == "Down" and not self.pending()
+        self.__init__(self.k, poll)
+
     # ---- what comes
 
     def take(self, frame):

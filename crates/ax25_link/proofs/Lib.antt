@@ -18,3 +18,4 @@ mod QueueLemmas
 mod RunLemmas
 mod SendLemmas
 mod StandLemmas
+mod StationLemmas

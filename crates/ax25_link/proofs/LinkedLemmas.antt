@@ -1,11 +1,12 @@
 -- Two linked stations stay linked, step by step.
-use Rattle.std.proofs.Common.{◌≡◌, ℕ, ◌≤◌, List, [], ◌∷◌, ◌++◌, length, take, Option, Some, None, false, refl, sym, ◌∙◌, ap, subst, arith, append_assoc}
+use Rattle.std.proofs.Common.{◌≡◌, ℕ, ◌≤◌, List, [], ◌∷◌, ◌++◌, length, take, Option, Some, false, refl, sym, ◌∙◌, ap, subst, arith, append_assoc}
 use Rattle.std.specs.List.{concat}
 use Rattle.std.proofs.lemmas.Bool.{cond_both}
+use Rattle.ax25_link.specs.declared.state.LinkState.{LinkState}
 use Rattle.ax25_link.specs.declared.state.LinkState.TheVariants.{Calling, Up, Ending, Down}
 use Rattle.ax25_link.specs.Window.{Window}
-use Rattle.ax25_link.specs.Ends.{LinkEnd, Reply, IsEnd, taken_count, free_octets, ready, reject, accept, refuse, refuse_frame, call, disconnect, enquire, oldest}
-use Rattle.ax25_link.specs.Rows.{is_call, unless_oldest}
+use Rattle.ax25_link.specs.Ends.{LinkEnd, Reply, Farewell, IsEnd, goodbye, gone, taken_count, free_octets, oldest}
+use Rattle.ax25_link.specs.Rows.{is_call, unless_oldest, entering}
 use Rattle.ax25_link.specs.Timer.{is_down, runs_out, is_spent, after_tick}
 use Rattle.ax25_link.specs.Calls.{Doing, push, hang_up, abandon, after_doing}
 use Rattle.ax25_link.specs.Sending.{Sending, IsQuiet, next_sending}
@@ -13,7 +14,7 @@ use Rattle.ax25_link.specs.Air.{Transmission, fresh}
 use Rattle.ax25_link.specs.Linked.{Station, AreLinked, NumbersFit, PiecesFit, ShownFit, IsUnpushed, owed, owed_for}
 use Rattle.ax25_link.proofs.AirLemmas.{ShownFit-grows, updated, PiecesFit-send, ShownFit-send, IsOpened-send}
 use Rattle.ax25_link.proofs.EndLemmas.{quiet}
-use Rattle.ax25_link.proofs.EndKept.{after_tick-IsEnd, after_doing-IsEnd}
+use Rattle.ax25_link.proofs.EndKept.{after_tick-IsEnd, after_doing-IsEnd, entering-IsEnd}
 use Rattle.ax25_link.proofs.SendLemmas.{IsRest, next_sending-Sends}
 
 -- the station with another end, and with other transmissions
@@ -98,20 +99,28 @@ kept-steady w one other new h s =
 
 -- a reply stays, so it is still owed
 owed-unless_oldest : (reply : Option Reply) → owed_for (unless_oldest reply) ≡ owed_for reply
-owed-unless_oldest None = refl
-owed-unless_oldest (Some (ready poll)) = refl
-owed-unless_oldest (Some (reject poll)) = refl
-owed-unless_oldest (Some (accept poll)) = refl
-owed-unless_oldest (Some (refuse poll)) = refl
-owed-unless_oldest (Some (refuse_frame octets poll)) = refl
-owed-unless_oldest (Some call) = refl
-owed-unless_oldest (Some disconnect) = refl
-owed-unless_oldest (Some enquire) = refl
 owed-unless_oldest (Some oldest) = refl
+owed-unless_oldest reply = refl
 
 -- a quiet end owes no reply
 pub quiet-owed : (w : Window) (end : LinkEnd) → IsQuiet w end → owed end ≡ 0
 quiet-owed w end q = ap owed_for (quiet w end q).reply
+
+-- it is a steady step that the link ends, whatever is still queued and is to be sent last
+pub ending-Steady : (w : Window) (end : LinkEnd) (state : LinkState) (queued : List ℕ) (farewell : Option Farewell) → IsEnd w end
+    → (state ≡ Up → ⊥) → (state ≡ Calling → ⊥) → Steady w end (record (entering end state) { queued = queued; farewell = farewell })
+ending-Steady w end state queued farewell fits down never =
+    let same = owed-unless_oldest end.reply in
+    let e = entering-IsEnd w end state fits in
+    record {
+      fits = record { acked = e.acked; window = e.window; again = e.again; oldest = e.oldest };
+      sent = refl;
+      acked = refl;
+      taken = refl;
+      owed = omega (arith, same);
+      octets = λ rest h. (rest, (h.0, λ up. absurd (down up)));
+      calling = λ u calling. absurd (never calling);
+    }
 
 -- what the layer above does is a steady step
 pub does-Steady : (w : Window) (end : LinkEnd) (doing : Doing) → IsEnd w end → end.state ≡ Up → Steady w end (after_doing end doing)
@@ -132,27 +141,9 @@ does-Steady w end (push octets) fits up =
       calling = λ u e. absurd (let c : end.state ≡ Calling = e in let x : ⊥ = cc in x);
     }
 does-Steady w end hang_up fits up =
-    let same = owed-unless_oldest end.reply in
-    record {
-      fits = after_doing-IsEnd w end hang_up fits;
-      sent = refl;
-      acked = refl;
-      taken = refl;
-      owed = omega (arith, same);
-      octets = λ rest h. (rest, (h.0, λ (e : Ending ≡ Up). absurd (let x : ⊥ = cc in x)));
-      calling = λ u (e : Ending ≡ Calling). absurd (let x : ⊥ = cc in x);
-    }
+    ending-Steady w end Ending [] (Some goodbye) fits (λ (e : Ending ≡ Up). (let x : ⊥ = cc in x)) (λ (e : Ending ≡ Calling). (let x : ⊥ = cc in x))
 does-Steady w end abandon fits up =
-    let same = owed-unless_oldest end.reply in
-    record {
-      fits = after_doing-IsEnd w end abandon fits;
-      sent = refl;
-      acked = refl;
-      taken = refl;
-      owed = omega (arith, same);
-      octets = λ rest h. (rest, (h.0, λ (e : Down ≡ Up). absurd (let x : ⊥ = cc in x)));
-      calling = λ u (e : Down ≡ Calling). absurd (let x : ⊥ = cc in x);
-    }
+    ending-Steady w end Down end.queued (Some gone) fits (λ (e : Down ≡ Up). (let x : ⊥ = cc in x)) (λ (e : Down ≡ Calling). (let x : ⊥ = cc in x))
 
 -- what the octets and the state are after a tick
 record Ticked (old new : LinkEnd) : Type 0 where

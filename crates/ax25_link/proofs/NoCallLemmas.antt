@@ -1,24 +1,24 @@
 -- Only an end that is calling sends a SABM, when its timer runs out.
 use Rattle.std.proofs.Common.{◌≡◌, ℕ, List, [], ◌∷◌, Option, Some, None, Bool, true, false, refl, sym, ◌∙◌, ap, subst}
-use Rattle.std.specs.Prelude.{◌==◌, ◌&&◌, ◌||◌, nat_lt, if◌then◌else◌}
+use Rattle.std.specs.Prelude.{◌==◌, ◌&&◌, ◌||◌, if◌then◌else◌}
 use Rattle.std.proofs.lemmas.Bool.{cond_both}
-use Rattle.std.proofs.lemmas.Option.{same_Some}
 use Rattle.ax25_frames.specs.declared.control.Control.{Control}
-use Rattle.ax25_frames.specs.declared.control.Control.TheVariants.{I, Rr, Rnr, Rej, Sabm, Disc, Dm, Ua, Frmr, Ui}
+use Rattle.ax25_frames.specs.declared.control.Control.TheVariants.{I, Rr, Rnr, Rej, Sabm, Disc, Dm, Ua, Frmr}
 use Rattle.ax25_frames.specs.FrameText.{FrameValue}
 use Rattle.ax25_link.specs.declared.state.LinkState.{LinkState}
 use Rattle.ax25_link.specs.declared.state.LinkState.TheVariants.{Calling, Up, Ending, Down}
 use Rattle.ax25_link.specs.Window.{Window}
-use Rattle.ax25_link.specs.Ends.{LinkEnd, Reply, Farewell, outstanding, ready, reject, accept, refuse, refuse_frame, call, disconnect, enquire, oldest, goodbye, gone}
+use Rattle.ax25_link.specs.Ends.{LinkEnd, Reply, Farewell, outstanding, ready, reject, accept, refuse, call, enquire, oldest, goodbye, gone}
 use Rattle.ax25_link.specs.Acknowledging.{Meaning, good, stale, bad, meaning_of, applying, is_good, is_bad}
 use Rattle.ax25_link.specs.Frames.{receive_number, frame_of_reply}
 use Rattle.ax25_link.specs.Rows.{Outcome, unless_oldest, information_row, supervisory_row, with_busy, sending_again, numbered_row, up_row, calling_row, ending_row, down_row, row_of_state, is_call}
 use Rattle.ax25_link.specs.Timer.{is_down, runs_out, is_spent, asking, timer_reply, after_tick}
 use Rattle.ax25_link.specs.Calls.{Doing, push, hang_up, abandon, after_doing, DoesAll}
-use Rattle.ax25_link.specs.Sending.{Sending, sending_after, later_sending, last_sending, sends_again, sends_new, has_new, Drains}
+use Rattle.ax25_link.specs.Sending.{Sending, next_sending, sends_farewell, sends_new, Drains}
 use Rattle.ax25_link.specs.LinkStep.{Coming, frame, tick, after_coming}
 use Rattle.ax25_link.specs.Laws.{HasNoCall, NoCallLaw}
 use Rattle.ax25_link.proofs.EndLemmas.{quiet, acknowledging-keeps}
+use Rattle.ax25_link.proofs.SendLemmas.{sending_cases}
 
 -- no SABM is to be sent first
 abbrev pub CallsNot : LinkEnd → Type 0
@@ -30,20 +30,12 @@ record SendsOther (sending : Sending) : Type 0 where
   after : CallsNot sending.after
 
 reply-other : (w : Window) (end : LinkEnd) (reply : Reply) → (Some reply ≡ Some call → ⊥) → is_call (frame_of_reply w end reply).kind.control ≡ false
-reply-other w end (ready poll) never = refl
-reply-other w end (reject poll) never = refl
-reply-other w end (accept poll) never = refl
-reply-other w end (refuse poll) never = refl
-reply-other w end (refuse_frame octets poll) never = refl
 reply-other w end call never = absurd (never refl)
-reply-other w end disconnect never = refl
-reply-other w end enquire never = refl
-reply-other w end oldest never = refl
+reply-other w end reply never = refl
 
-last-other : (end : LinkEnd) (farewell : Option Farewell) → CallsNot end → (s : Sending) → last_sending end farewell ≡ Some s → SendsOther s
-last-other end None never s e = absurd (let x : ⊥ = cc in x)
-last-other end (Some goodbye) never s e = subst SendsOther (same_Some _ s e) (record { frame = refl; after = never })
-last-other end (Some gone) never s e = subst SendsOther (same_Some _ s e) (record { frame = refl; after = never })
+farewell-other : (end : LinkEnd) (farewell : Farewell) → CallsNot end → SendsOther (sends_farewell end farewell)
+farewell-other end goodbye never = record { frame = refl; after = never }
+farewell-other end gone never = record { frame = refl; after = never }
 
 new-other : (w : Window) (end : LinkEnd) → CallsNot end → SendsOther (sends_new w end)
 new-other w end never =
@@ -52,42 +44,25 @@ new-other w end never =
       after = cond_both (outstanding end == 0) _ _ CallsNot (λ e. never) (λ e. never);
     }
 
-later-other : (w : Window) (end : LinkEnd) → CallsNot end → (s : Sending) → later_sending w end ≡ Some s → SendsOther s
-later-other w end never s =
-    cond_both (nat_lt 0 end.again) _ _ (λ (o : Option Sending). o ≡ Some s → SendsOther s)
-    (λ h e. subst SendsOther (same_Some (sends_again w end) s e) (record { frame = refl; after = never }))
-    (λ h. cond_both (has_new w end) _ _ (λ (o : Option Sending). o ≡ Some s → SendsOther s)
-    (λ g e. subst SendsOther (same_Some (sends_new w end) s e) (new-other w end never))
-    (λ g e. last-other end end.farewell never s e))
-
-next-other : (w : Window) (end : LinkEnd) (reply : Option Reply) → end.reply ≡ reply → CallsNot end → (s : Sending)
-    → sending_after w end reply ≡ Some s → SendsOther s
-next-other w end None same never s e = later-other w end never s e
-next-other w end (Some reply) same never s e =
-    subst SendsOther (same_Some _ s e)
-    (record {
+next-other : (w : Window) (end : LinkEnd) → CallsNot end → (s : Sending) → next_sending w end ≡ Some s → SendsOther s
+next-other w end never =
+    sending_cases w end SendsOther
+    (λ reply same. record {
       frame = reply-other w end reply (λ x. never (same ∙ x));
       after = λ (x : None ≡ Some call). (let y : ⊥ = cc in y);
     })
+    (λ some. record { frame = refl; after = never }) (λ has. new-other w end never) (λ farewell same. farewell-other end farewell never)
 
 pub drains-other : (w : Window) (end last : LinkEnd) (frames : List FrameValue) → CallsNot end → Drains w end frames last → HasNoCall frames
 drains-other w end last [] never d = tt
 drains-other w end last (f ∷ frames) never d =
-    let s = next-other w end end.reply refl never d.0 d.1 in
+    let s = next-other w end never d.0 d.1 in
     (ap (λ (x : FrameValue). is_call x.kind.control) d.2 ∙ s.frame, drains-other w d.0.after last frames s.after d.3)
 
 -- a reply stays, and none comes
 unless-other : (reply : Option Reply) → (reply ≡ Some call → ⊥) → unless_oldest reply ≡ Some call → ⊥
-unless-other None never e = never e
-unless-other (Some (ready poll)) never e = never e
-unless-other (Some (reject poll)) never e = never e
-unless-other (Some (accept poll)) never e = never e
-unless-other (Some (refuse poll)) never e = never e
-unless-other (Some (refuse_frame octets poll)) never e = never e
-unless-other (Some call) never e = never e
-unless-other (Some disconnect) never e = never e
-unless-other (Some enquire) never e = never e
 unless-other (Some oldest) never e = let x : ⊥ = cc in x
+unless-other reply never e = never e
 
 doing-other : (end : LinkEnd) (doing : Doing) → CallsNot end → CallsNot (after_doing end doing)
 doing-other end (push octets) never = never
@@ -153,32 +128,19 @@ up-other w end f Sabm none =
 up-other w end f Disc none = λ (x : Some (accept f.poll) ≡ Some call). (let y : ⊥ = cc in y)
 up-other w end f Dm none = unless-other end.reply (quiet-other end none)
 up-other w end f Frmr none = unless-other end.reply (quiet-other end none)
-up-other w end f Ua none = quiet-other end none
-up-other w end f Ui none = quiet-other end none
+up-other w end f control none = quiet-other end none
 
 calling-other : (end : LinkEnd) (f : FrameValue) (control : Control) → end.reply ≡ None → CallsNot (calling_row end f control).after
 calling-other end f Ua none = unless-other end.reply (quiet-other end none)
 calling-other end f Dm none = unless-other end.reply (quiet-other end none)
 calling-other end f Disc none = λ (x : Some (refuse f.poll) ≡ Some call). (let y : ⊥ = cc in y)
-calling-other end f (I ns nr) none = quiet-other end none
-calling-other end f (Rr nr) none = quiet-other end none
-calling-other end f (Rnr nr) none = quiet-other end none
-calling-other end f (Rej nr) none = quiet-other end none
-calling-other end f Sabm none = quiet-other end none
-calling-other end f Frmr none = quiet-other end none
-calling-other end f Ui none = quiet-other end none
+calling-other end f control none = quiet-other end none
 
 ending-other : (end : LinkEnd) (f : FrameValue) (control : Control) → end.reply ≡ None → CallsNot (ending_row end f control).after
 ending-other end f Ua none = unless-other end.reply (quiet-other end none)
 ending-other end f Dm none = unless-other end.reply (quiet-other end none)
 ending-other end f Disc none = λ (x : Some (accept f.poll) ≡ Some call). (let y : ⊥ = cc in y)
-ending-other end f (I ns nr) none = quiet-other end none
-ending-other end f (Rr nr) none = quiet-other end none
-ending-other end f (Rnr nr) none = quiet-other end none
-ending-other end f (Rej nr) none = quiet-other end none
-ending-other end f Sabm none = quiet-other end none
-ending-other end f Frmr none = quiet-other end none
-ending-other end f Ui none = quiet-other end none
+ending-other end f control none = quiet-other end none
 
 down-other : (end : LinkEnd) (f : FrameValue) → end.reply ≡ None → CallsNot (down_row end f).after
 down-other end f none =
@@ -202,8 +164,7 @@ asking-other end =
 timer-other : (state : LinkState) (end : LinkEnd) → (state ≡ Calling → ⊥) → Some (timer_reply state end) ≡ Some call → ⊥
 timer-other Calling end never x = never refl
 timer-other Up end never x = asking-other end x
-timer-other Ending end never x = let y : ⊥ = cc in y
-timer-other Down end never x = let y : ⊥ = cc in y
+timer-other state end never x = let y : ⊥ = cc in y
 
 tick-other : (end : LinkEnd) → end.reply ≡ None → (end.state ≡ Calling → ⊥) → CallsNot (after_tick end)
 tick-other end none never =

@@ -1,15 +1,15 @@
 -- What an end sends, and what that leaves.
-use Rattle.std.proofs.Common.{◌≡◌, ℕ, ◌+◌, ◌-◌, ◌%◌, ◌<◌, ◌≤◌, List, [], ◌∷◌, ◌++◌, length, drop, Option, Some, None, true, refl, sym, ◌∙◌, ap, subst, arith, inl, inr, length-append, append_assoc, append-nil, take-append-drop, length-drop}
+use Rattle.std.proofs.Common.{◌≡◌, ℕ, ◌+◌, ◌-◌, ◌%◌, ◌<◌, ◌≤◌, List, [], ◌∷◌, ◌++◌, length, drop, Option, Some, None, true, refl, sym, ◌∙◌, ap, subst, arith, length-append, append_assoc, append-nil, take-append-drop, length-drop}
 use Rattle.std.specs.Prelude.{◌==◌, nat_lt, ◌&&◌, not, IsTrue, slice_get, unwrap_or, zero, suc}
 use Rattle.std.specs.List.{concat}
-use Rattle.std.proofs.lemmas.Bool.{cond_both, cond-true, cond-false, cases_Bool, ltb-true, eqb-false, not-true, and_parts}
+use Rattle.std.proofs.lemmas.Bool.{cond_both, ltb-true, eqb-false, not-true, and_parts}
 use Rattle.std.proofs.lemmas.List.{take-append-le}
 use Rattle.std.proofs.lemmas.Option.{same_Some, slice_get_within}
 use Rattle.ax25_frames.specs.FrameText.{FrameValue}
 use Rattle.ax25_link.specs.declared.state.LinkState.{LinkState}
-use Rattle.ax25_link.specs.declared.state.LinkState.TheVariants.{Calling, Up, Ending, Down}
+use Rattle.ax25_link.specs.declared.state.LinkState.TheVariants.{Calling, Up}
 use Rattle.ax25_link.specs.Window.{Window}
-use Rattle.ax25_link.specs.Ends.{LinkEnd, Reply, Farewell, IsEnd, high, outstanding, taken_count, ready, reject, accept, refuse, refuse_frame, call, disconnect, enquire, oldest, goodbye, gone}
+use Rattle.ax25_link.specs.Ends.{LinkEnd, Reply, Farewell, IsEnd, high, outstanding, taken_count, ready, reject, enquire, oldest, goodbye, gone}
 use Rattle.ax25_link.specs.Frames.{frame_of_reply, frame_of_farewell}
 use Rattle.ax25_link.specs.Timer.{is_up}
 use Rattle.ax25_link.specs.Sending.{Sending, next_sending, sending_after, later_sending, last_sending, has_new, is_empty, next_piece, most_information, sends_reply, sends_again, sends_new, sends_farewell, after_new}
@@ -68,43 +68,25 @@ same_pieces pieces = record { keeps = λ place x h. h; least = omega arith; most
 
 pub owed_most : (reply : Option Reply) → owed_for reply ≤ 1
 owed_most None = omega arith
-owed_most (Some (ready poll)) = omega arith
-owed_most (Some (reject poll)) = omega arith
-owed_most (Some (accept poll)) = omega arith
-owed_most (Some (refuse poll)) = omega arith
-owed_most (Some (refuse_frame octets poll)) = omega arith
-owed_most (Some call) = omega arith
-owed_most (Some disconnect) = omega arith
-owed_most (Some enquire) = omega arith
 owed_most (Some oldest) = omega arith
+owed_most (Some reply) = omega arith
 
 -- the frame of a reply: the oldest outstanding frame, or no I frame
 reply_piece : (w : Window) (old : LinkEnd) (reply : Reply) → old.acked ≤ high old → (reply ≡ oldest → 1 ≤ outstanding old)
     → IsTrue (is_information (frame_of_reply w old reply).kind.control)
     → SendsPiece w old (frame_of_reply w old reply) (record old { reply = None }) old.acked
-reply_piece w old (ready poll) order some h = absurd (let x : ⊥ = cc in x)
-reply_piece w old (reject poll) order some h = absurd (let x : ⊥ = cc in x)
-reply_piece w old (accept poll) order some h = absurd (let x : ⊥ = cc in x)
-reply_piece w old (refuse poll) order some h = absurd (let x : ⊥ = cc in x)
-reply_piece w old (refuse_frame octets poll) order some h = absurd (let x : ⊥ = cc in x)
-reply_piece w old call order some h = absurd (let x : ⊥ = cc in x)
-reply_piece w old disconnect order some h = absurd (let x : ⊥ = cc in x)
-reply_piece w old enquire order some h = absurd (let x : ⊥ = cc in x)
 reply_piece w old oldest order some h =
     let least = some refl in
     record { shows = refl; carries = piece_there old.sent old.acked (omega arith); least = omega arith; sent = omega arith }
+reply_piece w old reply order some h = absurd (let x : ⊥ = cc in x)
 
 reply_shows : (w : Window) (old : LinkEnd) (reply : Reply) → IsTrue (is_numbered (frame_of_reply w old reply).kind.control)
     → ack_number (frame_of_reply w old reply).kind.control ≡ taken_count old % w.modulus
 reply_shows w old (ready poll) h = refl
 reply_shows w old (reject poll) h = refl
-reply_shows w old (accept poll) h = absurd (let x : ⊥ = cc in x)
-reply_shows w old (refuse poll) h = absurd (let x : ⊥ = cc in x)
-reply_shows w old (refuse_frame octets poll) h = absurd (let x : ⊥ = cc in x)
-reply_shows w old call h = absurd (let x : ⊥ = cc in x)
-reply_shows w old disconnect h = absurd (let x : ⊥ = cc in x)
 reply_shows w old enquire h = refl
 reply_shows w old oldest h = refl
+reply_shows w old reply h = absurd (let x : ⊥ = cc in x)
 
 Sends_reply : (w : Window) (old : LinkEnd) (reply : Reply) → IsEnd w old → old.reply ≡ Some reply
     → Sends w old (frame_of_reply w old reply) (record old { reply = None })
@@ -149,9 +131,7 @@ Sends_again w old fits some =
 
 is_up-Up : (state : LinkState) → is_up state ≡ true → state ≡ Up
 is_up-Up Up h = refl
-is_up-Up Calling h = absurd (let x : ⊥ = cc in x)
-is_up-Up Ending h = absurd (let x : ⊥ = cc in x)
-is_up-Up Down h = absurd (let x : ⊥ = cc in x)
+is_up-Up state h = absurd (let x : ⊥ = cc in x)
 
 -- an end that has given a piece to a new I frame, and may have begun the timer anew
 pub record HasPiece (old new : LinkEnd) : Type 0 where
@@ -269,44 +249,35 @@ Sends_farewell w old farewell fits e =
       less = omega (arith, one);
     }
 
--- the cases of what is sent next
-abbrev SendsThis : Window → LinkEnd → Sending → Type 0
-SendsThis w old sending = Sends w old sending.frame sending.after
+-- what holds of each frame that may be sent next, and of the end then, holds of the one that is
+pub sending_cases : (w : Window) (end : LinkEnd) (P : Sending → Type 0)
+    → ((reply : Reply) → end.reply ≡ Some reply → P (sends_reply w end reply)) → (nat_lt 0 end.again ≡ true → P (sends_again w end))
+    → (has_new w end ≡ true → P (sends_new w end)) → ((farewell : Farewell) → end.farewell ≡ Some farewell → P (sends_farewell end farewell))
+    → (sending : Sending) → next_sending w end ≡ Some sending → P sending
+sending_cases w end P reply again new farewell sending = first end.reply refl
+  where
+    last : (found : Option Farewell) → end.farewell ≡ found → last_sending end found ≡ Some sending → P sending
+    last None e h = absurd (let x : ⊥ = cc in x)
+    last (Some found) e h = subst P (same_Some (sends_farewell end found) sending h) (farewell found e)
 
-sends_last : (w : Window) (old : LinkEnd) (farewell : Option Farewell) (sending : Sending) → old.farewell ≡ farewell → IsEnd w old
-    → last_sending old farewell ≡ Some sending
-    → SendsThis w old sending
-sends_last w old None sending e fits h = absurd (let x : ⊥ = cc in x)
-sends_last w old (Some farewell) sending e fits h =
-    subst (SendsThis w old) (same_Some (sends_farewell old farewell) sending h) (Sends_farewell w old farewell fits e)
+    later : later_sending w end ≡ Some sending → P sending
+    later =
+        cond_both (nat_lt 0 end.again) _ _ (λ (o : Option Sending). o ≡ Some sending → P sending)
+        (λ some h. subst P (same_Some (sends_again w end) sending h) (again some))
+        (λ none. cond_both (has_new w end) _ _ (λ (o : Option Sending). o ≡ Some sending → P sending)
+        (λ has h. subst P (same_Some (sends_new w end) sending h) (new has)) (λ no h. last end.farewell refl h))
 
-sends_later : (w : Window) (old : LinkEnd) (sending : Sending) → IsEnd w old → later_sending w old ≡ Some sending → SendsThis w old sending
-sends_later w old sending fits h =
-    elim (cases_Bool (nat_lt 0 old.again)) [
-      | inl some ↦
-          subst (SendsThis w old) (same_Some (sends_again w old) sending (sym (cond-true (nat_lt 0 old.again) _ _ some) ∙ h))
-          (Sends_again w old fits (ltb-true 0 old.again some))
-      | inr none ↦
-          let next = sym (cond-false (nat_lt 0 old.again) (Some (sends_again w old)) _ none) ∙ h in
-          elim (cases_Bool (has_new w old)) [
-            | inl has ↦
-                subst (SendsThis w old) (same_Some (sends_new w old) sending (sym (cond-true (has_new w old) _ _ has) ∙ next))
-                (Sends_new w old fits has)
-            | inr no_new ↦
-                sends_last w old old.farewell sending refl fits (sym (cond-false (has_new w old) (Some (sends_new w old)) _ no_new) ∙ next)
-          ]
-    ]
-
-sends_first : (w : Window) (old : LinkEnd) (reply : Option Reply) (sending : Sending) → old.reply ≡ reply → IsEnd w old
-    → sending_after w old reply ≡ Some sending → SendsThis w old sending
-sends_first w old None sending e fits h = sends_later w old sending fits h
-sends_first w old (Some reply) sending e fits h =
-    subst (SendsThis w old) (same_Some (sends_reply w old reply) sending h) (Sends_reply w old reply fits e)
+    first : (found : Option Reply) → end.reply ≡ found → sending_after w end found ≡ Some sending → P sending
+    first None e h = later h
+    first (Some found) e h = subst P (same_Some (sends_reply w end found) sending h) (reply found e)
 
 -- what sending the next frame does
 pub next_sending-Sends : (w : Window) (old : LinkEnd) (sending : Sending) → IsEnd w old → next_sending w old ≡ Some sending
     → Sends w old sending.frame sending.after
-next_sending-Sends w old sending fits h = sends_first w old old.reply sending refl fits h
+next_sending-Sends w old sending fits =
+    sending_cases w old (λ (s : Sending). Sends w old s.frame s.after) (λ reply same. Sends_reply w old reply fits same)
+    (λ some. Sends_again w old fits (ltb-true 0 old.again some)) (λ has. Sends_new w old fits has)
+    (λ farewell same. Sends_farewell w old farewell fits same) sending
 
 pub next_sending-IsEnd : (w : Window) (old : LinkEnd) (sending : Sending) → IsEnd w old → next_sending w old ≡ Some sending → IsEnd w sending.after
 next_sending-IsEnd w old sending fits h = (next_sending-Sends w old sending fits h).fits

@@ -3,7 +3,7 @@ use Rattle.std.specs.Prelude.{ℕ, ◌+◌, ◌-◌, ◌≤◌, ◌≡◌, List,
 use Rattle.std.specs.List.{concat}
 use Rattle.px_base.specs.CallSign.{CallSign}
 use Rattle.ax25_link.specs.declared.state.LinkState.{LinkState}
-use Rattle.ax25_link.specs.declared.state.LinkState.TheVariants.{Calling, Up}
+use Rattle.ax25_link.specs.declared.state.LinkState.TheVariants.{Calling, Up, Down}
 use Rattle.ax25_link.specs.Window.{Window}
 
 -- what is sent before all other frames: the reply to a frame, or what the timer sends (2.4.4, 2.4.7.1)
@@ -84,8 +84,8 @@ most_held = 4096
 abbrev pub free_octets : LinkEnd → ℕ
 free_octets end = most_held - length (held end)
 
--- an end with numbers 0 and nothing in its lists, which is to send this first
-abbrev pub begun : Bool → CallSign → CallSign → LinkState → Reply → LinkEnd
+-- an end with numbers 0 and nothing in its lists, which is to send this first, where it is to send anything
+abbrev pub begun : Bool → CallSign → CallSign → LinkState → Option Reply → LinkEnd
 begun called me peer state reply =
     record {
       called = called;
@@ -101,18 +101,22 @@ begun called me peer state reply =
       rejecting = false;
       count = 0;
       tries = 0;
-      reply = Some reply;
+      reply = reply;
       again = 0;
       farewell = None;
     }
 
 -- the end that calls: a SABM is to be sent (2.4.3.1)
 abbrev pub calling_end : CallSign → CallSign → LinkEnd
-calling_end me peer = begun true me peer Calling call
+calling_end me peer = begun true me peer Calling (Some call)
 
 -- the end that answers a SABM with this P bit: a UA is to be sent (2.4.3.1)
 abbrev pub answering_end : CallSign → CallSign → Bool → LinkEnd
-answering_end me peer poll = begun false me peer Up (accept poll)
+answering_end me peer poll = begun false me peer Up (Some (accept poll))
+
+-- An end before its first link, with nothing to be sent. It has no peer: its own station stands in that place.
+abbrev pub idle_end : CallSign → LinkEnd
+idle_end me = begun false me me Down None
 
 -- What holds of each end, whatever frames it was given: at most k frames are outstanding, and none is to be sent again
 -- that isn't outstanding.

@@ -12,7 +12,7 @@ use Rattle.ax25_link.specs.Acknowledging.{is_good, meaning_of}
 use Rattle.ax25_link.specs.Rows.{Outcome, numbered_row, sending_again, supervisory_row, with_busy}
 use Rattle.ax25_link.specs.Timer.{is_up}
 use Rattle.ax25_link.specs.Sending.{Sending, is_empty, next_sending}
-use Rattle.ax25_link.specs.Queue.{Queue}
+use Rattle.ax25_link.specs.Queue.{Queue, empty_queue}
 
 pub record Kept : Type 0 where
   pub called : Bool
@@ -81,6 +81,22 @@ pub record HasStations (link : Kept) (calls : Bool) (from to : CallSign) (size :
   pub me : link.me ≡ from
   pub peer : link.peer ≡ to
   pub k : link.k ≡ size
+
+-- with its numbers 0 and nothing queued, and this reply to be sent first
+abbrev pub anew : Kept → Reply → Kept
+anew kept reply =
+    record kept {
+      acked = 0;
+      taken = 0;
+      queue = empty_queue;
+      busy = false;
+      rejecting = false;
+      count = 0;
+      tries = 0;
+      reply = Some reply;
+      again = 0;
+      farewell = None;
+    }
 
 -- The link stands for this end. It may stand for many, since it keeps no history.
 pub record StandsFor (w : Window) (link : Kept) (end : LinkEnd) : Type 0 where

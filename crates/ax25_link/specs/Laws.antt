@@ -5,17 +5,17 @@ use Rattle.px_base.specs.CallSign.{CallSign}
 use Rattle.px_base.specs.Octets.{IsFront}
 use Rattle.ax25_frames.specs.FrameText.{FrameValue}
 use Rattle.ax25_link.specs.Window.{Window, IsWindow}
-use Rattle.ax25_link.specs.declared.state.LinkState.TheVariants.{Calling}
+use Rattle.ax25_link.specs.declared.state.LinkState.TheVariants.{Calling, Down}
 use Rattle.ax25_link.specs.Ends.{LinkEnd, IsEnd, call, oldest, answering_end}
 use Rattle.ax25_link.specs.Acknowledging.{Meaning, HasMeaning, meaning_of, is_bad}
 use Rattle.ax25_link.specs.declared.state.Heard.{Heard}
-use Rattle.ax25_link.specs.Rows.{is_call}
+use Rattle.ax25_link.specs.Rows.{entering, is_call}
 use Rattle.ax25_link.specs.Calls.{Doing, DoesAll}
 use Rattle.ax25_link.specs.Sending.{IsQuiet, Drains}
 use Rattle.ax25_link.specs.LinkStep.{LinkStep, Coming, frame, tick}
 use Rattle.ax25_link.specs.Air.{Transmission, IsAt, IsLawful, control_of, is_numbered, sending_all}
 use Rattle.ax25_link.specs.Linked.{Station, AreLinked, IsOpened, ack_number}
-use Rattle.ax25_link.specs.Acts.{Act, hear, MayAct, acting, facing}
+use Rattle.ax25_link.specs.Acts.{Act, hear, MayAct, acting, facing, with_end}
 
 -- Each N(R) has one meaning, which is the one computed.
 abbrev pub OneMeaningLaw : Type 0
@@ -123,6 +123,12 @@ AnsweredLaw =
     (w : Window) (one other : Station) (frames : List FrameValue)
     → AreLinked w one other → AreAnswers frames → AreLinked w (having_sent one one.end frames) other
 
+-- They stay linked when the link of one of them ends, and it sends nothing.
+abbrev pub DownLaw : Type 0
+DownLaw =
+    (w : Window) (one other : Station) → AreLinked w one other
+    → AreLinked w (with_end one (entering one.end Down)) other
+
 -- which of the two stations is which doesn't matter
 abbrev pub TurnedLaw : Type 0
 TurnedLaw = (w : Window) (one other : Station) → AreLinked w one other → AreLinked w other one
@@ -149,6 +155,7 @@ pub record PrefixLaw : Type 0 where
   pub no_call : NoCallLaw
   pub delivered : DeliveredLaw
   pub answered : AnsweredLaw
+  pub down : DownLaw
   pub turned : TurnedLaw
   pub front : FrontLaw
   pub no_bad : NoBadLaw

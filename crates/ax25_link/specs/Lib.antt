@@ -15,6 +15,7 @@ pub mod Replies
 pub mod Rows
 pub mod Runs
 pub mod Sending
+pub mod Stations
 pub mod Timer
 pub mod Views
 pub mod Window

@@ -2,6 +2,7 @@
 
 ghost use Rattle.ax25_link.specs.Laws.{DrainsLaw, OneMeaningLaw, PrefixLaw};
 ghost use Rattle.ax25_link.specs.Runs.{BoundLaw, RunLaw, WholeRunLaw};
+ghost use Rattle.ax25_link.specs.Stations.{StationsLaw};
 
 /// Each N(R) has one meaning, and it is the one that is computed (AX.25 2.0, 2.3.2.4, 2.4.4.5).
 pub fn one_meaning()
@@ -11,6 +12,12 @@ pub fn one_meaning()
 /// Each end comes to send nothing, after one list of frames, whatever was pushed and heard.
 pub fn drains()
     ensures { DrainsLaw }
+{}
+
+/// An end stays the end of its two stations, and each frame that it sends is from its station to the other one, without
+/// repeaters, with sequence numbers below the modulus (AX.25 2.0, 2.2.13, 2.3.2.4).
+pub fn stations_law()
+    ensures { StationsLaw }
 {}
 
 /// The prefix law, for each modulus m and each window k with 1 <= k < m. However frames of an attempt are lost, delivered

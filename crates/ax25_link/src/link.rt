@@ -4,7 +4,7 @@ ghost use Rattle.std.specs.Prelude.{◌≡◌, ◌↔◌, ◌<◌, ◌≤◌, Is
 ghost use Rattle.ax25_frames.specs.Kinds.{FitsControl};
 ghost use Rattle.ax25_frames.specs.Values.{kind_value, value_of};
 ghost use Rattle.ax25_link.specs.Calls.{after_abandon, after_hang_up, after_push, pushed_count};
-ghost use Rattle.ax25_link.specs.Ends.{answering_end, calling_end, free_octets, oldest};
+ghost use Rattle.ax25_link.specs.Ends.{answering_end, calling_end, free_octets, idle_end, oldest};
 ghost use Rattle.ax25_link.specs.Kept.{Fits, GivesNext, HasStations, IsFromPeer, IsUnchanged, SameStations, StandsFor, Steps, Tells, has_new_in, is_pending, is_there, most_pending, outstanding_in};
 ghost use Rattle.ax25_link.specs.Replies.{reply_value};
 ghost use Rattle.ax25_link.specs.Rows.{after_frame, entering, heard_of};
@@ -73,23 +73,12 @@ impl Link {
         ensures end { IfOk result (λ link. StandsFor (window_of k) link (calling_end me peer)) }
         ensures stations { IfOk result (λ link. HasStations link true me peer k) }
     {
-        let queue = SendQueue::new(alloc)?;
-        Ok(Link {
-            me,
-            peer,
-            called: true,
-            k,
-            state: LinkState::Calling,
-            acked: 0,
-            taken: 0,
-            peer_busy: false,
-            rejecting: false,
-            queue,
-            timer: ANEW,
-            reply: Some(Reply::Call),
-            again: 0,
-            farewell: None,
-        })
+        let mut link = Link::idle(alloc, me, k)?;
+        link.peer = peer;
+        link.called = true;
+        link.state = LinkState::Calling;
+        link.reply = Some(Reply::Call);
+        Ok(link)
     }
 
     /// The end that answers a SABM with this P bit: state Up, with a UA with F = `poll` pending (2.4.3.1). At most
@@ -105,23 +94,50 @@ impl Link {
         ensures end { IfOk result (λ link. StandsFor (window_of k) link (answering_end me peer poll)) }
         ensures stations { IfOk result (λ link. HasStations link false me peer k) }
     {
+        let mut link = Link::idle(alloc, me, k)?;
+        link.accept(peer, poll);
+        Ok(link)
+    }
+
+    /// An end before its first link: state Down, with nothing pending. It has no peer until `accept` gives it one; its
+    /// own station stands in that place. At most k I frames are outstanding at a time; `good_k(k)` holds. Takes memory,
+    /// and fails only where there is none.
+    pub fn idle(alloc: Global, me: Call, k: u8) -> Result<Link, OutOfMemory>
+        requires { IsGoodK k }
+        ensures end { IfOk result (λ link. StandsFor (window_of k) link (idle_end me)) }
+        ensures stations { IfOk result (λ link. HasStations link false me me k) }
+    {
         let queue = SendQueue::new(alloc)?;
         Ok(Link {
             me,
-            peer,
+            peer: me,
             called: false,
             k,
-            state: LinkState::Up,
+            state: LinkState::Down,
             acked: 0,
             taken: 0,
             peer_busy: false,
             rejecting: false,
             queue,
             timer: ANEW,
-            reply: Some(Reply::Accept { poll }),
+            reply: None,
             again: 0,
             farewell: None,
         })
+    }
+
+    /// Answers a SABM of the peer with this P bit, in state Down and while nothing is pending: the link is then as
+    /// `answer` makes it, whatever it was before (2.4.3.1). Takes no memory.
+    pub fn accept(&mut self, peer: Call, poll: bool)
+        requires down { self.old.state ≡ LinkState.Down }
+        requires quiet { is_pending self.old ≡ false }
+        ensures end { StandsFor (window_of self.old.k) self.new (answering_end self.old.me peer poll) }
+        ensures stations { HasStations self.new false self.old.me peer self.old.k }
+    {
+        self.peer = peer;
+        self.called = false;
+        self.state = LinkState::Up;
+        self.begin_anew(poll);
     }
 
     /// Takes a frame for which `is_from_peer` holds, while nothing is pending (2.4.3, 2.4.4): the frame's row of the

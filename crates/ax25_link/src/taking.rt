@@ -5,7 +5,8 @@ ghost use Rattle.ax25_frames.specs.Kinds.{bit, control_octet};
 ghost use Rattle.ax25_frames.specs.Values.{value_of};
 ghost use Rattle.ax25_link.specs.Acknowledging.{acknowledging, applying, is_bad, is_good, meaning_of};
 ghost use Rattle.ax25_link.specs.Counting.{is_bad_number, is_good_number};
-ghost use Rattle.ax25_link.specs.Kept.{IsFromPeer, SameStations, Steps, Takes, Tells, any_supervisory_row, is_pending, outstanding_in};
+ghost use Rattle.ax25_link.specs.Kept.{IsFromPeer, SameStations, Steps, Takes, Tells};
+ghost use Rattle.ax25_link.specs.Kept.{anew, any_supervisory_row, is_pending, outstanding_in};
 ghost use Rattle.ax25_frames.specs.declared.control.Control.{Control};
 ghost use Rattle.ax25_link.specs.Rows.{called_again, calling_row, closing, closing_with, down_row, ending_row, information_row, refusing, supervisory_row, up_row, with_busy};
 ghost use Rattle.ax25_link.specs.Ends.{accept};
@@ -208,6 +209,14 @@ impl Link {
         if self.called {
             return Heard::Nothing;
         }
+        self.begin_anew(frame.poll);
+        Heard::Reopened
+    }
+
+    /// Answers a SABM with this P bit: a UA is pending, the numbers are 0, and nothing is queued (2.4.3.1, 2.4.6).
+    pub(crate) fn begin_anew(&mut self, poll: bool)
+        ensures { self.new ≡ anew self.old (accept poll) }
+    {
         self.queue.clear();
         self.acked = 0;
         self.taken = 0;
@@ -216,8 +225,7 @@ impl Link {
         self.timer = ANEW;
         self.again = 0;
         self.farewell = None;
-        self.reply = Some(Reply::Accept { poll: frame.poll });
-        Heard::Reopened
+        self.reply = Some(Reply::Accept { poll });
     }
 
     /// DISC in state Up or Ending: UA, and down (2.4.3.3).

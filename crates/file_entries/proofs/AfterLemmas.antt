@@ -3,21 +3,21 @@ use Rattle.std.proofs.Common.{◌≡◌, ◌≢◌, ℕ, ◌+◌, ◌≤◌, ◌
 use Rattle.std.specs.Prelude.{find, IsTrue, is_none}
 use Rattle.pfh_items.specs.Faults.{fault_code}
 use Rattle.pfh_items.specs.Stamp.{StampValue}
-use Rattle.std.specs.List.{AllByRecursion}
+use Rattle.std.specs.Option.{option_or}
 use Rattle.std.proofs.lemmas.Bool.Decides.{nat_tests, eqb_tells}
 use Rattle.std.proofs.lemmas.List.{length-map}
 use Rattle.std.proofs.lemmas.List.Filters.{length-filter_both, sum_by-filter_both}
 use Rattle.std.proofs.lemmas.List.Folds.{find-append}
 use Rattle.std.proofs.lemmas.List.Sums.{sum_by_push}
 use Rattle.px_base.specs.CallSign.{CallSign, IsCall}
-use Rattle.file_entries.specs.Command.{Command, begin, grow, seal, drop_entry, can_begin, has_room, is_good, is_partial, is_whole, passes, is_allowed, grown, kept_with, sealed, stamp_of, with_more, changed, with_holding, after, after_all, AreAllowed, HasCall}
+use Rattle.file_entries.specs.Command.{Command, begin, grow, seal, drop_entry, can_begin, has_room, is_good, is_partial, passes, is_allowed, grown, kept_with, sealed, stamp_of, with_more, changed, with_holding, after, after_all, AreAllowed, HasCall, HaveCalls}
 use Rattle.file_entries.specs.Info.{is_complete}
 use Rattle.file_entries.specs.IsStore.{IsStore, FitsLength}
 use Rattle.file_entries.specs.Kept.{KeepsComplete}
 use Rattle.file_entries.specs.Limits.{last_next, longest_file, most_entries}
 use Rattle.file_entries.specs.Store.{Entry, Holding, partial, complete, Store, entry_of, blocks_for, blocks_of, new_entry, octets_of}
 use Rattle.pfh_writer.proofs.StampedLemmas.{length-stamped}
-use Rattle.file_entries.proofs.EntriesLemmas.{has_number, AreEntries-push, AreEntries-map-changed, AreEntries-filter, HaveCallers-push, HaveCallers-map-changed, HaveCallers-filter, found-caller, blocks-map-changed, find-map-changed_other, find-filter_other, find_past}
+use Rattle.file_entries.proofs.EntriesLemmas.{has_number, AreEntries-push, AreEntries-map-changed, AreEntries-filter, HaveCallers-push, HaveCallers-map-changed, HaveCallers-filter, found-caller, found-fits, blocks-map-changed, find-map-changed_other, find-filter_other}
 
 -- ---- what a test tells
 
@@ -29,14 +29,6 @@ and-parts false b h = absurd (cc)
 pub passes-entry : (test : Entry → Bool) (o : Option Entry) → IsTrue (passes test o) → (e : Entry) × (o ≡ Some e) × IsTrue (test e)
 passes-entry test None h = absurd (cc)
 passes-entry test (Some e) h = (e, refl, h)
-
--- the same, where the store is seen by another equal to it
-pub passes-at : (test : Entry → Bool) (s t : Store) (number : ℕ) → s ≡ t → IsTrue (passes test (entry_of t number)) → (e : Entry) × (find (has_number number) s.entries ≡ Some e) × IsTrue (test e)
-passes-at test s t number same ok = passes-entry test (entry_of s number) (subst (λ (u : Store). IsTrue (passes test (entry_of u number))) (sym same) ok)
-
-pub whole-partial : (h : Holding) (l : ℕ) → IsTrue (is_whole h l) → (held : List ℕ) × (h ≡ partial held) × (length held ≡ l)
-whole-partial (partial held) l t = (held, refl, grind (arith, nat_tests))
-whole-partial (complete o m) l t = absurd (cc)
 
 pub room-partial : (h : Holding) (l n : ℕ) → IsTrue (has_room h l n) → (held : List ℕ) × (h ≡ partial held) × (length held + n ≤ l)
 room-partial (partial held) l n t = (held, refl, grind (arith, nat_tests))
@@ -160,10 +152,6 @@ after-IsStore store (seal number moment) is call ok =
     (kept-fits (stamp_of moment found.0) found.0.holding found.0.length (found-caller number store.entries found.0 is.callers found.1) found.2)
 after-IsStore store (drop_entry number) is call ok = drop-IsStore store number is
 
--- the caller of each command is a call
-abbrev pub HaveCalls : List Command → Type 0
-HaveCalls commands = AllByRecursion HasCall commands
-
 pub after_all-IsStore : (store : Store) (commands : List Command) → IsStore store → HaveCalls commands → AreAllowed store commands → IsStore (after_all store commands)
 after_all-IsStore store [] is calls ok = is
 after_all-IsStore store (command ∷ commands) is calls ok =
@@ -182,31 +170,60 @@ number_of (grow number octets) = number
 number_of (seal number moment) = number
 number_of (drop_entry number) = number
 
+or-none : (o : Option Entry) → option_or o None ≡ o
+or-none None = refl
+or-none (Some e) = refl
+
+-- the entry of another number is as it was, where there is one
+pub after-same : (store : Store) (command : Command) (other : ℕ) → other ≢ number_of command → entry_of (after store command) other ≡ entry_of store other
+after-same store (begin number caller file_length moment) other ne =
+    let different : (number == other) ≡ false = grind (arith, nat_tests) in
+    rw (find-append (has_number other) store.entries, different) (or-none (entry_of store other))
+after-same store (grow number octets) other ne = find-map-changed_other number other (grown octets) store.entries ne
+after-same store (seal number moment) other ne = find-map-changed_other number other (sealed moment) store.entries ne
+after-same store (drop_entry number) other ne = find-filter_other number other store.entries ne
+
 pub after-other : (store : Store) (command : Command) (other : ℕ) (e : Entry) → other ≢ number_of command → entry_of store other ≡ Some e → entry_of (after store command) other ≡ Some e
-after-other store (begin number caller file_length moment) other e ne found = find-append_found (has_number other) store.entries _ e found
-after-other store (grow number octets) other e ne found = find-map-changed_other number other (grown octets) store.entries ne ∙ found
-after-other store (seal number moment) other e ne found = find-map-changed_other number other (sealed moment) store.entries ne ∙ found
-after-other store (drop_entry number) other e ne found = find-filter_other number other store.entries ne ∙ found
+after-other store command other e ne found = after-same store command other ne ∙ found
 
 -- the entry that is found passes the test
 pub found-passes : (test : Entry → Bool) (o : Option Entry) (e : Entry) → o ≡ Some e → IsTrue (passes test o) → IsTrue (test e)
 found-passes test o e found ok = subst (λ (p : Option Entry). IsTrue (passes test p)) found ok
 
+-- a file of this number is under way
+abbrev pub IsUnderWay : Store → ℕ → Type 0
+IsUnderWay store number = (e : Entry) × (held : List ℕ) × (entry_of store number ≡ Some e) × (e.holding ≡ partial held)
+
+-- A command whose condition holds begins a file of the next number, or is of an entry that passes its test.
+abbrev pub MayCome : Store → Command → Type 0
+MayCome store (begin number caller file_length moment) = number ≡ store.next
+MayCome store (grow number octets) = (e : Entry) × (entry_of store number ≡ Some e) × IsTrue (has_room e.holding e.length (length octets))
+MayCome store (seal number moment) = (e : Entry) × (entry_of store number ≡ Some e) × IsTrue (is_good e.holding e.length)
+MayCome store (drop_entry number) = (e : Entry) × (entry_of store number ≡ Some e) × IsTrue (is_partial e.holding)
+
+pub may-come : (store : Store) (command : Command) → IsTrue (is_allowed store command) → MayCome store command
+may-come store (begin number caller file_length moment) ok = (begin-allowed store number caller file_length moment ok).0
+may-come store (grow number octets) ok =
+    passes-entry (λ e. has_room e.holding e.length (length octets)) (entry_of store number) (grow-allowed store number octets ok)
+may-come store (seal number moment) ok = passes-entry (λ e. is_good e.holding e.length) (entry_of store number) ok
+may-come store (drop_entry number) ok = passes-entry (λ e. is_partial e.holding) (entry_of store number) ok
+
+-- one of a number that was given before is of a file that is under way
+pub given-under_way : (store : Store) (command : Command) → number_of command < store.next → IsTrue (is_allowed store command) → IsUnderWay store (number_of command)
+given-under_way store command below ok = by command below (may-come store command ok)
+  where
+    by : (c : Command) → number_of c < store.next → MayCome store c → IsUnderWay store (number_of c)
+    by (begin number caller file_length moment) below same = absurd (omega (arith, same, below))
+    by (grow number octets) below (e, found, test) = let held = room-partial e.holding e.length (length octets) test in (e, held.0, found, held.1)
+    by (seal number moment) below (e, found, test) = let held = good-partial e.holding e.length test in (e, held.0, found, held.1)
+    by (drop_entry number) below (e, found, test) = let held = partial-held e.holding test in (e, held.0, found, held.1)
+
 -- no command whose condition holds is of a complete entry
-pub never-complete : (store : Store) (command : Command) (e : Entry) → IsStore store → IsTrue (is_allowed store command) → entry_of store (number_of command) ≡ Some e → IsTrue (is_complete e.holding) → ⊥
-never-complete store (begin number caller file_length moment) e is ok found whole =
-    let same : number ≡ store.next = (begin-allowed store number caller file_length moment ok).0 in
-    let none : entry_of store number ≡ None = find_past number 1 store.next store.entries is.entries (omega arith) in
-    cc
-never-complete store (grow number octets) e is ok found whole =
-    let room = room-partial e.holding e.length (length octets) (found-passes (λ e. has_room e.holding e.length (length octets)) (entry_of store number) e found (grow-allowed store number octets ok)) in
-    never-both e.holding room.0 room.1 whole
-never-complete store (seal number moment) e is ok found whole =
-    let good = good-partial e.holding e.length (found-passes (λ e. is_good e.holding e.length) (entry_of store number) e found ok) in
-    never-both e.holding good.0 good.1 whole
-never-complete store (drop_entry number) e is ok found whole =
-    let held = partial-held e.holding (found-passes (λ e. is_partial e.holding) (entry_of store number) e found ok) in
-    never-both e.holding held.0 held.1 whole
+never-complete : (store : Store) (command : Command) (e : Entry) → IsStore store → IsTrue (is_allowed store command) → entry_of store (number_of command) ≡ Some e → IsTrue (is_complete e.holding) → ⊥
+never-complete store command e is ok found whole =
+    let under_way = given-under_way store command (found-fits (number_of command) 1 store.next store.entries e is.entries found).2 ok in
+    let same : e ≡ under_way.0 = let there = under_way.2 in cc in
+    never-both e.holding under_way.1 (ap (λ (x : Entry). x.holding) same ∙ under_way.3) whole
 
 pub after-KeepsComplete : (store : Store) (command : Command) → IsStore store → IsTrue (is_allowed store command) → KeepsComplete store (after store command)
 after-KeepsComplete store command is ok number e found whole =

@@ -5,10 +5,9 @@ use Rattle.std.proofs.lemmas.Bool.Decides.{nat_tests, eqb_tells}
 use Rattle.std.proofs.lemmas.List.{length-take-le, append-nil}
 use Rattle.std.proofs.Math.Seq.{take-add}
 use Rattle.file_journal.proofs.Offered.{after_all_append, allowed_append}
-use Rattle.file_entries.specs.Command.{Command, IsAllowed, grow, has_room, passes, is_allowed, grown, changed, with_holding, with_more, after, after_all, AreAllowed, grows, last_grow}
+use Rattle.file_entries.specs.Command.{Command, IsAllowed, HaveCalls, grow, has_room, passes, is_allowed, grown, changed, with_holding, with_more, after, after_all, AreAllowed, grows, last_grow}
 use Rattle.file_entries.specs.Store.{Entry, Holding, partial, complete, Store, entry_of}
 use Rattle.file_entries.proofs.EntriesLemmas.{find-map-changed}
-use Rattle.file_entries.proofs.AfterLemmas.{HaveCalls}
 
 -- ---- two changes are one
 

@@ -2,6 +2,7 @@ mod AfterLemmas
 mod ChangeLemmas
 mod EntriesLemmas
 mod FilesLemmas
+mod FollowLemmas
 mod GrowLemmas
 mod HeadersLemmas
 mod InfoLemmas

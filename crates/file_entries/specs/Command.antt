@@ -1,5 +1,6 @@
 -- The commands that change a store, with the condition of each and what it does.
 use Rattle.std.specs.Prelude.{◌≡◌, ℕ, zero, suc, ◌+◌, ◌*◌, ◌/◌, ◌≤◌, ◌<◌, ◌==◌, List, [], ◌∷◌, ◌++◌, length, take, drop, map, filter, Bool, not, true, false, ◌&&◌, nat_le, nat_lt, if◌then◌else◌, Option, None, Some, is_none, IsTrue, ⊤}
+use Rattle.std.specs.List.{AllByRecursion}
 use Rattle.px_base.specs.CallSign.{CallSign, IsCall}
 use Rattle.file_journal.specs.Commands as kept
 use Rattle.file_entries.specs.Limits.{last_next, longest_file, most_entries}
@@ -23,6 +24,10 @@ HasCall (begin number caller file_length moment) = IsCall caller
 HasCall (grow number octets) = ⊤
 HasCall (seal number moment) = ⊤
 HasCall (drop_entry number) = ⊤
+
+-- the same of each command
+abbrev pub HaveCalls : List Command → Type 0
+HaveCalls commands = AllByRecursion HasCall commands
 
 -- whether a file of this length may be begun
 abbrev pub can_begin : Store → ℕ → Bool

@@ -4,6 +4,7 @@ pub mod Command
 pub mod Commands
 pub mod Counted
 pub mod Files
+pub mod Follows
 pub mod Headers
 pub mod Info
 pub mod Kept

@@ -1,5 +1,6 @@
 //! Laws of the store's commands.
 
+ghost use Rattle.file_entries.specs.Follows.{FollowsLaw};
 ghost use Rattle.file_entries.specs.Laws.{CommandsLaw, NumbersLaw, RecordsLaw};
 
 /// Each command whose condition holds keeps the rules of a store and each complete entry, and the next
@@ -11,6 +12,13 @@ pub fn commands_law()
 /// A number whose entry was dropped never gets an entry again.
 pub fn numbers_law()
     ensures { NumbersLaw }
+{}
+
+/// What commands make of a store keeps its complete entries, never takes octets from an entry that stands, and never gives
+/// a number that was given. Commands of one caller leave the entries of all others as they are; octets stay octets, and
+/// complete files keep the rules of file headers.
+pub fn follows_law()
+    ensures { FollowsLaw }
 {}
 
 /// A record is read as a command exactly where it is that command's record, and each command that can be written has

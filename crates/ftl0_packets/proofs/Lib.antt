@@ -1,3 +1,4 @@
+mod FrontLemmas
 mod InformationLemmas
 pub mod OctetLemmas
 mod ReaderLemmas

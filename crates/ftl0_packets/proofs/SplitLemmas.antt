@@ -10,6 +10,7 @@ use Rattle.ftl0_packets.specs.Reading.{is_whole, packets_of, rest_of, under_way}
 use Rattle.ftl0_packets.specs.Stream.{IsPartial, Stream}
 use Rattle.ftl0_packets.proofs.OctetLemmas.{IsOctets-append, IsOctets-drop, IsOctets-nil, IsOctets-take}
 use Rattle.ftl0_packets.proofs.StreamLemmas.{one_stream}
+pub use Rattle.ftl0_packets.proofs.FrontLemmas.{read_front}
 pub use Rattle.ftl0_packets.proofs.StreamLemmas.{stream_of}
 
 -- what follows a front of octets, and the front

@@ -1,5 +1,5 @@
 -- A chain of an iterator's methods that begins with items.
-use Rattle.std.proofs.Common.{ℕ, length, ap}
+use Rattle.std.proofs.Common.{length, ap}
 use Rattle.std.proofs.lemmas.Iterator.{YieldsList}
 use Rattle.std.proofs.lemmas.Iterator.Consumers.{YieldsList-from_shown}
 use Rattle.pfh_items.specs.Values.{GivesItem, item_value, items_left}

@@ -1,5 +1,6 @@
 mod ChainLemmas
 mod FaultLemmas
+mod FrontLemmas
 mod HeaderLemmas
 pub mod Offered
 mod StampLemmas

@@ -1,5 +1,5 @@
 -- Laws of headers: what is said by a relation is the same as what is computed.
-use Rattle.std.specs.Prelude.{◌≡◌, ◌↔◌, ℕ, List, Some, None}
+use Rattle.std.specs.Prelude.{◌≡◌, ◌↔◌, ℕ, List, [], ◌++◌, Some, None}
 use Rattle.px_base.specs.CallSign.{IsCall}
 use Rattle.pfh_items.specs.declared.fault.FileFault.{FileFault}
 use Rattle.pfh_items.specs.Faults.{FirstFault, IsFaultless, first_fault}
@@ -36,3 +36,14 @@ abbrev pub IsOneStamp : Type 0
 IsOneStamp =
     (stamp : StampValue) (old new : List ℕ) (items : List ItemValue) (body : List ℕ) → FileText items body old → IsCall stamp.by
     → (Stamped stamp old new) ↔ (new ≡ stamped stamp old)
+
+-- No proper front of a file without fault is a file without fault: file_size is the length of the whole.
+abbrev pub HasNoFront : Type 0
+HasNoFront =
+    (items others : List ItemValue) (body other front more : List ℕ) → IsFaultless items body (front ++ more)
+    → IsFaultless others other front → more ≡ []
+
+-- a header is octets, so a file is octets where its body is
+abbrev pub IsOctetsAsBody : Type 0
+IsOctetsAsBody =
+    (items : List ItemValue) (body file : List ℕ) → FileText items body file → IsOctets body → IsOctets file

@@ -1,7 +1,8 @@
 //! Laws of headers, each the contract of a function that does nothing.
 
 ghost use Rattle.std.specs.Prelude.{◌≡◌, List, [], ◌∷◌, map};
-ghost use Rattle.pfh_items.specs.Laws.{HasNoFault, IsOneFault, IsOneHeader, IsOneStamp, IsOneWalk};
+ghost use Rattle.pfh_items.specs.Laws.{HasNoFault, HasNoFront, IsOctetsAsBody};
+ghost use Rattle.pfh_items.specs.Laws.{IsOneFault, IsOneHeader, IsOneStamp, IsOneWalk};
 ghost use Rattle.pfh_items.specs.Layout.{header_start};
 ghost use Rattle.pfh_items.specs.Table.{extended_items, mandatory_items, optional_ids};
 
@@ -43,4 +44,10 @@ pub fn fault_law()
 /// A file without fault is stamped to one file.
 pub fn stamp_law()
     ensures { IsOneStamp }
+{}
+
+/// A front of a file without fault has a fault, unless it is the whole file; and a file is octets where its body is.
+pub fn no_front_law()
+    ensures front { HasNoFront }
+    ensures octets { IsOctetsAsBody }
 {}

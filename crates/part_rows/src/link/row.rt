@@ -46,6 +46,10 @@ fn make(alloc: Global, made: &str) -> Result<Link> {
         let k = window(k)?;
         return Ok(Link::call(alloc, called()?, caller()?, k)?);
     }
+    if let Some(k) = made.strip_prefix("idle ") {
+        let k = window(k)?;
+        return Ok(Link::idle(alloc, called()?, k)?);
+    }
     let numbers = made.strip_prefix("answer ").context("no link is made")?;
     let (k, poll) = numbers.split_once(' ').context("no P bit")?;
     let k = window(k)?;
@@ -79,6 +83,8 @@ impl OneLink {
             self.push(count.parse::<usize>()?)?;
         } else if let Some(count) = event.strip_prefix("tick ") {
             self.play_ticks(count.parse::<u32>()?, is_held)?;
+        } else if let Some(poll) = event.strip_prefix("accept ") {
+            self.accept(poll == "1")?;
         } else if event == "one" {
             self.hand_out_one()?;
             return Ok(self.shown.end_part()?);
@@ -107,6 +113,17 @@ impl OneLink {
         let octets = octets_of(self.alloc, text)?;
         let heard = take(&mut self.link, octets.as_slice())?;
         self.put(format!(in self.alloc; "{heard:?}")?)
+    }
+
+    /// Answers a SABM of the peer with this P bit.
+    fn accept(&mut self, poll: bool) -> Result<()> {
+        ensure!(
+            self.link.state() == LinkState::Down,
+            "accepted while not down"
+        );
+        ensure!(!self.link.pending(), "accepted while frames are pending");
+        self.link.accept(caller()?, poll);
+        Ok(())
     }
 
     /// Pushes so many octets of the stream, and shows how many were taken.
