@@ -1,8 +1,7 @@
 -- The packets that what is handed over brings to a session.
 use Rattle.std.proofs.lemmas.Grind.{common_steps}
-use Rattle.std.proofs.Common.{List, ℕ, ◌++◌, [], length, subst, Bool, true, false, ◌≡◌, ◌∷◌, refl, ap, sym, ◌∙◌, append_assoc, append-nil, ap₂, arith}
+use Rattle.std.proofs.Common.{List, ℕ, ◌++◌, [], length, subst, Bool, true, false, ◌≡◌, ◌∷◌, refl, ap, sym, ◌∙◌, append_assoc, append-nil, ap₂, arith, if◌then◌else◌, ◌==◌}
 use Rattle.std.proofs.lemmas.List.{map-append}
-use Rattle.std.specs.Prelude.{if◌then◌else◌, ◌==◌}
 use Rattle.px_base.specs.Octets.{IsOctets}
 use Rattle.px_base.specs.Polling.{octets_of_turn}
 use Rattle.px_base.specs.declared.air.Turn.{Turn}
