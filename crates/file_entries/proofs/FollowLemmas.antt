@@ -2,7 +2,7 @@
 use Rattle.std.proofs.Common.{◌≡◌, ℕ, ◌≤◌, ◌<◌, not, List, [], ◌∷◌, ◌++◌, length, filter, refl, ap, sym, ◌∙◌, subst, arith, Option, None, Some, inl, inr, ◌==◌, length-append}
 use Rattle.std.specs.Prelude.{find, IsTrue, ⊤}
 use Rattle.std.specs.List.{AllByRecursion}
-use Rattle.std.proofs.lemmas.Bool.Decides.{eqb_tells}
+use Rattle.std.proofs.lemmas.Bool.Decides.{nat_tests, eqb_tells}
 use Rattle.std.proofs.lemmas.Bool.{eq-eqb}
 use Rattle.std.proofs.lemmas.List.{drop_at}
 use Rattle.std.proofs.lemmas.List.Elements.{All-append, All-drop, All-nil}
@@ -30,11 +30,7 @@ IsOctet octet = octet < 256
 -- a dropped number has no entry
 find-filter_same : (number : ℕ) (entries : List Entry) → find (has_number number) (filter (λ e. not (e.number == number)) entries) ≡ None
 find-filter_same number [] = refl
-find-filter_same number (x ∷ xs) =
-    elim (eqb_tells x.number number) [
-      | inl w ↦ rw w.0 (find-filter_same number xs)
-      | inr w ↦ rw (w.0, w.0) (find-filter_same number xs)
-    ]
+find-filter_same number (x ∷ xs) = grind (arith, nat_tests, find-filter_same number xs)
 
 -- what an entry may become
 abbrev Became : Entry → Option Entry → Type 0
@@ -68,13 +64,7 @@ own-continues store (drop_entry number) old is ok found = subst (Became old) (sy
 
 continues : (store : Store) (command : Command) (number : ℕ) (old : Entry) → IsStore store → IsTrue (is_allowed store command)
     → entry_of store number ≡ Some old → Became old (entry_of (after store command) number)
-continues store command number old is ok found =
-    elim (eqb_tells number (number_of command)) [
-      | inl w ↦
-          subst (λ (n : ℕ). Became old (entry_of (after store command) n)) (sym w.1)
-          (own-continues store command old is ok (subst (λ (n : ℕ). entry_of store n ≡ Some old) w.1 found))
-      | inr w ↦ subst (Became old) (sym (after-same store command number w.1 ∙ found)) (record { same = refl; longer = omega arith })
-    ]
+continues store command number old is ok found = grind (arith, nat_tests, after-same store command number, own-continues store command old is ok)
 
 continues-then : (old mid new : Entry) → Continues old mid → Continues mid new → Continues old new
 continues-then old mid new one two = record {
@@ -144,17 +134,10 @@ own-after caller store command e is ok own there =
 
 keeps-others : (caller : CallSign) (store : Store) (command : Command) → IsStore store → IsTrue (is_allowed store command)
     → IsOf caller store command → KeepsOthers caller store (after store command)
-keeps-others caller store command is ok own number e other =
-    elim (eqb_tells number (number_of command)) [
-      | inl w ↦ (
-        λ found. absurd (other (own-before caller store command e is ok own (subst (λ (n : ℕ). entry_of store n ≡ Some e) w.1 found))),
-        λ there. absurd (other (own-after caller store command e is ok own (subst (λ (n : ℕ). entry_of (after store command) n ≡ Some e) w.1 there))),
-      )
-      | inr w ↦ (
-        λ found. after-same store command number w.1 ∙ found,
-        λ there. sym (after-same store command number w.1) ∙ there,
-      )
-    ]
+keeps-others caller store command is ok own number e other = (
+  λ found. grind (arith, nat_tests, after-same store command number, own-before caller store command e is ok own),
+  λ there. grind (arith, nat_tests, after-same store command number, own-after caller store command e is ok own),
+)
 
 own-call : (caller : CallSign) (store : Store) (command : Command) → IsCall caller → IsOf caller store command → HasCall command
 own-call caller store (begin number by file_length moment) call own = subst IsCall (sym own) call
