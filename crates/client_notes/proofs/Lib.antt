@@ -1,5 +1,6 @@
 mod CutLemmas
 mod GotLemmas
+mod KeepLemmas
 mod KeptLemmas
 mod ListLemmas
 pub mod Offered

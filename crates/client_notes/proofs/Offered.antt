@@ -1,6 +1,7 @@
 -- The lemmas that crates above may use.
 pub use Rattle.client_notes.proofs.CutLemmas.{cuts-none, cuts-then, does-nothing}
 pub use Rattle.client_notes.proofs.GotLemmas.{forgot-none, got-allowed, got-append}
+pub use Rattle.client_notes.proofs.KeepLemmas.{tasks_law}
 pub use Rattle.client_notes.proofs.PutLemmas.{images-here, own-number}
 pub use Rattle.client_notes.proofs.SeveralLemmas.{after_all-append, after_first-then, AreAllowed-append, makes-longer, Several-longer, Several-none, Several-one, Several-same, Several-then}
 pub use Rattle.client_notes.proofs.StartLemmas.{acked-last, begun-fresh, begun-kept, IsOfTask, not-failed, of_task}

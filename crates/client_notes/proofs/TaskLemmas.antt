@@ -83,7 +83,7 @@ task-more lists task more entry found = rw (task-some lists task entry found) (a
 
 -- ---- what was acknowledged
 
-passed : (test : Task → Bool) (o : Option Task) → IsTrue (passes test o) → (e : Task) × (o ≡ Some e) × IsTrue (test e)
+pub passed : (test : Task → Bool) (o : Option Task) → IsTrue (passes test o) → (e : Task) × (o ≡ Some e) × IsTrue (test e)
 passed test None ok = absurd (cc ok)
 passed test (Some e) ok = (e, refl, ok)
 

@@ -12,6 +12,7 @@ pub mod Recovery
 pub mod Refusals
 pub mod Several
 pub mod State
+pub mod Tasks
 pub mod Through
 pub use Rattle.file_journal.specs.Calls
 pub use Rattle.file_journal.specs.Journal

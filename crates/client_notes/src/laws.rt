@@ -5,6 +5,7 @@ ghost use Rattle.client_notes.specs.Laws.{AckedLaw, ForgotLaw, GotLaw, RecordsLa
 ghost use Rattle.client_notes.specs.OnDisk.{EachImage};
 ghost use Rattle.client_notes.specs.Several.{OneLaw, SeveralLaw};
 ghost use Rattle.client_notes.specs.State.{IsRead, StandsFor, StandsOn};
+ghost use Rattle.client_notes.specs.Tasks.{TasksLaw};
 
 use crate::Notes;
 use disk_model::Disk;
@@ -51,4 +52,10 @@ pub fn acked_law()
 pub fn got_law()
     ensures more { GotLaw }
     ensures none { ForgotLaw }
+{}
+
+/// What commands keep: each task with its file, its number once that is known, and as it was once it was acknowledged
+/// or refused. What is got of a file grows at its end, or is given up.
+pub fn tasks_law()
+    ensures { TasksLaw }
 {}

@@ -1,20 +1,20 @@
 -- What commands keep.
-use Rattle.std.proofs.Common.{◌≡◌, ◌≢◌, ℕ, ◌+◌, ◌≤◌, ◌<◌, Bool, true, false, not, ◌&&◌, List, [], ◌∷◌, ◌++◌, length, refl, ap, sym, ◌∙◌, subst, arith, Option, None, Some, inl, inr, ◌==◌, nat_le, nat_lt, length-append}
+use Rattle.std.proofs.Common.{◌≡◌, ◌≢◌, ℕ, ◌+◌, ◌≤◌, ◌<◌, Bool, true, false, not, ◌&&◌, List, [], ◌∷◌, ◌++◌, length, refl, ap, sym, ◌∙◌, subst, arith, Option, None, Some, ◌==◌, nat_le, length-append}
 use Rattle.std.specs.Prelude.{find, IsTrue, is_none}
 use Rattle.pfh_items.specs.Faults.{fault_code}
 use Rattle.pfh_items.specs.Stamp.{StampValue}
 use Rattle.std.specs.Option.{option_or}
-use Rattle.std.proofs.lemmas.Bool.Decides.{nat_tests, eqb_tells}
+use Rattle.std.proofs.lemmas.Bool.Decides.{nat_tests}
 use Rattle.std.proofs.lemmas.List.{length-map}
 use Rattle.std.proofs.lemmas.List.Filters.{length-filter_both, sum_by-filter_both}
 use Rattle.std.proofs.lemmas.List.Folds.{find-append}
 use Rattle.std.proofs.lemmas.List.Sums.{sum_by_push}
 use Rattle.px_base.specs.CallSign.{CallSign, IsCall}
-use Rattle.file_entries.specs.Command.{Command, begin, grow, seal, drop_entry, can_begin, has_room, is_good, is_partial, passes, is_allowed, grown, kept_with, sealed, stamp_of, with_more, changed, with_holding, after, after_all, AreAllowed, HasCall, HaveCalls}
+use Rattle.file_entries.specs.Command.{Command, begin, grow, seal, drop_entry, has_room, is_good, is_partial, passes, is_allowed, grown, kept_with, sealed, stamp_of, with_more, changed, with_holding, after, after_all, AreAllowed, HasCall, HaveCalls}
 use Rattle.file_entries.specs.Info.{is_complete}
 use Rattle.file_entries.specs.IsStore.{IsStore, FitsLength}
 use Rattle.file_entries.specs.Kept.{KeepsComplete}
-use Rattle.file_entries.specs.Limits.{last_next, longest_file, most_entries}
+use Rattle.file_entries.specs.Limits.{longest_file, most_entries}
 use Rattle.file_entries.specs.Store.{Entry, Holding, partial, complete, Store, entry_of, blocks_for, blocks_of, new_entry, octets_of}
 use Rattle.pfh_writer.proofs.StampedLemmas.{length-stamped}
 use Rattle.file_entries.proofs.EntriesLemmas.{has_number, AreEntries-push, AreEntries-map-changed, AreEntries-filter, HaveCallers-push, HaveCallers-map-changed, HaveCallers-filter, found-caller, found-fits, blocks-map-changed, find-map-changed_other, find-filter_other}
@@ -65,16 +65,7 @@ never-both (complete o m) other h t = cc
 -- what the condition of a begin says
 pub begin-allowed : (store : Store) (number : ℕ) (caller : CallSign) (file_length moment : ℕ) → IsTrue (is_allowed store (begin number caller file_length moment))
     → (number ≡ store.next) × (file_length ≤ longest_file) × (length store.entries < most_entries) × (blocks_of store + blocks_for file_length ≤ store.blocks)
-begin-allowed store number caller file_length moment ok =
-    let short : Bool = nat_le file_length longest_file in
-    let few : Bool = nat_lt (length store.entries) most_entries in
-    let left : Bool = nat_lt store.next last_next in
-    let room : Bool = nat_le (blocks_of store + blocks_for file_length) store.blocks in
-    let both : IsTrue (number == store.next) × IsTrue (can_begin store file_length) = and-parts (number == store.next) (can_begin store file_length) ok in
-    let three : IsTrue (short && few && left) × IsTrue room = and-parts (short && few && left) room both.1 in
-    let two : IsTrue (short && few) × IsTrue left = and-parts (short && few) left three.0 in
-    let one : IsTrue short × IsTrue few = and-parts short few two.0 in
-    (grind (arith, nat_tests, both.0), grind (arith, nat_tests, one.0), grind (arith, nat_tests, one.1), grind (arith, nat_tests, three.1))
+begin-allowed store number caller file_length moment ok = grind (arith, nat_tests)
 
 -- what the condition of a grow says
 pub grow-allowed : (store : Store) (number : ℕ) (octets : List ℕ) → IsTrue (is_allowed store (grow number octets))
@@ -226,11 +217,7 @@ never-complete store command e is ok found whole =
     never-both e.holding under_way.1 (ap (λ (x : Entry). x.holding) same ∙ under_way.3) whole
 
 pub after-KeepsComplete : (store : Store) (command : Command) → IsStore store → IsTrue (is_allowed store command) → KeepsComplete store (after store command)
-after-KeepsComplete store command is ok number e found whole =
-    elim (eqb_tells number (number_of command)) [
-      | inl w ↦ absurd (never-complete store command e is ok (subst (λ (n : ℕ). entry_of store n ≡ Some e) w.1 found) whole)
-      | inr w ↦ after-other store command number e w.1 found
-    ]
+after-KeepsComplete store command is ok number e found whole = grind (arith, nat_tests, after-same store command number, never-complete store command e is ok)
 
 pub after_all-KeepsComplete : (store : Store) (commands : List Command) → IsStore store → HaveCalls commands → AreAllowed store commands
     → KeepsComplete store (after_all store commands)

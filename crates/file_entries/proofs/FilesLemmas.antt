@@ -1,16 +1,16 @@
 -- Lemmas on lists of files: entries, and beside each one what came of an upload of it.
-use Rattle.std.proofs.Common.{◌≡◌, ◌≢◌, ℕ, zero, suc, ◌+◌, ◌≤◌, ◌<◌, Bool, true, false, not, List, [], ◌∷◌, ◌++◌, length, get_or, set, map, filter, refl, ap, sym, ◌∙◌, subst, arith, None, Some, inl, inr, ◌==◌}
+use Rattle.std.proofs.Common.{◌≡◌, ◌≢◌, ℕ, zero, suc, ◌+◌, ◌≤◌, ◌<◌, Bool, true, false, not, List, [], ◌∷◌, ◌++◌, length, get_or, set, map, filter, refl, ap, sym, ◌∙◌, subst, arith, None, Some, ◌==◌}
 use Rattle.std.specs.Prelude.{find, slice_get, sum_by}
 use Rattle.std.specs.List.{remove}
 use Rattle.std.specs.Option.{option_map}
-use Rattle.std.proofs.lemmas.Bool.Decides.{nat_tests, eqb_tells}
+use Rattle.std.proofs.lemmas.Bool.Decides.{nat_tests}
 use Rattle.std.proofs.lemmas.List.Folds.{find-append}
 use Rattle.std.proofs.lemmas.List.Sums.{sum_by-cons}
 use Rattle.file_entries.specs.Command.{changed}
 use Rattle.file_entries.specs.Files.{File, entries_of, file_of}
 use Rattle.file_entries.specs.IsStore.{AreEntries}
 use Rattle.file_entries.specs.Store.{Entry, Holding, blocks_for}
-use Rattle.file_entries.proofs.EntriesLemmas.{changed-other, changed-same, has_number, map-changed_past}
+use Rattle.file_entries.proofs.EntriesLemmas.{has_number, map-changed_past}
 
 -- whether the file has this number
 abbrev pub is_of : ℕ → File → Bool
@@ -19,11 +19,7 @@ is_of number f = f.entry.number == number
 -- the entry of a number is that of the file
 pub find-entries : (number : ℕ) (files : List File) → find (has_number number) (entries_of files) ≡ option_map (λ f. f.entry) (file_of files number)
 find-entries number [] = refl
-find-entries number (x ∷ xs) =
-    elim (eqb_tells x.entry.number number) [
-      | inl w ↦ rw w.0 refl
-      | inr w ↦ rw w.0 (find-entries number xs)
-    ]
+find-entries number (x ∷ xs) = grind (arith, nat_tests, find-entries number xs)
 
 -- what stands at a place
 pub at-place : (files : List File) (place : ℕ) (file : File) → slice_get files place ≡ Some file → (place < length files) × ((d : File) → get_or files place d ≡ file)
@@ -69,18 +65,13 @@ has number x h = grind (arith, nat_tests)
 pub found-at : (low next : ℕ) (files : List File) (number place : ℕ) (file : File) → AreEntries low (entries_of files) next → slice_get files place ≡ Some file
     → file.entry.number ≡ number → file_of files number ≡ Some file
 found-at low next [] number place file are h same = absurd (cc)
-found-at low next (x ∷ xs) number zero file are h same =
-    let e : x ≡ file = cc in
-    rw (has number x (ap (λ (f : File). f.entry.number) e ∙ same)) h
-found-at low next (x ∷ xs) number (suc place) file are h same =
-    let above = low-at (x.entry.number + 1) next xs place file are.4 h in
-    rw (differs number x (λ e. omega (arith, above, same, e))) (found-at (x.entry.number + 1) next xs number place file are.4 h same)
+found-at low next (x ∷ xs) number zero file are h same = grind (arith, nat_tests)
+found-at low next (x ∷ xs) number (suc place) file are h same = grind (arith, nat_tests, low-at (x.entry.number + 1) next xs place file are.4 h, found-at (x.entry.number + 1) next xs number place file are.4 h)
 
 -- no file of a number that is at no place
 pub found-none : (files : List File) (number : ℕ) → ((k : ℕ) (d : File) → k < length files → (get_or files k d).entry.number ≡ number → ⊥) → file_of files number ≡ None
 found-none [] number none = refl
-found-none (x ∷ xs) number none =
-    rw (differs number x (none 0 x (omega arith))) (found-none xs number (λ k d h. none (suc k) d (omega (arith, h))))
+found-none (x ∷ xs) number none = grind (arith, nat_tests, none 0 x, found-none xs number (λ k d h. none (suc k) d (omega (arith, h))))
 
 -- ---- one file in place of another of its number
 
@@ -88,28 +79,18 @@ pub set-here : (low next : ℕ) (files : List File) (number place : ℕ) (file y
     → file.entry.number ≡ number → y.entry.number ≡ number → file_of (set files place y) number ≡ Some y
 set-here low next [] number place file y are h same new = absurd (cc)
 set-here low next (x ∷ xs) number zero file y are h same new = rw (has number y new) refl
-set-here low next (x ∷ xs) number (suc place) file y are h same new =
-    let above = low-at (x.entry.number + 1) next xs place file are.4 h in
-    rw (differs number x (λ e. omega (arith, above, same, e))) (set-here (x.entry.number + 1) next xs number place file y are.4 h same new)
+set-here low next (x ∷ xs) number (suc place) file y are h same new = grind (arith, nat_tests, low-at (x.entry.number + 1) next xs place file are.4 h, set-here (x.entry.number + 1) next xs number place file y are.4 h)
 
 pub set-other : (files : List File) (number other place : ℕ) (file y : File) → slice_get files place ≡ Some file → file.entry.number ≡ number
     → y.entry.number ≡ number → other ≢ number → file_of (set files place y) other ≡ file_of files other
 set-other [] number other place file y h same new ne = absurd (cc)
-set-other (x ∷ xs) number other zero file y h same new ne =
-    let e : x ≡ file = cc in
-    rw (differs other y (λ k. ne (sym k ∙ new)), differs other x (λ k. ne (sym k ∙ (ap (λ (f : File). f.entry.number) e ∙ same)))) refl
-set-other (x ∷ xs) number other (suc place) file y h same new ne =
-    elim (eqb_tells x.entry.number other) [
-      | inl w ↦ rw w.0 refl
-      | inr w ↦ rw w.0 (set-other xs number other place file y h same new ne)
-    ]
+set-other (x ∷ xs) number other zero file y h same new ne = grind (arith, nat_tests)
+set-other (x ∷ xs) number other (suc place) file y h same new ne = grind (arith, nat_tests, set-other xs number other place file y h)
 
 -- one with the same entry
 pub set-entries-same : (files : List File) (place : ℕ) (file y : File) → slice_get files place ≡ Some file → y.entry ≡ file.entry → entries_of (set files place y) ≡ entries_of files
 set-entries-same [] place file y h same = absurd (cc)
-set-entries-same (x ∷ xs) zero file y h same =
-    let e : x ≡ file = cc in
-    ap (λ (n : Entry). n ∷ entries_of xs) (same ∙ ap (λ (f : File). f.entry) (sym e))
+set-entries-same (x ∷ xs) zero file y h same = cc
 set-entries-same (x ∷ xs) (suc place) file y h same = ap (λ (es : List Entry). x.entry ∷ es) (set-entries-same xs place file y h same)
 
 -- one whose entry is changed
@@ -117,71 +98,38 @@ pub set-entries-changed : (low next : ℕ) (files : List File) (number place : �
     → slice_get files place ≡ Some file → file.entry.number ≡ number → y.entry ≡ record file.entry { holding = change file.entry }
     → entries_of (set files place y) ≡ map (changed number change) (entries_of files)
 set-entries-changed low next [] number place file y change are h same new = absurd (cc)
-set-entries-changed low next (x ∷ xs) number zero file y change are h same new =
-    let e : x ≡ file = cc in
-    let here : file.entry ≡ x.entry = ap (λ (f : File). f.entry) (sym e) in
-    let is : x.entry.number ≡ number = ap (λ (f : File). f.entry.number) e ∙ same in
-    let rest : map (changed number change) (entries_of xs) ≡ entries_of xs =
-    map-changed_past number change (x.entry.number + 1) next (entries_of xs) are.4 (omega (arith, is)) in
-    let head : y.entry ≡ changed number change x.entry =
-    new ∙ ap (λ (n : Entry). record n { holding = change n }) here ∙ sym (changed-same number change x.entry (has number x is)) in
-    ap (λ (n : Entry). n ∷ entries_of xs) head ∙ ap (λ (es : List Entry). changed number change x.entry ∷ es) (sym rest)
-set-entries-changed low next (x ∷ xs) number (suc place) file y change are h same new =
-    let above = low-at (x.entry.number + 1) next xs place file are.4 h in
-    let other = changed-other number change x.entry (differs number x (λ e. omega (arith, above, same, e))) in
-    let rest = set-entries-changed (x.entry.number + 1) next xs number place file y change are.4 h same new in
-    ap (λ (es : List Entry). x.entry ∷ es) rest ∙ ap (λ (n : Entry). n ∷ map (changed number change) (entries_of xs)) (sym other)
+set-entries-changed low next (x ∷ xs) number zero file y change are h same new = grind (arith, nat_tests, map-changed_past number change (x.entry.number + 1) next (entries_of xs) are.4)
+set-entries-changed low next (x ∷ xs) number (suc place) file y change are h same new = grind (arith, nat_tests, low-at (x.entry.number + 1) next xs place file are.4 h, set-entries-changed (x.entry.number + 1) next xs number place file y change are.4 h)
 
 -- ---- without one file
 
 -- nothing of a number below all is dropped
 filter-past : (number low next : ℕ) (entries : List Entry) → AreEntries low entries next → number < low → filter (λ e. not (e.number == number)) entries ≡ entries
 filter-past number low next [] are past = refl
-filter-past number low next (x ∷ xs) are past =
-    let other : has_number number x ≡ false = grind (arith, nat_tests) in
-    rw other (ap (λ (es : List Entry). x ∷ es) (filter-past number (x.number + 1) next xs are.4 (omega (arith, past, are.0))))
+filter-past number low next (x ∷ xs) are past = grind (arith, nat_tests, filter-past number (x.number + 1) next xs are.4)
 
 pub remove-entries : (low next : ℕ) (files : List File) (number place : ℕ) (file : File) → AreEntries low (entries_of files) next → slice_get files place ≡ Some file
     → file.entry.number ≡ number → entries_of (remove files place) ≡ filter (λ e. not (e.number == number)) (entries_of files)
 remove-entries low next [] number place file are h same = absurd (cc)
-remove-entries low next (x ∷ xs) number zero file are h same =
-    let e : x ≡ file = cc in
-    let is : x.entry.number ≡ number = ap (λ (f : File). f.entry.number) e ∙ same in
-    let here : has_number number x.entry ≡ true = has number x is in
-    rw here (sym (filter-past number (x.entry.number + 1) next (entries_of xs) are.4 (omega (arith, is))))
-remove-entries low next (x ∷ xs) number (suc place) file are h same =
-    let above = low-at (x.entry.number + 1) next xs place file are.4 h in
-    let other : has_number number x.entry ≡ false = differs number x (λ e. omega (arith, above, same, e)) in
-    rw other (ap (λ (es : List Entry). x.entry ∷ es) (remove-entries (x.entry.number + 1) next xs number place file are.4 h same))
+remove-entries low next (x ∷ xs) number zero file are h same = grind (arith, nat_tests, filter-past number (x.entry.number + 1) next (entries_of xs) are.4)
+remove-entries low next (x ∷ xs) number (suc place) file are h same = grind (arith, nat_tests, low-at (x.entry.number + 1) next xs place file are.4 h, remove-entries (x.entry.number + 1) next xs number place file are.4 h)
 
 -- no file has a number that is below all
 file-past : (number low next : ℕ) (files : List File) → AreEntries low (entries_of files) next → number < low → file_of files number ≡ None
 file-past number low next [] are past = refl
-file-past number low next (x ∷ xs) are past =
-    rw (differs number x (λ e. omega (arith, past, are.0, e))) (file-past number (x.entry.number + 1) next xs are.4 (omega (arith, past, are.0)))
+file-past number low next (x ∷ xs) are past = grind (arith, nat_tests, file-past number (x.entry.number + 1) next xs are.4)
 
 pub remove-here : (low next : ℕ) (files : List File) (number place : ℕ) (file : File) → AreEntries low (entries_of files) next → slice_get files place ≡ Some file
     → file.entry.number ≡ number → file_of (remove files place) number ≡ None
 remove-here low next [] number place file are h same = absurd (cc)
-remove-here low next (x ∷ xs) number zero file are h same =
-    let e : x ≡ file = cc in
-    let is : x.entry.number ≡ number = ap (λ (f : File). f.entry.number) e ∙ same in
-    file-past number (x.entry.number + 1) next xs are.4 (omega (arith, is))
-remove-here low next (x ∷ xs) number (suc place) file are h same =
-    let above = low-at (x.entry.number + 1) next xs place file are.4 h in
-    rw (differs number x (λ e. omega (arith, above, same, e))) (remove-here (x.entry.number + 1) next xs number place file are.4 h same)
+remove-here low next (x ∷ xs) number zero file are h same = grind (arith, nat_tests, file-past number (x.entry.number + 1) next xs are.4)
+remove-here low next (x ∷ xs) number (suc place) file are h same = grind (arith, nat_tests, low-at (x.entry.number + 1) next xs place file are.4 h, remove-here (x.entry.number + 1) next xs number place file are.4 h)
 
 pub remove-other : (files : List File) (number other place : ℕ) (file : File) → slice_get files place ≡ Some file → file.entry.number ≡ number → other ≢ number
     → file_of (remove files place) other ≡ file_of files other
 remove-other [] number other place file h same ne = absurd (cc)
-remove-other (x ∷ xs) number other zero file h same ne =
-    let e : x ≡ file = cc in
-    rw (differs other x (λ k. ne (sym k ∙ (ap (λ (f : File). f.entry.number) e ∙ same)))) refl
-remove-other (x ∷ xs) number other (suc place) file h same ne =
-    elim (eqb_tells x.entry.number other) [
-      | inl w ↦ rw w.0 refl
-      | inr w ↦ rw w.0 (remove-other xs number other place file h same ne)
-    ]
+remove-other (x ∷ xs) number other zero file h same ne = grind (arith, nat_tests)
+remove-other (x ∷ xs) number other (suc place) file h same ne = grind (arith, nat_tests, remove-other xs number other place file h)
 
 -- the blocks that the others take
 pub remove-blocks : (files : List File) (place : ℕ) (file : File) → slice_get files place ≡ Some file
@@ -189,14 +137,10 @@ pub remove-blocks : (files : List File) (place : ℕ) (file : File) → slice_ge
 remove-blocks [] place file h = absurd (cc)
 remove-blocks (x ∷ xs) zero file h =
     let e : x ≡ file = cc in
-    let here : blocks_for file.entry.length ≡ blocks_for x.entry.length = ap (λ (f : File). blocks_for f.entry.length) (sym e) in
-    let all = sum_by-cons (λ (e : Entry). blocks_for e.length) x.entry (entries_of xs) in
-    omega (arith, here, all)
+    omega (arith, ap (λ (f : File). blocks_for f.entry.length) e, sum_by-cons (λ (e : Entry). blocks_for e.length) x.entry (entries_of xs))
 remove-blocks (x ∷ xs) (suc place) file h =
-    let rest = remove-blocks xs place file h in
-    let one = sum_by-cons (λ (e : Entry). blocks_for e.length) x.entry (entries_of (remove xs place)) in
-    let all = sum_by-cons (λ (e : Entry). blocks_for e.length) x.entry (entries_of xs) in
-    omega (arith, rest, one, all)
+    let f : Entry → ℕ = λ e. blocks_for e.length in
+    omega (arith, remove-blocks xs place file h, sum_by-cons f x.entry (entries_of (remove xs place)), sum_by-cons f x.entry (entries_of xs))
 
 -- ---- one more file, at the end
 
@@ -209,8 +153,4 @@ push-here files number y none new = rw (find-append (is_of number) files (y ∷ 
 
 pub push-other : (files : List File) (number other : ℕ) (y : File) → y.entry.number ≡ number → other ≢ number → file_of (files ++ y ∷ []) other ≡ file_of files other
 push-other [] number other y new ne = rw (differs other y (λ k. ne (sym k ∙ new))) refl
-push-other (x ∷ xs) number other y new ne =
-    elim (eqb_tells x.entry.number other) [
-      | inl w ↦ rw w.0 refl
-      | inr w ↦ rw w.0 (push-other xs number other y new ne)
-    ]
+push-other (x ∷ xs) number other y new ne = grind (arith, nat_tests, push-other xs number other y new ne)

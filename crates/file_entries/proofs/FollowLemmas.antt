@@ -1,21 +1,21 @@
 -- What holds of a store that follows another.
-use Rattle.std.proofs.Common.{◌≡◌, ℕ, ◌≤◌, ◌<◌, not, List, [], ◌∷◌, ◌++◌, length, filter, refl, ap, sym, ◌∙◌, subst, arith, Option, None, Some, inl, inr, ◌==◌, length-append}
+use Rattle.std.proofs.Common.{◌≡◌, ℕ, ◌≤◌, ◌<◌, not, List, [], ◌∷◌, ◌++◌, length, filter, refl, ap, sym, ◌∙◌, subst, arith, Option, None, Some, inl, inr, ◌==◌, length-append, zero, suc, take}
 use Rattle.std.specs.Prelude.{find, IsTrue, ⊤}
 use Rattle.std.specs.List.{AllByRecursion}
-use Rattle.std.proofs.lemmas.Bool.Decides.{eqb_tells}
-use Rattle.std.proofs.lemmas.Bool.{eq-eqb}
+use Rattle.std.proofs.lemmas.Bool.Decides.{nat_tests, eqb_tells}
 use Rattle.std.proofs.lemmas.List.{drop_at}
-use Rattle.std.proofs.lemmas.List.Elements.{All-append, All-drop, All-nil}
+use Rattle.std.proofs.lemmas.List.Elements.{All-append, All-drop, All-from_recursion, All-nil, All-take, recursion_from_All}
 use Rattle.std.proofs.lemmas.Option.{same_Some}
 use Rattle.px_base.specs.CallSign.{CallSign, IsCall}
 use Rattle.px_base.specs.Octets.{IsOctets}
+use Rattle.file_journal.specs.Commands as kept
 use Rattle.file_journal.proofs.Offered.{allowed_append}
 use Rattle.pfh_items.specs.Layout.{header_text}
 use Rattle.pfh_items.specs.Stamp.{StampValue, stamped}
 use Rattle.pfh_items.proofs.Offered.{octets_as_body}
 use Rattle.pfh_writer.proofs.ClientLemmas.{kept_file}
 use Rattle.pfh_writer.proofs.StampedLemmas.{length-stamped}
-use Rattle.file_entries.specs.Command.{Command, DoesAll, begin, grow, seal, drop_entry, is_good, is_allowed, grown, kept_with, sealed, stamp_of, with_holding, with_more, after, after_all, AreAllowed, HasCall, HaveCalls}
+use Rattle.file_entries.specs.Command.{Command, IsAllowed, DoesAll, begin, grow, seal, drop_entry, is_good, is_allowed, grown, kept_with, sealed, stamp_of, with_holding, with_more, after, after_all, AreAllowed, HasCall, HaveCalls}
 use Rattle.file_entries.specs.Follows.{AreOf, BringsOctets, Continues, Follows, FollowsLaw, HaveFiles, IsFile, IsOf, KeepsEntries, KeepsOthers}
 use Rattle.file_entries.specs.IsStore.{IsStore}
 use Rattle.file_entries.specs.Store.{Entry, Holding, partial, complete, Store, entry_of, new_entry, octets_of}
@@ -30,11 +30,7 @@ IsOctet octet = octet < 256
 -- a dropped number has no entry
 find-filter_same : (number : ℕ) (entries : List Entry) → find (has_number number) (filter (λ e. not (e.number == number)) entries) ≡ None
 find-filter_same number [] = refl
-find-filter_same number (x ∷ xs) =
-    elim (eqb_tells x.number number) [
-      | inl w ↦ rw w.0 (find-filter_same number xs)
-      | inr w ↦ rw (w.0, w.0) (find-filter_same number xs)
-    ]
+find-filter_same number (x ∷ xs) = grind (arith, nat_tests, find-filter_same number xs)
 
 -- what an entry may become
 abbrev Became : Entry → Option Entry → Type 0
@@ -56,9 +52,7 @@ changed-continues store number change old found longer =
 
 own-continues : (store : Store) (command : Command) (old : Entry) → IsStore store → IsTrue (is_allowed store command)
     → entry_of store (number_of command) ≡ Some old → Became old (entry_of (after store command) (number_of command))
-own-continues store (begin number caller file_length moment) old is ok found =
-    let same = (begin-allowed store number caller file_length moment ok).0 in
-    absurd (omega (arith, same, (found-fits number 1 store.next store.entries old is.entries found).2))
+own-continues store (begin number caller file_length moment) old is ok found = grind (arith, begin-allowed store number caller file_length moment ok, found-fits number 1 store.next store.entries old is.entries)
 own-continues store (grow number octets) old is ok found = changed-continues store number (grown octets) old found (more-longer octets old.holding)
 own-continues store (seal number moment) old is ok found =
     let good = found-passes (λ e. is_good e.holding e.length) (entry_of store number) old found ok in
@@ -68,13 +62,7 @@ own-continues store (drop_entry number) old is ok found = subst (Became old) (sy
 
 continues : (store : Store) (command : Command) (number : ℕ) (old : Entry) → IsStore store → IsTrue (is_allowed store command)
     → entry_of store number ≡ Some old → Became old (entry_of (after store command) number)
-continues store command number old is ok found =
-    elim (eqb_tells number (number_of command)) [
-      | inl w ↦
-          subst (λ (n : ℕ). Became old (entry_of (after store command) n)) (sym w.1)
-          (own-continues store command old is ok (subst (λ (n : ℕ). entry_of store n ≡ Some old) w.1 found))
-      | inr w ↦ subst (Became old) (sym (after-same store command number w.1 ∙ found)) (record { same = refl; longer = omega arith })
-    ]
+continues store command number old is ok found = grind (arith, nat_tests, after-same store command number, own-continues store command old is ok)
 
 continues-then : (old mid new : Entry) → Continues old mid → Continues mid new → Continues old new
 continues-then old mid new one two = record {
@@ -119,24 +107,17 @@ entries before now is f =
 -- the entry of the number of a caller's command is the caller's, before it and after it
 own-before : (caller : CallSign) (store : Store) (command : Command) (e : Entry) → IsStore store → IsTrue (is_allowed store command)
     → IsOf caller store command → entry_of store (number_of command) ≡ Some e → e.caller ≡ caller
-own-before caller store (begin number by file_length moment) e is ok own found =
-    let same = (begin-allowed store number by file_length moment ok).0 in
-    absurd (omega (arith, same, (found-fits number 1 store.next store.entries e is.entries found).2))
+own-before caller store (begin number by file_length moment) e is ok own found = grind (arith, begin-allowed store number by file_length moment ok, found-fits number 1 store.next store.entries e is.entries)
 own-before caller store command e is ok own found = own e found
 
 begun-there : (store : Store) (number : ℕ) (caller : CallSign) (file_length moment : ℕ) → IsStore store
     → IsTrue (is_allowed store (begin number caller file_length moment))
     → entry_of (after store (begin number caller file_length moment)) number ≡ Some (new_entry number caller file_length moment)
-begun-there store number caller file_length moment is ok =
-    let same = (begin-allowed store number caller file_length moment ok).0 in
-    find-push (has_number number) store.entries (new_entry number caller file_length moment)
-    (find_past number 1 store.next store.entries is.entries (omega (arith, same))) (eq-eqb number number refl)
+begun-there store number caller file_length moment is ok = grind (arith, nat_tests, begin-allowed store number caller file_length moment ok, find-push (has_number number) store.entries (new_entry number caller file_length moment), find_past number 1 store.next store.entries is.entries)
 
 own-after : (caller : CallSign) (store : Store) (command : Command) (e : Entry) → IsStore store → IsTrue (is_allowed store command)
     → IsOf caller store command → entry_of (after store command) (number_of command) ≡ Some e → e.caller ≡ caller
-own-after caller store (begin number by file_length moment) e is ok own there =
-    let begun = begun-there store number by file_length moment is ok in
-    ap (λ (x : Entry). x.caller) (same_Some e (new_entry number by file_length moment) (sym there ∙ begun)) ∙ own
+own-after caller store (begin number by file_length moment) e is ok own there = grind (arith, begun-there store number by file_length moment is ok)
 own-after caller store command e is ok own there =
     let was = may-come store command ok in
     let became : Continues was.0 e = subst (Became was.0) there (own-continues store command was.0 is ok was.1) in
@@ -144,17 +125,7 @@ own-after caller store command e is ok own there =
 
 keeps-others : (caller : CallSign) (store : Store) (command : Command) → IsStore store → IsTrue (is_allowed store command)
     → IsOf caller store command → KeepsOthers caller store (after store command)
-keeps-others caller store command is ok own number e other =
-    elim (eqb_tells number (number_of command)) [
-      | inl w ↦ (
-        λ found. absurd (other (own-before caller store command e is ok own (subst (λ (n : ℕ). entry_of store n ≡ Some e) w.1 found))),
-        λ there. absurd (other (own-after caller store command e is ok own (subst (λ (n : ℕ). entry_of (after store command) n ≡ Some e) w.1 there))),
-      )
-      | inr w ↦ (
-        λ found. after-same store command number w.1 ∙ found,
-        λ there. sym (after-same store command number w.1) ∙ there,
-      )
-    ]
+keeps-others caller store command is ok own number e other = grind (arith, nat_tests, after-same store command number, own-before caller store command e is ok own, own-after caller store command e is ok own)
 
 own-call : (caller : CallSign) (store : Store) (command : Command) → IsCall caller → IsOf caller store command → HasCall command
 own-call caller store (begin number by file_length moment) call own = subst IsCall (sym own) call
@@ -211,8 +182,7 @@ own-file store (seal number moment) e is have brings ok there =
     let call = found-caller number store.entries was.0 is.callers was.1 in
     changed-file store number (sealed moment) was.0 e was.1
     (sealed-file (stamp_of moment was.0) was.0.holding was.0.length call was.2 (have number was.0 was.1)) there
-own-file store (drop_entry number) e is have brings ok there =
-    absurd (let none = find-filter_same number store.entries in let x : ⊥ = cc in x)
+own-file store (drop_entry number) e is have brings ok there = grind (arith, find-filter_same number store.entries)
 
 all-files : (store : Store) (commands : List Command) → IsStore store → HaveFiles store → HaveCalls commands → AllByRecursion BringsOctets commands
     → AreAllowed store commands → HaveFiles (after_all store commands)
@@ -240,6 +210,13 @@ then-does before between now a b one two = (
   two.1 ∙ ap (λ (s : Store). after_all s b) one.1 ∙ sym (after_all-append a b before),
 )
 
+-- the first of the commands
+first-allowed : (allowed : Store → Command → Type 0) (n : ℕ) (store : Store) (commands : List Command) → kept.AreAllowed allowed after store commands
+    → kept.AreAllowed allowed after store (take n commands)
+first-allowed allowed zero store commands ok = tt
+first-allowed allowed (suc n) store [] ok = tt
+first-allowed allowed (suc n) store (command ∷ commands) ok = (ok.0, first-allowed allowed n (after store command) commands ok.1)
+
 pub follows_law : FollowsLaw
 follows_law = record {
   entries = entries;
@@ -259,5 +236,15 @@ follows_law = record {
     own = allowed_append after (IsOf caller) one.commands two.commands before one.own
         (subst (λ (s : Store). AreOf caller s two.commands) one.does.1 two.own);
     does = then-does before between now one.commands two.commands one.does two.does;
+  };
+  first = λ before now count f. record {
+    commands = take count f.commands;
+    calls = recursion_from_All HasCall (take count f.commands) (All-take HasCall count f.commands (All-from_recursion HasCall f.commands f.calls));
+    does = (first-allowed IsAllowed count before f.commands f.does.0, refl);
+  };
+  first_by = λ caller before now count f. record {
+    commands = take count f.commands;
+    own = first-allowed (IsOf caller) count before f.commands f.own;
+    does = (first-allowed IsAllowed count before f.commands f.does.0, refl);
   };
 }

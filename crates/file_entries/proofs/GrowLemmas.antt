@@ -1,7 +1,7 @@
 -- Octets that become held, one block after another.
-use Rattle.std.proofs.Common.{◌≡◌, ℕ, suc, zero, ◌+◌, ◌≤◌, ◌<◌, Bool, ◌&&◌, List, [], ◌∷◌, ◌++◌, length, map, take, drop, refl, ap, sym, ◌∙◌, subst, arith, Option, Some, inl, inr, ◌*◌, nat_le, length-append, length-drop, append_assoc}
+use Rattle.std.proofs.Common.{◌≡◌, ℕ, suc, zero, ◌+◌, ◌≤◌, ◌<◌, Bool, ◌&&◌, List, [], ◌∷◌, ◌++◌, length, map, take, drop, refl, ap, sym, ◌∙◌, subst, arith, Option, Some, ◌*◌, nat_le, length-append, length-drop, append_assoc}
 use Rattle.std.specs.Prelude.{IsTrue}
-use Rattle.std.proofs.lemmas.Bool.Decides.{nat_tests, eqb_tells}
+use Rattle.std.proofs.lemmas.Bool.Decides.{nat_tests}
 use Rattle.std.proofs.lemmas.List.{length-take-le, append-nil}
 use Rattle.std.proofs.Math.Seq.{take-add}
 use Rattle.file_journal.proofs.Offered.{after_all_append, allowed_append}
@@ -20,18 +20,10 @@ more-twice a b (partial held) = ap partial (append_assoc held a b)
 more-twice a b (complete octets moment) = refl
 
 pub changed-none : (number : ℕ) (e : Entry) → changed number (grown []) e ≡ e
-changed-none number e =
-    elim (eqb_tells e.number number) [
-      | inl w ↦ rw w.0 (ap (λ (h : Holding). record e { holding = h }) (more-none e.holding))
-      | inr w ↦ rw w.0 refl
-    ]
+changed-none number e = grind (arith, nat_tests, more-none)
 
 pub changed-twice : (number : ℕ) (a b : List ℕ) (e : Entry) → changed number (grown b) (changed number (grown a) e) ≡ changed number (grown (a ++ b)) e
-changed-twice number a b e =
-    elim (eqb_tells e.number number) [
-      | inl w ↦ rw (w.0, w.0) (ap (λ (h : Holding). record e { holding = h }) (more-twice a b e.holding))
-      | inr w ↦ rw (w.0, w.0) refl
-    ]
+changed-twice number a b e = grind (arith, nat_tests, more-twice)
 
 pub map-changed-none : (number : ℕ) (entries : List Entry) → map (changed number (grown [])) entries ≡ entries
 map-changed-none number [] = refl

@@ -1,11 +1,11 @@
 -- The laws of the commands.
-use Rattle.std.proofs.Common.{◌≡◌, ℕ, ◌≤◌, ◌<◌, List, [], ◌∷◌, subst, ◌∙◌, arith, None, inl, inr}
+use Rattle.std.proofs.Common.{◌≡◌, ℕ, ◌≤◌, ◌<◌, List, [], ◌∷◌, arith, None}
 use Rattle.std.specs.Prelude.{IsTrue}
-use Rattle.std.proofs.lemmas.Bool.Decides.{eqb_tells}
+use Rattle.std.proofs.lemmas.Bool.Decides.{nat_tests}
 use Rattle.file_entries.specs.Command.{Command, begin, is_allowed, after, after_all, AreAllowed}
 use Rattle.file_entries.specs.IsStore.{IsStore}
 use Rattle.file_entries.specs.Store.{Store, empty_store, entry_of}
-use Rattle.file_entries.proofs.AfterLemmas.{after-same, begin-allowed, given-under_way, number_of}
+use Rattle.file_entries.proofs.AfterLemmas.{after-same, begin-allowed, given-under_way}
 
 pub empty-IsStore : (blocks : ℕ) → 1 ≤ blocks → blocks ≤ 65536 → IsStore (empty_store blocks)
 empty-IsStore blocks some most = record { entries = tt; callers = tt; next = omega arith; count = omega arith; blocks = omega arith; some = some; most = most }
@@ -16,14 +16,7 @@ after-next store command ok = omega arith
 
 after-gone : (store : Store) (command : Command) (number : ℕ) → IsTrue (is_allowed store command) → number < store.next → entry_of store number ≡ None
     → entry_of (after store command) number ≡ None
-after-gone store command number ok below gone =
-    elim (eqb_tells number (number_of command)) [
-      | inl w ↦
-          let there = (given-under_way store command (omega (arith, w.1, below)) ok).2 in
-          let none : entry_of store (number_of command) ≡ None = subst (λ (n : ℕ). entry_of store n ≡ None) w.1 gone in
-          absurd (let x : ⊥ = cc in x)
-      | inr w ↦ after-same store command number w.1 ∙ gone
-    ]
+after-gone store command number ok below gone = grind (arith, nat_tests, after-same store command number, given-under_way store command)
 
 pub after_all-gone : (store : Store) (commands : List Command) (number : ℕ) → AreAllowed store commands → number < store.next → entry_of store number ≡ None
     → entry_of (after_all store commands) number ≡ None

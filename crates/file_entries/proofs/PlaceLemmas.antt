@@ -65,11 +65,7 @@ store_with entries next blocks = store_from entries next blocks
 -- an entry that is found is no lower than all
 found-low : (number low next : ℕ) (entries : List Entry) (e : Entry) → AreEntries low entries next → find (has_number number) entries ≡ Some e → low ≤ number
 found-low number low next [] e are found = absurd (cc)
-found-low number low next (x ∷ xs) e are found =
-    elim (eqb_tells x.number number) [
-      | inl w ↦ omega (arith, w.1, are.0)
-      | inr w ↦ let rest = found-low number (x.number + 1) next xs e are.4 (rw w.0 at found) in omega (arith, rest, are.0)
-    ]
+found-low number low next (x ∷ xs) e are found = grind (arith, nat_tests, found-low number (x.number + 1) next xs e are.4)
 
 -- where one more entry at the front changes nothing above this number
 module _ (above next blocks : ℕ) (x : Entry) (xs : List Entry) where

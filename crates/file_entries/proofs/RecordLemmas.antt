@@ -2,8 +2,8 @@
 use Rattle.std.proofs.Common.{◌≡◌, ℕ, ◌+◌, ◌*◌, ◌/◌, ◌%◌, ◌^◌, ◌<◌, ◌≤◌, ◌==◌, Bool, true, false, ◌&&◌, nat_le, nat_lt, List, [], ◌∷◌, ◌++◌, length, take, drop, Option, None, Some, refl, sym, ap, ◌∙◌, subst, arith, inl, inr, lit<, add-zero, length-drop, take-append-drop}
 use Rattle.std.specs.Prelude.{◌↔◌, if◌then◌else◌, slice_index}
 use Rattle.std.specs.Option.{option_map}
-use Rattle.std.proofs.lemmas.Bool.{cases_lt}
-use Rattle.std.proofs.lemmas.Bool.Decides.{nat_tests, eqb_tells}
+use Rattle.std.proofs.lemmas.Bool.{and_parts, cases_lt, eq-eqb, eqb-true, le-leb, leb-true, lt-ltb, ltb-true, ne_eqb}
+use Rattle.std.proofs.lemmas.Bool.Decides.{eqb_tells}
 use Rattle.std.proofs.lemmas.List.{get_or-drop, get_or_past}
 use Rattle.std.proofs.lemmas.List.Elements.{All-append, All-cons, All-drop, All-nil, All-take}
 use Rattle.px_base.specs.CallSign.{CallSign, IsCall}
@@ -73,28 +73,6 @@ map-some : (f : CallSign → Command) (o : Option CallSign) (command : Command) 
 map-some f None command h = absurd (cc)
 map-some f (Some call) command h = (call, refl, cc)
 
-is-from_test : (n m : ℕ) → (n == m) ≡ true → n ≡ m
-is-from_test n m h = grind (arith, nat_tests)
-
-test-from_is : (n m : ℕ) → n ≡ m → (n == m) ≡ true
-test-from_is n m h = grind (arith, nat_tests)
-
-both : (a b : Bool) → (a && b) ≡ true → (a ≡ true) × (b ≡ true)
-both true b h = (refl, h)
-both false b h = absurd (cc)
-
-lt-from_test : (m n : ℕ) → nat_lt m n ≡ true → m < n
-lt-from_test m n h = grind (arith, nat_tests)
-
-le-from_test : (m n : ℕ) → nat_le m n ≡ true → m ≤ n
-le-from_test m n h = grind (arith, nat_tests)
-
-test-from_lt : (m n : ℕ) → m < n → nat_lt m n ≡ true
-test-from_lt m n h = grind (arith, nat_tests)
-
-test-from_le : (m n : ℕ) → m ≤ n → nat_le m n ≡ true
-test-from_le m n h = grind (arith, nat_tests)
-
 -- ---- a content that is read is the command's
 
 -- a content of 19 octets, by its parts
@@ -114,7 +92,7 @@ four octets same = absurd (omega arith)
 begin-read : (content : List ℕ) (command : Command) → IsOctets content → begin_in content ≡ Some command → Writes (record_of 1 content) command
 begin-read content command octets h =
     let w = if-some (length content == 19) (begin_by content (call_in (take 7 (drop 4 content)))) command h in
-    let whole : length content ≡ 19 = is-from_test _ _ w.0 in
+    let whole : length content ≡ 19 = eqb-true _ _ w.0 in
     let v = map-some (λ (caller : CallSign). begin (le32 content 0) caller (le32 content 11) (le32 content 15)) (call_in (take 7 (drop 4 content))) command w.1 in
     let call = (law (take 7 (drop 4 content)) v.0).0 v.1 in
     let first : le32_octets (le32 content 0) ≡ take 4 content = number_front content octets (omega arith) in
@@ -132,9 +110,9 @@ begin-read content command octets h =
 grow-read : (content : List ℕ) (command : Command) → IsOctets content → grow_in content ≡ Some command → Writes (record_of 2 content) command
 grow-read content command octets h =
     let w = if-some (nat_lt 4 (length content) && nat_le (length content) 516) (Some (grow (le32 content 0) (drop 4 content))) command h in
-    let t = both _ _ w.0 in
-    let some : 4 < length content = lt-from_test _ _ t.0 in
-    let most : length content ≤ 516 = le-from_test _ _ t.1 in
+    let t = and_parts _ _ w.0 in
+    let some : 4 < length content = ltb-true _ _ t.0 in
+    let most : length content ≤ 516 = leb-true _ _ t.1 in
     let is : command ≡ grow (le32 content 0) (drop 4 content) = let e = w.1 in cc in
     let left = length-drop 4 content in
     let front : le32_octets (le32 content 0) ≡ take 4 content = number_front content octets (omega arith) in
@@ -146,7 +124,7 @@ grow-read content command octets h =
 seal-read : (content : List ℕ) (command : Command) → IsOctets content → seal_in content ≡ Some command → Writes (record_of 3 content) command
 seal-read content command octets h =
     let w = if-some (length content == 8) (Some (seal (le32 content 0) (le32 content 4))) command h in
-    let whole : length content ≡ 8 = is-from_test _ _ w.0 in
+    let whole : length content ≡ 8 = eqb-true _ _ w.0 in
     let is : command ≡ seal (le32 content 0) (le32 content 4) = let e = w.1 in cc in
     let front : le32_octets (le32 content 0) ≡ take 4 content = number_front content octets (omega arith) in
     let back : le32_octets (le32 content 4) ≡ take 4 (drop 4 content) = number_at content 4 octets (omega arith) in
@@ -159,7 +137,7 @@ seal-read content command octets h =
 drop-read : (content : List ℕ) (command : Command) → IsOctets content → drop_in content ≡ Some command → Writes (record_of 4 content) command
 drop-read content command octets h =
     let w = if-some (length content == 4) (Some (drop_entry (le32 content 0))) command h in
-    let whole : length content ≡ 4 = is-from_test _ _ w.0 in
+    let whole : length content ≡ 4 = eqb-true _ _ w.0 in
     let is : command ≡ drop_entry (le32 content 0) = let e = w.1 in cc in
     let front : le32_octets (le32 content 0) ≡ take 4 content = number_front content octets (omega arith) in
     subst (λ (c : Command). Writes (record_of 4 content) c) (sym is)
@@ -215,7 +193,7 @@ begin-written number caller file_length moment is =
     let p = begin_parts number caller.ssid file_length moment caller.chars (length-IsSpelled caller.chars is.1.spelled) is.0 is.2 is.3 in
     let call : call_in (take 7 (drop 4 (begin_content number caller file_length moment))) ≡ Some caller =
     (law (take 7 (drop 4 (begin_content number caller file_length moment))) caller).1 (is.1, p.call) in
-    ap (λ (b : Bool). if b then begin_by (begin_content number caller file_length moment) (call_in (take 7 (drop 4 (begin_content number caller file_length moment)))) else None) (test-from_is _ _ p.len)
+    ap (λ (b : Bool). if b then begin_by (begin_content number caller file_length moment) (call_in (take 7 (drop 4 (begin_content number caller file_length moment)))) else None) (eq-eqb _ _ p.len)
     ∙ ap (begin_by (begin_content number caller file_length moment)) call
     ∙ ap (λ (n : ℕ). Some (begin n caller (le32 (begin_content number caller file_length moment) 11) (le32 (begin_content number caller file_length moment) 15))) p.number_is
     ∙ ap (λ (n : ℕ). Some (begin number caller n (le32 (begin_content number caller file_length moment) 15))) p.length_is
@@ -223,8 +201,8 @@ begin-written number caller file_length moment is =
 
 grow-written : (number : ℕ) (octets : List ℕ) → IsWritable (grow number octets) → grow_in (le32_octets number ++ octets) ≡ Some (grow number octets)
 grow-written number octets is =
-    let some : nat_lt 4 (length (le32_octets number ++ octets)) ≡ true = test-from_lt _ _ (omega (arith, is.2)) in
-    let most : nat_le (length (le32_octets number ++ octets)) 516 ≡ true = test-from_le _ _ (omega (arith, is.3)) in
+    let some : nat_lt 4 (length (le32_octets number ++ octets)) ≡ true = lt-ltb _ _ (omega (arith, is.2)) in
+    let most : nat_le (length (le32_octets number ++ octets)) 516 ≡ true = le-leb _ _ (omega (arith, is.3)) in
     let number_is : le32 (le32_octets number ++ octets) 0 ≡ number = omega (arith, is.0) in
     ap (λ (b : Bool). if (b && nat_le (length (le32_octets number ++ octets)) 516) then Some (grow (le32 (le32_octets number ++ octets) 0) octets) else None) some
     ∙ ap (λ (b : Bool). if b then Some (grow (le32 (le32_octets number ++ octets) 0) octets) else None) most
@@ -296,9 +274,6 @@ pub of_kind_4 : (kind : ℕ) (content : List ℕ) → kind ≡ 4 → drop_in con
 unfolding command_of
 of_kind_4 kind content is = sym (ap (λ (k : ℕ). command_of (record_of k content)) is)
 
-other_kind : (kind n : ℕ) → (kind ≡ n → ⊥) → (kind == n) ≡ false
-other_kind kind n h = grind (arith, nat_tests)
-
 pub of_other_kind : (kind : ℕ) (content : List ℕ) → (kind ≡ 1 → ⊥) → (kind ≡ 2 → ⊥) → (kind ≡ 3 → ⊥) → (kind ≡ 4 → ⊥) → None ≡ command_of (record_of kind content)
 unfolding command_of
-of_other_kind kind content a b c d = rw (other_kind kind 1 a, other_kind kind 2 b, other_kind kind 3 c, other_kind kind 4 d) refl
+of_other_kind kind content a b c d = rw (ne_eqb kind 1 a, ne_eqb kind 2 b, ne_eqb kind 3 c, ne_eqb kind 4 d) refl

@@ -1,10 +1,10 @@
 -- Stores that commands make of one another, each command allowed in its turn.
-use Rattle.std.specs.Prelude.{◌≡◌, ◌≢◌, ◌↔◌, ℕ, ◌≤◌, ◌<◌, List, length, None, Some, ⊤}
+use Rattle.std.specs.Prelude.{◌≡◌, ◌≢◌, ◌↔◌, ℕ, ◌≤◌, ◌<◌, List, length, take, None, Some, ⊤}
 use Rattle.std.specs.List.{AllByRecursion}
 use Rattle.px_base.specs.CallSign.{CallSign, IsCall}
 use Rattle.px_base.specs.Octets.{IsOctets}
 use Rattle.file_journal.specs.Commands as kept
-use Rattle.file_entries.specs.Command.{Command, HaveCalls, DoesAll, after, begin, grow, seal, drop_entry}
+use Rattle.file_entries.specs.Command.{Command, HaveCalls, DoesAll, after, after_all, begin, grow, seal, drop_entry}
 use Rattle.file_entries.specs.Headers.{KeepsRules}
 use Rattle.file_entries.specs.IsStore.{IsStore}
 use Rattle.file_entries.specs.Kept.{KeepsComplete}
@@ -76,7 +76,8 @@ BringsOctets (seal number moment) = ⊤
 BringsOctets (drop_entry number) = ⊤
 
 -- What holds of each store that follows another: of its entries, by commands of one caller of those of the others, and
--- by octets alone of what is held. A store follows another by way of a third one.
+-- by octets alone of what is held. A store follows another by way of a third one, and so does that after the first of
+-- the commands.
 pub record FollowsLaw : Type 0 where
   pub entries : (before now : Store) → IsStore before → Follows before now → KeepsEntries before now
   pub others :
@@ -89,3 +90,9 @@ pub record FollowsLaw : Type 0 where
   pub joined_by :
       (caller : CallSign) (before between now : Store) → FollowsBy caller before between
       → FollowsBy caller between now → FollowsBy caller before now
+  pub first :
+      (before now : Store) (count : ℕ) (follows : Follows before now)
+      → Follows before (after_all before (take count follows.commands))
+  pub first_by :
+      (caller : CallSign) (before now : Store) (count : ℕ) (follows : FollowsBy caller before now)
+      → FollowsBy caller before (after_all before (take count follows.commands))

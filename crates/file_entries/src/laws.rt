@@ -14,9 +14,9 @@ pub fn numbers_law()
     ensures { NumbersLaw }
 {}
 
-/// What commands make of a store keeps its complete entries, never takes octets from an entry that stands, and never gives
-/// a number that was given. Commands of one caller leave the entries of all others as they are; octets stay octets, and
-/// complete files keep the rules of file headers.
+/// Commands keep complete entries, take no octets from an entry that stands, and give no number twice. Those of one
+/// caller leave the entries of all others as they are. Octets stay octets, and complete files keep the rules of file
+/// headers.
 pub fn follows_law()
     ensures { FollowsLaw }
 {}
