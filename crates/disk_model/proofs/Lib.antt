@@ -1,4 +1,5 @@
 mod Crashes
+mod Ranges
 mod Steps
 mod Surfaces
 pub mod Writes

@@ -1,7 +1,8 @@
 -- A disk that stops after so many calls, as contracts see it, and what each of its calls does.
 use Rattle.std.specs.Prelude.{◌≡◌, ◌⊎◌, ℕ, ◌+◌, ◌^◌, ◌<◌, ◌≤◌, List, length, Option, Some, true, Result, IsErr}
 use Rattle.px_base.specs.Outside.{counted}
-use Rattle.disk_model.specs.Calls.{DiskState, IsReading, IsSyncing, IsTearing, IsWriting, content_of, images_of, images_since_of, moment_of}
+use Rattle.disk_model.specs.Calls.{DiskState, IsReading, IsSyncing, IsTearing, IsWriting, content_of, images_of}
+use Rattle.disk_model.specs.Calls.{images_since_of, moment_of}
 use Rattle.disk_model.specs.Memory.{state}
 use Rattle.disk_model.specs.declared.fuse_disk.FuseDisk.{FuseDisk}
 use Rattle.disk_model.specs.declared.fuse_disk.FuseStage.{FuseStage}

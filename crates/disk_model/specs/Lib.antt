@@ -6,4 +6,5 @@ pub mod FuseLaws
 pub mod Memory
 pub mod MemoryLaws
 pub mod Moments
+pub mod Open
 pub mod Surface

@@ -1,8 +1,10 @@
 //! A disk that stops after so many calls, as where power is lost or the device is gone.
 
-ghost use Rattle.std.specs.Prelude.{◌≡◌, ◌⊎◌, ◌↔◌, ◌+◌, ◌<◌, ◌≤◌, ◌^◌, length, IfOk, IfSome, IsErr, IsTrue, OnErr, OnOk};
+ghost use Rattle.std.specs.Prelude.{◌≡◌, ◌⊎◌, ◌↔◌, ◌+◌, ◌<◌, ◌≤◌, ◌^◌, length, IfOk, IfSome, IsErr, IsTrue, OnErr};
+ghost use Rattle.std.specs.Prelude.{OnOk};
 ghost use Rattle.px_base.specs.Outside.{HasCause, Rose};
-ghost use Rattle.disk_model.specs.Disk.{AreAmong, FillsRoom, Follows, HasContent, IsTold, LeavesOpen, Only, Torn, Writes};
+ghost use Rattle.disk_model.specs.Disk.{AreAmong, FillsRoom, Follows, HasContent, IsTold, LeavesOpen, Only, Torn};
+ghost use Rattle.disk_model.specs.Disk.{Writes};
 ghost use Rattle.disk_model.specs.Moments.{OnlyFails, OnlyReads, SinceNow, TakesOneMoment, TimePasses};
 
 use crate::limits::ends_within;
@@ -33,7 +35,8 @@ pub struct FuseDisk {
 }
 
 impl FuseDisk {
-    ghost use Rattle.disk_model.specs.Fuse.{HasBlown, IsCutShort, fuse, fuse_after_failed, fuse_after_failed_reading, new_fuse};
+    ghost use Rattle.disk_model.specs.Fuse.{HasBlown, IsCutShort, fuse, fuse_after_failed, fuse_after_failed_reading};
+    ghost use Rattle.disk_model.specs.Fuse.{new_fuse};
     ghost use Rattle.disk_model.specs.Fuse as it;
     ghost use Rattle.disk_model.specs.Memory.{state};
 

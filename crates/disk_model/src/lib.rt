@@ -9,8 +9,8 @@ mod halt;
 mod history;
 mod limits;
 mod memory_disk;
+mod open_ranges;
 mod overwriting;
-mod replay;
 
 pub use disk::{Disk, DiskFault};
 pub use fuse_disk::FuseDisk;

@@ -5,7 +5,7 @@ use Rattle.disk_model.specs.Fuse.{FuseState, IsTornNext, fuse}
 use Rattle.disk_model.specs.Memory.{state}
 use Rattle.disk_model.specs.MemoryLaws.{content_is_image}
 use Rattle.disk_model.specs.declared.fuse_disk.FuseStage.TheVariants as stage
-use Rattle.disk_model.proofs.Steps.{Opens, Untouched, cause_of_sum, elapses_either, follows_either, kept_either, leaves_open_either, tearing_opens}
+use Rattle.disk_model.proofs.Steps.{Opens, Untouched, cause_of_sum, elapses_either, follows_either, kept_either, leaves_now_either, leaves_open_either, tearing_opens}
 use Rattle.disk_model.proofs.fuse_disk.FuseDiskDisk.write_at.Goals as goal
 
 -- the write was cut short, or reached no disk
@@ -30,6 +30,9 @@ returns-in_default-clause-kept c = kept_either _ _ _ _ _ (opens c)
 
 pub returns-in_default-clause-past : goal.returns-in_default-clause-past
 returns-in_default-clause-past c = elapses_either _ _ _ _ _ (opens c)
+
+pub returns-in_default-clause-since_now : goal.returns-in_default-clause-since_now
+returns-in_default-clause-since_now c = leaves_now_either _ _ _ _ _ (opens c)
 
 pub returns-in-Passes-clause-open : goal.returns-in-Passes-clause-open
 returns-in-Passes-clause-open c = λ up. c.write_at.ensures.open (λ down. up (inr down))
