@@ -1,3 +1,4 @@
+mod Armed
 mod Crashes
 mod Ranges
 mod Steps

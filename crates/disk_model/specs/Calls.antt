@@ -142,7 +142,8 @@ pub record IsTearing (before now : DiskState) (at count : ℕ) : Type 0 where
   pub up :
       before.down ≡ false
       → (now ≡ with_torn_write before at count)
-      ⊎ (now ≡ record (with_torn_write before at count) { down = true; counter = record before.counter { starved = true } })
+      ⊎ (now
+      ≡ record (with_torn_write before at count) { down = true; counter = record before.counter { starved = true } })
   pub down : before.down ≡ true → now ≡ before
 
 -- A power cut is recorded by what it left.

@@ -7,7 +7,7 @@ ghost use Rattle.px_base.specs.Outside.{HasCause};
 ghost use Rattle.disk_model.specs.Disk.{AreAmong, FillsRoom, Follows, HasContent, IsQuiet, IsTold, LeavesOpen, Only};
 ghost use Rattle.disk_model.specs.Disk.{Torn, Writes};
 ghost use Rattle.disk_model.specs.Moments.{OnlyFails, OnlyReads, SinceNow, TakesOneMoment, TimePasses};
-ghost use Rattle.disk_model.specs.Calls.{IsPowerCut, IsReading, IsSyncing, IsTearing, IsWriting, Starves, content_of};
+ghost use Rattle.disk_model.specs.Calls.{IsPowerCut, IsReading, IsSyncing, IsTearing, IsWriting, content_of};
 ghost use Rattle.disk_model.specs.Calls.{images_of, new_state, surface, with_starved_fault, with_write_fault};
 ghost use Rattle.disk_model.specs.Crash.{IsFilled};
 
@@ -147,7 +147,8 @@ impl MemoryDisk {
 
     /// Says that no memory was found.
     pub(crate) fn starve(&mut self)
-        ensures { Starves (state self.old) (state self.new) }
+        ensures { state self.new
+            ≡ record (state self.old) { counter = record (state self.old).counter { starved = true } } }
     {
         self.counter.starve();
     }
@@ -182,7 +183,7 @@ impl Disk for MemoryDisk {
 
     ghost is_down = { it.is_down };
 
-    ghost lasts = { λ _ _. Unit {0} };
+    ghost lasts = { it.lasts };
 
     /// The number of octets; a call that is listed fails.
     fn len(&mut self) -> Result<u64, DiskFault>
@@ -192,7 +193,7 @@ impl Disk for MemoryDisk {
             it.content it.images it.moment it.images_since it.write_faults self.old self.new }
         ensures read_faults { HasCause (it.read_faults self.old) (it.read_faults self.new) result }
         ensures down { it.is_down self.new ↔ it.is_down self.old }
-        ensures lasts { Unit {0} }
+        ensures lasts { it.lasts self.old self.new }
         ensures reading { IsReading (state self.old) (state self.new) result }
     {
         self.count_reading()?;
@@ -208,7 +209,7 @@ impl Disk for MemoryDisk {
             it.content it.images it.moment it.images_since it.write_faults self.old self.new }
         ensures read_faults { HasCause (it.read_faults self.old) (it.read_faults self.new) result }
         ensures down { it.is_down self.new ↔ it.is_down self.old }
-        ensures lasts { Unit {0} }
+        ensures lasts { it.lasts self.old self.new }
         ensures reading { IsReading (state self.old) (state self.new) result }
         ensures failed { OnErr result (room.new ≡ room.old) }
     {
@@ -240,7 +241,7 @@ impl Disk for MemoryDisk {
         ensures since_now { SinceNow it.moment it.images it.images_since self.old self.new }
         ensures read_faults { it.read_faults self.new ≡ it.read_faults self.old }
         ensures write_faults { HasCause (it.write_faults self.old) (it.write_faults self.new) result }
-        ensures lasts { Unit {0} }
+        ensures lasts { it.lasts self.old self.new }
         ensures writing { IsWriting (state self.old) (state self.new) at bytes.now result }
     {
         self.record_write(at, bytes)
@@ -261,7 +262,7 @@ impl Disk for MemoryDisk {
         ensures since_now { SinceNow it.moment it.images it.images_since self.old self.new }
         ensures read_faults { it.read_faults self.new ≡ it.read_faults self.old }
         ensures write_faults { HasCause (it.write_faults self.old) (it.write_faults self.new) result }
-        ensures lasts { Unit {0} }
+        ensures lasts { it.lasts self.old self.new }
         ensures syncing { IsSyncing (state self.old) (state self.new) result }
     {
         self.record_sync()
