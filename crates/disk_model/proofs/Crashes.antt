@@ -1,11 +1,10 @@
 -- What stands of a surface that is torn write by write.
-use Rattle.std.proofs.Common.{◌≡◌, ◌⊎◌, inl, inr, ⊎_elim, ℕ, ◌+◌, ◌-◌, ◌/◌, ◌%◌, ◌<◌, ◌≤◌, List, [], ◌∷◌, ◌++◌, length, get_or, take, drop, Option, Some, Result, Ok, Err, IfOk, Vec, Global, refl, sym, ◌∙◌, ap, subst, arith, fold}
+use Rattle.std.proofs.Common.{◌≡◌, ◌⊎◌, inl, inr, ⊎_elim, ℕ, ◌+◌, ◌/◌, ◌%◌, ◌<◌, ◌≤◌, List, [], ◌∷◌, ◌++◌, length, get_or, take, Option, Some, Result, Ok, Err, OnOk, refl, sym, ◌∙◌, ap, subst, arith, fold}
 use Rattle.std.proofs.lemmas.Bool.{cases_lt}
-use Rattle.std.proofs.lemmas.List.{take_more, take_rest, take-append-drop}
+use Rattle.std.proofs.lemmas.List.{take_more}
 use Rattle.std.proofs.lemmas.List.Elements.{All-tail}
-use Rattle.std.proofs.lemmas.List.Sums.{fold-append}
 use Rattle.disk_model.specs.Crash.{IsCrash, IsFilled, Tears}
-use Rattle.disk_model.specs.Surface.{IsImage, IsInRange, IsOpen, NoSync, Surface, count_of, with_range, place_of, surface_after, surface_after_call, quiet_surface}
+use Rattle.disk_model.specs.Surface.{AllLeaveOpen, Closes, IsImage, IsInRange, IsOpen, Surface, count_of, with_range, place_of, surface_after, surface_after_call}
 use Rattle.disk_model.proofs.Surfaces.{surface_after-push}
 use Rattle.disk_model.specs.declared.disk_call.DiskCall.{DiskCall}
 use Rattle.disk_model.specs.declared.disk_call.DiskCall.TheVariants as call
@@ -21,7 +20,7 @@ tears_same at count picked picked' old old' new e f tears =
     subst (λ (p : Option ℕ). Tears at count p old' new) e (subst (λ (o : List ℕ). Tears at count picked o new) f tears)
 
 -- inside a range, or not
-inside_or_not : (at count place : ℕ) → IsInRange at count place ⊎ (IsInRange at count place → ⊥)
+pub inside_or_not : (at count place : ℕ) → IsInRange at count place ⊎ (IsInRange at count place → ⊥)
 inside_or_not at count place = elim (cases_lt place at) [
   | inl before ↦ inr (λ inside. omega (arith, before, inside.0))
   | inr from ↦ elim (cases_lt place (at + count)) [ inl to ↦ inl (from, to) | inr past ↦ inr (λ inside. omega (arith, past, inside.1)) ]
@@ -51,43 +50,38 @@ nothing_torn surface picked old new tears torn = record {
       tears.outside place (λ inside. omega (arith, inside.1)) ∙ torn.filled octet place is (omega (arith, tears.size, below)) reached;
 }
 
-pub torn_more : (surface : Surface) (done : DiskCall) (picked : Option ℕ) (old new : List ℕ) → (done ≡ call.Sync → ⊥) → Tears (place_of done) (count_of done) picked old new → IsTorn surface picked old → IsTorn (surface_after_call surface done) picked new
+pub torn_more : (surface : Surface) (done : DiskCall) (picked : Option ℕ) (old new : List ℕ) → (Closes done → ⊥) → Tears (place_of done) (count_of done) picked old new → IsTorn surface picked old → IsTorn (surface_after_call surface done) picked new
 torn_more surface (call.Write at octets) picked old new no_sync tears torn =
     let here = with_range_torn surface at (length octets) picked old new tears torn in
     record { kept = here.kept; filled = here.filled }
 torn_more surface (call.TornWrite at count) picked old new no_sync tears torn = with_range_torn surface at count picked old new tears torn
-torn_more surface call.Sync picked old new no_sync tears torn = absurd (no_sync refl)
+torn_more surface call.Sync picked old new no_sync tears torn = absurd (no_sync tt)
+torn_more surface (call.PowerCut inside behind) picked old new no_sync tears torn = absurd (no_sync tt)
 torn_more surface call.FailedSync picked old new no_sync tears torn = nothing_torn surface picked old new tears torn
 
-pub synced_same : (surface : Surface) (done : DiskCall) → (done ≡ call.Sync → ⊥) → (surface_after_call surface done).synced ≡ surface.synced
+pub synced_same : (surface : Surface) (done : DiskCall) → (Closes done → ⊥) → (surface_after_call surface done).synced ≡ surface.synced
 synced_same surface (call.Write at octets) no_sync = refl
 synced_same surface (call.TornWrite at count) no_sync = refl
-synced_same surface call.Sync no_sync = absurd (no_sync refl)
+synced_same surface call.Sync no_sync = absurd (no_sync tt)
 synced_same surface call.FailedSync no_sync = refl
+synced_same surface (call.PowerCut inside behind) no_sync = absurd (no_sync tt)
 
 -- the octets that the last sync left stay until another sync passes
-synced_kept : (surface : Surface) (calls : List DiskCall) → NoSync calls → (fold surface_after_call surface calls).synced ≡ surface.synced
+pub synced_kept : (surface : Surface) (calls : List DiskCall) → AllLeaveOpen calls → (fold surface_after_call surface calls).synced ≡ surface.synced
 synced_kept surface [] none = refl
 synced_kept surface (done ∷ calls) none =
-    synced_kept (surface_after_call surface done) calls (All-tail (λ (d : DiskCall). d ≡ call.Sync → ⊥) done calls none)
+    synced_kept (surface_after_call surface done) calls (All-tail (λ (d : DiskCall). Closes d → ⊥) done calls none)
     ∙ synced_same surface done (none 0 done (omega arith))
-
--- from a sync on, a disk is as one that had at first what stood at that sync
-pub since_rest : (first : List ℕ) (calls : List DiskCall) (n : ℕ) (content : List ℕ) → surface_after first (take n calls) ≡ quiet_surface (surface_after first (take n calls)).content → content ≡ (surface_after first (take n calls)).content → surface_after content (drop n calls) ≡ surface_after first calls
-since_rest first calls n content rest is =
-    ap (λ (octets : List ℕ). surface_after octets (drop n calls)) is
-    ∙ sym (fold-append surface_after_call (quiet_surface first) (take n calls) (drop n calls) ∙ ap (λ (s : Surface). fold surface_after_call s (drop n calls)) rest)
-    ∙ ap (surface_after first) (take-append-drop n calls)
 
 -- one call more of those since the last sync
 pub record NextCall (synced : List ℕ) (calls : List DiskCall) (i : ℕ) (done : DiskCall) : Type 0 where
   pub after : surface_after synced (take (i + 1) calls) ≡ surface_after_call (surface_after synced (take i calls)) done
-  pub no_sync : done ≡ call.Sync → ⊥
+  pub no_sync : Closes done → ⊥
 
-pub next_call : (synced : List ℕ) (calls : List DiskCall) (i : ℕ) (done : DiskCall) → NoSync calls → i < length calls → done ≡ get_or calls i done → NextCall synced calls i done
+pub next_call : (synced : List ℕ) (calls : List DiskCall) (i : ℕ) (done : DiskCall) → AllLeaveOpen calls → i < length calls → done ≡ get_or calls i done → NextCall synced calls i done
 next_call synced calls i done none below is = record {
   after = ap (surface_after synced) (take_more calls i done below ∙ ap (λ (d : DiskCall). take i calls ++ d ∷ []) (sym is)) ∙ surface_after-push synced (take i calls) done;
-  no_sync = λ sync. none i done below (sym is ∙ sync);
+  no_sync = subst (λ (d : DiskCall). Closes d → ⊥) (sym is) (none i done below);
 }
 
 pub torn_next : (synced : List ℕ) (calls : List DiskCall) (i : ℕ) (done : DiskCall) (picked : Option ℕ) (old new : List ℕ) → NextCall synced calls i done → Tears (place_of done) (count_of done) picked old new → IsTorn (surface_after synced (take i calls)) picked old → IsTorn (surface_after synced (take (i + 1) calls)) picked new
@@ -97,18 +91,10 @@ torn_next synced calls i done picked old new next tears torn =
 pub synced_next : (synced : List ℕ) (calls : List DiskCall) (i : ℕ) (done : DiskCall) → NextCall synced calls i done → (surface_after synced (take (i + 1) calls)).synced ≡ (surface_after synced (take i calls)).synced
 synced_next synced calls i done next = ap (λ (s : Surface). s.synced) next.after ∙ synced_same (surface_after synced (take i calls)) done next.no_sync
 
-pub since_last : (first : List ℕ) (calls : List DiskCall) (n : ℕ) (content : List ℕ) → surface_after first (take n calls) ≡ quiet_surface (surface_after first (take n calls)).content → content ≡ (surface_after first (take n calls)).content → surface_after content (take (length calls - n) (drop n calls)) ≡ surface_after first calls
-since_last first calls n content rest is = ap (surface_after content) (take_rest calls n) ∙ since_rest first calls n content rest is
-
--- what a read gave at the last sync is what was synced
-pub synced_content : (first : List ℕ) (calls : List DiskCall) (n : ℕ) (content : List ℕ) → surface_after first (take n calls) ≡ quiet_surface (surface_after first (take n calls)).content → content ≡ (surface_after first (take n calls)).content → NoSync (drop n calls) → (surface_after first calls).synced ≡ content
-synced_content first calls n content rest is none =
-    sym (ap (λ (s : Surface). s.synced) (since_rest first calls n content rest is)) ∙ synced_kept (quiet_surface content) (drop n calls) none
-
 -- what is torn is what a crash leaves
-pub crash_of : {E : Type 0} (surface : Surface) (pick : ℕ) (result : Result (Vec ℕ Global) E) → IfOk result (λ (image : Vec ℕ Global). IsImage surface image.items)
-    → (pick % 4 ≡ 2 → IfOk result (λ (image : Vec ℕ Global). IsFilled surface (pick / 4 % 256) image.items))
-    → (pick % 4 ≡ 0 → ⊥) → (pick % 4 ≡ 1 → ⊥) → IfOk result (λ (image : Vec ℕ Global). IsCrash surface pick image.items)
-crash_of surface pick (Ok image) left filled not_synced not_written =
+pub crash_of : {T E : Type 0} (surface : Surface) (pick : ℕ) (result : Result T E) (image : List ℕ) → OnOk result (IsImage surface image)
+    → (pick % 4 ≡ 2 → OnOk result (IsFilled surface (pick / 4 % 256) image))
+    → (pick % 4 ≡ 0 → ⊥) → (pick % 4 ≡ 1 → ⊥) → OnOk result (IsCrash surface pick image)
+crash_of surface pick (Ok done) image left filled not_synced not_written =
     record { left = left; synced = λ is. absurd (not_synced is); written = λ is. absurd (not_written is); filled = filled }
-crash_of surface pick (Err fault) left filled not_synced not_written = tt
+crash_of surface pick (Err fault) image left filled not_synced not_written = tt

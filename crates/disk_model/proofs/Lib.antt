@@ -1,4 +1,6 @@
+mod Armed
 mod Crashes
+mod Ranges
 mod Steps
 mod Surfaces
 pub mod Writes

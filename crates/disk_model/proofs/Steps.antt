@@ -1,41 +1,80 @@
 -- What a call of a disk in memory leaves of its content, its images and its past.
-use Rattle.std.proofs.Common.{◌≡◌, ◌⊎◌, inl, inr, ℕ, ◌+◌, ◌≤◌, List, true, [], ◌∷◌, ◌++◌, length, take, refl, sym, ◌∙◌, ap, subst, arith, Some, Ok, Err, Result, OnOk}
+use Rattle.std.proofs.Common.{◌≡◌, ◌⊎◌, inl, inr, ℕ, ◌+◌, ◌<◌, ◌≤◌, List, true, [], ◌∷◌, ◌++◌, length, take, drop, refl, sym, ◌∙◌, ap, subst, arith, Some, Ok, Err, Result, OnOk, zero-add}
 use Rattle.std.proofs.lemmas.Bool.{cases_Bool, cases_lt}
-use Rattle.std.proofs.lemmas.List.{length_push, take_all, take-append-le}
+use Rattle.std.proofs.lemmas.List.{length_push, take_all, take-append-drop, take-append-le}
+use Rattle.std.proofs.lemmas.List.Sums.{sum_by-append}
+use Rattle.std.proofs.Math.Nat.{le_refl}
 use Rattle.px_base.specs.Outside.{HasCause}
 use Rattle.px_base.specs.Octets.{IsOctets}
 use Rattle.disk_model.specs.Calls.{DiskState, IsRefused, IsSyncing, IsTearing, IsWriting, content_of, images_of, images_since_of, moment_of, surface}
 use Rattle.disk_model.specs.Disk.{Follows, HasContent, Only, Torn, Writes}
-use Rattle.disk_model.specs.Moments.{Elapses}
-use Rattle.disk_model.specs.Surface.{ImagesSince, IsImage, Surface, with_range, surface_after, surface_after_call, write_over}
+use Rattle.disk_model.specs.Moments.{Elapses, SamePast}
+use Rattle.disk_model.specs.Surface.{ImagesSince, IsImage, Surface, moments_in, moments_of, with_range, surface_after, surface_after_call, write_over}
 use Rattle.disk_model.specs.declared.disk_call.DiskCall.{DiskCall}
 use Rattle.disk_model.specs.declared.disk_call.DiskCall.TheVariants as call
 use Rattle.disk_model.proofs.Surfaces.{quiet_leaves_only, images_of_this_content, images_of_other_content, with_range_keeps, surface_after-push, torn_from, torn_leaves}
 use Rattle.disk_model.proofs.Writes.{torn_by_places, write_over_writes}
 
+pub moments_in-push : (calls : List DiskCall) (done : DiskCall) → moments_in (calls ++ done ∷ []) ≡ moments_in calls + moments_of done
+moments_in-push calls done = sum_by-append moments_of calls (done ∷ []) ∙ ap (λ (n : ℕ). moments_in calls + n) (zero-add (moments_of done))
+
+moments_front : (k : ℕ) (calls : List DiskCall) → moments_in (take k calls) ≤ moments_in calls
+moments_front k calls =
+    let whole = ap moments_in (take-append-drop k calls) in
+    omega (arith, whole, sum_by-append moments_of (take k calls) (drop k calls))
+
 -- no call was made, and a crash may leave no more than before
-pub nothing_elapses : (first : List ℕ) (calls : List DiskCall) (images : List ℕ → Type 0) → Elapses (length calls) (length calls) (ImagesSince first calls) (ImagesSince first calls) images
+pub nothing_elapses : (first : List ℕ) (calls : List DiskCall) (images : List ℕ → Type 0) → Elapses (moments_in calls) (moments_in calls) (ImagesSince first calls) (ImagesSince first calls) images
 nothing_elapses first calls images = record { later = omega arith; nothing_else = λ t image early since. inl since; keeps = λ t image early past. past }
 
 -- one call more
-pub call_elapses : (first : List ℕ) (calls : List DiskCall) (call : DiskCall) → Elapses (length calls) (length (calls ++ call ∷ [])) (ImagesSince first calls) (ImagesSince first (calls ++ call ∷ [])) (IsImage (surface_after first (calls ++ call ∷ [])))
-call_elapses first calls call = record {
-  later = omega (arith, longer);
-  nothing_else = λ t image early since. before_or_now t image since;
-  keeps = λ t image early past. (past.0, past.1, omega (arith, longer, past.2), subst (λ (s : Surface). IsImage s image) (sym (same past.0 past.2)) past.3);
-}
-  where
-    longer : length (calls ++ call ∷ []) ≡ length calls + 1
-    longer = length_push calls call
+module _ (first : List ℕ) (calls : List DiskCall) (done : DiskCall) where
+  longer : length (calls ++ done ∷ []) ≡ length calls + 1
+  longer = length_push calls done
 
-    same : (k : ℕ) → k ≤ length calls → surface_after first (take k (calls ++ call ∷ [])) ≡ surface_after first (take k calls)
-    same k le = ap (surface_after first) (take-append-le k calls (call ∷ []) le)
+  same : (k : ℕ) → k ≤ length calls → take k (calls ++ done ∷ []) ≡ take k calls
+  same k le = take-append-le k calls (done ∷ []) le
 
-    before_or_now : (t : ℕ) (image : List ℕ) → ImagesSince first (calls ++ call ∷ []) t image → ImagesSince first calls t image ⊎ IsImage (surface_after first (calls ++ call ∷ [])) image
-    before_or_now t image since = elim (cases_lt (length calls) since.0) [
-      | inl after ↦ inr (subst (λ (s : Surface). IsImage s image) (ap (surface_after first) (take_all since.0 (calls ++ call ∷ []) (omega (arith, after, longer)))) since.3)
-      | inr le ↦ inl (since.0, since.1, le, subst (λ (s : Surface). IsImage s image) (same since.0 le) since.3)
-    ]
+  before_or_now : (t : ℕ) (image : List ℕ) → ImagesSince first (calls ++ done ∷ []) t image → ImagesSince first calls t image ⊎ IsImage (surface_after first (calls ++ done ∷ [])) image
+  before_or_now t image since = elim (cases_lt (length calls) since.0) [
+    | inl after ↦ inr (subst (λ (l : List DiskCall). IsImage (surface_after first l) image) (take_all since.0 (calls ++ done ∷ []) (omega (arith, after, longer))) since.3)
+    | inr le ↦ inl (since.0, subst (λ (l : List DiskCall). t ≤ moments_in l) (same since.0 le) since.1, le, subst (λ (l : List DiskCall). IsImage (surface_after first l) image) (same since.0 le) since.3)
+  ]
+
+  still : (t : ℕ) (image : List ℕ) → ImagesSince first calls t image → ImagesSince first (calls ++ done ∷ []) t image
+  still t image past =
+      (past.0, subst (λ (l : List DiskCall). t ≤ moments_in l) (sym (same past.0 past.2)) past.1, omega (arith, longer, past.2), subst (λ (l : List DiskCall). IsImage (surface_after first l) image) (sym (same past.0 past.2)) past.3)
+
+  pub call_elapses : Elapses (moments_in calls) (moments_in (calls ++ done ∷ [])) (ImagesSince first calls) (ImagesSince first (calls ++ done ∷ [])) (IsImage (surface_after first (calls ++ done ∷ [])))
+  call_elapses = record {
+    later = omega (arith, moments_in-push calls done);
+    nothing_else = λ t image early since. before_or_now t image since;
+    keeps = λ t image early past. still t image past;
+  }
+
+  -- where it was a moment, what may be left since then may be left now
+  pub call_leaves_now : moments_in calls < moments_in (calls ++ done ∷ []) → (image : List ℕ) → ImagesSince first (calls ++ done ∷ []) (moments_in (calls ++ done ∷ [])) image → IsImage (surface_after first (calls ++ done ∷ [])) image
+  call_leaves_now rose image since = elim (before_or_now (moments_in (calls ++ done ∷ [])) image since) [
+    | inl past ↦ absurd (omega (arith, rose, past.1, moments_front past.0 calls))
+    | inr now ↦ now
+  ]
+
+  -- after a power cut nothing else might have been left since a moment: what is left might have been left before
+  pub cut_keeps_past : moments_of done ≡ 0 → (left : List ℕ) → IsImage (surface_after first calls) left → Only (IsImage (surface_after first (calls ++ done ∷ []))) left → SamePast (ImagesSince first calls) (ImagesSince first (calls ++ done ∷ []))
+  cut_keeps_past none left was only = λ t image. (λ since. back t image since, λ past. still t image past)
+    where
+      back : (t : ℕ) (image : List ℕ) → ImagesSince first (calls ++ done ∷ []) t image → ImagesSince first calls t image
+      back t image since = elim (before_or_now t image since) [
+        | inl past ↦ past
+        | inr now ↦
+            let all = take_all (length calls) calls (le_refl (length calls)) in
+            let early : t ≤ moments_in calls = omega (arith, since.1, moments_front since.0 (calls ++ done ∷ []), moments_in-push calls done, none) in (
+              length calls,
+              subst (λ (l : List DiskCall). t ≤ moments_in l) (sym all) early,
+              le_refl (length calls),
+              subst (λ (l : List DiskCall). IsImage (surface_after first l) image) (sym all) (subst (IsImage (surface_after first calls)) (sym (only image now)) was),
+            )
+      ]
 
 -- the images of a range that is open
 with_range_follows : (before : DiskState) (at count : ℕ) → images_of before (content_of before) → Follows (Torn at count) (images_of before) (IsImage (with_range (surface before) at count))
@@ -47,12 +86,16 @@ same_follows before at count image left = (image, left, torn_by_places at count 
 abbrev ElapsesTo : DiskState → DiskState → Type 0
 ElapsesTo before now = Elapses (moment_of before) (moment_of now) (images_since_of before) (images_since_of now) (images_of now)
 
+abbrev LeavesNow : DiskState → DiskState → Type 0
+LeavesNow before now = moment_of before < moment_of now → (image : List ℕ) → images_since_of now (moment_of now) image → images_of now image
+
 -- what a call of `write_at` does that leaves its range open
 pub record Opens (before now : DiskState) (at count : ℕ) : Type 0 where
   pub follows : images_of before (content_of before) → Follows (Torn at count) (images_of before) (images_of now)
   pub leaves_open : (old new : List ℕ) → images_of before old → IsOctets new → Torn at count old new → images_of now new
   pub kept : (image : List ℕ) → images_of before image → images_of now image
   pub elapses : ElapsesTo before now
+  pub leaves_now : LeavesNow before now
 
 -- and what one does that changes nothing
 pub record Untouched (before now : DiskState) : Type 0 where
@@ -68,8 +111,10 @@ opens_by before now at count done content first calls is = record {
   follows = λ content_is image left. with_range_follows before at count content_is image (images_of_this_content (with_range (surface before) at count) content image (subst (λ (s : Surface). IsImage s image) surface_is left));
   leaves_open = λ old new left small torn. here new (torn_leaves (surface before) at count old new left small torn);
   kept = λ image left. here image (with_range_keeps (surface before) at count image left);
-  elapses = subst (λ (f : List ℕ). Elapses (moment_of before) (length now.calls) (images_since_of before) (ImagesSince f now.calls) (IsImage (surface_after f now.calls))) (sym first)
-      (subst (λ (l : List DiskCall). Elapses (moment_of before) (length l) (images_since_of before) (ImagesSince before.first l) (IsImage (surface_after before.first l))) (sym calls) (call_elapses before.first before.calls done));
+  elapses = subst (λ (f : List ℕ). Elapses (moment_of before) (moments_in now.calls) (images_since_of before) (ImagesSince f now.calls) (IsImage (surface_after f now.calls))) (sym first)
+      (subst (λ (l : List DiskCall). Elapses (moment_of before) (moments_in l) (images_since_of before) (ImagesSince before.first l) (IsImage (surface_after before.first l))) (sym calls) (call_elapses before.first before.calls done));
+  leaves_now = subst (λ (f : List ℕ). moment_of before < moments_in now.calls → (image : List ℕ) → ImagesSince f now.calls (moments_in now.calls) image → IsImage (surface_after f now.calls) image) (sym first)
+      (subst (λ (l : List DiskCall). moment_of before < moments_in l → (image : List ℕ) → ImagesSince before.first l (moments_in l) image → IsImage (surface_after before.first l) image) (sym calls) (call_leaves_now before.first before.calls done));
 }
   where
     surface_is : surface now ≡ record (with_range (surface before) at count) { content = content }
@@ -96,8 +141,8 @@ module _ (before now : DiskState) where
 
   untouched_elapses : Untouched before now → ElapsesTo before now
   untouched_elapses same =
-      subst (λ (f : List ℕ). Elapses (moment_of before) (length now.calls) (images_since_of before) (ImagesSince f now.calls) (IsImage (surface_after f now.calls))) (sym same.first)
-      (subst (λ (l : List DiskCall). Elapses (moment_of before) (length l) (images_since_of before) (ImagesSince before.first l) (IsImage (surface_after before.first l))) (sym same.calls) (nothing_elapses before.first before.calls (images_of before)))
+      subst (λ (f : List ℕ). Elapses (moment_of before) (moments_in now.calls) (images_since_of before) (ImagesSince f now.calls) (IsImage (surface_after f now.calls))) (sym same.first)
+      (subst (λ (l : List DiskCall). Elapses (moment_of before) (moments_in l) (images_since_of before) (ImagesSince before.first l) (IsImage (surface_after before.first l))) (sym same.calls) (nothing_elapses before.first before.calls (images_of before)))
 
 -- a call of `write_at` that left its range open, or, where this holds, changed nothing
 module _ (before now : DiskState) (at count : ℕ) (P : Type 0) where
@@ -117,6 +162,10 @@ module _ (before now : DiskState) (at count : ℕ) (P : Type 0) where
   pub elapses_either : Opens before now at count ⊎ (P × Untouched before now) → ElapsesTo before now
   elapses_either (inl opens) = opens.elapses
   elapses_either (inr same) = untouched_elapses before now same.1
+
+  pub leaves_now_either : Opens before now at count ⊎ (P × Untouched before now) → LeavesNow before now
+  leaves_now_either (inl opens) = opens.leaves_now
+  leaves_now_either (inr same) = λ rose. absurd (let e = ap moments_in same.1.calls in omega (arith, e, rose))
 
 module _ {T E : Type 0} (before now : DiskState) (at : ℕ) (octets : List ℕ) where
   pub writing_writes : (result : Result T E) → IsWriting before now at octets result → OnOk result (HasContent (Some (content_of before)) (Some (content_of now)) (Writes at octets))
@@ -159,6 +208,13 @@ module _ {T E : Type 0} (before now : DiskState) where
   syncing_elapses (Err fault) step = elim step.err [
     | inl failed ↦ subst (ElapsesTo before) (sym failed.2) (call_elapses before.first before.calls call.FailedSync)
     | inr starved ↦ subst (ElapsesTo before) (sym starved) (nothing_elapses before.first before.calls (images_of before))
+  ]
+
+  pub syncing_leaves_now : (result : Result T E) → IsSyncing before now result → LeavesNow before now
+  syncing_leaves_now (Ok done) step = subst (LeavesNow before) (sym step.ok.2) (call_leaves_now before.first before.calls call.Sync)
+  syncing_leaves_now (Err fault) step = elim step.err [
+    | inl failed ↦ subst (LeavesNow before) (sym failed.2) (call_leaves_now before.first before.calls call.FailedSync)
+    | inr starved ↦ subst (LeavesNow before) (sym starved) (λ rose. absurd (omega (arith, rose)))
   ]
 
 -- a count that rose by a part

@@ -1,14 +1,16 @@
 -- A disk in memory as contracts see it, and what each of its calls does.
-use Rattle.std.specs.Prelude.{◌≡◌, ◌⊎◌, ℕ, ◌+◌, ◌^◌, ◌<◌, ◌≤◌, List, [], ◌∷◌, ◌++◌, length, Bool, false, true, Result, OnOk, OnErr}
+use Rattle.std.specs.Prelude.{◌≡◌, ◌⊎◌, ℕ, ◌+◌, ◌^◌, ◌<◌, ◌≤◌, List, [], ◌∷◌, ◌++◌, length, Bool, false, true, Result}
+use Rattle.std.specs.Prelude.{OnOk, OnErr}
 use Rattle.px_base.specs.Counter.{CallCounterState, IsListed, counter_after_call, new_counter}
 use Rattle.px_base.specs.Outside.{counted}
-use Rattle.disk_model.specs.Surface.{ImagesSince, IsImage, Surface, surface_after}
+use Rattle.disk_model.specs.Crash.{IsCrash}
+use Rattle.disk_model.specs.Surface.{ImagesSince, IsImage, Surface, left_by, moments_in, surface_after}
 use Rattle.disk_model.specs.declared.disk_call.DiskCall.{DiskCall}
 use Rattle.disk_model.specs.declared.disk_call.DiskCall.TheVariants as call
 
 -- The octets that the disk had at first; its calls of `write_at` and `sync` since then, but for those that changed
--- nothing for want of memory; whether it is down, after a write that found no memory; how all its calls were numbered;
--- and the counts of faults.
+-- nothing for want of memory, and the power cuts among them; whether it is down, after a write that found no memory;
+-- how all its calls were numbered; and the counts of faults.
 pub record DiskState : Type 0 where
   pub first : List ℕ
   pub calls : List DiskCall
@@ -43,9 +45,9 @@ images_of state = IsImage (surface state)
 
 -- how many calls of `write_at` and `sync` were made, but for those that changed nothing for want of memory
 abbrev pub moment_of : DiskState → ℕ
-moment_of state = length state.calls
+moment_of state = moments_in state.calls
 
--- what a crash from the t-th call on might have left
+-- what a crash from that moment on might have left
 abbrev pub images_since_of : DiskState → ℕ → List ℕ → Type 0
 images_since_of state = ImagesSince state.first state.calls
 
@@ -140,5 +142,24 @@ pub record IsTearing (before now : DiskState) (at count : ℕ) : Type 0 where
   pub up :
       before.down ≡ false
       → (now ≡ with_torn_write before at count)
-      ⊎ (now ≡ record (with_torn_write before at count) { down = true; counter = record before.counter { starved = true } })
+      ⊎ (now
+      ≡ record (with_torn_write before at count) { down = true; counter = record before.counter { starved = true } })
   pub down : before.down ≡ true → now ≡ before
+
+-- A power cut is recorded by what it left.
+abbrev pub RecordsCut : List ℕ → List DiskCall → List DiskCall → ℕ → Type 0
+RecordsCut first calls calls_now pick =
+    (inside : List ℕ)
+    × (behind : List ℕ)
+    × (calls_now ≡ calls ++ call.PowerCut inside behind ∷ [])
+    × IsCrash (surface_after first calls) pick (left_by (surface_after first calls) inside behind)
+
+-- the disk found no memory, and may be down
+abbrev pub Starves : DiskState → DiskState → Type 0
+Starves before now = now ≡ record before { down = now.down; counter = record before.counter { starved = true } }
+
+-- Power is lost: what this number picks is left, and recorded, and the disk is up; or the disk finds no memory.
+abbrev pub IsPowerCut : DiskState → DiskState → ℕ → Type 0
+IsPowerCut before now pick =
+    (RecordsCut before.first before.calls now.calls pick × (now ≡ record before { calls = now.calls; down = false }))
+    ⊎ Starves before now

@@ -1,10 +1,14 @@
 pub mod AtDisk
 pub mod Calls
 pub mod Crash
+pub mod CutLaws
+pub mod Cuts
 pub mod Disk
 pub mod Fuse
 pub mod FuseLaws
+pub mod Log
 pub mod Memory
 pub mod MemoryLaws
 pub mod Moments
+pub mod Open
 pub mod Surface

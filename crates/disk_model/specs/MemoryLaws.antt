@@ -1,12 +1,13 @@
 -- A disk in memory keeps the laws of disks.
 use Rattle.std.specs.Prelude.{ℕ, ◌^◌, ◌≤◌, List, length, IfSome}
-use Rattle.std.proofs.Common.{ap, sym, subst}
+use Rattle.std.proofs.Common.{sym, subst}
 use Rattle.std.proofs.Math.Nat.{le_refl, le_trans}
 use Rattle.std.proofs.lemmas.List.{take_all}
 use Rattle.px_base.specs.Octets.{IsOctets}
 use Rattle.disk_model.specs.Calls.{surface}
 use Rattle.disk_model.specs.Memory.{content, images, images_since, moment, state}
-use Rattle.disk_model.specs.Surface.{IsImage, Surface, surface_after}
+use Rattle.disk_model.specs.Surface.{IsImage, moments_in, surface_after}
+use Rattle.disk_model.specs.declared.disk_call.DiskCall.{DiskCall}
 use Rattle.disk_model.specs.declared.memory_disk.MemoryDisk.{MemoryDisk}
 
 pub content_is_image : (disk : MemoryDisk) → IfSome (content disk) (images disk)
@@ -19,8 +20,12 @@ pub counts_now :
     (disk : MemoryDisk) (t : ℕ) (image : List ℕ) → t ≤ moment disk → images disk image → images_since disk t image
 counts_now disk t image early is =
     let calls = (state disk).calls in
-    let all = ap (surface_after (state disk).first) (take_all (length calls) calls (le_refl (length calls))) in
-    (length calls, early, le_refl (length calls), subst (λ (s : Surface). IsImage s image) (sym all) is)
+    let all = take_all (length calls) calls (le_refl (length calls)) in (
+      length calls,
+      subst (λ (l : List DiskCall). t ≤ moments_in l) (sym all) early,
+      le_refl (length calls),
+      subst (λ (l : List DiskCall). IsImage (surface_after (state disk).first l) image) (sym all) is,
+    )
 
 pub earlier :
     (disk : MemoryDisk) (t u : ℕ) (image : List ℕ) → t ≤ u → images_since disk u image → images_since disk t image

@@ -1,13 +1,14 @@
 //! What a crash leaves, as a number picks it.
 
-ghost use Rattle.std.specs.Prelude.{◌≡◌, ◌+◌, ◌/◌, ◌%◌, ◌≤◌, ◌^◌, ℕ, Some, length, IfOk};
+ghost use Rattle.std.specs.Prelude.{◌≡◌, ◌+◌, ◌/◌, ◌%◌, ◌≤◌, ◌^◌, ℕ, Some, length, IfOk, OnErr, OnOk};
 ghost use Rattle.disk_model.specs.Crash.{IsCrash, IsFilled, Tears};
 ghost use Rattle.px_base.specs.Octets.{IsOctets};
-ghost use Rattle.disk_model.specs.Surface.{IsImage, NoSync, count_of, place_of, surface_after};
+ghost use Rattle.disk_model.specs.Open.{LeaveOpen, StandsSince};
+ghost use Rattle.disk_model.specs.Surface.{IsImage, count_of, left_by, place_of, surface_after};
 
 use crate::disk_call::DiskCall;
-use crate::replay::{last_sync, replay};
-use px_base::OutOfMemory;
+use crate::open_ranges::{copy_open, octets_inside};
+use px_base::{FileBytes, OutOfMemory};
 use std::alloc::Global;
 
 /// What becomes of the octets that may be any octet: each is this one, or is drawn.
@@ -71,8 +72,7 @@ impl Pick {
 
 /// How many octets there have been at most, where these were synced before these calls.
 fn greatest_length(synced: &[u8], calls: &[DiskCall]) -> u64
-    requires no_sync { NoSync calls.now }
-    requires most { (surface_after synced.now calls.now).most ≤ 2 ^ 63 }
+    requires { LeaveOpen synced.now calls.now }
     ensures most { result ≡ (surface_after synced.now calls.now).most }
     ensures least { length synced.now ≤ result }
 {
@@ -83,48 +83,70 @@ fn greatest_length(synced: &[u8], calls: &[DiskCall]) -> u64
     most
 }
 
-/// What a crash leaves, as this number picks it, after these calls of a quiet disk with those octets, where a read
-/// gives the present ones. Takes memory.
-pub(crate) fn crash(
+/// Turns the octets that were synced before these calls, and the present ones, into what a crash leaves, as this number
+/// picks it; and gives what is left in the ranges of these calls, and behind what was synced. It costs these octets.
+/// Where there is no memory, the present ones stay.
+pub(crate) fn lose_power(
     alloc: Global,
-    first: &[u8],
+    synced: &mut Vec<u8>,
+    present: &mut Vec<u8>,
     calls: &[DiskCall],
-    present: &[u8],
     pick: u64,
-) -> Result<Vec<u8>, OutOfMemory>
-    requires most { (surface_after first.now calls.now).most ≤ 2 ^ 63 }
-    requires content { present.now ≡ (surface_after first.now calls.now).content }
-    requires image { IsImage (surface_after first.now calls.now) present.now }
-    ensures { IfOk result (λ image. IsCrash (surface_after first.now calls.now) pick image.items) }
+) -> Result<(FileBytes, FileBytes), OutOfMemory>
+    requires { StandsSince synced.old.items calls.now present.old.items }
+    ensures crash { OnOk result (IsCrash (surface_after synced.old.items calls.now) pick synced.new.items) }
+    ensures left { IfOk result
+        (λ left. synced.new.items ≡ left_by (surface_after synced.old.items calls.now) left.0 left.1) }
+    ensures present { OnOk result (present.new.items ≡ synced.new.items) }
+    ensures err { OnErr result (present.new.items ≡ present.old.items) }
 {
-    if pick % 4 == 1 {
-        return Ok(Vec::from_slice(alloc, present)?);
-    }
-    let rest = last_sync(calls);
-    let synced = replay(alloc, first, &calls[..rest])?;
-    if pick % 4 == 0 {
-        return Ok(synced);
-    }
-    torn(synced, &calls[rest..], Pick::new(pick))
+    let shared = synced.len();
+    crash(synced, present.as_slice(), calls, pick)?;
+    let left = synced.as_slice();
+    let inside = octets_inside(alloc, &left[..shared], calls)?;
+    let behind = FileBytes::copy_of(alloc, &left[shared..])?;
+    copy_open(present, left, shared, calls)?;
+    Ok((FileBytes::from_vec(inside), behind))
 }
 
-/// What a crash leaves of a quiet disk with these octets after these calls.
-fn torn(synced: Vec<u8>, calls: &[DiskCall], pick: Pick) -> Result<Vec<u8>, OutOfMemory>
-    requires no_sync { NoSync calls.now }
-    requires most { (surface_after synced.items calls.now).most ≤ 2 ^ 63 }
-    ensures image { IfOk result (λ image. IsImage (surface_after synced.items calls.now) image.items) }
+/// Turns the octets that were synced before these calls into what a crash leaves, as this number picks it, where a read
+/// gives the present ones. It changes nothing where there is no memory.
+fn crash(
+    synced: &mut Vec<u8>,
+    present: &[u8],
+    calls: &[DiskCall],
+    pick: u64,
+) -> Result<(), OutOfMemory>
+    requires { StandsSince synced.old.items calls.now present.now }
+    ensures ok { OnOk result (IsCrash (surface_after synced.old.items calls.now) pick synced.new.items) }
+    ensures err { OnErr result (synced.new.items ≡ synced.old.items) }
+{
+    if pick % 4 == 0 {
+        return Ok(());
+    }
+    if pick % 4 == 1 {
+        let shared = synced.len();
+        return copy_open(synced, present, shared, calls);
+    }
+    tear_all(synced, calls, Pick::new(pick))
+}
+
+/// Turns the octets that were synced before these calls into what a crash leaves of their writes.
+fn tear_all(image: &mut Vec<u8>, calls: &[DiskCall], pick: Pick) -> Result<(), OutOfMemory>
+    requires { LeaveOpen image.old.items calls.now }
+    ensures image { OnOk result (IsImage (surface_after image.old.items calls.now) image.new.items) }
     ensures filled { (octet : ℕ) → pick.octet ≡ Some octet
-        → IfOk result (λ image. IsFilled (surface_after synced.items calls.now) octet image.items) }
+        → OnOk result (IsFilled (surface_after image.old.items calls.now) octet image.new.items) }
+    ensures err { OnErr result (image.new.items ≡ image.old.items) }
 {
     let mut pick = pick;
-    let mut image = synced;
     let least = image.len() as u64;
-    let length = pick.length(least, greatest_length(&image, calls));
+    let length = pick.length(least, greatest_length(image.as_slice(), calls));
     image.resize(length as usize, pick.octet(0, 0))?;
     for call in calls {
-        tear(&mut image, call, &mut pick);
+        tear(image, call, &mut pick);
     }
-    Ok(image)
+    Ok(())
 }
 
 /// Puts other octets in the range of a write, as picked for each; those past the end are left out.

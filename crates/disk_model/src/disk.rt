@@ -1,9 +1,11 @@
 //! The disk as the layers above see it.
 
-ghost use Rattle.std.specs.Prelude.{◌≡◌, ◌↔◌, ◌⊎◌, ℕ, ◌+◌, ◌^◌, ◌<◌, ◌≤◌, List, length, Option, IfSome, IfOk, OnErr, OnOk, IsErr};
+ghost use Rattle.std.specs.Prelude.{◌≡◌, ◌↔◌, ◌⊎◌, ℕ, ◌+◌, ◌^◌, ◌<◌, ◌≤◌, List, length, Option, IfSome, IfOk, OnErr};
+ghost use Rattle.std.specs.Prelude.{OnOk, IsErr};
 ghost use Rattle.px_base.specs.Outside.{HasCause};
 ghost use Rattle.px_base.specs.Octets.{IsOctets};
-ghost use Rattle.disk_model.specs.Disk.{AreAmong, FillsRoom, Follows, HasContent, IsTold, LeavesOpen, Only, Torn, Writes};
+ghost use Rattle.disk_model.specs.Disk.{AreAmong, FillsRoom, Follows, HasContent, IsTold, LeavesOpen, Only, Torn};
+ghost use Rattle.disk_model.specs.Disk.{Writes};
 ghost use Rattle.disk_model.specs.Moments.{OnlyFails, OnlyReads, SinceNow, TakesOneMoment, TimePasses};
 
 use thiserror::Error;
@@ -17,10 +19,10 @@ pub struct DiskFault;
 ///
 /// Between two syncs each written range, and the part past the end that was synced, may hold any octets after a crash,
 /// and the length lies between that end and the present one; octets outside stay. After a sync that answered Ok, a
-/// crash leaves what a read gives. A fault of `write_at` or `sync` leaves the disk as if the call were under way. A disk
-/// may tell its content and what a crash may leave; forms in memory do, real ones don't, and where it isn't told a
-/// clause on it asks nothing. It counts its faults, up to 2^64 - 1, and answers `DiskFault` exactly where a count rose in
-/// that call. After a fault of `write_at` or `sync` it is used again only by a new recovery.
+/// crash leaves what a read gives. A fault of `write_at` or `sync` leaves the disk as if the call were under way. A
+/// disk may tell its content and what a crash may leave; forms in memory do, real ones don't, and where it isn't told
+/// a clause on it asks nothing. It counts its faults, up to 2^64 - 1, and answers `DiskFault` exactly where a count
+/// rose in that call. After a fault of `write_at` or `sync` it is used again only by a new recovery.
 pub trait Disk {
     /// The octets that a read gives, where they are told.
     ghost content: { Self → Option (List ℕ) };

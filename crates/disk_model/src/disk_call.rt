@@ -4,17 +4,29 @@ ghost use Rattle.std.specs.Prelude.{◌≡◌, ◌+◌, min};
 
 use px_base::FileBytes;
 
-/// A call of `write_at` or `sync`, as a disk in memory records it.
+/// A call of `write_at` or `sync`, or a power cut, as a disk in memory records it.
 #[derive(Debug, Drop)]
 pub(crate) enum DiskCall {
     /// These octets were written at this place.
-    Write { at: u64, bytes: FileBytes },
+    Write {
+        at: u64,
+        bytes: FileBytes,
+    },
     /// Writing so many octets at this place failed: any octets may stand there.
-    TornWrite { at: u64, count: u64 },
+    TornWrite {
+        at: u64,
+        count: u64,
+    },
     /// All that was written was synced.
     Sync,
     /// A sync failed.
     FailedSync,
+    /// Power was lost: these octets were left in the ranges that were open, range by range, the latest one last; and
+    /// those behind what was synced.
+    PowerCut {
+        inside: FileBytes,
+        behind: FileBytes,
+    },
 }
 
 impl DiskCall {
@@ -26,7 +38,7 @@ impl DiskCall {
     {
         match self {
             DiskCall::Write { at, .. } | DiskCall::TornWrite { at, .. } => *at,
-            DiskCall::Sync | DiskCall::FailedSync => 0,
+            DiskCall::Sync | DiskCall::FailedSync | DiskCall::PowerCut { .. } => 0,
         }
     }
 
@@ -37,7 +49,7 @@ impl DiskCall {
         let count = match self {
             DiskCall::Write { bytes, .. } => bytes.len() as u64,
             DiskCall::TornWrite { count, .. } => *count,
-            DiskCall::Sync | DiskCall::FailedSync => 0,
+            DiskCall::Sync | DiskCall::FailedSync | DiskCall::PowerCut { .. } => 0,
         };
         self.place().saturating_add(count)
     }
@@ -49,7 +61,10 @@ impl DiskCall {
                 let i = place.checked_sub(*at)?;
                 bytes.as_slice().get(i as usize).copied()
             }
-            DiskCall::TornWrite { .. } | DiskCall::Sync | DiskCall::FailedSync => None,
+            DiskCall::TornWrite { .. }
+            | DiskCall::Sync
+            | DiskCall::FailedSync
+            | DiskCall::PowerCut { .. } => None,
         }
     }
 }

@@ -1,13 +1,15 @@
 //! A disk that stops after so many calls, as where power is lost or the device is gone.
 
-ghost use Rattle.std.specs.Prelude.{◌≡◌, ◌⊎◌, ◌↔◌, ◌+◌, ◌<◌, ◌≤◌, ◌^◌, length, IfOk, IfSome, IsErr, IsTrue, OnErr, OnOk};
+ghost use Rattle.std.specs.Prelude.{◌≡◌, ◌⊎◌, ◌↔◌, ◌+◌, ◌<◌, ◌≤◌, ◌^◌, length, IfOk, IfSome, IsErr, IsTrue, OnErr};
+ghost use Rattle.std.specs.Prelude.{OnOk};
 ghost use Rattle.px_base.specs.Outside.{HasCause, Rose};
-ghost use Rattle.disk_model.specs.Disk.{AreAmong, FillsRoom, Follows, HasContent, IsTold, LeavesOpen, Only, Torn, Writes};
+ghost use Rattle.disk_model.specs.Disk.{AreAmong, FillsRoom, Follows, HasContent, IsTold, LeavesOpen, Only, Torn};
+ghost use Rattle.disk_model.specs.Disk.{Writes};
 ghost use Rattle.disk_model.specs.Moments.{OnlyFails, OnlyReads, SinceNow, TakesOneMoment, TimePasses};
 
 use crate::limits::ends_within;
 use crate::memory_disk::MemoryDisk;
-use crate::{Disk, DiskFault};
+use crate::{CutDisk, Disk, DiskFault};
 use px_base::FaultCount;
 
 /// What a fuse does at the next call.
@@ -19,11 +21,14 @@ enum FuseStage {
     Blown,
     /// Every call fails and changes nothing.
     Down,
+    /// No call fails by it.
+    Unarmed,
 }
 
-/// A disk in memory that passes so many calls of `write_at` and `sync`. The next one fails, and so does every call
-/// after it, also of `len` and `read`; those before that one pass. The first write that fails so leaves its range open,
-/// and the disk is down from then on. Its content, images and moment are those of the disk in it.
+/// A disk in memory that is armed from its making: it passes so many calls of `write_at` and `sync`. The next one
+/// fails, and so does every call after it, also of `len` and `read`; those before that one pass. The first write that
+/// fails so leaves its range open, and the disk is down from then on. Its content, images and moment are those of the
+/// disk in it. It can be armed anew, disarmed, and lose power (`CutDisk`); what its power cuts left it doesn't tell.
 #[derive(Drop)]
 pub struct FuseDisk {
     disk: MemoryDisk,
@@ -33,7 +38,9 @@ pub struct FuseDisk {
 }
 
 impl FuseDisk {
-    ghost use Rattle.disk_model.specs.Fuse.{HasBlown, IsCutShort, fuse, fuse_after_failed, fuse_after_failed_reading, new_fuse};
+    ghost use Rattle.disk_model.specs.Calls.{content_of};
+    ghost use Rattle.disk_model.specs.Fuse.{HasBlown, IsCutShort, fuse, fuse_after_failed, fuse_after_failed_reading};
+    ghost use Rattle.disk_model.specs.Fuse.{new_fuse, starved_fuse};
     ghost use Rattle.disk_model.specs.Fuse as it;
     ghost use Rattle.disk_model.specs.Memory.{state};
 
@@ -56,11 +63,18 @@ impl FuseDisk {
         self.disk
     }
 
-    /// Whether a call found no memory.
-    pub fn starved(&self) -> bool
-        ensures { result ≡ (fuse self.now).disk.counter.starved }
+    /// The octets that a read gives.
+    pub(crate) fn bytes(&self) -> &[u8]
+        ensures { result.now ≡ content_of (fuse self.now).disk }
     {
-        self.disk.starved()
+        self.disk.bytes()
+    }
+
+    /// Says that no memory was found.
+    pub(crate) fn starve(&mut self)
+        ensures { fuse self.new ≡ starved_fuse (fuse self.old) }
+    {
+        self.disk.starve();
     }
 
     /// Whether it has failed a call.
@@ -125,7 +139,7 @@ impl Disk for FuseDisk {
 
     ghost is_down = { it.is_down };
 
-    ghost lasts = { λ _ _. Unit {0} };
+    ghost lasts = { it.lasts };
 
     /// The number of octets. It fails where the disk does, and where the fuse has blown.
     fn len(&mut self) -> Result<u64, DiskFault>
@@ -135,7 +149,7 @@ impl Disk for FuseDisk {
             it.content it.images it.moment it.images_since it.write_faults self.old self.new }
         ensures read_faults { HasCause (it.read_faults self.old) (it.read_faults self.new) result }
         ensures down { it.is_down self.new ↔ it.is_down self.old }
-        ensures lasts { Unit {0} }
+        ensures lasts { it.lasts self.old self.new }
         ensures reading { IsFuseReading (fuse self.old) (fuse self.new) result }
     {
         if self.has_blown() {
@@ -153,7 +167,7 @@ impl Disk for FuseDisk {
             it.content it.images it.moment it.images_since it.write_faults self.old self.new }
         ensures read_faults { HasCause (it.read_faults self.old) (it.read_faults self.new) result }
         ensures down { it.is_down self.new ↔ it.is_down self.old }
-        ensures lasts { Unit {0} }
+        ensures lasts { it.lasts self.old self.new }
         ensures reading { IsFuseReading (fuse self.old) (fuse self.new) result }
         ensures failed { OnErr result (room.new ≡ room.old) }
     {
@@ -184,7 +198,7 @@ impl Disk for FuseDisk {
         ensures since_now { SinceNow it.moment it.images it.images_since self.old self.new }
         ensures read_faults { it.read_faults self.new ≡ it.read_faults self.old }
         ensures write_faults { HasCause (it.write_faults self.old) (it.write_faults self.new) result }
-        ensures lasts { Unit {0} }
+        ensures lasts { it.lasts self.old self.new }
         ensures writing { IsFuseWriting (fuse self.old) (fuse self.new) at bytes.now result }
     {
         match self.stage {
@@ -192,6 +206,7 @@ impl Disk for FuseDisk {
                 self.stage = FuseStage::Passes(left - 1);
                 self.disk.write_at(at, bytes)
             }
+            FuseStage::Unarmed => self.disk.write_at(at, bytes),
             FuseStage::Down => Err(self.fail_writing(FuseStage::Down)),
             _ => Err(self.tear(at, bytes)),
         }
@@ -211,7 +226,7 @@ impl Disk for FuseDisk {
         ensures since_now { SinceNow it.moment it.images it.images_since self.old self.new }
         ensures read_faults { it.read_faults self.new ≡ it.read_faults self.old }
         ensures write_faults { HasCause (it.write_faults self.old) (it.write_faults self.new) result }
-        ensures lasts { Unit {0} }
+        ensures lasts { it.lasts self.old self.new }
         ensures syncing { IsFuseSyncing (fuse self.old) (fuse self.new) result }
     {
         match self.stage {
@@ -219,6 +234,7 @@ impl Disk for FuseDisk {
                 self.stage = FuseStage::Passes(left - 1);
                 self.disk.sync()
             }
+            FuseStage::Unarmed => self.disk.sync(),
             FuseStage::Down => Err(self.fail_writing(FuseStage::Down)),
             _ => Err(self.fail_writing(FuseStage::Blown)),
         }
@@ -232,7 +248,40 @@ impl Disk for FuseDisk {
 
     ghost earlier = { law.earlier };
 
-    ghost lasts_same = { λ _. tt };
+    ghost lasts_same = { law.lasts_same };
 
-    ghost lasts_on = { λ _ _ _ _ _. tt };
+    ghost lasts_on = { law.lasts_on };
+}
+
+impl CutDisk for FuseDisk {
+    ghost use Rattle.disk_model.specs.Fuse as it;
+
+    ghost restarts = { it.restarts };
+
+    ghost arming = { it.arming };
+
+    ghost plain = { it.plain };
+
+    ghost is_starved = { it.is_starved };
+
+    /// Arms it, or takes the arming away. It takes no memory.
+    fn arm(&mut self, calls: Option<u64>) {
+        self.stage = match calls {
+            Some(calls) => FuseStage::Passes(calls),
+            None => FuseStage::Unarmed,
+        };
+    }
+
+    /// Cuts the power of the disk in it, which is up then, and not armed. It costs the octets written since the last
+    /// sync.
+    fn power_cut(&mut self, pick: u64) {
+        self.disk.power_cut(pick);
+        self.stage = FuseStage::Unarmed;
+    }
+
+    fn starved(&self) -> bool {
+        self.disk.starved()
+    }
+
+    ghost lasts_so = { λ old new lasts. lasts };
 }

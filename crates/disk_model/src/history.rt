@@ -1,30 +1,39 @@
 //! What was done to a disk in memory since it was made, and what stands on it.
 
-ghost use Rattle.std.specs.Prelude.{◌≡◌, ◌+◌, ◌<◌, ◌≤◌, ◌^◌, [], ◌∷◌, ◌++◌, length, vec_capacity, vec_len, false, true, IfOk, OnOk, OnErr};
-ghost use Rattle.disk_model.specs.Calls.{LosesWrite};
-ghost use Rattle.disk_model.specs.Crash.{IsCrash};
+ghost use Rattle.std.specs.Prelude.{◌≡◌, ◌+◌, ◌<◌, ◌≤◌, ◌^◌, ℕ, List, [], ◌∷◌, ◌++◌, length, drop, vec_capacity};
+ghost use Rattle.std.specs.Prelude.{vec_len, false, true, IfOk, MatchResult, OnOk, OnErr};
+ghost use Rattle.disk_model.specs.Calls.{LosesWrite, RecordsCut};
+ghost use Rattle.disk_model.specs.Open.{IsClosed};
 ghost use Rattle.disk_model.specs.Surface.{IsImage, surface_after, sync_of, write_of};
 
-use crate::crash::crash;
+use crate::crash::lose_power;
 use crate::disk_call::DiskCall;
 use crate::limits::ends_within;
+use crate::open_ranges::copy_open;
 use crate::overwriting::overwrite;
 use px_base::{FileBytes, OutOfMemory};
 use std::alloc::Global;
 
 /// The octets that a disk had at first, its calls since then in order, the octets that a read gives, and whether it is
 /// down. While it isn't, there is room for one call more, so that a write that finds no memory leaves its range open.
+/// Beside them stand the octets that were synced last, and how many calls there were by then; but for a disk that is
+/// lost, by a power cut that found no memory, and which is down from then on.
 #[derive(Drop)]
 pub(crate) struct History {
     alloc: Global,
     first: FileBytes,
     calls: Vec<DiskCall>,
     present: Vec<u8>,
+    synced: Vec<u8>,
+    closed: usize,
     down: bool,
+    lost: bool,
     ghost content: { present.items ≡ (surface_after first calls.items).content },
     ghost image: { IsImage (surface_after first calls.items) present.items },
     ghost most: { (surface_after first calls.items).most ≤ 2 ^ 63 },
     ghost room: { down ≡ false → vec_len calls < vec_capacity calls },
+    ghost lost_is_down: { lost ≡ true → down ≡ true },
+    ghost closes: { lost ≡ false → IsClosed first calls.items synced.items closed },
 }
 
 impl History {
@@ -39,7 +48,10 @@ impl History {
             first: FileBytes::copy_of(alloc, bytes)?,
             calls: Vec::with_capacity(alloc, 1)?,
             present: Vec::from_slice(alloc, bytes)?,
+            synced: Vec::from_slice(alloc, bytes)?,
+            closed: 0,
             down: false,
+            lost: false,
         })
     }
 
@@ -86,6 +98,7 @@ impl History {
         ensures first { self.new.first ≡ self.old.first }
         ensures calls { self.new.calls.items ≡ self.old.calls.items ++ DiskCall.TornWrite at count ∷ [] }
         ensures down { self.new.down ≡ true }
+        ensures lost { self.new.lost ≡ self.old.lost }
     {
         self.down = true;
         self.calls.push(DiskCall::TornWrite { at, count }).unwrap();
@@ -141,26 +154,54 @@ impl History {
             return Err(OutOfMemory);
         }
         self.calls.reserve(2)?;
-        self.calls
-            .push(if fails {
-                DiskCall::FailedSync
-            } else {
-                DiskCall::Sync
-            })
-            .unwrap();
+        if fails {
+            self.calls.push(DiskCall::FailedSync).unwrap();
+            return Ok(());
+        }
+        let shared = self.synced.len();
+        let open = calls_since(self.calls.as_slice(), self.closed);
+        copy_open(&mut self.synced, self.present.as_slice(), shared, open)?;
+        self.calls.push(DiskCall::Sync).unwrap();
+        self.closed = self.calls.len();
         Ok(())
     }
 
-    /// What a crash leaves, as this number picks it. Takes memory.
-    pub(crate) fn crashed(&self, pick: u64) -> Result<Vec<u8>, OutOfMemory>
-        ensures { IfOk result (λ image. IsCrash (surface_after self.now.first self.now.calls.items) pick image.items) }
+    /// Loses power: what is left is picked by this number. It costs the octets in the open ranges, and those behind
+    /// what was synced. Where there is no memory, its record and what a read gives stay, and it may be lost.
+    pub(crate) fn lose_power(&mut self, pick: u64) -> Result<(), OutOfMemory>
+        ensures first { self.new.first ≡ self.old.first }
+        ensures calls { MatchResult result
+            (λ _. RecordsCut self.old.first self.old.calls.items self.new.calls.items pick)
+            (λ _. self.new.calls.items ≡ self.old.calls.items) }
+        ensures up { OnOk result (self.new.down ≡ false) }
     {
-        crash(
+        if self.lost {
+            return Err(OutOfMemory);
+        }
+        self.calls.reserve(2)?;
+        self.down = true;
+        self.lost = true;
+        let (inside, behind) = lose_power(
             self.alloc,
-            self.first.as_slice(),
-            self.calls.as_slice(),
-            self.present.as_slice(),
+            &mut self.synced,
+            &mut self.present,
+            calls_since(self.calls.as_slice(), self.closed),
             pick,
-        )
+        )?;
+        self.calls
+            .push(DiskCall::PowerCut { inside, behind })
+            .unwrap();
+        self.closed = self.calls.len();
+        self.down = false;
+        self.lost = false;
+        Ok(())
     }
+}
+
+/// The calls that came after so many.
+fn calls_since(calls: &[DiskCall], count: usize) -> &[DiskCall]
+    requires { count ≤ length calls.now }
+    ensures { result.now ≡ drop count calls.now }
+{
+    &calls[count..]
 }

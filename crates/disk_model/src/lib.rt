@@ -2,19 +2,23 @@
 #![tactic(auto)]
 
 mod crash;
+mod cut_disk;
 mod disk;
 mod disk_call;
 mod fuse_disk;
 mod halt;
 mod history;
 mod limits;
+mod log_disk;
 mod memory_disk;
+mod open_ranges;
 mod overwriting;
-mod replay;
 
+pub use cut_disk::CutDisk;
 pub use disk::{Disk, DiskFault};
 pub use fuse_disk::FuseDisk;
 pub use halt::Halt;
 pub use limits::{MOST_OCTETS, ends_within};
+pub use log_disk::LogDisk;
 pub use memory_disk::MemoryDisk;
 pub use overwriting::overwrite;

@@ -1,11 +1,14 @@
 //! A disk in memory: what it had at first, and a record of its calls.
 
-ghost use Rattle.std.specs.Prelude.{◌≡◌, ◌⊎◌, ◌↔◌, ◌+◌, ◌/◌, ◌%◌, ◌<◌, ◌≤◌, ◌^◌, [], false, true, IsOk, length, Some, IfOk, IfSome, IsErr, OnErr, OnOk};
+ghost use Rattle.std.specs.Prelude.{◌≡◌, ◌⊎◌, ◌↔◌, ◌+◌, ◌/◌, ◌%◌, ◌<◌, ◌≤◌, ◌^◌, [], false, true, IsOk, length, Some};
+ghost use Rattle.std.specs.Prelude.{IfOk, IfSome, IsErr, OnErr, OnOk};
 ghost use Rattle.px_base.specs.Counter.{HasCauses};
 ghost use Rattle.px_base.specs.Outside.{HasCause};
-ghost use Rattle.disk_model.specs.Disk.{AreAmong, FillsRoom, Follows, HasContent, IsQuiet, IsTold, LeavesOpen, Only, Torn, Writes};
+ghost use Rattle.disk_model.specs.Disk.{AreAmong, FillsRoom, Follows, HasContent, IsQuiet, IsTold, LeavesOpen, Only};
+ghost use Rattle.disk_model.specs.Disk.{Torn, Writes};
 ghost use Rattle.disk_model.specs.Moments.{OnlyFails, OnlyReads, SinceNow, TakesOneMoment, TimePasses};
-ghost use Rattle.disk_model.specs.Calls.{IsReading, IsSyncing, IsTearing, IsWriting, content_of, images_of, new_state, surface, with_starved_fault, with_write_fault};
+ghost use Rattle.disk_model.specs.Calls.{IsPowerCut, IsReading, IsSyncing, IsTearing, IsWriting, content_of};
+ghost use Rattle.disk_model.specs.Calls.{images_of, new_state, surface, with_starved_fault, with_write_fault};
 ghost use Rattle.disk_model.specs.Crash.{IsFilled};
 
 use crate::history::History;
@@ -62,10 +65,10 @@ impl MemoryDisk {
     /// fault is counted. Takes memory.
     ///
     /// The number's remainder by 4 picks what becomes of the writes since the last sync: 0, none of them reached the
-    /// disk; 1, those that answered Ok did, and a crash leaves what a read gives; 2, each of their octets, and each past
-    /// the end at that sync, is the octet `pick / 4 % 256`, and the length is the greatest since then; 3, each is the one
-    /// before it was written, the one that was written, or any other, and the length is any that may be left, as numbers
-    /// that are drawn from `pick` choose.
+    /// disk; 1, those that answered Ok did, and a crash leaves what a read gives; 2, each of their octets, and each
+    /// past the end at that sync, is the octet `pick / 4 % 256`, and the length is the greatest since then; 3, each is
+    /// the one before it was written, the one that was written, or any other, and the length is any that may be left,
+    /// as numbers that are drawn from `pick` choose.
     pub fn crash(self, pick: u64) -> Result<MemoryDisk, OutOfMemory>
         ensures image { IfOk result (λ disk. images_of (state self) (content_of (state disk))) }
         ensures fresh { IfOk result (λ disk. state disk ≡ new_state (content_of (state disk)) []) }
@@ -75,8 +78,9 @@ impl MemoryDisk {
         ensures filled { pick % 4 ≡ 2
             → IfOk result (λ disk. IsFilled (surface (state self)) (pick / 4 % 256) (content_of (state disk))) }
     {
-        let image = self.history.crashed(pick)?;
-        MemoryDisk::new(self.history.alloc(), &image, &[])
+        let mut history = self.history;
+        history.lose_power(pick)?;
+        MemoryDisk::new(history.alloc(), history.present(), &[])
     }
 
     /// Counts a call of `len` or `read`, which fails where it is listed.
@@ -130,6 +134,25 @@ impl MemoryDisk {
         }
     }
 
+    /// Loses power: what is left is picked by this number, as `crash` does, and stands on the disk then, which is up.
+    /// It isn't a call that is numbered. It costs the octets in the open ranges, and those behind what was synced.
+    /// Where it finds no memory, a read gives what it gave, and the disk may be down.
+    pub(crate) fn power_cut(&mut self, pick: u64)
+        ensures { IsPowerCut (state self.old) (state self.new) pick }
+    {
+        if self.history.lose_power(pick).is_err() {
+            self.counter.starve();
+        }
+    }
+
+    /// Says that no memory was found.
+    pub(crate) fn starve(&mut self)
+        ensures { state self.new
+            ≡ record (state self.old) { counter = record (state self.old).counter { starved = true } } }
+    {
+        self.counter.starve();
+    }
+
     /// Records a call of `sync`, and counts it.
     fn record_sync(&mut self) -> Result<(), DiskFault>
         ensures syncing { IsSyncing (state self.old) (state self.new) result }
@@ -160,7 +183,7 @@ impl Disk for MemoryDisk {
 
     ghost is_down = { it.is_down };
 
-    ghost lasts = { λ _ _. Unit {0} };
+    ghost lasts = { it.lasts };
 
     /// The number of octets; a call that is listed fails.
     fn len(&mut self) -> Result<u64, DiskFault>
@@ -170,7 +193,7 @@ impl Disk for MemoryDisk {
             it.content it.images it.moment it.images_since it.write_faults self.old self.new }
         ensures read_faults { HasCause (it.read_faults self.old) (it.read_faults self.new) result }
         ensures down { it.is_down self.new ↔ it.is_down self.old }
-        ensures lasts { Unit {0} }
+        ensures lasts { it.lasts self.old self.new }
         ensures reading { IsReading (state self.old) (state self.new) result }
     {
         self.count_reading()?;
@@ -186,7 +209,7 @@ impl Disk for MemoryDisk {
             it.content it.images it.moment it.images_since it.write_faults self.old self.new }
         ensures read_faults { HasCause (it.read_faults self.old) (it.read_faults self.new) result }
         ensures down { it.is_down self.new ↔ it.is_down self.old }
-        ensures lasts { Unit {0} }
+        ensures lasts { it.lasts self.old self.new }
         ensures reading { IsReading (state self.old) (state self.new) result }
         ensures failed { OnErr result (room.new ≡ room.old) }
     {
@@ -196,9 +219,9 @@ impl Disk for MemoryDisk {
         Ok(())
     }
 
-    /// Writes octets; a gap before them is filled with zeros. A call that is listed fails, and leaves its range open; so
-    /// does one that finds no memory, and the disk is down from then on. One that would end past 2^63, or comes when the
-    /// disk is down, fails and changes nothing. It costs the octets written.
+    /// Writes octets; a gap before them is filled with zeros. A call that is listed fails, and leaves its range open;
+    /// so does one that finds no memory, and the disk is down from then on. One that would end past 2^63, or comes
+    /// when the disk is down, fails and changes nothing. It costs the octets written.
     fn write_at(&mut self, at: u64, bytes: &[u8]) -> Result<(), DiskFault>
         ensures written { OnOk result (HasContent (it.content self.old) (it.content self.new) (Writes at bytes.now)) }
         ensures told { IsTold (it.content self.old) → IsTold (it.content self.new) }
@@ -218,14 +241,14 @@ impl Disk for MemoryDisk {
         ensures since_now { SinceNow it.moment it.images it.images_since self.old self.new }
         ensures read_faults { it.read_faults self.new ≡ it.read_faults self.old }
         ensures write_faults { HasCause (it.write_faults self.old) (it.write_faults self.new) result }
-        ensures lasts { Unit {0} }
+        ensures lasts { it.lasts self.old self.new }
         ensures writing { IsWriting (state self.old) (state self.new) at bytes.now result }
     {
         self.record_write(at, bytes)
     }
 
     /// Syncs what was written; a call that is listed, finds no memory or comes when the disk is down, fails and changes
-    /// nothing. It copies no octet.
+    /// nothing. It costs the octets written since the last one.
     fn sync(&mut self) -> Result<(), DiskFault>
         ensures durable { OnOk result (IfSome (it.content self.old) (Only (it.images self.new))) }
         ensures content { it.content self.new ≡ it.content self.old }
@@ -239,7 +262,7 @@ impl Disk for MemoryDisk {
         ensures since_now { SinceNow it.moment it.images it.images_since self.old self.new }
         ensures read_faults { it.read_faults self.new ≡ it.read_faults self.old }
         ensures write_faults { HasCause (it.write_faults self.old) (it.write_faults self.new) result }
-        ensures lasts { Unit {0} }
+        ensures lasts { it.lasts self.old self.new }
         ensures syncing { IsSyncing (state self.old) (state self.new) result }
     {
         self.record_sync()

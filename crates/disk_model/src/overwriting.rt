@@ -7,8 +7,8 @@ ghost use Rattle.disk_model.specs.Surface.{write_over};
 use crate::limits::ends_within;
 use px_base::OutOfMemory;
 
-/// Writes octets over what is there; a gap before them is filled with zeros. It answers `OutOfMemory` and changes nothing
-/// where there is no memory, or where they would end past the most octets of a disk. Takes memory.
+/// Writes octets over what is there; a gap before them is filled with zeros. It answers `OutOfMemory` and changes
+/// nothing where there is no memory, or where they would end past the most octets of a disk. Takes memory.
 pub fn overwrite(octets: &mut Vec<u8>, at: u64, bytes: &[u8]) -> Result<(), OutOfMemory>
     ensures ends { OnOk result (at + length bytes.now ≤ 2 ^ 63) }
     ensures ok { OnOk result (octets.new.items ≡ write_over octets.old.items at bytes.now) }
@@ -36,7 +36,7 @@ fn extend_to(octets: &mut Vec<u8>, end: usize) -> Result<(), OutOfMemory>
 }
 
 /// Writes octets in the place of others.
-fn replace(octets: &mut [u8], at: usize, bytes: &[u8])
+pub(crate) fn replace(octets: &mut [u8], at: usize, bytes: &[u8])
     requires { at + length bytes.now ≤ length octets.old }
     ensures { octets.new ≡ take at octets.old ++ bytes.now ++ drop (at + length bytes.now) octets.old }
 {

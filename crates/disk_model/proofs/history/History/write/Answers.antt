@@ -2,6 +2,7 @@ use Rattle.std.proofs.Common.{◌≡◌, [], ◌∷◌, ◌++◌, List, ℕ, len
 use Rattle.std.proofs.lemmas.Grind.{common_steps}
 use Rattle.disk_model.specs.Surface.{IsImage, Surface, with_range, surface_after, surface_after_call, write_over}
 use Rattle.disk_model.specs.declared.disk_call.DiskCall.TheVariants as call
+use Rattle.disk_model.proofs.Ranges.{pushed_closes}
 use Rattle.disk_model.proofs.Surfaces.{surface_after-push, images_of_other_content, written_leaves}
 use Rattle.disk_model.proofs.Writes.{octets_from_fits}
 use Rattle.disk_model.proofs.history.History.write.Goals as goal
@@ -23,4 +24,6 @@ invariant_of-self-2 c =
       image = subst (λ (s : Surface). IsImage s c.overwrite.new.octets.items) (sym after) (subst (IsImage (surface_after_call before (call.Write at bytes))) (sym present) image);
       room = λ up. grind (arith, common_steps);
       most = let e = ap (λ (s : Surface). s.most) after in omega (arith, e, was.most, c.in_ok-overwrite.ensures.ends);
+      lost_is_down = was.lost_is_down;
+      closes = λ kept. pushed_closes _ _ _ _ _ (call.Write at bytes) pushed (λ none. none) (was.closes kept);
     }

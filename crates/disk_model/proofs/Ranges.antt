@@ -1,0 +1,255 @@
+-- What stands in the ranges that are open.
+use Rattle.std.proofs.Common.{Bool, true, false, ◌≡◌, ◌⊎◌, inl, inr, ⊎_elim, ℕ, ◌+◌, ◌-◌, ◌^◌, ◌<◌, ◌≤◌, min, List, [], ◌∷◌, ◌++◌, length, get_or, take, drop, refl, sym, ◌∙◌, ap, subst, arith, rules, fold}
+use Rattle.std.proofs.lemmas.Bool.{cases_Bool}
+use Rattle.std.proofs.lemmas.List.{places, ext_get_or, get_or-drop, get_or-take, length-append, length-drop, length-take, take-append-le, take-append-drop, take_all, append-nil, drop-append-le}
+use Rattle.std.proofs.Math.Nat.{le_refl}
+use Rattle.std.proofs.Math.Seq.{drop-append_seam}
+use Rattle.std.proofs.lemmas.List.Elements.{All-tail, All-append}
+use Rattle.px_base.specs.Octets.{IsOctets}
+use Rattle.disk_model.specs.Open.{DifferInRanges, IsClosed, SameBut, StandsSince, inside_of, open_ranges}
+use Rattle.disk_model.specs.Surface.{AllLeaveOpen, Closes, IsImage, IsInRange, IsOpen, Surface, count_of, left_by, overlay, place_of, quiet_surface, surface_after, surface_after_call, with_ranges, write_over}
+use Rattle.disk_model.specs.declared.disk_call.DiskCall.{DiskCall}
+use Rattle.disk_model.specs.declared.disk_call.DiskCall.TheVariants as call
+use Rattle.disk_model.proofs.Crashes.{NextCall, inside_or_not, synced_kept}
+use Rattle.disk_model.proofs.Surfaces.{surface_after-push}
+use Rattle.disk_model.proofs.Writes.{get_or-write_over_outside, length-write_over}
+
+pub open_or_not : (ranges : List (ℕ × ℕ)) (place : ℕ) → IsOpen ranges place ⊎ (IsOpen ranges place → ⊥)
+open_or_not [] place = inr (λ none. none)
+open_or_not (write ∷ earlier) place = elim (inside_or_not write.0 write.1 place) [
+  | inl inside ↦ inl (inl inside)
+  | inr outside ↦ elim (open_or_not earlier place) [ inl before ↦ inl (inr before) | inr shut ↦ inr (⊎_elim outside shut) ]
+]
+
+writes_same : (surface other : Surface) (calls : List DiskCall) → surface.writes ≡ other.writes → AllLeaveOpen calls → (fold surface_after_call surface calls).writes ≡ (fold surface_after_call other calls).writes
+writes_same surface other [] same open_calls = same
+writes_same surface other (done ∷ calls) same open_calls =
+    writes_same (surface_after_call surface done) (surface_after_call other done) calls (one done (open_calls 0 done (omega arith))) (All-tail (λ (d : DiskCall). Closes d → ⊥) done calls open_calls)
+  where
+    one : (d : DiskCall) → (Closes d → ⊥) → (surface_after_call surface d).writes ≡ (surface_after_call other d).writes
+    one (call.Write at octets) leaves = ap (λ (l : List (ℕ × ℕ)). (at, length octets) ∷ l) same
+    one (call.TornWrite at count) leaves = ap (λ (l : List (ℕ × ℕ)). (at, count) ∷ l) same
+    one call.Sync leaves = absurd (leaves tt)
+    one call.FailedSync leaves = same
+    one (call.PowerCut inside behind) leaves = absurd (leaves tt)
+
+-- what was synced makes no difference to the ranges
+pub open_ranges_is : (first : List ℕ) (calls : List DiskCall) → AllLeaveOpen calls → (surface_after first calls).writes ≡ open_ranges calls
+open_ranges_is first calls = writes_same (quiet_surface first) (quiet_surface []) calls refl
+
+inside_of-call : (surface : Surface) (done : DiskCall) (octets : List ℕ) → (Closes done → ⊥) → inside_of (surface_after_call surface done).writes octets ≡ inside_of surface.writes octets ++ take (count_of done) (drop (place_of done) octets)
+inside_of-call surface (call.Write at written) octets leaves = refl
+inside_of-call surface (call.TornWrite at count) octets leaves = refl
+inside_of-call surface call.Sync octets leaves = absurd (leaves tt)
+inside_of-call surface call.FailedSync octets leaves = sym (append-nil (inside_of surface.writes octets))
+inside_of-call surface (call.PowerCut inside behind) octets leaves = absurd (leaves tt)
+
+open_of-call : (surface : Surface) (done : DiskCall) (place : ℕ) → (Closes done → ⊥) → IsOpen (surface_after_call surface done).writes place → IsInRange (place_of done) (count_of done) place ⊎ IsOpen surface.writes place
+open_of-call surface (call.Write at written) place leaves reached = reached
+open_of-call surface (call.TornWrite at count) place leaves reached = reached
+open_of-call surface call.Sync place leaves reached = absurd (leaves tt)
+open_of-call surface call.FailedSync place leaves reached = inr reached
+open_of-call surface (call.PowerCut inside behind) place leaves reached = absurd (leaves tt)
+
+-- one call more
+pub inside_next : (calls : List DiskCall) (i : ℕ) (done : DiskCall) (octets : List ℕ) → NextCall [] calls i done → inside_of (open_ranges (take (i + 1) calls)) octets ≡ inside_of (open_ranges (take i calls)) octets ++ take (count_of done) (drop (place_of done) octets)
+inside_next calls i done octets next =
+    ap (λ (s : Surface). inside_of s.writes octets) next.after ∙ inside_of-call (surface_after [] (take i calls)) done octets next.no_sync
+
+pub open_next : (calls : List DiskCall) (i : ℕ) (done : DiskCall) (place : ℕ) → NextCall [] calls i done → IsOpen (open_ranges (take (i + 1) calls)) place → IsInRange (place_of done) (count_of done) place ⊎ IsOpen (open_ranges (take i calls)) place
+open_next calls i done place next reached =
+    open_of-call (surface_after [] (take i calls)) done place next.no_sync (subst (λ (s : Surface). IsOpen s.writes place) next.after reached)
+
+length-overlay : (old : List ℕ) (at : ℕ) (octets : List ℕ) → length (overlay old at octets) ≡ length old
+length-overlay old at octets = omega (arith, length-take (length old) (write_over old at octets), length-write_over old at octets)
+
+length-with_ranges : (ranges : List (ℕ × ℕ)) (octets old : List ℕ) → length (with_ranges ranges octets old) ≡ length old
+length-with_ranges [] octets old = refl
+length-with_ranges (write ∷ earlier) octets old =
+    let before = length octets - min write.1 (length old - write.0) in
+    length-overlay (with_ranges earlier (take before octets) old) write.0 (drop before octets)
+    ∙ length-with_ranges earlier (take before octets) old
+
+overlay_inside : (old : List ℕ) (at : ℕ) (octets : List ℕ) (place : ℕ) → at ≤ place → place < at + length octets → place < length old → get_or (overlay old at octets) place 0 ≡ get_or octets (place - at) 0
+overlay_inside old at octets place from to within = grind (arith, places)
+
+overlay_outside : (old : List ℕ) (at : ℕ) (octets : List ℕ) (place : ℕ) → place < length old → ((at ≤ place) × (place < at + length octets) → ⊥) → get_or (overlay old at octets) place 0 ≡ get_or old place 0
+overlay_outside old at octets place within outside =
+    get_or-take (length old) (write_over old at octets) place 0 within ∙ get_or-write_over_outside old at octets place within outside
+
+-- the octets of the latest range stand behind the others
+parted : (front part : List ℕ) (count : ℕ) → count ≡ length part → (take (length (front ++ part) - count) (front ++ part) ≡ front) × (drop (length (front ++ part) - count) (front ++ part) ≡ part)
+parted front part count is = (
+  ap (λ (n : ℕ). take n (front ++ part)) here ∙ take-append-le (length front) front part (le_refl (length front)) ∙ take_all (length front) front (le_refl (length front)),
+  ap (λ (n : ℕ). drop n (front ++ part)) here ∙ drop-append_seam front part,
+)
+  where
+    here : length (front ++ part) - count ≡ length front
+    here = omega (arith, length-append front part, is)
+
+-- one range more
+with_range_is : (write : ℕ × ℕ) (earlier : List (ℕ × ℕ)) (front old : List ℕ) → length front ≡ length old → (place : ℕ) → place < length old
+    → (IsOpen earlier place ⊎ (get_or old place 0 ≡ get_or front place 0) → get_or (with_ranges earlier (inside_of earlier front) old) place 0 ≡ get_or front place 0)
+    → IsOpen (write ∷ earlier) place ⊎ (get_or old place 0 ≡ get_or front place 0) → get_or (with_ranges (write ∷ earlier) (inside_of (write ∷ earlier) front) old) place 0 ≡ get_or front place 0
+with_range_is write earlier front old size place within so_far reached = whole ∙ here
+  where
+    part : List ℕ
+    part = take write.1 (drop write.0 front)
+
+    before : List ℕ
+    before = with_ranges earlier (inside_of earlier front) old
+
+    part_size : min write.1 (length old - write.0) ≡ length part
+    part_size = omega (arith, length-take write.1 (drop write.0 front), length-drop write.0 front, size)
+
+    cut : ℕ
+    cut = length (inside_of earlier front ++ part) - min write.1 (length old - write.0)
+
+    whole : get_or (with_ranges (write ∷ earlier) (inside_of (write ∷ earlier) front) old) place 0 ≡ get_or (overlay before write.0 part) place 0
+    whole =
+        let two = parted (inside_of earlier front) part (min write.1 (length old - write.0)) part_size in
+        ap (λ (l : List ℕ). get_or (overlay (with_ranges earlier l old) write.0 (drop cut (inside_of earlier front ++ part))) place 0) two.0
+        ∙ ap (λ (l : List ℕ). get_or (overlay before write.0 l) place 0) two.1
+
+    inner : place < length before
+    inner = omega (arith, within, length-with_ranges earlier (inside_of earlier front) old)
+
+    here : get_or (overlay before write.0 part) place 0 ≡ get_or front place 0
+    here = elim (inside_or_not write.0 (length part) place) [
+      | inl inside ↦
+          overlay_inside before write.0 part place inside.0 inside.1 inner
+          ∙ get_or-take write.1 (drop write.0 front) (place - write.0) 0 (omega (arith, inside.0, inside.1, part_size))
+          ∙ get_or-drop write.0 front (place - write.0) 0
+          ∙ ap (λ (n : ℕ). get_or front n 0) (omega (arith, inside.0))
+      | inr outside ↦
+          overlay_outside before write.0 part place inner outside
+          ∙ so_far (⊎_elim (⊎_elim (λ (inside : IsInRange write.0 write.1 place). absurd (outside (inside.0, omega (arith, inside.0, inside.1, part_size, within)))) (λ open_before. inl open_before)) (λ same. inr same) reached)
+    ]
+
+with_ranges_is : (ranges : List (ℕ × ℕ)) (front old : List ℕ) → length front ≡ length old → (place : ℕ) → place < length old → IsOpen ranges place ⊎ (get_or old place 0 ≡ get_or front place 0) → get_or (with_ranges ranges (inside_of ranges front) old) place 0 ≡ get_or front place 0
+with_ranges_is [] front old size place within reached = ⊎_elim (λ none. absurd none) (λ same. same) reached
+with_ranges_is (write ∷ earlier) front old size place within reached =
+    with_range_is write earlier front old size place within (λ before. with_ranges_is earlier front old size place within before) reached
+
+-- what is recorded of an image gives it back
+pub left_is : (surface : Surface) (image : List ℕ) → IsImage surface image → left_by surface (inside_of surface.writes (take (length surface.synced) image)) (drop (length surface.synced) image) ≡ image
+left_is surface image is =
+    ap (λ (l : List ℕ). l ++ drop (length surface.synced) image) front_is ∙ take-append-drop (length surface.synced) image
+  where
+    front : List ℕ
+    front = take (length surface.synced) image
+
+    size : length front ≡ length surface.synced
+    size = omega (arith, length-take (length surface.synced) image, is.no_shorter)
+
+    front_is : with_ranges surface.writes (inside_of surface.writes front) surface.synced ≡ front
+    front_is = ext_get_or 0 _ _ (length-with_ranges surface.writes (inside_of surface.writes front) surface.synced ∙ sym size) (λ place below.
+        let within : place < length surface.synced = omega (arith, below, length-with_ranges surface.writes (inside_of surface.writes front) surface.synced) in
+        with_ranges_is surface.writes front surface.synced size place within
+        (elim (open_or_not surface.writes place) [
+          | inl reached ↦ inl reached
+          | inr shut ↦ inr (sym (get_or-take (length surface.synced) image place 0 within ∙ is.kept place within shut))
+        ]))
+
+-- calls that close nothing leave closed what was
+pub closed_longer : (first : List ℕ) (calls : List DiskCall) (synced : List ℕ) (closed : ℕ) (done : DiskCall) → IsClosed first calls synced closed → (Closes done → ⊥) → IsClosed first (calls ++ done ∷ []) synced closed
+closed_longer first calls synced closed done is leaves = record {
+  within = grind (arith, places, is.within);
+  since =
+      ap (surface_after synced) longer
+      ∙ surface_after-push synced (drop closed calls) done
+      ∙ ap (λ (s : Surface). surface_after_call s done) is.since
+      ∙ sym (surface_after-push first calls done);
+  open_calls = subst AllLeaveOpen (sym longer) (All-append (λ (d : DiskCall). Closes d → ⊥) (drop closed calls) (done ∷ []) is.open_calls alone);
+}
+  where
+    longer : drop closed (calls ++ done ∷ []) ≡ drop closed calls ++ done ∷ []
+    longer = drop-append-le closed calls (done ∷ []) is.within
+
+    alone : AllLeaveOpen (done ∷ [])
+    alone = λ k d below. let e : get_or (done ∷ []) k d ≡ done = grind (arith, places) in subst (λ (x : DiskCall). Closes x → ⊥) (sym e) leaves
+
+pub pushed_closes : (first : List ℕ) (calls now : List DiskCall) (synced : List ℕ) (closed : ℕ) (done : DiskCall) → now ≡ calls ++ done ∷ [] → (Closes done → ⊥) → IsClosed first calls synced closed → IsClosed first now synced closed
+pushed_closes first calls now synced closed done pushed leaves is =
+    subst (λ (l : List DiskCall). IsClosed first l synced closed) (sym pushed) (closed_longer first calls synced closed done is leaves)
+
+-- and one that closes
+pub closed_now : (first : List ℕ) (calls : List DiskCall) (synced : List ℕ) → surface_after first calls ≡ quiet_surface synced → IsClosed first calls synced (length calls)
+closed_now first calls synced is = record {
+  within = omega arith;
+  since = ap (surface_after synced) nothing ∙ sym is;
+  open_calls = subst AllLeaveOpen (sym nothing) (λ k d below. absurd (omega (arith, below)));
+}
+  where
+    nothing : drop (length calls) calls ≡ []
+    nothing = search (rules, places)
+
+-- the octets that were synced
+pub synced_is : (first : List ℕ) (calls : List DiskCall) (synced : List ℕ) (closed : ℕ) → IsClosed first calls synced closed → (surface_after first calls).synced ≡ synced
+synced_is first calls synced closed is =
+    ap (λ (s : Surface). s.synced) (sym is.since) ∙ synced_kept (quiet_surface synced) (drop closed calls) is.open_calls
+
+-- what was synced, and what may be left, are the same but in the open ranges
+pub synced_same_but : (synced : List ℕ) (calls : List DiskCall) (image : List ℕ) → AllLeaveOpen calls → IsImage (surface_after synced calls) image → SameBut (length synced) (open_ranges calls) synced image
+synced_same_but synced calls image open_calls is = λ place below shut.
+    let was = synced_kept (quiet_surface synced) calls open_calls in
+    let size = ap length was in
+    let here = is.kept place (omega (arith, below, size)) (subst (λ (l : List (ℕ × ℕ)). IsOpen l place → ⊥) (sym (open_ranges_is synced calls open_calls)) shut) in
+    sym (here ∙ ap (λ (l : List ℕ). get_or l place 0) was)
+
+pub images_same_but : (synced : List ℕ) (calls : List DiskCall) (image other : List ℕ) → AllLeaveOpen calls → IsImage (surface_after synced calls) image → IsImage (surface_after synced calls) other → SameBut (length synced) (open_ranges calls) image other
+images_same_but synced calls image other open_calls is is_other = λ place below shut.
+    sym (synced_same_but synced calls image open_calls is place below shut) ∙ synced_same_but synced calls other open_calls is_other place below shut
+
+-- a disk that isn't down isn't lost
+pub not_lost : (lost down : Bool) → (lost ≡ true → down ≡ true) → down ≡ false → lost ≡ false
+not_lost lost down is up = elim (cases_Bool lost) [ inl set ↦ absurd (let e : true ≡ false = sym (is set) ∙ up in cc) | inr clear ↦ clear ]
+
+-- what was synced is no longer than what may be left
+pub synced_no_longer : (synced : List ℕ) (calls : List DiskCall) (image : List ℕ) → AllLeaveOpen calls → IsImage (surface_after synced calls) image → length synced ≤ length image
+synced_no_longer synced calls image open_calls is =
+    let size = ap length (synced_kept (quiet_surface synced) calls open_calls) in
+    omega (arith, size, is.no_shorter)
+
+-- what is recorded of an image, by the calls since the last sync
+pub left_since : (synced : List ℕ) (calls : List DiskCall) (image : List ℕ) → AllLeaveOpen calls → IsImage (surface_after synced calls) image
+    → left_by (surface_after synced calls) (inside_of (open_ranges calls) (take (length synced) image)) (drop (length synced) image) ≡ image
+left_since synced calls image open_calls is =
+    ap (λ (l : List (ℕ × ℕ)). left_by (surface_after synced calls) (inside_of l (take (length synced) image)) (drop (length synced) image)) (sym (open_ranges_is synced calls open_calls))
+    ∙ ap (λ (l : List ℕ). left_by (surface_after synced calls) (inside_of (surface_after synced calls).writes (take (length l) image)) (drop (length l) image)) (sym (synced_kept (quiet_surface synced) calls open_calls))
+    ∙ left_is (surface_after synced calls) image is
+
+pub quiet_image : (octets : List ℕ) → IsOctets octets → IsImage (quiet_surface octets) octets
+quiet_image octets small = record { octets = small; no_shorter = omega arith; no_longer = omega arith; kept = λ place below shut. refl }
+
+-- what stands after a power cut
+pub cut_surface : (first : List ℕ) (calls now : List DiskCall) (inside behind : List ℕ) → now ≡ calls ++ call.PowerCut inside behind ∷ [] → surface_after first now ≡ quiet_surface (left_by (surface_after first calls) inside behind)
+cut_surface first calls now inside behind pushed = ap (surface_after first) pushed ∙ surface_after-push first calls (call.PowerCut inside behind)
+
+-- what is left, and what a read gave, differ in the open ranges alone
+pub left_differs : (synced : List ℕ) (calls : List DiskCall) (present left : List ℕ) → StandsSince synced calls present → IsImage (surface_after synced calls) left → DifferInRanges (length synced) calls present left
+left_differs synced calls present left stands is = record {
+  within = synced_no_longer synced calls left stands.open_calls is;
+  most = omega (arith, is.no_longer, stands.most);
+  same = images_same_but synced calls present left stands.open_calls stands.image is;
+  open_calls = stands.open_calls;
+}
+
+-- what was synced, and what a read gives, too
+pub synced_differs : (synced : List ℕ) (calls : List DiskCall) (present : List ℕ) → StandsSince synced calls present → DifferInRanges (length synced) calls synced present
+synced_differs synced calls present stands = record {
+  within = synced_no_longer synced calls present stands.open_calls stands.image;
+  most = omega (arith, stands.image.no_longer, stands.most);
+  same = synced_same_but synced calls present stands.open_calls stands.image;
+  open_calls = stands.open_calls;
+}
+
+-- the record of a disk that isn't lost
+pub stands_since : (first : List ℕ) (calls : List DiskCall) (synced : List ℕ) (closed : ℕ) (present : List ℕ) → IsClosed first calls synced closed
+    → present ≡ (surface_after first calls).content → IsImage (surface_after first calls) present → (surface_after first calls).most ≤ 2 ^ 63 → StandsSince synced (drop closed calls) present
+stands_since first calls synced closed present closes content image most = record {
+  open_calls = closes.open_calls;
+  most = subst (λ (s : Surface). s.most ≤ 2 ^ 63) (sym closes.since) most;
+  content = content ∙ ap (λ (s : Surface). s.content) (sym closes.since);
+  image = subst (λ (s : Surface). IsImage s present) (sym closes.since) image;
+}
