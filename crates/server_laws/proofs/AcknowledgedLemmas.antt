@@ -1,6 +1,6 @@
 -- The files that a session or a server acknowledges stand.
 use Rattle.std.proofs.lemmas.Grind.{common_steps}
-use Rattle.std.proofs.Common.{◌≡◌, ◌⊎◌, inl, inr, ⊎_elim, ℕ, zero, suc, ◌+◌, ◌*◌, ◌≤◌, ◌==◌, ◌||◌, List, [], ◌∷◌, ◌++◌, length, Bool, true, false, Option, None, Some, refl, sym, ap, subst, ◌∙◌, append_assoc, append-nil, length-append, true≢false, arith}
+use Rattle.std.proofs.Common.{◌≡◌, ◌⊎◌, inl, inr, ⊎_elim, ℕ, zero, suc, ◌+◌, ◌*◌, ◌≤◌, ◌||◌, List, [], ◌∷◌, ◌++◌, length, Bool, true, false, Option, None, Some, refl, sym, ap, subst, ◌∙◌, append_assoc, append-nil, length-append, true≢false, arith}
 use Rattle.std.specs.Prelude.{slice_index, Ok, Err, IfSome, IsErrOf, Result, if◌then◌else◌}
 use Rattle.px_base.specs.CallSign.{CallSign}
 use Rattle.px_base.specs.Octets.{IsFront}
@@ -20,7 +20,7 @@ use Rattle.ftl0_session.specs.Downloads.Table.{DownloadRow, DownloadState, Due, 
 use Rattle.ftl0_session.specs.Laws.{AcknowledgedStandsLaw}
 use Rattle.ftl0_session.specs.Lists.Lists.{CallerList}
 use Rattle.ftl0_session.specs.Run.{Event, RunsOver, Sends, Session, event_row, session_over}
-use Rattle.ftl0_session.specs.Table.{Row, State, aborting, command, download_row, due_at, error_by, fault_reply, listing, receiving, row_among, sending, session_row, state_by, upload_row, waiting}
+use Rattle.ftl0_session.specs.Table.{Row, State, aborting, command, download_row, due_at, error_by, fault_reply, receiving, row_among, session_row, state_by, upload_row}
 use Rattle.ftl0_session.specs.Uploads.Failures.{Failure, read_fails}
 use Rattle.ftl0_session.specs.Uploads.Laws.{IsWhole}
 use Rattle.ftl0_session.specs.Uploads.Session as upload
@@ -33,13 +33,13 @@ use Rattle.ftl0_session.specs.Uploads.Events.{Event as Heard}
 use Rattle.ftl0_server.specs.Connection.Connected.{Connected, caller_of}
 use Rattle.ftl0_server.specs.Connection.Hearing.{parts_as, parts_of_frame}
 use Rattle.ftl0_server.specs.Connection.Laws.{TakesUpTo, TakingLaw}
-use Rattle.ftl0_server.specs.Connection.Taking.{Progress, after_due, queued, queuing}
+use Rattle.ftl0_server.specs.Connection.Taking.{Progress, queued, queuing}
 use Rattle.ftl0_server.specs.Server.{Server, hearing_at, hearing_by}
 use Rattle.ftl0_server.specs.ServerStep.{happening}
 use Rattle.ftl0_server.specs.Slots.{Slot}
 use Rattle.ftl0_server.proofs.Offered.{serves}
 use Rattle.node.specs.Events.{NodeEvent}
-use Rattle.node.specs.Lent.{Lent, Seen}
+use Rattle.node.specs.Lent.{Seen}
 use Rattle.node.specs.declared.stop.NodeStop.{NodeStop as Stop}
 use Rattle.node.specs.declared.stop.NodeStop.TheVariants as node_stop
 use Rattle.server_laws.specs.Acknowledged.{AcknowledgedSince, FileEnd, ServerAcknowledgesLaw, SessionAcknowledgesLaw, TakesPacket, row_of_end, taken_first}
@@ -48,7 +48,6 @@ use Rattle.server_node.specs.Served.{IsServed, IsUnrecovered, Run}
 use Rattle.server_node.specs.Sessions.Running.{IsSaid, RunsAs, StopsAs, first_session, session_steps}
 use Rattle.server_node.specs.Sessions.SessionRan.{IsGreeted, IsUngreeted, SessionRan, login_text}
 use Rattle.server_node.specs.Steps.{EndsOver, Made, StopsBehind, made}
-use Rattle.server_node.specs.declared.terms.ServerTerms.{ServerTerms}
 use Rattle.server_node.specs.declared.terms.SessionTerms.{SessionTerms}
 use Rattle.server_node.specs.declared.stop.NodeStop.{NodeStop}
 use Rattle.server_node.specs.declared.stop.NodeStop.TheVariants as stop
