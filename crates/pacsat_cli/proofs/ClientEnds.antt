@@ -1,7 +1,7 @@
 -- What the end of a client's command says of its counts, its disk's content and its output.
 use Rattle.std.proofs.Common.{◌≡◌, ℕ, List, arith, refl, ap, sym, subst, ◌∙◌, inl, inr, Bool, true, false}
 use Rattle.std.proofs.lemmas.Result.{err_from_is_err_and}
-use Rattle.std.specs.Prelude.{◌⊎◌, Option, None, Some, IfSome, IsTrue, Result, Ok, Err, IsErrAnd, IsErrOf, MatchResult, ⊤}
+use Rattle.std.specs.Prelude.{codes, ◌⊎◌, Option, None, Some, IfSome, IsTrue, Result, Ok, Err, IsErrAnd, IsErrOf, MatchResult, ⊤}
 use Rattle.px_base.specs.Outside.{Rose}
 use Rattle.px_base.specs.Shelves.{Holding}
 use Rattle.px_base.specs.declared.out.Out.{Ghosts as OutGhosts}
@@ -30,13 +30,21 @@ use Rattle.uploader.specs.Sending.{EndsAtStart, IsUnloaded, IsUnnoted, IsUnstart
 use Rattle.uploader.specs.Stops.{stop_of_start}
 use Rattle.uploader.proofs.CarryLemmas.{turned}
 use Rattle.command_words.specs.Words.{AsksClient, AsksFetch, AsksList, AsksSend}
+use Rattle.pacsat_cli.specs.Status.{numbered_line}
 use Rattle.pacsat_cli.specs.declared.status.Status.{Status}
 use Rattle.pacsat_cli.specs.declared.status.Status.TheVariants as status
-use Rattle.pacsat_cli.specs.Clients.{Closes, FetchRan, ListRan, SendRan, acked_line, fetched_line, outside}
+use Rattle.pacsat_cli.specs.Clients.{Closes, FetchRan, ListRan, SendRan, outside}
 use Rattle.pacsat_cli.specs.Run.{HasStatusCause}
 use Rattle.pacsat_cli.specs.Sessions.{HasDiskCause, HasReadCause, HasWriteCause, MayPassOver, RefusesExactly, is_of_file, may_have_outcome}
 use Rattle.pacsat_cli.specs.Stops.{status_of_end, status_of_stop}
 use Rattle.pacsat_cli.proofs.ClientStops.{AirBy, StatusBy, air-along, air-carried, air-free, air-stayed, client-status, done-ok, fault-carried, fault-not_air, is_carried, is_client_status, is_of_air, is_out, node-carried, past-file, start-not_air, start-not_out, stop-back, stop_of_status, stopped-by}
+
+-- the lines of a file that is sent and of one that is fetched
+abbrev pub acked_line : Sent → List ℕ
+acked_line sent = numbered_line (codes "acked ") sent.number
+
+abbrev pub fetched_line : ℕ → List ℕ
+fetched_line number = numbered_line (codes "fetched ") number
 
 -- ---- the status
 

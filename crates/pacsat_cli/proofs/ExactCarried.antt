@@ -30,12 +30,12 @@ use Rattle.uploader.specs.Stops.{stop_of_fault}
 use Rattle.uploader.proofs.LedLemmas.{led-law}
 use Rattle.pacsat_cli.specs.declared.status.Status.{Status}
 use Rattle.pacsat_cli.specs.declared.status.Status.TheVariants as status
-use Rattle.pacsat_cli.specs.Clients.{FetchRan, ListRan, RunsFetch, RunsList, client_terms, fetched_line, outside}
-use Rattle.pacsat_cli.specs.Exactly.{FetchEndsExactly, FetchLed, IsCause, IsNoFault, IsWanted, ListEndsExactly, ListLed, NotesTold, faults}
+use Rattle.pacsat_cli.specs.Clients.{FetchRan, ListRan, RunsFetch, RunsList, client_terms, outside}
+use Rattle.pacsat_cli.specs.Exactly.{FetchEndsExactly, FetchLed, IsCause, IsNoFault, IsWanted, ListEndsExactly, ListLed, NotesTold}
 use Rattle.pacsat_cli.specs.Stops.{status_of_stop}
-use Rattle.pacsat_cli.proofs.ClientEnds.{closes-status, end-status, keeps-along, shows-along}
+use Rattle.pacsat_cli.proofs.ClientEnds.{closes-status, end-status, keeps-along, shows-along, fetched_line}
 use Rattle.pacsat_cli.proofs.ClientStops.{StatusBy}
-use Rattle.pacsat_cli.proofs.ExactJob.{EndsAs, at-disk, at-memory, at-out, at-shelf, comes-exactly, no-fault}
+use Rattle.pacsat_cli.proofs.ExactJob.{EndsAs, at-disk, at-memory, at-out, at-shelf, comes-exactly, no-fault, faults}
 
 -- ---- notes that are told are recovered, but for a fault of the disk and want of memory
 

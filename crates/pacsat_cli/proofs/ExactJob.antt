@@ -18,12 +18,15 @@ use Rattle.uploader.specs.Stops.{by_outcome, stop_of_turns}
 use Rattle.pacsat_cli.specs.declared.status.RefusedBy.TheVariants as by_whom
 use Rattle.pacsat_cli.specs.declared.status.Status.{Status}
 use Rattle.pacsat_cli.specs.declared.status.Status.TheVariants as status
-use Rattle.pacsat_cli.specs.Exactly.{IsCause, IsLinkDown, IsNoFault, IsWanted, faults}
+use Rattle.pacsat_cli.specs.Exactly.{IsCause, IsLinkDown, IsNoFault, IsWanted}
 use Rattle.pacsat_cli.specs.Stops.{status_of_stop}
 use Rattle.pacsat_cli.proofs.ClientStops.{StatusBy}
 use Rattle.pacsat_cli.proofs.OpenTurns.{ends_with-not_open, failed-no_end}
 
 -- ---- the statuses of faults
+
+abbrev pub faults : List Status
+faults = status.AirWrite ∷ status.Disk ∷ status.Out ∷ status.Shelf ∷ status.OutOfMemory ∷ []
 
 pub at-write : Contains faults status.AirWrite
 at-write = (0, omega arith, refl)

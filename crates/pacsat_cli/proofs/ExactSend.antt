@@ -3,25 +3,19 @@ use Rattle.std.proofs.Common.{◌≡◌, ℕ, List, length, refl, ap, sym, subst
 use Rattle.std.proofs.lemmas.Result.{err_from_is_err_and}
 use Rattle.std.specs.Prelude.{◌⊎◌, Option, None, Some, IfSome, Result, Ok, Err, MatchResult}
 use Rattle.px_base.specs.Shelves.{Holding, content_of}
-use Rattle.px_base.specs.declared.air.Air.{Ghosts as AirGhosts}
 use Rattle.px_base.specs.declared.out.Out.{Ghosts as OutGhosts}
 use Rattle.px_base.specs.declared.shelf.Shelf.{Ghosts as ShelfGhosts}
-use Rattle.disk_model.specs.declared.disk.Disk.{Ghosts}
 use Rattle.file_store.proofs.Offered.{told_weaker}
 use Rattle.node.specs.Laws.{OneRunLaw}
 use Rattle.node.specs.Lent.{Lent, Seen}
 use Rattle.header_tool.specs.Faults.{fault_code}
 use Rattle.uploader.specs.Answers.{IsFull}
 use Rattle.uploader.specs.Command.{NotesCommand}
-use Rattle.uploader.specs.Laws.{after_all}
 use Rattle.uploader.specs.Notes.{Lists}
 use Rattle.uploader.specs.Begun.{Begun}
 use Rattle.uploader.specs.Begun.TheVariants as begun
 use Rattle.uploader.specs.NotesRefusal.{NotesRefusal}
 use Rattle.uploader.specs.NotesRefusal.TheVariants as refusal
-use Rattle.ftl0_client.specs.Work.TheVariants as work
-use Rattle.ftl0_client.specs.Table.{new_job}
-use Rattle.ftl0_client.specs.Upload.{new_upload}
 use Rattle.ftl0_client.specs.Going.{StaysLaw}
 use Rattle.ftl0_client.specs.Laws.{OneStepLaw}
 use Rattle.ftl0_client.specs.declared.outcome.Outcome.{Outcome}
@@ -40,10 +34,10 @@ use Rattle.uploader.proofs.StartLemmas.{IsOfTask, of_task}
 use Rattle.command_words.specs.Clients.{ClientTerms as AskedTerms}
 use Rattle.pacsat_cli.specs.declared.status.Status.{Status}
 use Rattle.pacsat_cli.specs.declared.status.Status.TheVariants as status
-use Rattle.pacsat_cli.specs.Clients.{RunsSend, SendRan, acked_line, client_terms, outside}
+use Rattle.pacsat_cli.specs.Clients.{RunsSend, SendRan, client_terms, outside}
 use Rattle.pacsat_cli.specs.Exactly.{FileRefusedExactly, IsNoFault, SendEndsExactly, SendRefuses, SendStarts, SendTold, StartsExactly, UploadLed}
 use Rattle.pacsat_cli.specs.Stops.{status_of_stop}
-use Rattle.pacsat_cli.proofs.ClientEnds.{carries-kind, closes-status, match-err}
+use Rattle.pacsat_cli.proofs.ClientEnds.{carries-kind, closes-status, match-err, acked_line}
 use Rattle.pacsat_cli.proofs.ClientStops.{StatusBy, is_carried, stopped-by}
 use Rattle.pacsat_cli.proofs.ExactCarried.{recovered-start, unrecovered-never}
 use Rattle.pacsat_cli.proofs.ExactJob.{EndsAs, at-disk, at-memory, at-out, at-shelf, comes-exactly, no-fault}

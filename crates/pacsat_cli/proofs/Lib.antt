@@ -1,3 +1,4 @@
+mod Acknowledged
 mod ClientEnds
 mod ClientStops
 mod Ended

@@ -11,9 +11,9 @@ use Rattle.header_tool.specs.Made.{IsMade, MakeValue}
 use Rattle.pacsat_cli.specs.declared.status.RefusedBy.TheVariants as by
 use Rattle.pacsat_cli.specs.declared.status.Status.{Status}
 use Rattle.pacsat_cli.specs.declared.status.Status.TheVariants.{Done, Refused, Shelf, TooLong}
-use Rattle.pacsat_cli.specs.Bodies.{BodyEnd, BodyRan, IsBodyOf, IsOrHindered, OctetsBody, body_fault, body_status}
+use Rattle.pacsat_cli.specs.Bodies.{BodyEnd, BodyRan, IsBodyOf, OctetsBody, body_fault, body_status}
 use Rattle.pacsat_cli.specs.Files.{most_octets}
-use Rattle.pacsat_cli.specs.Making.{FileKept, IsMadeOf, IsMakeStatus, MakeEnd, MakeRan, OctetsMade}
+use Rattle.pacsat_cli.specs.Making.{FileKept, IsMadeOf, IsOrHindered, MakeEnd, MakeRan, OctetsMade, make_status}
 use Rattle.pacsat_cli.specs.Stops.{status_of_load}
 use Rattle.pacsat_cli.proofs.Loading.{loaded, long, none}
 
@@ -41,7 +41,7 @@ ran spec body name octets before now s short loads made =
     let is_of : (file : List ℕ) → IsMade spec octets file → IsMadeOf spec body before file = λ file made. record { octets = octets; there = there before body octets loads; most = short; made = made } in
     record {
       ends = ends-of (IsMade spec octets) (IsMadeOf spec body before) is_of name before now s made.ends;
-      told = told-of (λ content. IsMakeStatus spec content s) before body octets loads made.told;
+      told = told-of (λ content. IsOrHindered (make_status spec content) s) before body octets loads made.told;
     }
 
 -- octets that aren't too long are refused by their first fault, or not

@@ -19,10 +19,10 @@ use Rattle.node.specs.Lent.{lent, seen}
 use Rattle.pacsat_cli.specs.declared.status.Status.{Status}
 use Rattle.pacsat_cli.specs.declared.status.Status.TheVariants as status
 use Rattle.pacsat_cli.specs.declared.files.FileCommand.{FileCommand}
-use Rattle.pacsat_cli.specs.Bodies.{BodyRan, IsOrHindered, body_status}
+use Rattle.pacsat_cli.specs.Bodies.{BodyRan, body_status}
 use Rattle.pacsat_cli.specs.Clients.{RunsFetch, RunsList, RunsSend, outside}
 use Rattle.pacsat_cli.specs.Files.{FileEnd, FileShown, IsNoSuchBy, IsShownBy, IsTooLongBy}
-use Rattle.pacsat_cli.specs.Making.{IsMakeStatus, MakeRan}
+use Rattle.pacsat_cli.specs.Making.{IsOrHindered, MakeRan, make_status}
 use Rattle.pacsat_cli.specs.Run.{IsUnless, Shows}
 use Rattle.pacsat_cli.specs.Servers.{RunsServe, WhereServed}
 use Rattle.pacsat_cli.specs.Sessions.{HasDiskCause, HasStoreCause, IsDoneBy, IsSpentBy, RunsSession, WhereHeard}
@@ -195,7 +195,7 @@ module _ (words : List (List ℕ)) (only : OnlyOne words) where
     refused-shown held = λ command name shelf is told octets there short. inr (2, omega arith, sym (file-memory why h command name is))
 
     -- nothing was made
-    memory_status : (spec : MakeValue) (body : List ℕ) (held : Option Holding) → IfSome held (λ shelf. IsMakeStatus spec (content_of shelf body) status.OutOfMemory)
+    memory_status : (spec : MakeValue) (body : List ℕ) (held : Option Holding) → IfSome held (λ shelf. IsOrHindered (make_status spec (content_of shelf body)) status.OutOfMemory)
     memory_status spec body None = tt
     memory_status spec body (Some shelf) = inr (1, omega arith, refl)
 

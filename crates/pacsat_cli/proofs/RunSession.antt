@@ -14,7 +14,7 @@ use Rattle.command_words.specs.Words.{IsSession}
 use Rattle.pacsat_cli.specs.declared.status.BadStore.{BadStore}
 use Rattle.pacsat_cli.specs.declared.status.Status.{Status}
 use Rattle.pacsat_cli.specs.declared.status.Status.TheVariants as status
-use Rattle.pacsat_cli.specs.Sessions.{AsksDisk, AsksFresh, AsksMoment, AsksStore, HasDiskCause, HasReadCause, HasStoreCause, HasWriteCause, IsDoneAtEnd, IsDoneBy, IsOver, IsSpentBy, OverNamed, RefusesExactly, RunsSession, WhereHeard, run_terms}
+use Rattle.pacsat_cli.specs.Sessions.{AsksDisk, AsksFresh, AsksMoment, AsksStore, HasDiskCause, HasReadCause, HasStoreCause, HasWriteCause, IsDoneAtEnd, IsDoneBy, IsSpentBy, OverNamed, RefusesExactly, RunsSession, WhereHeard, run_terms}
 use Rattle.pacsat_cli.specs.Stops.{status_of}
 use Rattle.pacsat_cli.proofs.Ended.{heard-not_bad, memory-not_disk, mended-disk, mended-memory}
 use Rattle.pacsat_cli.proofs.NodeEnds.{Goes, OnDisk, is_early_status, is_node_status, node-complete, node-done, node-not, node-read, node-spent, node-write, on_disk-cause, on_disk-exact, on_disk-goes}
@@ -149,7 +149,7 @@ module _ {A C D : Type 0} (g : Ghosts D) (air : AirGhosts A) (given : C → Opti
     store-by Named is memory = inl (asked, asks, is)
     store-by Fresh is memory = absurd (cc)
 
-    module _ (over : IsOver asked (seen g air given) (lent disk before clock) (lent disk_now now clock_n) s) where
+    module _ (over : OverNamed asked.disk (seen g air given) (lent disk before clock) (lent disk_now now clock_n) (run_terms asked) s) where
       goes : Goes air asked.polls (is_memory asked.disk) before now s
       goes = goes-by asked.disk over
 
@@ -160,7 +160,7 @@ module _ {A C D : Type 0} (g : Ghosts D) (air : AirGhosts A) (given : C → Opti
       -- the words ask for this session alone
       pub session-runs : RunsSession words (seen g air given) (lent disk before clock) (lent disk_now now clock_n) s
       session-runs = λ other is.
-          let P : SessionRequest → Type 0 = λ r. IsOver r (seen g air given) (lent disk before clock) (lent disk_now now clock_n) s in
+          let P : SessionRequest → Type 0 = λ r. OverNamed r.disk (seen g air given) (lent disk before clock) (lent disk_now now clock_n) (run_terms r) s in
           inr (subst P (one other is) over)
 
       pub session-alone : (AsksDisk words → ⊥) → disk_now ≡ disk

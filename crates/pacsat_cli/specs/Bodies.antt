@@ -1,14 +1,13 @@
 -- What the command `pfh-body` keeps, and why it ends.
-use Rattle.std.specs.Prelude.{◌≡◌, ℕ, ◌≤◌, List, [], ◌∷◌, length, nat_le, if◌then◌else◌, Option, None, Some, IfSome}
+use Rattle.std.specs.Prelude.{◌≡◌, ℕ, ◌≤◌, List, length, nat_le, if◌then◌else◌, Option, None, Some, IfSome}
 use Rattle.px_base.specs.Shelves.{Holding, content_of}
 use Rattle.header_tool.specs.Bodies.{HasBody}
 use Rattle.header_tool.specs.Faults.{fault_code}
 use Rattle.pacsat_cli.specs.declared.status.RefusedBy.TheVariants.{Fault}
 use Rattle.pacsat_cli.specs.declared.status.Status.{Status}
-use Rattle.pacsat_cli.specs.declared.status.Status.TheVariants.{Done, NoSuch, OutOfMemory, Refused, Shelf, TooLong}
+use Rattle.pacsat_cli.specs.declared.status.Status.TheVariants.{Done, NoSuch, Refused, TooLong}
 use Rattle.pacsat_cli.specs.Files.{most_octets}
-use Rattle.pacsat_cli.specs.Making.{MakeEnd}
-use Rattle.pacsat_cli.specs.Run.{IsUnless}
+use Rattle.pacsat_cli.specs.Making.{IsOrHindered, MakeEnd}
 
 -- This is the body of the content of NAME, where it is told what the shelf holds.
 pub record IsBodyOf (name : List ℕ) (held : Option Holding) (body : List ℕ) : Type 0 where
@@ -33,10 +32,6 @@ body_fault (Some code) = Refused (Fault code)
 abbrev pub body_status : Option (List ℕ) → Status
 body_status None = NoSuch
 body_status (Some octets) = if nat_le (length octets) most_octets then body_fault (fault_code octets) else TooLong
-
--- it is this status, but for a fault of the shelf and want of memory
-abbrev pub IsOrHindered : Status → Status → Type 0
-IsOrHindered status result = IsUnless result status (Shelf ∷ OutOfMemory ∷ [])
 
 -- The body of the content of NAME was asked for, and it ended so: by what the shelf holds, and where that is told, by
 -- the content.

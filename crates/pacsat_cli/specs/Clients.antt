@@ -34,14 +34,6 @@ use Rattle.pacsat_cli.specs.Stops.{status_of_end, status_of_stop}
 abbrev pub client_terms : AskedTerms → ClientTerms
 client_terms asked = record { server = asked.server; me = asked.me; k = asked.k; polls = asked.polls }
 
--- the line of a file that is sent, with its number on the server
-abbrev pub acked_line : Sent → List ℕ
-acked_line sent = numbered_line (codes "acked ") sent.number
-
--- the line of a file that is fetched
-abbrev pub fetched_line : ℕ → List ℕ
-fetched_line number = numbered_line (codes "fetched ") number
-
 -- This line was shown, and it is done; or a front of it was, and the output failed.
 abbrev pub PutsLine : {O : Type 0} → OutGhosts O → List ℕ → O → O → Status → Type 0
 PutsLine o line before now status =
@@ -77,7 +69,7 @@ pub record SendRan {A C D S O : Type 0} (see : Seen D A C) (s : ShelfGhosts S) (
   pub notes : IsPastFile ended → RefusesNotes (see.disk.content old.lent.disk) ended
   pub held : s.held new.shelf ≡ s.held old.shelf
   pub of_shelf : HasShelfCause (s.faults old.shelf) (s.faults new.shelf) ended
-  pub closes : Closes o acked_line old.out new.out ended status
+  pub closes : Closes o (λ sent. numbered_line (codes "acked ") sent.number) old.out new.out ended status
 
 -- The file of this number was fetched, and kept under this name, as far as that came.
 pub record FetchRan {A C D S O : Type 0} (see : Seen D A C) (s : ShelfGhosts S) (o : OutGhosts O)
@@ -87,7 +79,7 @@ pub record FetchRan {A C D S O : Type 0} (see : Seen D A C) (s : ShelfGhosts S) 
   pub causes : HasCauses see old.lent new.lent ended
   pub notes : RefusesNotes (see.disk.content old.lent.disk) ended
   pub of_shelf : CountsFault (s.faults old.shelf) (s.faults new.shelf) (IsErrOf ended stop.Shelf)
-  pub closes : Closes o (λ _. fetched_line file.number) old.out new.out ended status
+  pub closes : Closes o (λ _. numbered_line (codes "fetched ") file.number) old.out new.out ended status
 
 -- The files that the selection of these tokens holds of were listed, as far as that came. Their lines are all that is shown.
 pub record ListRan {A C D O : Type 0} (see : Seen D A C) (o : OutGhosts O) (old new : Lent D A C) (out out_now : O)

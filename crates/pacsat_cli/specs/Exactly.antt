@@ -33,17 +33,13 @@ use Rattle.pacsat_cli.specs.declared.status.Status.{Status}
 use Rattle.pacsat_cli.specs.declared.status.Status.TheVariants.{AirRead, AirWrite, Disk, Done, FileChanged, LinkDown, NoSuch, NotesFull, Out, OutOfMemory, Refused, Shelf, Spent, Strange, TooLong}
 use Rattle.pacsat_cli.specs.Clients.{client_terms}
 
--- The statuses of a put that failed, of a fault of the disk, of the output or of the shelf, and of want of memory. That of a
--- fault comes only where its count rose: before an outcome, or, of output and shelf, behind it too. Want of memory has no
--- cause.
-abbrev pub faults : List Status
-faults = AirWrite ∷ Disk ∷ Out ∷ Shelf ∷ OutOfMemory ∷ []
-
--- the status is none of these
+-- The status is none of a put that failed, of a fault of the disk, of the output or of the shelf, and of want of memory. That
+-- of a fault comes only where its count rose: before an outcome, or, of output and shelf, behind it too. Want of memory has
+-- no cause.
 abbrev pub IsNoFault : Status → Type 0
-IsNoFault status = ¬ Contains faults status
+IsNoFault status = ¬ Contains (AirWrite ∷ Disk ∷ Out ∷ Shelf ∷ OutOfMemory ∷ []) status
 
--- where it is none of these it is each other one exactly where that one's cause is there
+-- where it is none of them it is each other one exactly where that one's cause is there
 abbrev pub ComesExactly : (Status → Type 0) → Status → Type 0
 ComesExactly Cause status = IsNoFault status → (other : Status) → (status ≡ other) ↔ Cause other
 

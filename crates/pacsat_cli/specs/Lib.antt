@@ -1,3 +1,4 @@
+pub mod Acknowledged
 pub mod Bodies
 pub mod Clients
 pub mod Exactly

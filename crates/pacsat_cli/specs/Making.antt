@@ -15,16 +15,12 @@ pub record IsMadeOf (spec : MakeValue) (body : List ℕ) (held : Option Holding)
   pub most : length octets ≤ most_octets
   pub made : IsMade spec octets file
 
--- Keeping a file that is made failed, which leaves the content of the name open; or no file was to be kept, and all stays.
-abbrev pub MakeFails : (List ℕ → Type 0) → List ℕ → Option Holding → Option Holding → Type 0
-MakeFails IsFile name before now = (now ≡ before) ⊎ ((file : List ℕ) × IsFile file × KeepsOthers before now name)
-
 -- How a make ended, by what the shelf held and what it holds now. Done: a file is kept under the name, and all else stays.
 -- A fault of the shelf that came while a file was kept leaves the content of the name open. Whatever else ends it, all stays.
 -- No other status comes.
 abbrev pub MakeEnd : (List ℕ → Type 0) → List ℕ → Option Holding → Option Holding → Status → Type 0
 MakeEnd IsFile name before now Done = (file : List ℕ) × IsFile file × Keeps before now name file
-MakeEnd IsFile name before now Shelf = MakeFails IsFile name before now
+MakeEnd IsFile name before now Shelf = (now ≡ before) ⊎ ((file : List ℕ) × IsFile file × KeepsOthers before now name)
 MakeEnd IsFile name before now NoSuch = now ≡ before
 MakeEnd IsFile name before now TooLong = now ≡ before
 MakeEnd IsFile name before now OutOfMemory = now ≡ before
@@ -41,19 +37,19 @@ abbrev pub make_status : MakeValue → Option (List ℕ) → Status
 make_status spec None = NoSuch
 make_status spec (Some octets) = length_status (passing_len (made_builder spec) octets)
 
--- it is that status, but for a fault of the shelf and want of memory
-abbrev pub IsMakeStatus : MakeValue → Option (List ℕ) → Status → Type 0
-IsMakeStatus spec content status = IsUnless status (make_status spec content) (Shelf ∷ OutOfMemory ∷ [])
+-- it is this status, but for a fault of the shelf and want of memory
+abbrev pub IsOrHindered : Status → Status → Type 0
+IsOrHindered status result = IsUnless result status (Shelf ∷ OutOfMemory ∷ [])
 
 -- A make of the content of BODY ended so: by what the shelf holds, and where that is told, by the content.
 pub record MakeRan (spec : MakeValue) (body name : List ℕ) (before now : Option Holding) (status : Status) : Type 0 where
   pub ends : MakeEnd (IsMadeOf spec body before) name before now status
-  pub told : IfSome before (λ shelf. IsMakeStatus spec (content_of shelf body) status)
+  pub told : IfSome before (λ shelf. IsOrHindered (make_status spec (content_of shelf body)) status)
 
 -- A make of these octets ended so.
 pub record OctetsMade (spec : MakeValue) (octets name : List ℕ) (before now : Option Holding) (status : Status) : Type 0 where
   pub ends : MakeEnd (IsMade spec octets) name before now status
-  pub told : IsMakeStatus spec (Some octets) status
+  pub told : IsOrHindered (make_status spec (Some octets)) status
 
 -- these octets are kept under this name, or keeping failed
 abbrev pub FileKept : List ℕ → List ℕ → Option Holding → Option Holding → Status → Type 0

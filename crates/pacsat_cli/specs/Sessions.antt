@@ -111,16 +111,12 @@ OverNamed Named seen old new terms status = OverDisk seen old new terms status
 OverNamed Fresh seen old new terms status =
     (new.disk ≡ old.disk) × OverMemory seen.air seen.given old.air new.air old.clock new.clock terms status
 
--- so it was with the session that was asked for
-abbrev pub IsOver : {A C D : Type 0} → SessionRequest → Seen D A C → Lent D A C → Lent D A C → Status → Type 0
-IsOver asked seen old new status = OverNamed asked.disk seen old new (run_terms asked) status
-
 -- Where the words ask for a session, it is served so; or there was no memory to read the words, and nothing was touched.
 abbrev pub RunsSession : {A C D : Type 0} → List (List ℕ) → Seen D A C → Lent D A C → Lent D A C → Status → Type 0
 RunsSession words seen old new status =
     (asked : SessionRequest) → IsSession words asked
     → (IsUntouched old.air new.air old.clock new.clock status × (new.disk ≡ old.disk))
-    ⊎ IsOver asked seen old new status
+    ⊎ OverNamed asked.disk seen old new (run_terms asked) status
 
 -- Whether a client's command with this status may have come to its outcome. What the air does after that changes no status.
 abbrev pub may_have_outcome : Status → Bool
@@ -196,15 +192,11 @@ pub record HasStoreCause (words : List (List ℕ)) (content : Option (List ℕ))
       → (AsksSend words → IsTrue (is_of_file status) → ⊥)
       → IfSome content (λ octets. RefusesExactly (notes_standing octets) status)
 
--- the end of the air was read, after turns that left it open
-abbrev pub ReadsEnd : Option (List Turn) → Option (List Turn) → Type 0
-ReadsEnd before now = (turns : List Turn) × HearsAll before now turns × EndsWith turns turn.End
-
--- A session or a service that is done read the end of the air, and no count of the air rose, nor that of the disk's failed
+-- A session or a service that is done read the end of the air behind turns that left it open, and no count of the air rose, nor that of the disk's failed
 -- writes and syncs. That of failed reads may have: each was told by code 3.
 pub record IsDoneAtEnd {A D : Type 0} (air : AirGhosts A) (reads writes : D → ℕ) (before now : A) (disk disk_now : D) :
     Type 0 where
-  pub end : ReadsEnd (air.heard before) (air.heard now)
+  pub end : (turns : List Turn) × HearsAll (air.heard before) (air.heard now) turns × EndsWith turns turn.End
   pub air_reads : air.read_faults now ≡ air.read_faults before
   pub air_writes : air.write_faults now ≡ air.write_faults before
   pub disk_reads : reads disk ≤ reads disk_now

@@ -1,6 +1,5 @@
 -- What a start asks its system for, and the number that the process ends with.
 use Rattle.std.specs.Prelude.{◌≡◌, ℕ, List, [], ◌∷◌, Option, None, Some, Result, Ok, Err, slice_get}
-use Rattle.command_words.specs.declared.air.AirWord.{AirWord}
 use Rattle.command_words.specs.declared.air.AirWord.TheVariants as air
 use Rattle.command_words.specs.Airs.{IsAirOf}
 use Rattle.px_base.specs.CallRecords.{CallRecordState, told}

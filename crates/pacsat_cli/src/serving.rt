@@ -4,7 +4,7 @@ ghost use Rattle.std.specs.Prelude.{◌≡◌, ◌≤◌, IsSome};
 ghost use Rattle.command_words.specs.Words.{AreInRange};
 ghost use Rattle.node.specs.Lent.{lent, seen};
 ghost use Rattle.pacsat_cli.specs.Servers.{IsServedOver, serve_terms};
-ghost use Rattle.pacsat_cli.specs.Sessions.{IsOver, OverMemory, run_terms};
+ghost use Rattle.pacsat_cli.specs.Sessions.{OverMemory, OverNamed, run_terms};
 ghost use Rattle.pacsat_cli.specs.Stops.{status_in_memory, status_of as status_of_session};
 
 use crate::{BadStore, Status};
@@ -27,8 +27,8 @@ pub(crate) fn run_session<D: Disk, A: Air, C: Clock>(
 ) -> Status
     requires some { 1 ≤ request.now.blocks }
     requires most { request.now.blocks ≤ 65536 }
-    ensures over { IsOver request.now (seen D.Disk A.Air C.given) (lent disk.old air.old clock.old)
-        (lent disk.new air.new clock.new) result }
+    ensures over { OverNamed request.now.disk (seen D.Disk A.Air C.given) (lent disk.old air.old clock.old)
+        (lent disk.new air.new clock.new) (run_terms request.now) result }
     ensures clock { IsSome request.now.moment → clock.new ≡ clock.old }
 {
     let terms = terms_of(request);

@@ -3,11 +3,9 @@
 ghost use Rattle.std.specs.Prelude.{◌≡◌, ◌≤◌, [], ◌∷◌};
 ghost use Rattle.command_words.specs.Laws.{AsksServe, AsksSession};
 ghost use Rattle.command_words.specs.Words.{AsksClient, AsksList, AsksMake, IsUnbuilt, IsUsage, NamesBuilt};
-ghost use Rattle.ftl0_session.specs.Laws.{AcknowledgedStandsLaw};
-ghost use Rattle.node.specs.Lent.{lent, seen};
 ghost use Rattle.px_base.specs.Outside.{Rose};
-ghost use Rattle.server_node.specs.Sessions.Laws.{AcknowledgedSinceLaw};
 ghost use Rattle.node.specs.Lent.{lent, seen};
+ghost use Rattle.pacsat_cli.specs.Acknowledged.{ServiceStands, SessionStands};
 ghost use Rattle.pacsat_cli.specs.Clients.{RunsFetch, RunsList, RunsSend, outside};
 ghost use Rattle.pacsat_cli.specs.Exactly.{FetchEndsExactly, ListEndsExactly, SendEndsExactly, SendRefuses};
 ghost use Rattle.pacsat_cli.specs.Exactly.{SendStarts};
@@ -31,10 +29,9 @@ use command_words::Refusal;
 use command_words::laws::one_meaning;
 use disk_model::Disk;
 use ftl0_client::laws::{one_step_law, stays_law};
-use ftl0_session::laws::acknowledged_stands_law;
 use node::laws::one_run_law;
 use px_base::{Air, Clock, Out, Shelf};
-use server_node::laws::acknowledged_since_law;
+use server_laws::{server_acknowledges_law, session_acknowledges_law};
 use std::alloc::Global;
 
 /// Does what the words ask for, over this disk, air, shelf, output and clock, and shows the status's line on the output.
@@ -112,11 +109,13 @@ pub fn run<D: Disk, A: Air, S: Shelf, O: Out, C: Clock>(
     ensures list_exactly { ListEndsExactly words.now (seen D.Disk A.Air C.given) (lent disk.old air.old clock.old)
         (lent disk.new air.new clock.new) result }
 
-    // So what was acknowledged stands: once DATA_END's row replied UL_ACK_RESP, the file's entry is complete, with exactly the
-    // octets that came, stamped, in every image in which its commands are done, whatever comes behind them; and so in every
-    // image that a crash leaves since the last call of the disk for them, in each session and each server, however it ends.
-    ensures acknowledged { AcknowledgedStandsLaw }
-    ensures acknowledged_since { AcknowledgedSinceLaw D.Disk }
+    // So what was acknowledged stands. For each UL_ACK_RESP that a session said, and each packet to which a service replied
+    // one, the file's entry is complete, with exactly the octets that came, stamped, in every image that a crash leaves since
+    // the last call of the disk for the commands of that reply's row, which came before the reply, and whatever comes behind.
+    ensures session_acknowledged { SessionStands words.now (seen D.Disk A.Air C.given) (lent disk.old air.old clock.old)
+        (lent disk.new air.new clock.new) }
+    ensures serve_acknowledged { ServiceStands words.now (seen D.Disk A.Air C.given) (lent disk.old air.old clock.old)
+        (lent disk.new air.new clock.new) }
 
     // No other command than these touches the disk, nor does a session with `none` for DISK.
     ensures disk_alone { (AsksDisk words.now → ⊥) → disk.new ≡ disk.old }
@@ -170,11 +169,11 @@ pub fn run<D: Disk, A: Air, S: Shelf, O: Out, C: Clock>(
     ensures unshown { result ≡ Status.Done → (AsksShown words.now → ⊥) → out.new ≡ out.old }
     ensures shown { (AsksShown words.now → ⊥) → Shows O.shown O.faults out.old out.new (line_of result) }
 {
-    // The words ask for one thing, what was acknowledged stands, and a client has one run over what is heard, in which what
+    // The words ask for one thing, what is acknowledged stands, and a client has one run over what is heard, in which what
     // became of its job stays.
     one_meaning();
-    acknowledged_stands_law();
-    acknowledged_since_law::<D>();
+    session_acknowledges_law::<D, A, C>();
+    server_acknowledges_law::<D, A, C>();
     one_run_law();
     one_step_law();
     stays_law();

@@ -11,11 +11,7 @@ use Rattle.file_store.specs.Records.{store_form, store_magic}
 use Rattle.file_store.specs.Store.{Store}
 use Rattle.file_store.specs.Working.{PutsAmongReads, CutsOffAmongReads}
 use Rattle.file_store.proofs.Offered.{told_weaker, cuts-among-all, cuts-among-puts, cuts-among-same, own-number}
-use Rattle.ftl0_packets.specs.Layout.{data_end}
-use Rattle.ftl0_session.specs.Laws.{AcknowledgedStandsLaw}
-use Rattle.ftl0_session.specs.Table.{Row, receiving, session_row}
 use Rattle.server_node.specs.OnDisk.{NodeRuns}
-use Rattle.server_node.specs.Sessions.Laws.{AcknowledgedSinceLaw}
 use Rattle.node.specs.declared.stop.NodeStop.{NodeStop}
 use Rattle.server_node.specs.declared.terms.Served.{Served}
 use Rattle.px_base.specs.Moments.{MomentsOf}
@@ -52,49 +48,6 @@ node_runs g failed old now puts = grind (arith, common_steps)
 -- and by a recovery that is all that it does
 pub runs_refused : {D : Type 0} (g : Ghosts D) (failed : Type 0) (old now : D) → Runs g failed old now → NodeRuns g failed old now
 runs_refused g failed old now runs = grind (arith, common_steps)
-
--- whether the disk failed
-by_disk : (result : Result Served NodeStop) → IsErrOf result stop.Disk ⊎ ¬ IsErrOf result stop.Disk
-by_disk (Ok served) = inr (λ is. cc is)
-by_disk (Err stop.Disk) = inl refl
-by_disk (Err stop.AirRead) = inr (λ is. cc is)
-by_disk (Err stop.AirWrite) = inr (λ is. cc is)
-by_disk (Err (stop.NotAStore found)) = inr (λ is. cc is)
-by_disk (Err (stop.Damaged at)) = inr (λ is. cc is)
-by_disk (Err stop.Spent) = inr (λ is. cc is)
-by_disk (Err stop.OutOfMemory) = inr (λ is. cc is)
-
--- the commands done stay, whether the disk failed in one behind them or not
-stay_done : {D : Type 0} (g : Ghosts D) (failed : Type 0) (start : Store) (done cut : List Command) (disk disk_n : D) (stands : StandsThrough g store_form failed start done cut disk disk_n) → failed ⊎ ¬ failed
-    → IfSome (g.content disk) (λ _. StayDone g stands.ready (length done) start (done ++ cut) disk_n)
-stay_done g failed start done cut disk disk_n stands (inl stopped) =
-    let end = stands.interrupted stopped in
-    told_weaker (g.content disk) _ _ (λ octets told stay count some most. stay count some (omega (arith, most, end.no_less))) end.stay
-stay_done g failed start done cut disk disk_n stands (inr fine) =
-    told_weaker (g.content disk) _ _ (λ octets told stay count some most. stay count some (omega (arith, most, length-append done cut))) (stands.stay fine)
-
-pub acknowledged_since : {D : Type 0} (g : Ghosts D) → AcknowledgedStandsLaw → AcknowledgedSinceLaw g
-acknowledged_since g law = record {
-  since = λ result start done cut disk disk_n stands file is whole.
-      let before : List Command = file.before in
-      let row : Row = session_row file.caller file.moment file.store file.lists (receiving file.number file.rest) (Ok data_end) file.fails in
-      let ack = law file.caller start file.store file.lists file.fails before file.moment file.number file.entry file.held file.rest is whole in
-      record {
-        row = row;
-        is_row = refl;
-        replies = ack.replies;
-        since = λ others parts.
-            let all : done ++ cut ≡ before ++ (row.commands ++ (others ++ cut)) =
-            ap (λ (cs : List Command). cs ++ cut) parts ∙ append_assoc before (row.commands ++ others) cut ∙ ap (λ (cs : List Command). before ++ cs) (append_assoc row.commands others cut) in
-            let count : ℕ = length before + length row.commands in
-            let some : 1 ≤ count = omega (arith, ack.some) in
-            let most : count ≤ length done = omega (arith, ap length parts, length-append before (row.commands ++ others), length-append row.commands others) in
-            told_weaker (g.content disk) _ _ (λ octets told stay image left.
-            ack.stands (others ++ cut) count (length (done ++ cut)) image (subst (λ (cs : List Command). AreAllowed start cs) all stands.allowed) (omega arith)
-            (subst (λ (cs : List Command). MakesBetween count (length (done ++ cut)) start cs image) all (stay count some most image left)))
-            (stay_done g (IsErrOf result stop.Disk) start done cut disk disk_n stands (by_disk result));
-      };
-}
 
 -- what the clauses of serving say
 pub record Serves {A C D : Type 0} (seen : Seen D A C) (blocks : ℕ) (given : Option ℕ) (Ran : Result Served NodeStop → Store → Run → Type 0) (old new : Lent D A C) (result : Result Served NodeStop) : Type 0 where

@@ -1,5 +1,4 @@
 pub mod Course
-pub mod Laws
 pub mod Packets
 pub mod Running
 pub mod Server

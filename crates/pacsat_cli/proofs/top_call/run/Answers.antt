@@ -8,6 +8,7 @@ use Rattle.pacsat_cli.specs.Status.{line_of}
 use Rattle.pacsat_cli.specs.Stops.{status_of_refusal}
 use Rattle.pacsat_cli.specs.Tasks.{AsksFile, AsksText}
 use Rattle.node.specs.Lent.{lent, seen}
+use Rattle.pacsat_cli.proofs.Acknowledged.{service-stands, session-stands}
 use Rattle.pacsat_cli.proofs.ExactCarried.{fetch-exactly, list-exactly}
 use Rattle.pacsat_cli.proofs.ExactSend.{send-exactly, send-refuses, send-starts}
 use Rattle.pacsat_cli.proofs.OneTask.{file-client, file-make, make-client, node-client, refused-client, node-file, node-make, one-text, serve-file, serve-make, session-file, session-make, unbuilt-file, unbuilt-make, usage-file, usage-make}
@@ -54,8 +55,8 @@ returns-in-Err g c =
       send_exactly = send-exactly (seen g.D.Disk g.A.Air g.C.Clock.given) g.S.Shelf g.O.Out words (lent c.args.disk.now c.args.air.now c.args.clock.now) (lent c.args.disk.now c.args.air.now c.args.clock.now) c.args.shelf.now c.args.shelf.now (status_of_refusal why) c.args.out.now c.show_line.new.out send c.one_run_law.ensures c.one_step_law.ensures c.stays_law.ensures;
       fetch_exactly = fetch-exactly (seen g.D.Disk g.A.Air g.C.Clock.given) c.one_run_law.ensures c.one_step_law.ensures c.stays_law.ensures (lent c.args.disk.now c.args.air.now c.args.clock.now) (lent c.args.disk.now c.args.air.now c.args.clock.now) g.S.Shelf g.O.Out words c.args.shelf.now c.args.shelf.now c.args.out.now c.show_line.new.out (status_of_refusal why) fetch;
       list_exactly = list-exactly (seen g.D.Disk g.A.Air g.C.Clock.given) c.one_run_law.ensures c.one_step_law.ensures c.stays_law.ensures (lent c.args.disk.now c.args.air.now c.args.clock.now) (lent c.args.disk.now c.args.air.now c.args.clock.now) g.S.Shelf g.O.Out words c.args.shelf.now c.args.shelf.now c.args.out.now c.show_line.new.out (status_of_refusal why) list;
-      acknowledged = c.acknowledged_stands_law.ensures;
-      acknowledged_since = c.acknowledged_since_law.ensures;
+      session_acknowledged = λ _ _ _. inl refl;
+      serve_acknowledged = λ _ _. inl refl;
       disk_alone = λ _. refl;
       complete = refused-complete words only why h g.A.Air c.args.air.now;
       spent = refused-spent words only why h g.A.Air c.args.air.now;
@@ -98,6 +99,7 @@ returns-in-Session g c =
     let ran = c.run_session-status in
     let line = c.show_line-in-Session.ensures in
     let over = ran.ensures.over in
+    let runs = session-runs g.D.Disk g.A.Air g.C.Clock.given c.args.disk.now ran.new.disk c.args.air.now ran.new.air c.args.clock.now ran.new.clock asked ran.result words asks only determined over in
     let isnt = session-not g.D.Disk g.A.Air g.C.Clock.given c.args.disk.now ran.new.disk c.args.air.now ran.new.air c.args.clock.now ran.new.clock asked ran.result words asks only determined over in
     record {
       usage = λ e. absurd (isnt status.Usage refl e);
@@ -107,7 +109,7 @@ returns-in-Session g c =
       unread = λ refused. absurd (elim refused [ inl usage ↦ only.usage_session usage session | inr unbuilt ↦ only.unbuilt_session unbuilt session ]);
       untouched = λ refused. absurd (elim refused [ inl usage ↦ only.usage_session usage session | inr unbuilt ↦ only.unbuilt_session unbuilt session ]);
       held = λ _. refl;
-      session = session-runs g.D.Disk g.A.Air g.C.Clock.given c.args.disk.now ran.new.disk c.args.air.now ran.new.air c.args.clock.now ran.new.clock asked ran.result words asks only determined over;
+      session = runs;
       session_alone = λ _. refl;
       serve = λ other is. absurd (only.session_serve session (other, is));
       serve_alone = λ serve. absurd (only.session_serve session serve);
@@ -121,8 +123,8 @@ returns-in-Session g c =
       send_exactly = λ of. absurd (only.session_client session (inl (of.asked, of.name, of.asks)));
       fetch_exactly = λ led. absurd (only.session_client session (inr (inl (led.asked, led.number, led.name, led.asks))));
       list_exactly = λ led. absurd (only.session_client session (inr (inr (led.asked, led.tokens, led.asks))));
-      acknowledged = c.acknowledged_stands_law.ensures;
-      acknowledged_since = c.acknowledged_since_law.ensures;
+      session_acknowledged = session-stands (seen g.D.Disk g.A.Air g.C.Clock.given) words (lent c.args.disk.now c.args.air.now c.args.clock.now) (lent ran.new.disk ran.new.air ran.new.clock) ran.result c.session_acknowledges_law.ensures runs;
+      serve_acknowledged = λ other is. absurd (only.session_serve session (other, is));
       disk_alone = session-alone g.D.Disk g.A.Air g.C.Clock.given c.args.disk.now ran.new.disk c.args.air.now ran.new.air c.args.clock.now ran.new.clock asked ran.result words asks only determined over;
       complete = session-complete g.D.Disk g.A.Air g.C.Clock.given c.args.disk.now ran.new.disk c.args.air.now ran.new.air c.args.clock.now ran.new.clock asked ran.result words asks only determined over;
       spent = session-spent g.D.Disk g.A.Air g.C.Clock.given c.args.disk.now ran.new.disk c.args.air.now ran.new.air c.args.clock.now ran.new.clock asked ran.result words asks only determined over;
@@ -164,6 +166,7 @@ returns-in-Serve g c =
     let ran = c.run_serve-status in
     let line = c.show_line-in-Serve.ensures in
     let over = ran.ensures.over in
+    let runs = serve-runs g.D.Disk g.A.Air g.C.Clock.given c.args.disk.now ran.new.disk c.args.air.now ran.new.air c.args.clock.now ran.new.clock asked ran.result words asks only determined over in
     let isnt = serve-not g.D.Disk g.A.Air g.C.Clock.given c.args.disk.now ran.new.disk c.args.air.now ran.new.air c.args.clock.now ran.new.clock asked ran.result words asks only determined over in
     record {
       usage = λ e. absurd (isnt status.Usage refl e);
@@ -175,7 +178,7 @@ returns-in-Serve g c =
       held = λ _. refl;
       session = λ other is. absurd (only.session_serve (other, is) serve);
       session_alone = λ session. absurd (only.session_serve session serve);
-      serve = serve-runs g.D.Disk g.A.Air g.C.Clock.given c.args.disk.now ran.new.disk c.args.air.now ran.new.air c.args.clock.now ran.new.clock asked ran.result words asks only determined over;
+      serve = runs;
       serve_alone = λ _. refl;
       clock_unasked = λ given. absurd (only.session_serve (given.0, given.1) serve);
       send = λ asked name is. absurd (only.serve_client serve (inl (asked, name, is)));
@@ -187,8 +190,8 @@ returns-in-Serve g c =
       send_exactly = λ of. absurd (only.serve_client serve (inl (of.asked, of.name, of.asks)));
       fetch_exactly = λ led. absurd (only.serve_client serve (inr (inl (led.asked, led.number, led.name, led.asks))));
       list_exactly = λ led. absurd (only.serve_client serve (inr (inr (led.asked, led.tokens, led.asks))));
-      acknowledged = c.acknowledged_stands_law.ensures;
-      acknowledged_since = c.acknowledged_since_law.ensures;
+      session_acknowledged = λ other is _. absurd (only.session_serve (other, is) serve);
+      serve_acknowledged = service-stands (seen g.D.Disk g.A.Air g.C.Clock.given) words (lent c.args.disk.now c.args.air.now c.args.clock.now) (lent ran.new.disk ran.new.air ran.new.clock) ran.result c.server_acknowledges_law.ensures runs;
       disk_alone = λ none. absurd (none (inl (inr serve)));
       complete = λ told. absurd (only.session_serve (told.asked, told.asks) serve);
       spent = λ told. absurd (only.session_serve (told.asked, told.asks) serve);
@@ -249,8 +252,8 @@ returns-in-File g c =
       send_exactly = λ of. absurd (file-client words only file (inl (of.asked, of.name, of.asks)));
       fetch_exactly = λ led. absurd (file-client words only file (inr (inl (led.asked, led.number, led.name, led.asks))));
       list_exactly = λ led. absurd (file-client words only file (inr (inr (led.asked, led.tokens, led.asks))));
-      acknowledged = c.acknowledged_stands_law.ensures;
-      acknowledged_since = c.acknowledged_since_law.ensures;
+      session_acknowledged = λ _ _ _. inl refl;
+      serve_acknowledged = λ _ _. inl refl;
       disk_alone = λ _. refl;
       complete = λ told. absurd (session-file words only (told.asked, told.asks) file);
       spent = λ told. absurd (session-file words only (told.asked, told.asks) file);
@@ -323,8 +326,8 @@ returns-in-Make g c =
       send_exactly = λ of. absurd (make-client words only make (inl (of.asked, of.name, of.asks)));
       fetch_exactly = λ led. absurd (make-client words only make (inr (inl (led.asked, led.number, led.name, led.asks))));
       list_exactly = λ led. absurd (make-client words only make (inr (inr (led.asked, led.tokens, led.asks))));
-      acknowledged = c.acknowledged_stands_law.ensures;
-      acknowledged_since = c.acknowledged_since_law.ensures;
+      session_acknowledged = λ _ _ _. inl refl;
+      serve_acknowledged = λ _ _. inl refl;
       disk_alone = λ _. refl;
       complete = λ told. absurd (session-make words only (told.asked, told.asks) make);
       spent = λ told. absurd (session-make words only (told.asked, told.asks) make);
@@ -398,8 +401,8 @@ returns-in-Client g c =
       send_exactly = send-exactly (seen g.D.Disk g.A.Air g.C.Clock.given) g.S.Shelf g.O.Out words (lent c.args.disk.now c.args.air.now c.args.clock.now) (lent ran.new.disk ran.new.air ran.new.clock) c.args.shelf.now ran.new.shelf ran.result c.args.out.now c.show_line-in-Client.new.out sends c.one_run_law.ensures c.one_step_law.ensures c.stays_law.ensures;
       fetch_exactly = fetch-exactly (seen g.D.Disk g.A.Air g.C.Clock.given) c.one_run_law.ensures c.one_step_law.ensures c.stays_law.ensures (lent c.args.disk.now c.args.air.now c.args.clock.now) (lent ran.new.disk ran.new.air ran.new.clock) g.S.Shelf g.O.Out words c.args.shelf.now ran.new.shelf c.args.out.now c.show_line-in-Client.new.out ran.result fetches;
       list_exactly = list-exactly (seen g.D.Disk g.A.Air g.C.Clock.given) c.one_run_law.ensures c.one_step_law.ensures c.stays_law.ensures (lent c.args.disk.now c.args.air.now c.args.clock.now) (lent ran.new.disk ran.new.air ran.new.clock) g.S.Shelf g.O.Out words c.args.shelf.now ran.new.shelf c.args.out.now c.show_line-in-Client.new.out ran.result lists;
-      acknowledged = c.acknowledged_stands_law.ensures;
-      acknowledged_since = c.acknowledged_since_law.ensures;
+      session_acknowledged = λ other is _. absurd (only.session_client (other, is) client);
+      serve_acknowledged = λ other is. absurd (only.serve_client (other, is) client);
       disk_alone = λ none. absurd (none (inr client));
       complete = λ told. absurd (only.session_client (told.asked, told.asks) client);
       spent = λ told. absurd (only.session_client (told.asked, told.asks) client);
