@@ -1,5 +1,5 @@
--- What a job does with a frame or a tick, packet by packet: each packet that it takes with the row that the notes gave, and
--- each packet that it queues of itself (FTL0 1990).
+-- What a job does with a frame or a tick, packet by packet: each packet that it takes with the row that the notes
+-- gave, and each packet that it queues of itself (FTL0 1990).
 use Rattle.std.specs.Prelude.{◌≡◌, ◌≢◌, ℕ, zero, suc, List, [], ◌∷◌, ◌++◌, flat_map, nat_le, if◌then◌else◌}
 use Rattle.std.specs.Prelude.{Option, None, Some}
 use Rattle.ax25_frames.specs.FrameText.{FrameValue}
@@ -109,8 +109,8 @@ entries_heard w lists a frame =
 abbrev pub entries_ticked : Attempted → List JobEntry
 entries_ticked a = entries_behind (after_ticking a)
 
--- These entries come one after another, from notes and a job to others: each packet has its row over the notes after the
--- commands before it, and what is queued is what is due.
+-- These entries come one after another, from notes and a job to others: each packet has its row over the notes after
+-- the commands before it, and what is queued is what is due.
 abbrev pub GoesBy : Lists → JobState → List JobEntry → Lists → JobState → Type 0
 GoesBy lists job [] lists_now now = (lists_now ≡ lists) × (now ≡ job)
 GoesBy lists job (took item row ∷ entries) lists_now now =
@@ -124,15 +124,16 @@ GoesBy lists job (passed item ∷ entries) lists_now now =
 GoesBy lists job (queued due ∷ entries) lists_now now =
     (next_due job ≡ Some due) × GoesBy lists due.state entries lists_now now
 
--- What an event makes of an attempt whose end is this one once the frame or the tick came is what these entries make of
--- its end, its job and the notes.
+-- What an event makes of an attempt whose end is this one once the frame or the tick came is what these entries make
+-- of its end, its job and the notes.
 pub record HappensBy (end : LinkEnd) (happened : Happened) (entries : List JobEntry) : Type 0 where
   pub doings : List Doing
   pub does : DoesAll end doings happened.after.end
   pub said : happened.after.end.pushed ≡ end.pushed ++ texts (said_in entries)
   pub noted : happened.noted ≡ commands_in entries
 
--- Each frame from the server makes that of an attempt by the entries that come of it, which take all packets that came.
+-- Each frame from the server makes that of an attempt by the entries that come of it, which take all packets that
+-- came.
 abbrev pub HearingLaw : Type 0
 HearingLaw =
     (w : Window) (lists : Lists) (a : Attempted) (frame : FrameValue)

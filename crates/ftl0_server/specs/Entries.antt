@@ -1,5 +1,5 @@
--- What a session does with a frame, packet by packet: each packet that it takes with the row that the store and the lists
--- gave, and each packet that it queues of itself (FTL0 1990).
+-- What a session does with a frame, packet by packet: each packet that it takes with the row that the store and the
+-- lists gave, and each packet that it queues of itself (FTL0 1990).
 use Rattle.std.specs.Prelude.{◌≡◌, ℕ, zero, suc, List, [], ◌∷◌, ◌++◌, flat_map, nat_le, false, if◌then◌else◌, Some, ⊤}
 use Rattle.std.specs.List.{AllByRecursion}
 use Rattle.px_base.specs.CallSign.{CallSign}
@@ -112,15 +112,16 @@ packets_told (Closed why) c octets = []
 abbrev pub packets_heard : Window → Connected → FrameValue → List Item
 packets_heard w c frame = packets_told (heard_of w c.end frame) c frame.kind.information
 
--- What a connection's session does with a frame of its caller that is no SABM, at this moment, where no disk call fails.
+-- What a connection's session does with a frame of its caller that is no SABM, at this moment, where no disk call
+-- fails.
 abbrev pub entries_heard : Window → ℕ → Store → List CallerList → Connected → FrameValue → List SessionEntry
 entries_heard w moment store lists c frame =
     entries_taken (caller_of c) moment (session_over store lists c.state) (after_frame w c.end frame)
     (packets_heard w c frame)
     ++ entries_behind store (parts_of_frame w moment store lists c frame [])
 
--- At this moment these entries come one after another, from a session to another: each packet has its row over the store
--- after the commands before it, and what is queued is what is due.
+-- At this moment these entries come one after another, from a session to another: each packet has its row over the
+-- store after the commands before it, and what is queued is what is due.
 abbrev pub GoesBy : CallSign → ℕ → Session → List SessionEntry → Session → Type 0
 GoesBy caller moment session [] now = now ≡ session
 GoesBy caller moment session (took item row ∷ entries) now =
@@ -135,8 +136,8 @@ GoesBy caller moment session (queued due ∷ entries) now =
 abbrev pub session_after : Store → Happened → Session
 session_after store happened = session_over (after_all store happened.done) happened.lists happened.after.state
 
--- What a frame makes of a connection is what these entries make of its end, its session, the store and the lists. They
--- took the first of the packets that came; all of them, and none was lost, where the session goes on.
+-- What a frame makes of a connection is what these entries make of its end, its session, the store and the lists.
+-- They took the first of the packets that came; all of them, and none was lost, where the session goes on.
 pub record HeardBy (w : Window) (frame : FrameValue) (c : Connected) (happened : Happened) (entries : List SessionEntry)
     : Type 0 where
   pub doings : List Doing
