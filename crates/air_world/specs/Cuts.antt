@@ -14,9 +14,10 @@ use Rattle.ftl0_client.specs.ClientStep as client
 use Rattle.air_world.specs.Events.{ClientPart, ClientTakes, IsPartOf, ServerTakes}
 use Rattle.air_world.specs.Lawful.{IsAllowed}
 use Rattle.air_world.specs.Party.{Party, sessions_over}
-use Rattle.air_world.specs.Schedule.{Event, break_client, cut_client, cut_server, tick_server, to_server}
+use Rattle.air_world.specs.Schedule.{Event, IsSchedule, Schedule, break_client, cut_client, cut_server, tick_server}
+use Rattle.air_world.specs.Schedule.{to_server}
 use Rattle.air_world.specs.Step.{ClientGoes, ServerGoes, client_started, with_asked}
-use Rattle.air_world.specs.World.{World, counted, with_party}
+use Rattle.air_world.specs.World.{World, counted, first_world, with_party}
 
 -- the commands of the store that the event has
 abbrev pub server_commands : World → NodeEvent → List Command
@@ -117,3 +118,8 @@ Plays world [] worlds = worlds ≡ []
 Plays world (event ∷ events) worlds =
     (next : World) × (later : List World) × (worlds ≡ next ∷ later) × WorldStep world event next
     × Plays next events later
+
+-- the schedule is lawful, and these are the worlds after its events
+pub record IsRun (schedule : Schedule) (worlds : List World) : Type 0 where
+  pub is_schedule : IsSchedule schedule
+  pub plays : Plays (first_world schedule) schedule.events worlds

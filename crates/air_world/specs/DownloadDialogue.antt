@@ -1,5 +1,5 @@
 -- How far the two sides of an attempt have come with the download of a file (FTL0 1990, downloading).
-use Rattle.std.specs.Prelude.{◌≡◌, ◌⊎◌, ℕ, ◌+◌, ◌≤◌, List, [], ◌∷◌, ◌++◌, length, drop, map, Ok, Some, ⊤}
+use Rattle.std.specs.Prelude.{◌≡◌, ◌≢◌, ◌⊎◌, ℕ, ◌+◌, ◌≤◌, List, [], ◌∷◌, ◌++◌, length, drop, map, Ok, Some, ⊤}
 use Rattle.std.specs.List.{AllByRecursion, concat}
 use Rattle.px_base.specs.Octets.{IsFront}
 use Rattle.ftl0_packets.specs.Layout.{Item, PacketValue, data_end, data_part, dl_aborted_resp, dl_ack_cmd}
@@ -60,13 +60,19 @@ pub record AreSentFrom (store : Store) (number offset : ℕ) (file : List ℕ) (
   pub within : offset ≤ length file
   pub sent : IsFront (concat parts) (drop offset file)
 
+-- all of them
+abbrev pub AreAllSent : Store → ℕ → ℕ → List ℕ → List (List ℕ) → Type 0
+AreAllSent store number offset file parts =
+    AreSentFrom store number offset file parts × (concat parts ≡ drop offset file)
+
+-- What was sent of the file. No offset is refused as one above its length.
 abbrev pub AreSent : Store → ℕ → List ℕ → Sending → Type 0
 AreSent store number file unasked = ⊤
-AreSent store number file (refused offset code) = ⊤
+AreSent store number file (refused offset code) = code ≢ 2
 AreSent store number file (sends offset parts) = AreSentFrom store number offset file parts
-AreSent store number file (waits offset parts) = AreSentFrom store number offset file parts
+AreSent store number file (waits offset parts) = AreAllSent store number offset file parts
 AreSent store number file (ended offset parts word last) =
-    AreSentFrom store number offset file parts × IsWord word × IsLast last
+    AreAllSent store number offset file parts × IsWord word × IsLast last
 
 -- A session of a download of the file of this number answered these packets so, and is in this state, unless the
 -- replies to its last packet didn't fit.

@@ -150,6 +150,12 @@ HasFetched party a =
     (number : ℕ) → outcome_of a.client.attempted ≡ Some (Reached (reached.Fetched number))
     → fault_code (got party number) ≡ None
 
+-- No download was asked from behind what the client has got: nothing that was got is given up.
+abbrev pub AskedWithin : Party → Attempt → Type 0
+AskedWithin party a =
+    (number offset : ℕ) → Has (said_by_client a.client) (download_cmd number offset 0)
+    → offset ≤ length (got party number)
+
 -- the fact of a session that offered: the number is below the next one, and where its entry stands it holds that much
 abbrev pub IsOfferKept : Store → ℕ → ℕ → Type 0
 IsOfferKept store number offset = (number < store.next) × WhereStands store number (HoldsTo offset)
@@ -186,6 +192,7 @@ pub record HasGotFacts (store : Store) (party : Party) : Type 0 where
   pub got_front : (number : ℕ) → AreFirstIfAny store number (got party number)
   pub fetching : IfSome (newest party) (IsFetching store party)
   pub fetched : EachAttempt party (HasFetched party)
+  pub asked_within : EachAttempt party (AskedWithin party)
 
 -- what holds of a client in a store
 pub record HasFacts (store : Store) (files : List Asked) (party : Party) : Type 0 where

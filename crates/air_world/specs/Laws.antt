@@ -6,7 +6,7 @@ use Rattle.file_store.specs.OnDisk.{after_first}
 use Rattle.file_store.specs.Store.{Entry, entry_of, partial}
 use Rattle.ftl0_session.specs.Table.{receiving}
 use Rattle.node.specs.Events.{NodeEvent}
-use Rattle.air_world.specs.Cuts.{Plays, WorldStep, party_cut, server_commands}
+use Rattle.air_world.specs.Cuts.{IsRun, WorldStep, party_cut, server_commands}
 use Rattle.air_world.specs.Events.{ClientPart, ClientTakes, ServerTakes}
 use Rattle.air_world.specs.Headline.{HeadlineIn}
 use Rattle.air_world.specs.Kept.{HoldsAck, IsTaskKept}
@@ -44,20 +44,19 @@ pub record PrefixesLaw : Type 0 where
       (world : World) (event : Event) (c : ℕ) (part : ClientPart) (count : ℕ) → Sound world → IsAllowed world event
       → ClientTakes world event c part → AckedIsKept world part count
 
--- In a lawful schedule without cuts each acknowledged file is kept, and each finished download has its file's octets,
--- in each world.
+-- what is promised of uploads and downloads holds in each world
+abbrev pub HoldsInEach : List World → Type 0
+HoldsInEach worlds = AllByRecursion (λ world. HeadlineIn world world.server.store) worlds
+
+-- So it is in each lawful schedule.
+abbrev pub ScheduleLaw : Type 0
+ScheduleLaw = (schedule : Schedule) (worlds : List World) → IsRun schedule worlds → HoldsInEach worlds
+
+-- And in each one without cuts: each acknowledged file is kept, and each finished download has its file's octets.
 abbrev pub NoCutsLaw : Type 0
 NoCutsLaw =
-    (schedule : Schedule) (worlds : List World) → IsSchedule schedule → AllByRecursion IsNoCut schedule.events
-    → Plays (first_world schedule) schedule.events worlds
-    → AllByRecursion (λ world. HeadlineIn world world.server.store) worlds
-
--- the same of any lawful schedule
-abbrev pub ScheduleLaw : Type 0
-ScheduleLaw =
-    (schedule : Schedule) (worlds : List World) → IsSchedule schedule
-    → Plays (first_world schedule) schedule.events worlds
-    → AllByRecursion (λ world. HeadlineIn world world.server.store) worlds
+    (schedule : Schedule) (worlds : List World) → AllByRecursion IsNoCut schedule.events → IsRun schedule worlds
+    → HoldsInEach worlds
 
 -- Where an event may come there is a step.
 abbrev pub ExistenceLaw : Type 0

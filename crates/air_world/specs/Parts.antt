@@ -14,7 +14,7 @@ use Rattle.air_world.specs.Attempt.{Attempt, client_station, server_station}
 use Rattle.air_world.specs.Facts.{AreFirstIfAny, HasNumber, IsBegun, IsFetching, IsOfferKept, got}
 use Rattle.air_world.specs.Kept.{HoldsAck, IsFileAt, IsTaskKept, Offered, WhereStands}
 use Rattle.air_world.specs.Party.{EachAttempt, EachSide, IsFileOf, Party, newest}
-use Rattle.air_world.specs.Said.{Grants, SaysComplete, said_behind_server}
+use Rattle.air_world.specs.Said.{AsksUpload, Grants, SaysComplete, said_behind_server}
 use Rattle.air_world.specs.Sides.{IsJob, IsSession, ServerSide}
 use Rattle.air_world.specs.Sound.{AreGrantedOnce, IsSoundStore}
 use Rattle.air_world.specs.UploadDialogue.{GoesOnWith}
@@ -83,19 +83,23 @@ pub record AreInState (world : World) : Type 0 where
       → side.connected.state ≡ receiving number rest → HasNumber party task number
       → IsFileOf world.files party task file → ReceivesFile world.server.store a side number rest file))
 
--- An answer to a new upload that its client hasn't noted names a number that is below the next one, and that no task
--- has. The entry, if it stands, is the client's, of the upload's length, and holds nothing.
-pub record IsUnnoted (world : World) (party : Party) (number file_length : ℕ) : Type 0 where
+-- An answer to a new upload that its client hasn't noted names a number that is below the next one, and that no task has.
+-- The upload is of the file of the attempt's job. The entry, if it stands, is the client's, of the upload's length, and
+-- holds nothing.
+pub record IsUnnoted (world : World) (party : Party) (file : List ℕ) (number file_length : ℕ) : Type 0 where
   pub below : number < world.server.store.next
   pub no_task : EachParty world (λ other. (task : ℕ) → ¬ HasNumber other task number)
+  pub length_is : file_length ≡ length file
   pub begun : WhereStands world.server.store number (IsBegun party.client.me file_length)
 
+-- So is each such answer, and no two answers to new uploads name one number.
 pub record AreGranted (world : World) : Type 0 where
   pub unnoted :
       EachParty world
       (λ party. EachSide party
-      (λ _ side. (number file_length : ℕ) → Grants side number file_length
-      → ((task : ℕ) → ¬ HasNumber party task number) → IsUnnoted world party number file_length))
+      (λ a side. (task number file_length : ℕ) (file : List ℕ) → AsksUpload a task 0 file
+      → Grants side number file_length → ¬ HasNumber party task number
+      → IsUnnoted world party file number file_length))
   pub once : AreGrantedOnce world
 
 -- what a session said to be complete is

@@ -1,6 +1,6 @@
 -- One client of the world: the client itself, what its tasks send, and its attempts.
 use Rattle.std.specs.Prelude.{◌≡◌, ℕ, ◌-◌, ◌==◌, List, [], ◌∷◌, map, slice_get, Bool, false, if◌then◌else◌}
-use Rattle.std.specs.Prelude.{Option, None, Some, IfSome}
+use Rattle.std.specs.Prelude.{Option, None, Some, IfSome, MatchOption, ⊤}
 use Rattle.std.specs.List.{AllByRecursion}
 use Rattle.std.specs.Option.{option_and_then, option_map, option_map_or}
 use Rattle.px_base.specs.CallSign.{CallSign}
@@ -78,6 +78,15 @@ to_server_delivered place t a = record a { by_client = delivering a.by_client pl
 
 abbrev pub to_client_delivered : ℕ → Transmission → Attempt → Attempt
 to_client_delivered place t a = record a { by_server = delivering a.by_server place t }
+
+-- none of the sessions of these attempts is up
+abbrev pub AreOver : List Attempt → Type 0
+AreOver attempts = AllByRecursion (λ a. IfSome a.server (λ side. side.is_up ≡ false)) attempts
+
+-- of the sessions of a client at most the newest one is up
+abbrev pub OnlyNewestUp : List Attempt → Type 0
+OnlyNewestUp [] = ⊤
+OnlyNewestUp (a ∷ older) = MatchOption a.server (OnlyNewestUp older) (λ _. AreOver older)
 
 -- these frames are sent by one of them
 abbrev pub client_sends : List FrameValue → Attempt → Attempt

@@ -21,7 +21,8 @@ use Rattle.ftl0_client.specs.Laws as client
 use Rattle.sha2.specs.Sha256.{sha256}
 use Rattle.air_world.specs.Attempt.{Attempt, IsAttempt}
 use Rattle.air_world.specs.Facts.{HasFacts}
-use Rattle.air_world.specs.Party.{Asked, EachAttempt, IsFileOf, Party, newest, newest_side, upload_of}
+use Rattle.air_world.specs.Party.{Asked, EachAttempt, IsFileOf, OnlyNewestUp, Party, newest}
+use Rattle.air_world.specs.Party.{newest_side, upload_of}
 use Rattle.air_world.specs.Said.{Grants}
 use Rattle.air_world.specs.Schedule.{IsInRange, ask_download, ask_list}
 use Rattle.air_world.specs.Sides.{ServerSide}
@@ -69,13 +70,15 @@ pub record IsSideAt (party : Party) (place : ℕ) (side : ServerSide) : Type 0 w
   pub is_side : attempt.server ≡ Some side
 
 -- The server's eight places and the sessions of attempts are the same: each connection is that of a caller's newest
--- session, and each session that is up is at a place, with its link up. No caller has two, and none is leaving.
+-- session, with its link up, and each session that is up is at a place; at most the newest one of a client is. No caller
+-- has two connections, and none is leaving.
 pub record ArePlaces (world : World) : Type 0 where
   pub eight : length world.server.slots ≡ 8
   pub sessions : (place : ℕ) (it : Connected) → IsSeated world place it → IsSessionOf world it
   pub ups : (place : ℕ) (it : Connected) → IsSeated world place it → it.end.state ≡ Up
   pub seated : (c at : ℕ) (party : Party) (side : ServerSide) → PartyAt world c party → IsSideAt party at side
       → side.is_up ≡ true → (place : ℕ) × IsSeated world place side.connected
+  pub newest_up : AllByRecursion (λ party. OnlyNewestUp party.attempts) world.parties
   pub distinct : (place other : ℕ) (it that : Connected) → IsSeated world place it → IsSeated world other that
       → caller_of it ≡ caller_of that → place ≡ other
   pub none_leaving : (place : ℕ) (it : Connected) → slice_get world.server.slots place ≡ Some (leaving it) → ⊥
