@@ -67,19 +67,27 @@ part_with party coming = record { party = party; coming = coming; started = []; 
 abbrev pub asking : Party → Work → ClientPart
 asking party wanted = part_with party (asks (new_job wanted))
 
--- A new file is asked, of the next upload: its task is started, with its length and digest, and then the file is
--- sent.
-abbrev pub asking_upload : World → ℕ → Party → List ℕ → ClientPart
-asking_upload world c party file =
+-- A new file is asked: its task is started, under this name, with its length and digest, and then it is sent. It is the
+-- next upload.
+abbrev pub asking_file : World → Asked → Party → ClientPart
+asking_file world it party =
     record {
       party = party;
-      coming = asks (new_job (work.Upload (new_upload (task_count party.client.lists + 1) 0 file)));
+      coming = asks (new_job (work.Upload (new_upload (task_count party.client.lists + 1) 0 it.file)));
       started =
-          fresh_task party.client.lists party.client.server party.client.me (upload_name (length world.files))
-          (length file) (sha256 file)
+          fresh_task party.client.lists party.client.server party.client.me it.name (length it.file) (sha256 it.file)
           ∷ [];
       begun = length world.files ∷ [];
-      asked = record { client = c; file = file } ∷ [];
+      asked = it ∷ [];
+    }
+
+-- the upload that a schedule asks next of the client at this place, with a body of so many octets
+abbrev pub next_upload : World → ℕ → ℕ → Asked
+next_upload world c count =
+    record {
+      client = c;
+      name = upload_name (length world.files);
+      file = upload_file (length world.files) count;
     }
 
 -- The last unfinished upload is asked again: with its task, its number, if it has one, and its file.
@@ -106,7 +114,7 @@ IsPartOf world number c P =
 -- The client at this place takes part in the event, with this part.
 abbrev pub ClientTakes : World → Event → ℕ → ClientPart → Type 0
 ClientTakes old (ask_upload number count) c part =
-    IsPartOf old number c (λ party. part ≡ asking_upload old c party (upload_file (length old.files) count))
+    IsPartOf old number c (λ party. part ≡ asking_file old (next_upload old c count) party)
 ClientTakes old (ask_resume number) c part = IsPartOf old number c (λ party. IsResuming old party part)
 ClientTakes old (ask_list number tokens) c part =
     IsPartOf old number c (λ party. part ≡ asking party (work.Directory (new_directory tokens)))

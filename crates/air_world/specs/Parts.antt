@@ -83,9 +83,9 @@ pub record AreInState (world : World) : Type 0 where
       → side.connected.state ≡ receiving number rest → HasNumber party task number
       → IsFileOf world.files party task file → ReceivesFile world.server.store a side number rest file))
 
--- An answer to a new upload that its client hasn't noted names a number that is below the next one, and that no task has.
--- The upload is of the file of the attempt's job. The entry, if it stands, is the client's, of the upload's length, and
--- holds nothing.
+-- An answer to a new upload that its client hasn't noted names a number that is below the next one, and that no task
+-- has. The upload is of the file of the attempt's job. The entry, if it stands, is the client's, of the upload's
+-- length, and holds nothing.
 pub record IsUnnoted (world : World) (party : Party) (file : List ℕ) (number file_length : ℕ) : Type 0 where
   pub below : number < world.server.store.next
   pub no_task : EachParty world (λ other. (task : ℕ) → ¬ HasNumber other task number)

@@ -25,9 +25,10 @@ abbrev pub first_party : CallSign → Window → CallSign → Party
 first_party server w me =
     record { client = new_client me server w no_notes; uploads = []; attempts = []; is_cut = false }
 
--- an upload that was asked: the place of the client, and the file
+-- an upload that was asked: the place of the client, the name under which it is noted, and the file
 pub record Asked : Type 0 where
   pub client : ℕ
+  pub name : List ℕ
   pub file : List ℕ
 
 -- which upload the task of this number is, if there is one

@@ -24,12 +24,19 @@ pub data Event : Type 0 where
   cut_server : ℕ → ℕ → Event
   cut_client : ℕ → ℕ → ℕ → Event
 
+-- tokens of a selection that may be asked, and the number of a file that may be
+abbrev pub AreTokens : List ℕ → Type 0
+AreTokens tokens = (1 ≤ length tokens) × (length tokens ≤ 2047) × IsOctets tokens
+
+abbrev pub IsFileNumber : ℕ → Type 0
+IsFileNumber number = (1 ≤ number) × (number < 2 ^ 32)
+
 -- the numbers of an event have their ranges
 abbrev pub IsInRange : Event → Type 0
 IsInRange (ask_upload c count) = count ≤ 40000
 IsInRange (ask_resume c) = ⊤
-IsInRange (ask_list c tokens) = (1 ≤ length tokens) × (length tokens ≤ 2047) × IsOctets tokens
-IsInRange (ask_download c number) = (1 ≤ number) × (number < 2 ^ 32)
+IsInRange (ask_list c tokens) = AreTokens tokens
+IsInRange (ask_download c number) = IsFileNumber number
 IsInRange (to_server c number) = ⊤
 IsInRange (to_client c number) = ⊤
 IsInRange tick_server = ⊤

@@ -24,9 +24,9 @@ use Rattle.air_world.specs.Facts.{HasFacts}
 use Rattle.air_world.specs.Party.{Asked, EachAttempt, IsFileOf, OnlyNewestUp, Party, newest}
 use Rattle.air_world.specs.Party.{newest_side, upload_of}
 use Rattle.air_world.specs.Said.{Grants}
-use Rattle.air_world.specs.Schedule.{IsInRange, ask_download, ask_list}
+use Rattle.air_world.specs.Schedule.{AreTokens, IsFileNumber}
 use Rattle.air_world.specs.Sides.{ServerSide}
-use Rattle.air_world.specs.Uploads.{IsGoodFile, upload_name}
+use Rattle.air_world.specs.Uploads.{IsGoodFile}
 use Rattle.air_world.specs.World.{PartyAt, World}
 
 -- What holds of the store: the rules of a store; each complete file keeps the rules of files; and what is held are
@@ -70,8 +70,8 @@ pub record IsSideAt (party : Party) (place : ℕ) (side : ServerSide) : Type 0 w
   pub is_side : attempt.server ≡ Some side
 
 -- The server's eight places and the sessions of attempts are the same: each connection is that of a caller's newest
--- session, with its link up, and each session that is up is at a place; at most the newest one of a client is. No caller
--- has two connections, and none is leaving.
+-- session, with its link up, and each session that is up is at a place; at most the newest one of a client is. No
+-- caller has two connections, and none is leaving.
 pub record ArePlaces (world : World) : Type 0 where
   pub eight : length world.server.slots ≡ 8
   pub sessions : (place : ℕ) (it : Connected) → IsSeated world place it → IsSessionOf world it
@@ -104,8 +104,7 @@ IsLinkOf current None = ⊤
 IsLinkOf None (Some a) = ⊥
 IsLinkOf (Some current) (Some a) = current.client.attempted ≡ a
 
--- A task: it is one of this client's uploads, under that upload's number as a name, with its file's length and
--- digest.
+-- A task: it is one of this client's uploads, of that one's name, and of its file's length and digest.
 pub record IsTaskFor (files : List Asked) (c : ℕ) (party : Party) (task : ℕ) (entry : Task) : Type 0 where
   pub upload : ℕ
   pub is_upload : upload_of party task ≡ Some upload
@@ -114,7 +113,7 @@ pub record IsTaskFor (files : List Asked) (c : ℕ) (party : Party) (task : ℕ)
   pub whose : asked.client ≡ c
   pub server_is : entry.server ≡ party.client.server
   pub caller_is : entry.caller ≡ party.client.me
-  pub name_is : entry.name ≡ upload_name upload
+  pub name_is : entry.name ≡ asked.name
   pub length_is : entry.length ≡ length asked.file
   pub digest_is : entry.digest ≡ sha256 asked.file
 
@@ -127,9 +126,8 @@ pub record AreTasks (files : List Asked) (c : ℕ) (party : Party) : Type 0 wher
 -- the work of an attempt is such as may be asked: an upload's file is its task's
 abbrev pub IsWork : List Asked → Party → Work → Type 0
 IsWork files party (work.Upload at) = IsFileOf files party at.task at.file
-IsWork files party (work.Directory at) = IsInRange (ask_list 0 at.tokens)
-IsWork files party (work.Download at) =
-    (at.server ≡ party.client.server) × IsInRange (ask_download 0 at.number)
+IsWork files party (work.Directory at) = AreTokens at.tokens
+IsWork files party (work.Download at) = (at.server ≡ party.client.server) × IsFileNumber at.number
 
 -- the notes go with the job of the client's link
 abbrev pub StandsBy : Party → Option Attempt → Type 0
