@@ -3,6 +3,7 @@ pub mod Calls
 pub mod Client
 pub mod ClientState
 pub mod ClientStep
+pub mod Entries
 pub mod Going
 pub mod Inside
 pub mod Laws

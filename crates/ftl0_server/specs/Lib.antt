@@ -1,6 +1,7 @@
 pub mod AtPlace
 pub mod Calls
 pub mod Connection
+pub mod Entries
 pub mod Kept
 pub mod Laws
 pub mod Places

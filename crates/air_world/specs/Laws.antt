@@ -1,0 +1,83 @@
+-- Laws of worlds, over every lawful schedule.
+use Rattle.std.specs.Prelude.{◌≡◌, ◌≢◌, ℕ, List, true, Some}
+use Rattle.std.specs.List.{AllByRecursion}
+use Rattle.file_store.specs.Command.{after, drop_entry}
+use Rattle.file_store.specs.OnDisk.{after_first}
+use Rattle.file_store.specs.Store.{Entry, entry_of, partial}
+use Rattle.ftl0_session.specs.Table.{receiving}
+use Rattle.node.specs.Events.{NodeEvent}
+use Rattle.air_world.specs.Cuts.{IsRun, WorldStep, party_cut, server_commands}
+use Rattle.air_world.specs.Events.{ClientPart, ClientTakes, ServerTakes}
+use Rattle.air_world.specs.Headline.{HeadlineIn}
+use Rattle.air_world.specs.Kept.{HoldsAck, IsTaskKept}
+use Rattle.air_world.specs.Lawful.{IsAllowed}
+use Rattle.air_world.specs.Parts.{HasParts}
+use Rattle.air_world.specs.Party.{EachSide, Party}
+use Rattle.air_world.specs.Schedule.{Event, IsNoCut, IsSchedule, Schedule}
+use Rattle.air_world.specs.Sound.{Sound}
+use Rattle.air_world.specs.World.{PartyAt, World, first_world}
+
+-- The first world of a schedule is sound, and each event that may come keeps that, with a cut at any place.
+pub record SoundLaw : Type 0 where
+  pub first : (schedule : Schedule) → IsSchedule schedule → Sound (first_world schedule)
+  pub kept : (old new : World) (event : Event) → Sound old → WorldStep old event new → Sound new
+
+-- A sound world has all parts, and what is promised of uploads and downloads holds in it.
+pub record PartsLaw : Type 0 where
+  pub parts : (world : World) → Sound world → HasParts world
+  pub headline : (world : World) → Sound world → HeadlineIn world world.server.store
+
+-- where the client's notes are those after the first so many commands of an event, what was acknowledged is kept
+abbrev pub AckedIsKept : World → ClientPart → ℕ → Type 0
+AckedIsKept world part count =
+    (task number : ℕ) → HoldsAck (party_cut part count) task number
+    → IsTaskKept world.files world.server.store (party_cut part count) task number
+
+-- What is promised holds also after the first so many commands of the event under way: of a server's event in the
+-- store after them, and of a client's by the notes after them.
+pub record PrefixesLaw : Type 0 where
+  pub server :
+      (world delivered : World) (event : Event) (coming : NodeEvent) (count : ℕ) → Sound world → IsAllowed world event
+      → ServerTakes world event coming delivered
+      → HeadlineIn world (after_first count world.server.store (server_commands world coming))
+  pub client :
+      (world : World) (event : Event) (c : ℕ) (part : ClientPart) (count : ℕ) → Sound world → IsAllowed world event
+      → ClientTakes world event c part → AckedIsKept world part count
+
+-- what is promised of uploads and downloads holds in each world
+abbrev pub HoldsInEach : List World → Type 0
+HoldsInEach worlds = AllByRecursion (λ world. HeadlineIn world world.server.store) worlds
+
+-- So it is in each lawful schedule.
+abbrev pub ScheduleLaw : Type 0
+ScheduleLaw = (schedule : Schedule) (worlds : List World) → IsRun schedule worlds → HoldsInEach worlds
+
+-- And in each one without cuts: each acknowledged file is kept, and each finished download has its file's octets.
+abbrev pub NoCutsLaw : Type 0
+NoCutsLaw =
+    (schedule : Schedule) (worlds : List World) → AllByRecursion IsNoCut schedule.events → IsRun schedule worlds
+    → HoldsInEach worlds
+
+-- Where an event may come there is a step.
+abbrev pub ExistenceLaw : Type 0
+ExistenceLaw =
+    (world : World) (event : Event) → Sound world → IsAllowed world event → (next : World) × WorldStep world event next
+
+-- no session that is up receives the file of this number
+abbrev pub NoneReceives : World → ℕ → Type 0
+NoneReceives world number =
+    (c : ℕ) (party : Party) → PartyAt world c party
+    → EachSide party
+    (λ _ side. (rest : List ℕ) → side.is_up ≡ true → side.connected.state ≢ receiving number rest)
+
+-- the world without the entry of this number
+abbrev pub without_entry : World → ℕ → World
+without_entry world number =
+    record world { server = record world.server { store = after world.server.store (drop_entry number) } }
+
+-- An entry under way that no session receives may be given up.
+abbrev pub RemovalLaw : Type 0
+RemovalLaw =
+    (world : World) (number : ℕ) (entry : Entry) (held : List ℕ) → Sound world
+    → entry_of world.server.store number ≡ Some entry → entry.holding ≡ partial held → NoneReceives world number
+    → Sound (without_entry world number)

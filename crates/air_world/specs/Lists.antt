@@ -1,0 +1,17 @@
+-- Lists of which one element is spoken of.
+use Rattle.std.specs.Prelude.{◌≡◌, ◌⊎◌, ℕ, zero, suc, List, [], ◌∷◌}
+
+-- one of them is so
+abbrev pub OneIs : {X : Type 0} → (X → Type 0) → List X → Type 0
+OneIs P [] = ⊥
+OneIs P (x ∷ xs) = P x ⊎ OneIs P xs
+
+-- this is one of them
+abbrev pub Has : {X : Type 0} → List X → X → Type 0
+Has xs x = OneIs (λ y. y ≡ x) xs
+
+-- A schedule numbers clients and transmissions from 1 on: this of the place, from 0 on, that has the number. None has
+-- number 0.
+abbrev pub Placed : ℕ → (ℕ → Type 0) → Type 0
+Placed zero P = ⊥
+Placed (suc place) P = P place

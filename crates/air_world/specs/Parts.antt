@@ -1,0 +1,139 @@
+-- What holds of each world between events, part by part, as a reader wants to know it.
+use Rattle.std.specs.Prelude.{◌≡◌, ℕ, ◌<◌, List, ◌++◌, length, true, None, Some}
+use Rattle.std.specs.Prelude.{IfSome}
+use Rattle.px_base.specs.Octets.{IsFront}
+use Rattle.ax25_link.specs.Linked.{NumbersFit, OctetsFit}
+use Rattle.pfh_items.specs.Faults.{fault_code}
+use Rattle.file_store.specs.Info.{IsCompleteIn}
+use Rattle.file_store.specs.Store.{Entry, Store, entry_of, partial}
+use Rattle.ftl0_session.specs.Downloads.Needs.{AreComplete}
+use Rattle.ftl0_session.specs.Table.{receiving}
+use Rattle.ftl0_client.specs.declared.outcome.Outcome.TheVariants as outcome
+use Rattle.ftl0_client.specs.Outcomes.{outcome_by}
+use Rattle.air_world.specs.Attempt.{Attempt, client_station, server_station}
+use Rattle.air_world.specs.Facts.{AreFirstIfAny, HasNumber, IsBegun, IsFetching, IsOfferKept, got}
+use Rattle.air_world.specs.Kept.{HoldsAck, IsFileAt, IsTaskKept, Offered, WhereStands}
+use Rattle.air_world.specs.Party.{EachAttempt, EachSide, IsFileOf, Party, newest}
+use Rattle.air_world.specs.Said.{AsksUpload, Grants, SaysComplete, said_behind_server}
+use Rattle.air_world.specs.Sides.{IsJob, IsSession, ServerSide}
+use Rattle.air_world.specs.Sound.{AreGrantedOnce, IsSoundStore}
+use Rattle.air_world.specs.UploadDialogue.{GoesOnWith}
+use Rattle.air_world.specs.World.{PartyAt, World}
+
+-- so it is of each client
+abbrev pub EachParty : World → (Party → Type 0) → Type 0
+EachParty world P = (c : ℕ) (party : Party) → PartyAt world c party → P party
+
+-- so it is of the two sides of a client's current attempt, once both were made
+abbrev pub OfCurrent : Party → (Attempt → ServerSide → Type 0) → Type 0
+OfCurrent party P = IfSome (newest party) (λ a. IfSome a.server (P a))
+
+-- No two tasks have one number. A task's number is below the next one, and the entry of that number, if it stands, is
+-- on the way to the task's file, or is it.
+pub record AreNumbered (world : World) : Type 0 where
+  pub distinct :
+      (c task other that number : ℕ) (party others : Party) → PartyAt world c party → PartyAt world other others
+      → HasNumber party task number → HasNumber others that number → (c ≡ other) × (task ≡ that)
+  pub below :
+      EachParty world (λ party. (task number : ℕ) → HasNumber party task number → number < world.server.store.next)
+  pub stands :
+      EachParty world
+      (λ party. (task number : ℕ) (file : List ℕ) → HasNumber party task number
+      → IsFileOf world.files party task file → IsFileAt world.server.store number file party.client.me)
+
+-- An acknowledged task has a number, and its file is kept.
+pub record AreAcknowledged (world : World) : Type 0 where
+  pub numbered : EachParty world (λ party. (task number : ℕ) → HoldsAck party task number → HasNumber party task number)
+  pub kept :
+      EachParty world
+      (λ party. (task number : ℕ) → HoldsAck party task number
+      → IsTaskKept world.files world.server.store party task number)
+
+-- The numbers of the two ends of a current attempt fit one another and their transmissions.
+abbrev pub DoNumbersFit : Attempt → ServerSide → Type 0
+DoNumbersFit a side =
+    NumbersFit a.window (client_station a) (server_station a side)
+    × NumbersFit a.window (server_station a side) (client_station a)
+
+-- Their octets do: what each accepted are the first pieces that the other one sent.
+abbrev pub DoOctetsFit : Attempt → ServerSide → Type 0
+DoOctetsFit a side =
+    OctetsFit a.client.attempted.end side.connected.end × OctetsFit side.connected.end a.client.attempted.end
+
+-- Where a session receives a file and its client has a task with that number, what is held and what waits are the
+-- first octets of the task's file, and what the client has said behind them goes on with it.
+pub record ReceivesFile (store : Store) (a : Attempt) (side : ServerSide) (number : ℕ) (rest file : List ℕ)
+    : Type 0 where
+  pub entry : Entry
+  pub is_entry : entry_of store number ≡ Some entry
+  pub held : List ℕ
+  pub holds : entry.holding ≡ partial held
+  pub front : IsFront (held ++ rest) file
+  pub goes_on : GoesOnWith file (length (held ++ rest)) (said_behind_server side a.client)
+
+-- Each session and each job, also one that is gone, is in the state to which its packets lead, and has said what they
+-- ask for.
+pub record AreInState (world : World) : Type 0 where
+  pub sessions : EachParty world (λ party. EachSide party (λ _ side. IsSession side))
+  pub jobs : EachParty world (λ party. EachAttempt party (λ a. IsJob a.client))
+  pub receives :
+      EachParty world
+      (λ party. EachSide party
+      (λ a side. (task number : ℕ) (rest file : List ℕ) → side.is_up ≡ true
+      → side.connected.state ≡ receiving number rest → HasNumber party task number
+      → IsFileOf world.files party task file → ReceivesFile world.server.store a side number rest file))
+
+-- An answer to a new upload that its client hasn't noted names a number that is below the next one, and that no task
+-- has. The upload is of the file of the attempt's job. The entry, if it stands, is the client's, of the upload's
+-- length, and holds nothing.
+pub record IsUnnoted (world : World) (party : Party) (file : List ℕ) (number file_length : ℕ) : Type 0 where
+  pub below : number < world.server.store.next
+  pub no_task : EachParty world (λ other. (task : ℕ) → ¬ HasNumber other task number)
+  pub length_is : file_length ≡ length file
+  pub begun : WhereStands world.server.store number (IsBegun party.client.me file_length)
+
+-- So is each such answer, and no two answers to new uploads name one number.
+pub record AreGranted (world : World) : Type 0 where
+  pub unnoted :
+      EachParty world
+      (λ party. EachSide party
+      (λ a side. (task number file_length : ℕ) (file : List ℕ) → AsksUpload a task 0 file
+      → Grants side number file_length → ¬ HasNumber party task number
+      → IsUnnoted world party file number file_length))
+  pub once : AreGrantedOnce world
+
+-- what a session said to be complete is
+abbrev pub AreToldComplete : World → Type 0
+AreToldComplete world =
+    EachParty world
+    (λ party. EachSide party
+    (λ _ side. (number : ℕ) → SaysComplete side number → IsCompleteIn world.server.store number))
+
+-- an offered number is below the next one, and where its entry stands it holds at least the offset
+abbrev pub AreOffered : World → Type 0
+AreOffered world = (number offset : ℕ) → Offered world number offset → IsOfferKept world.server.store number offset
+
+-- What a client has got of a file are the first octets of a complete one; while octets come these go on with them,
+-- and as many were got and wait as the offset that it asked from and the DATA that it took. A file that was fetched
+-- has no fault.
+pub record AreGot (world : World) : Type 0 where
+  pub fronts : EachParty world (λ party. (number : ℕ) → AreFirstIfAny world.server.store number (got party number))
+  pub fetching : EachParty world (λ party. IfSome (newest party) (IsFetching world.server.store party))
+  pub fetched :
+      EachParty world
+      (λ party. (number : ℕ) → outcome_by party.client.attempt ≡ outcome.Fetched number
+      → fault_code (got party number) ≡ None)
+
+-- All parts.
+pub record HasParts (world : World) : Type 0 where
+  pub store : IsSoundStore world.server.store
+  pub numbered : AreNumbered world
+  pub acknowledged : AreAcknowledged world
+  pub numbers : EachParty world (λ party. OfCurrent party DoNumbersFit)
+  pub octets : EachParty world (λ party. OfCurrent party DoOctetsFit)
+  pub states : AreInState world
+  pub granted : AreGranted world
+  pub complete : AreToldComplete world
+  pub offered : AreOffered world
+  pub files_got : AreGot world
+  pub lists : AreComplete world.server.store world.server.lists
