@@ -15,4 +15,4 @@ returns-in-Err-clause-does g c =
     let old : StoreState = state_from c.args.kept.now.ledger.files c.args.kept.now.journal in
     let new : StoreState = state_from c.put.new.self.ledger.files c.put.new.self.journal in
     Does-same g.D.Disk _ _ old new c.args.disk.now c.put.new.disk (command_by c.args.change.now old.files ∷ []) (λ is. refl) (λ is. refl)
-    (c.in-Err.ensures.answers.does (λ is. cc (sym c.requires.healthy ∙ c.in-Err.ensures.answers.failed.0 is)))
+    (c.in-Err.ensures.answers.does (λ is. cc (sym c.requires.ready.healthy ∙ c.in-Err.ensures.answers.failed.0 is)))
