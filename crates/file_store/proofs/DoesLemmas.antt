@@ -12,7 +12,7 @@ use Rattle.file_entries.specs.Command.{AreAllowed, Command, after_all}
 use Rattle.file_entries.specs.Records.{store_form}
 use Rattle.file_entries.specs.Store.{Store}
 use Rattle.file_store.specs.OnDisk.{Does, MakesBetween, MakesFirst, StayDone, after_first, kept_at}
-use Rattle.file_store.specs.State.{StandsOn, StoreState, store_in}
+use Rattle.file_store.specs.State.{IsReady, StoreState, store_in}
 use Rattle.file_store.specs.Working.{CutsOffAmongReads, DoesAmongReads, PutsAmongReads, one_if}
 
 -- ---- the first of some commands
@@ -46,8 +46,8 @@ module _ {D : Type 0} (g : Ghosts D) where
 
   -- ---- commands alone
 
-  pub Does-none : (P : Type 0) (self : StoreState) (disk : D) → ¬ P → StandsOn g self disk → self.journal.failed ≡ false → g.lasts disk disk → Does g P self self disk disk []
-  Does-none P self disk = does_none g store_form P (store_in self) self.journal disk
+  pub Does-none : (P : Type 0) (self : StoreState) (disk : D) → ¬ P → IsReady g self disk → g.lasts disk disk → Does g P self self disk disk []
+  Does-none P self disk fine ready = does_none g store_form P (store_in self) self.journal disk fine ready.stands_on ready.healthy
 
   pub Does-same : (P Q : Type 0) (old new : StoreState) (disk disk_now : D) (commands : List Command) → (P → Q) → (Q → P) → Does g P old new disk disk_now commands → Does g Q old new disk disk_now commands
   Does-same P Q old new disk disk_now commands = does_same g store_form P Q commands (kept_at old disk) (kept_at new disk_now)
@@ -70,9 +70,9 @@ module _ {D : Type 0} (g : Ghosts D) where
 
   -- ---- among reads
 
-  pub reads-only : (failed : Bool) (self : StoreState) (old new : D) → Reads g (failed ≡ true) old new → self.journal.failed ≡ false → StandsOn g self old
+  pub reads-only : (failed : Bool) (self : StoreState) (old new : D) → Reads g (failed ≡ true) old new → IsReady g self old
       → DoesAmongReads g ⊥ (one_if failed) self self old new []
-  reads-only failed self old new = reads_only g store_form failed (store_in self) self.journal old new
+  reads-only failed self old new reads ready = reads_only g store_form failed (store_in self) self.journal old new reads ready.healthy ready.stands_on
 
   pub does-among : (P : Type 0) (old new : StoreState) (disk disk_now : D) (commands : List Command) → Does g P old new disk disk_now commands → DoesAmongReads g P 0 old new disk disk_now commands
   does-among P old new disk disk_now commands = among_does g store_form P commands (kept_at old disk) (kept_at new disk_now)
@@ -149,7 +149,7 @@ module _ {D : Type 0} (g : Ghosts D) where
     store_then = new;
     disk_then = disk_now;
     first = does;
-    second = Does-none F new disk_now fine does.stands_on (among-healthy missed old new disk disk_now done does) lasts;
+    second = Does-none F new disk_now fine (record { healthy = among-healthy missed old new disk disk_now done does; stands_on = does.stands_on }) lasts;
   }
 
   -- a first command that the disk cut off, behind reads
