@@ -2,7 +2,7 @@
 use Rattle.std.proofs.lemmas.Grind.{common_steps}
 use Rattle.std.proofs.Common.{◌≡◌, ℕ, zero, suc, ◌<◌, List, [], ◌∷◌, length, get_or, set, Bool, true, false, Option, rules}
 use Rattle.std.proofs.Common.{None, Some, sym, ◌∙◌, ap, subst, inr, arith}
-use Rattle.std.specs.Prelude.{slice_get, ⊤, Result, Ok, Err}
+use Rattle.std.specs.Prelude.{slice_get, ⊤, Result, Ok, Err, IsErrOf}
 use Rattle.std.specs.List.{position}
 use Rattle.std.proofs.lemmas.List.Quantifiers.{position-Some}
 use Rattle.std.proofs.lemmas.Option.{slice_get-get_or}
@@ -14,8 +14,9 @@ use Rattle.ax25_link.specs.Kept.{is_pending}
 use Rattle.ax25_link.specs.Window.{Window}
 use Rattle.ftl0_session.specs.Lists.Lists.{CallerList}
 use Rattle.file_store.specs.Store.{Store}
-use Rattle.file_store.specs.State.{StandsOn, StoreState, store_in}
+use Rattle.file_store.specs.State.{IsReady, StoreState, store_in}
 use Rattle.file_store.specs.Working.{DoesAmongReads}
+use Rattle.file_store.proofs.Offered.{puts-among, puts_none}
 use Rattle.ftl0_session.specs.Uploads.Failures.{Failure}
 use Rattle.ftl0_session.proofs.uploads.UploadRows.{same_call-decides}
 use Rattle.ftl0_session.specs.SessionState.{caller_of, working_on}
@@ -26,8 +27,8 @@ use Rattle.ftl0_server.specs.Connection.Connected.{Connected}
 use Rattle.ftl0_server.specs.Connection.ConnectionState.{ConnectionState, with_reads}
 use Rattle.ftl0_server.specs.Connection.Hearing.{Happened, hearing}
 use Rattle.node.specs.Events.{IsFor}
-use Rattle.ftl0_server.specs.AtPlace.{IsPlace, MayHear, PlaceHears, PlaceHearsBy, Works}
-use Rattle.ftl0_server.specs.Calls.{Hears, HearsBy, HearsStranger}
+use Rattle.ftl0_server.specs.AtPlace.{IsPlace, KeepsStore, MayHear, PlaceHears, PlaceHearsBy, Works}
+use Rattle.ftl0_server.specs.Calls.{Hears, HearsBy, HearsEvent, HearsStranger, SameStore}
 use Rattle.ftl0_server.specs.declared.place.Place.{Place}
 use Rattle.ftl0_server.specs.declared.place.Place.TheVariants.{Free, Talking}
 use Rattle.ftl0_server.specs.Kept.{IsAt, IsSettled}
@@ -156,24 +157,41 @@ module _ {D : Type 0} (g : Ghosts D) (old new : ServerState) (server : Server) (
 
 -- ---- a frame of a station without a connection
 
-module _ {D : Type 0} (g : Ghosts D) (old new : ServerState) (server : Server) (is : IsServer old server)
-    (settled : IsSettled old.me old.k old.store old.places) (frame : FrameValue) (moment : ℕ) (disk : D)
-    (found : position (has_caller frame.src) old.places ≡ None) (healthy : old.store.journal.failed ≡ false)
-    (stands : StandsOn g old.store disk) (lasts : g.lasts disk disk) (same : new.store ≡ old.store) where
+module _ {D : Type 0} (g : Ghosts D) (old new : ServerState) (settled : IsSettled old.me old.k old.store old.places) (frame : FrameValue) (moment : ℕ) (disk : D)
+    (found : position (has_caller frame.src) old.places ≡ None) (ready : IsReady g old.store disk) (lasts : g.lasts disk disk) (same : SameStore old new) where
   nothing-done : DoesAmongReads g ⊥ 0 old.store new.store disk disk []
   nothing-done = grind (arith, common_steps)
 
-  stranger-by : (result : Result ⊤ Stop) → HearsStranger (λ s. hearing_stranger s frame moment) old new result
-      → HearsBy g (λ failures. becoming (hearing_stranger server frame moment)) old new disk disk result
-  stranger-by result heard = grind (arith, common_steps)
+  module _ (server : Server) (is : IsServer old server) where
+    stranger-by : (result : Result ⊤ Stop) → HearsStranger (λ s. hearing_stranger s frame moment) old new result
+        → HearsBy g (λ failures. becoming (hearing_stranger server frame moment)) old new disk disk result
+    stranger-by result heard = grind (arith, common_steps)
 
-  pub stranger-hears : (result : Result ⊤ Stop) → HearsStranger (λ s. hearing_stranger s frame moment) old new result
-      → Hears g (server_hearing server frame moment) old new disk disk result
-  stranger-hears result heard =
-      let by : Hears g (λ failures. becoming (hearing_stranger server frame moment)) old new disk disk result =
-      record { parts = []; by = stranger-by result heard; since = nothing-done.since } in
-      subst (λ (o : Option ℕ). Hears g (λ failures. hearing_by server frame moment failures o) old new disk disk result)
-      (sym found ∙ same-place_of old server is old.me old.k settled frame.src) by
+    stranger-hears : (result : Result ⊤ Stop) → HearsStranger (λ s. hearing_stranger s frame moment) old new result
+        → Hears g (server_hearing server frame moment) old new disk disk result
+    stranger-hears result heard =
+        let by : Hears g (λ failures. becoming (hearing_stranger server frame moment)) old new disk disk result =
+        record { parts = []; by = stranger-by result heard; since = nothing-done.since } in
+        subst (λ (o : Option ℕ). Hears g (λ failures. hearing_by server frame moment failures o) old new disk disk result)
+        (sym found ∙ same-place_of old server is old.me old.k settled frame.src) by
+
+  no-disk : (result : Result ⊤ Stop) → HearsStranger (λ s. hearing_stranger s frame moment) old new result → ¬ IsErrOf result stop.Disk
+  no-disk (Ok done) heard is = absurd cc
+  no-disk (Err stop.Disk) heard is = heard
+  no-disk (Err stop.OutOfMemory) heard is = absurd cc
+
+  stranger-keeps : (result : Result ⊤ Stop) → HearsStranger (λ s. hearing_stranger s frame moment) old new result → KeepsStore g (IsErrOf result stop.Disk) old.store new.store disk disk
+  stranger-keeps result heard = rw same.store (record {
+    puts = puts-among g (IsErrOf result stop.Disk) disk disk (puts_none g disk (IsErrOf result stop.Disk) (no-disk result heard) lasts);
+    kept = λ number entry there whole. there;
+    healthy = λ fine. ready.healthy;
+    stands_on = ready.stands_on;
+  })
+
+  -- what it does to the server
+  pub stranger-event : (result : Result ⊤ Stop) → HearsStranger (λ s. hearing_stranger s frame moment) old new result
+      → HearsEvent g (λ server. server_hearing server frame moment) old new disk disk result
+  stranger-event result heard = record { hears = λ server is. stranger-hears server is result heard; keeps = stranger-keeps result heard; me = same.me }
 
 -- what a frame of a station without a connection makes of a server, said otherwise
 pub stranger-at : (step other : Server → Server) (old new : ServerState) (result : Result ⊤ Stop) → ((s : Server) → step s ≡ other s)

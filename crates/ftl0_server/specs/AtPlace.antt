@@ -6,9 +6,10 @@ use Rattle.ax25_link.specs.Kept.{Fits, IsFromPeer, SameStations, is_pending}
 use Rattle.ax25_link.specs.Window.{Window}
 use Rattle.ax25_link.specs.declared.state.LinkState.TheVariants.{Up}
 use Rattle.file_store.specs.Calls.{Leaves}
+use Rattle.file_store.specs.EntriesKept.{KeepsComplete}
 use Rattle.file_store.specs.OnDisk.{MakesFirst}
-use Rattle.file_store.specs.State.{StoreState, store_in}
-use Rattle.file_store.specs.Working.{CutsOffAmongReads, DoesAmongReads}
+use Rattle.file_store.specs.State.{StandsOn, StoreState, store_in}
+use Rattle.file_store.specs.Working.{CutsOffAmongReads, DoesAmongReads, PutsAmongReads}
 use Rattle.ftl0_session.specs.Uploads.Failures.{Failure, failed_write}
 use Rattle.ftl0_session.specs.Uploads.Others.{KeepsOtherCallers}
 use Rattle.ftl0_session.specs.Uploads.SessionState.{IsHeld, IsOnlyOut, NoOtherOut, Parks, WithDisk}
@@ -23,6 +24,15 @@ use Rattle.ftl0_server.specs.declared.place.Place.{Place}
 use Rattle.ftl0_server.specs.declared.place.Place.TheVariants.{Free, Talking, Leaving}
 use Rattle.ftl0_server.specs.ServerState.{SaysAs, SendsAs}
 use Rattle.ftl0_server.specs.Slots.{Slot, slot_after}
+
+-- What any event leaves of a store and its disk: no write and no sync came behind one that failed, each complete entry is
+-- kept, and the store stands on the disk, and has failed only where this holds.
+pub record KeepsStore {D : Type 0} (g : Ghosts D) (failed : Type 0) (before now : StoreState) (disk disk_now : D) :
+    Type 0 where
+  pub puts : PutsAmongReads g failed disk disk_now
+  pub kept : KeepsComplete (store_in before) (store_in now)
+  pub healthy : ¬ failed → now.journal.failed ≡ false
+  pub stands_on : StandsOn g now disk_now
 
 -- the place is that one, over this store
 abbrev pub IsPlace : Window → StoreState → Place → Slot → Type 0

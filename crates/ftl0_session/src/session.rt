@@ -59,7 +59,8 @@ impl Model for Session {
 
 impl Session {
     /// The session of this caller, in the state Command, with LOGIN_RESP at this moment in place of what `replies`
-    /// holds (FTL0 1990, LOGIN_RESP): bit 3 of its flags says whether the caller's selection has numbers left. Takes no memory.
+    /// holds (FTL0 1990, LOGIN_RESP): bit 3 of its flags says whether the caller's selection has numbers left. Takes
+    /// no memory.
     pub fn new(caller: Call, moment: u32, lists: &Lists, replies: &mut Replies) -> Session
         ensures session { result ≡ new_session caller }
         ensures text { replies.new.items ≡ packet_text (greeting moment (has_left lists.now caller)) }
@@ -82,8 +83,8 @@ impl Session {
         self.uploads.caller()
     }
 
-    /// Takes a packet: one row of the session's table, or code 3 where a write or a sync of the disk fails. The row's
-    /// commands are on the disk before its replies are given. A read that fails gives the row for that, and the session
+    /// Takes a packet: one row of the session's table, or code 3 where a write or a sync of the disk fails. The replies
+    /// stand in place of what `replies` holds; the row's commands are on the disk before they are given. A read that fails gives the row for that, and the session
     /// goes on. Takes memory, before it writes to the disk.
     ///
     /// `Disk`: the upload is spent, and the store has failed. Some of the packet's octets may be held, and its file

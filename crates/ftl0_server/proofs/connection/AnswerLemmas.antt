@@ -1,6 +1,6 @@
 -- How a connection answers one packet.
 use Rattle.std.proofs.lemmas.Grind.{common_steps}
-use Rattle.std.proofs.Common.{◌≡◌, ℕ, ◌+◌, suc, Bool, true, false, not, List, [], ◌∷◌, ◌++◌, refl, sym, ◌∙◌, subst}
+use Rattle.std.proofs.Common.{◌≡◌, ℕ, suc, Bool, true, false, not, List, [], ◌∷◌, ◌++◌, refl, sym, ◌∙◌, subst}
 use Rattle.std.proofs.Common.{arith}
 use Rattle.std.specs.Prelude.{Result, Ok, Err, IsErrOf, ⊤, if◌then◌else◌}
 use Rattle.std.proofs.Math.Nat.{add-zero}
@@ -12,7 +12,7 @@ use Rattle.ax25_link.specs.Kept.{StandsFor}
 use Rattle.ax25_link.specs.Window.{Window}
 use Rattle.ftl0_packets.specs.Items.{texts}
 use Rattle.ftl0_packets.specs.Layout.{Item}
-use Rattle.file_store.specs.State.{StandsOn}
+use Rattle.file_store.specs.State.{IsReady}
 use Rattle.file_store.specs.Working.{DoesAmongReads, PutsAmongReads}
 use Rattle.file_store.proofs.Offered.{among-same, puts-among, puts-among-reads, puts-among-then}
 use Rattle.ftl0_session.specs.Uploads.Failures.{Failure, failed_reads, failed_write, read_fails, write_fails}
@@ -36,7 +36,7 @@ use Rattle.ftl0_server.proofs.connection.TakingLemmas.{by_tests}
 
 module _ {D : Type 0} (g : Ghosts D) (on : (first second third : D) → g.lasts first second → g.lasts second third → g.lasts first third)
     (w : Window) (end : LinkEnd) (moment : ℕ) (session : SessionState) (new : ConnectionState) (before now : WorkingOn D) (item : Item) (first : ℕ)
-    (healthy : before.store.journal.failed ≡ false) (stands_on : StandsOn g before.store before.disk) where
+    (ready : IsReady g before.store before.disk) where
   -- the packet's row, where a read fails or none does
   abbrev row_here : Bool → Row
   row_here = packet_row (packet_of (caller_of session) moment item) (working session before.store before.lists)
@@ -82,20 +82,20 @@ module _ {D : Type 0} (g : Ghosts D) (on : (first second third : D) → g.lasts 
         among = All-at (IsAmong first 1) takes.fails first (omega arith, omega arith);
         by =
             subst (λ p. By p fate (Ok tt)) (sym (one-is ([] ++ failed_reads (at_part takes.fails first)) takes.fails false (reads-at [] takes.fails first none-writes) (writes-none (at_part takes.fails first) first)))
-            (row-done row _ fate (rw is at over) (rw is at stands) takes.answers.1 takes.answers.2 (taken-among g on _ _ _ _ _ _ _ replies healthy stands_on tt takes));
+            (row-done row _ fate (rw is at over) (rw is at stands) takes.answers.1 takes.answers.2 (taken-among g on _ _ _ _ _ _ _ replies ready tt takes));
       }
 
   -- the disk failed, and code 3 is queued, or the link given up
   pub said-fault : (text replies : List ℕ) → text ≡ replies → StandsFor w new.link (replied end text) → Takes (Err stop.Disk) replies → Made (Ends, Err stop.Disk)
   said-fault text replies same stands takes =
       let at = subst (λ p. By p Ends (Err stop.Disk)) (sym (one-fails takes.fails))
-      (first, refl, (takes.answers.1, (refl, rw (same ∙ takes.answers.2) at stands)), taken-cut g on _ _ _ _ _ _ _ replies healthy stands_on takes) in
+      (first, refl, (takes.answers.1, (refl, rw (same ∙ takes.answers.2) at stands)), taken-cut g on _ _ _ _ _ _ _ replies ready takes) in
       record { parts = at_part takes.fails first; among = All-at (IsAmong first 1) takes.fails first (omega arith, omega arith); by = (first, at.1, at.2, at.3) }
 
   -- there was no memory for it
   pub said-none : (replies : List ℕ) → Takes (Err stop.OutOfMemory) replies → Made (Stays, Err stop.OutOfMemory)
   said-none replies takes =
-      let none = taken-none g on _ _ _ _ _ _ _ replies healthy stands_on takes in
+      let none = taken-none g on _ _ _ _ _ _ _ replies ready takes in
       let at = subst (λ p. By p Stays (Err stop.OutOfMemory)) (sym (one-fails takes.fails)) (first, refl, refl, rw none.0 none.1) in
       record { parts = at_part takes.fails first; among = All-at (IsAmong first 1) takes.fails first (omega arith, omega arith); by = (first, at.1, at.2, at.3) }
 

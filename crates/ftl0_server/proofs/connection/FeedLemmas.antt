@@ -12,10 +12,10 @@ use Rattle.packet_link.proofs.Fronts.{front-none, front-then, stations-same, sta
 use Rattle.file_store.specs.Store.{Store, entry_of}
 use Rattle.file_store.specs.Position.{Position}
 use Rattle.file_store.proofs.Offered.{does-among, Does-none, puts-among, puts-among-same, puts-among-then, puts_none}
-use Rattle.file_store.specs.State.{StandsOn, StoreState, store_in}
+use Rattle.file_store.specs.State.{StoreState, store_in}
 use Rattle.ftl0_session.specs.Uploads.Others.{KeepsOtherCallers}
 use Rattle.ftl0_session.specs.Uploads.SessionState.{NoOtherOut, SessionState as Uploading, WithDisk, with_disk}
-use Rattle.ftl0_session.specs.Downloads.Needs.{AreComplete, IsDueIn}
+use Rattle.ftl0_session.specs.Downloads.Needs.{AreComplete}
 use Rattle.disk_model.specs.declared.halt.Halt.{Halt as Stop}
 use Rattle.disk_model.specs.declared.halt.Halt.TheVariants as stop
 use Rattle.ftl0_session.specs.SessionState.{MayTake as SessionMayTake, SessionState, caller_of, new_session}
@@ -23,7 +23,7 @@ use Rattle.ftl0_session.specs.SessionState.{WorkingOn, working_on}
 use Rattle.ftl0_server.specs.declared.connection.fate.Fate.{Fate}
 use Rattle.ftl0_server.specs.declared.connection.fate.Fate.TheVariants.{Stays}
 use Rattle.ftl0_server.specs.Connection.ConnectionState.{ConnectionState}
-use Rattle.ftl0_server.specs.Connection.Feeding.{Feeds, FeedsAll, IsAmong, IsGoing, KeepsFit, LeavesFit, MayTake, TakesSome, carrying}
+use Rattle.ftl0_server.specs.Connection.Feeding.{Feeds, FeedsAll, IsAmong, IsGoing, KeepsFit, LeavesFit, MayQueue, MayTake, TakesSome, carrying}
 use Rattle.ftl0_server.proofs.connection.HearsLemmas.{IsStop, takes-then}
 use Rattle.ftl0_server.proofs.connection.Invariants.{IsTaking}
 
@@ -52,7 +52,7 @@ module _ {D : Type 0} (g : Ghosts D) where
         puts = puts-among g (fine ≡ Err stop.Disk) on.disk on.disk (puts_none g on.disk (fine ≡ Err stop.Disk) no-fault lasts);
         kept = λ number e found complete. ap (λ (s : Store). entry_of s number) same ∙ found;
         others = others;
-        healthy = λ fine. ap (λ (p : Position). p.failed) journal ∙ may.healthy;
+        healthy = λ fine. ap (λ (p : Position). p.failed) journal ∙ may.ready.healthy;
         fit = record {
           stands_on = grind arith;
           held = tt;
@@ -66,9 +66,9 @@ module _ {D : Type 0} (g : Ghosts D) where
       })
 
   -- nothing was queued
-  pub keeps-none : (store : StoreState) (disk : D) (now : ConnectionState) → g.lasts disk disk → StandsOn g store disk → IsDueIn (store_in store) now.session.downloads → now.link.state ≡ Up
+  pub keeps-none : (store : StoreState) (disk : D) (now : ConnectionState) → g.lasts disk disk → MayQueue g store disk now
       → KeepsFit g store store disk disk now now
-  keeps-none store disk now lasts stands_on due up = grind (arith, common_steps, puts-among, puts_none, stations-same)
+  keeps-none store disk now lasts may = grind (arith, common_steps, puts-among, puts_none, stations-same)
 
   module _ (on : (first second third : D) → g.lasts first second → g.lasts second third → g.lasts first third) where
     -- one part, and then another
@@ -86,7 +86,7 @@ module _ {D : Type 0} (g : Ghosts D) where
       kept = rw second.same first.kept;
       others = rw second.same first.others;
       healthy = rw second.same first.healthy;
-      fit = rw (second.same, lists, second.uploads) (record { stands_on = second.stands_on; held = first.fit.held; only = first.fit.only; due = second.due; complete = first.fit.complete });
+      fit = rw (second.same, lists, second.uploads) (record { stands_on = second.ready.stands_on; held = first.fit.held; only = first.fit.only; due = second.due; complete = first.fit.complete });
       up = λ stays. second.up;
       caller = ap (λ (u : Uploading). u.caller) second.uploads ∙ first.caller;
       stations = stations-then link mid.link new.link first.stations second.stations;
@@ -104,7 +104,7 @@ module _ {D : Type 0} (g : Ghosts D) where
           takes = λ w end first stands. record {
             parts = [];
             among = All-nil (IsAmong first 0);
-            by = (refl, (refl, (refl, record { link = stands; rest = refl; state = refl })), does-among g ⊥ _ _ _ _ [] (Does-none g ⊥ _ _ (λ never. never) may.may.stands_on may.may.healthy lasts));
+            by = (refl, (refl, (refl, record { link = stands; rest = refl; state = refl })), does-among g ⊥ _ _ _ _ [] (Does-none g ⊥ _ _ (λ never. never) may.may.ready lasts));
           };
         };
         fit = fit-heard before old.link old.link old.session Stays lasts may.may (λ stays. may.up) (stations-same old.link);

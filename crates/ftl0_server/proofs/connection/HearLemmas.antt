@@ -1,6 +1,6 @@
 -- How a connection hears a frame.
 use Rattle.std.proofs.lemmas.Grind.{common_steps}
-use Rattle.std.proofs.Common.{arith, ◌≡◌, ◌⊎◌, inl, inr, ℕ, ◌<◌, false, true, List, [], ◌++◌, refl, ap, sym, ◌∙◌, subst}
+use Rattle.std.proofs.Common.{arith, ◌≡◌, ◌⊎◌, inl, inr, ℕ, ◌<◌, true, List, [], ◌++◌, refl, ap, sym, ◌∙◌, subst}
 use Rattle.std.specs.Prelude.{Result, Ok, ⊤}
 use Rattle.std.proofs.lemmas.List.Elements.{All-nil}
 use Rattle.px_base.specs.CallSign.{CallSign}
@@ -14,11 +14,10 @@ use Rattle.ax25_link.specs.Rows.{after_frame, heard_of}
 use Rattle.ax25_link.specs.Window.{Window}
 use Rattle.ftl0_packets.specs.Reading.{packets_of, rest_of}
 use Rattle.ftl0_session.specs.Lists.Lists.{CallerList, has_left}
-use Rattle.file_store.specs.State.{StandsOn, StoreState, store_in}
+use Rattle.file_store.specs.State.{IsReady, StoreState, store_in}
 use Rattle.file_store.specs.Working.{DoesAmongReads}
 use Rattle.file_store.proofs.Offered.{among-parked, does-among, Does-none}
 use Rattle.ftl0_session.specs.declared.uploads.phase.Phase.{Phase}
-use Rattle.ftl0_session.specs.declared.uploads.phase.Phase.TheVariants as phase
 use Rattle.ftl0_session.specs.Uploads.SessionState.{Parks, with_disk}
 use Rattle.disk_model.specs.declared.halt.Halt.{Halt as Stop}
 use Rattle.ftl0_session.specs.Table.{State}
@@ -37,7 +36,7 @@ pub parks-same : (store store_n : StoreState) (of : Phase) → Parks store store
 parks-same store store_n of parks = grind (arith, common_steps)
 
 module _ {D : Type 0} (g : Ghosts D) (lasts : (disk : D) → g.lasts disk disk) (w : Window) (left : List ℕ) (end : LinkEnd) (state : State) (on : WorkingOn D) (store_n : StoreState)
-    (connection : ConnectionState) (healthy : on.store.journal.failed ≡ false) (stands_on : StandsOn g on.store on.disk) (same : store_in store_n ≡ store_in on.store) (journal : store_n.journal ≡ on.store.journal) where
+    (connection : ConnectionState) (ready : IsReady g on.store on.disk) (same : store_in store_n ≡ store_in on.store) (journal : store_n.journal ≡ on.store.journal) where
   -- nothing was done to the store
   does-nothing : DoesAmongReads g ⊥ 0 on.store store_n on.disk on.disk []
   does-nothing = grind (arith, common_steps, among-parked, does-among, Does-none)

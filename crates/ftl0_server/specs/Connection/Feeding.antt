@@ -6,7 +6,8 @@ use Rattle.disk_model.specs.declared.disk.Disk.{Ghosts}
 use Rattle.ax25_link.specs.declared.state.LinkState.TheVariants.{Up}
 use Rattle.ax25_link.specs.Calls.{after_push}
 use Rattle.ax25_link.specs.Ends.{LinkEnd, free_octets}
-use Rattle.ax25_link.specs.Kept.{Kept, SameStations, StandsFor, Steps}
+use Rattle.ax25_frames.specs.FrameText.{FrameValue}
+use Rattle.ax25_link.specs.Kept.{IsFromPeer, Kept, SameStations, StandsFor, Steps, is_pending}
 use Rattle.ax25_link.specs.Queue.{room_of}
 use Rattle.ax25_link.specs.Window.{Window}
 use Rattle.ftl0_packets.specs.Layout.{Item, packet_text}
@@ -15,11 +16,11 @@ use Rattle.packet_link.specs.PacketLink.{HasFront}
 use Rattle.packet_link.specs.Queuing.{enough_free}
 use Rattle.file_store.specs.EntriesKept.{KeepsComplete}
 use Rattle.ftl0_session.specs.Lists.Lists.{CallerList}
-use Rattle.file_store.specs.State.{StandsOn, StoreState, store_in}
+use Rattle.file_store.specs.State.{IsReady, StoreState, store_in}
 use Rattle.file_store.specs.Working.{DoesAmongReads, PutsAmongReads, one_if}
 use Rattle.ftl0_session.specs.Uploads.Failures.{Failure, failed_reads}
 use Rattle.ftl0_session.specs.Uploads.Others.{KeepsOtherCallers}
-use Rattle.ftl0_session.specs.Downloads.Needs.{IsDueIn}
+use Rattle.ftl0_session.specs.Downloads.Needs.{IsDueIn, MaySend}
 use Rattle.disk_model.specs.declared.halt.Halt.{Halt as Stop}
 use Rattle.disk_model.specs.declared.halt.Halt.TheVariants as stop
 use Rattle.ftl0_session.specs.Uploads.SessionState.{WithDisk, with_disk}
@@ -40,6 +41,21 @@ pub record MayTake {D : Type 0} (g : Ghosts D) (store : StoreState) (disk : D) (
     (session : SessionState) : Type 0 where
   pub up : link.state ≡ Up
   pub may : SessionMayTake g store disk lists session
+
+-- What a connection needs to hear this frame: it is the peer's, nothing is pending, the link is up, and the session may
+-- take a packet.
+pub record MayHear {D : Type 0} (g : Ghosts D) (store : StoreState) (disk : D) (lists : List CallerList)
+    (connection : ConnectionState) (frame : FrameValue) : Type 0 where
+  pub of_peer : IsFromPeer connection.link frame
+  pub quiet : is_pending connection.link ≡ false
+  pub up : connection.link.state ≡ Up
+  pub may : SessionMayTake g store disk lists connection.session
+
+-- What queuing what is due needs: the link is up, and the session may send.
+pub record MayQueue {D : Type 0} (g : Ghosts D) (store : StoreState) (disk : D) (connection : ConnectionState) :
+    Type 0 where
+  pub up : connection.link.state ≡ Up
+  pub may : MaySend g store disk connection.session.downloads
 
 -- What packets leave of a link, a session, the store, the lists and the disk, whatever they were.
 pub record LeavesFit {D : Type 0} (g : Ghosts D) (before : WithDisk StoreState D) (now : WorkingOn D)
@@ -179,7 +195,7 @@ pub record KeepsFit {D : Type 0} (g : Ghosts D) (store store_now : StoreState) (
     (old new : ConnectionState) : Type 0 where
   pub same : store_now ≡ store
   pub puts : PutsAmongReads g ⊥ disk disk_now
-  pub stands_on : StandsOn g store disk_now
+  pub ready : IsReady g store disk_now
   pub due : IsDueIn (store_in store) new.session.downloads
   pub uploads : new.session.uploads ≡ old.session.uploads
   pub octets : new.octets ≡ old.octets
