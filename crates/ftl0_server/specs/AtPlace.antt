@@ -25,8 +25,8 @@ use Rattle.ftl0_server.specs.declared.place.Place.TheVariants.{Free, Talking, Le
 use Rattle.ftl0_server.specs.ServerState.{SaysAs, SendsAs}
 use Rattle.ftl0_server.specs.Slots.{Slot, slot_after}
 
--- What any event leaves of a store and its disk: no write and no sync came behind one that failed, each complete entry is
--- kept, and the store stands on the disk, and has failed only where this holds.
+-- What any event leaves of a store and its disk: no write and no sync came behind one that failed, each complete entry
+-- is kept, and the store stands on the disk, and has failed only where this holds.
 pub record KeepsStore {D : Type 0} (g : Ghosts D) (failed : Type 0) (before now : StoreState) (disk disk_now : D) :
     Type 0 where
   pub puts : PutsAmongReads g failed disk disk_now

@@ -84,8 +84,8 @@ impl Session {
     }
 
     /// Takes a packet: one row of the session's table, or code 3 where a write or a sync of the disk fails. The replies
-    /// stand in place of what `replies` holds; the row's commands are on the disk before they are given. A read that fails gives the row for that, and the session
-    /// goes on. Takes memory, before it writes to the disk.
+    /// stand in place of what `replies` holds; the row's commands are on the disk before they are given. A read that
+    /// fails gives the row for that, and the session goes on. Takes memory, before it writes to the disk.
     ///
     /// `Disk`: the upload is spent, and the store has failed. Some of the packet's octets may be held, and its file
     /// begun, complete or gone. `OutOfMemory`: the packet gave nothing; session, store, lists and disk are as they

@@ -8,7 +8,7 @@ use Rattle.ax25_frames.specs.FrameText.{FrameValue, canonical}
 use Rattle.file_store.specs.Command.{Command}
 use Rattle.file_store.specs.State.{StoreState, store_in}
 use Rattle.file_store.specs.Working.{CutsOffAmongReads, DoesAmongReads}
-use Rattle.file_store.proofs.Offered.{among-healthy, cuts-among-none, cuts-among-same}
+use Rattle.file_store.proofs.Offered.{cuts-among-none, cuts-among-same}
 use Rattle.node.specs.Course.{AtDisk, GaveAll, GivesNext, IsLawful, at, stop_at_put}
 use Rattle.node.specs.Events.{NodeEvent, NodeEvents}
 use Rattle.disk_model.specs.declared.halt.Halt.{Halt}
@@ -173,7 +173,7 @@ module _ {D : Type 0} (g : Ghosts D) (lasts : (disk : D) → g.lasts disk disk) 
   comes-none start self server up same serving = record {
     next = server;
     serving = serving;
-    runs = rw same (runs-none server_steps are_steps g server start.it.server.store start.disk up.healthy up.stands_on (lasts start.disk));
+    runs = rw same (runs-none server_steps are_steps g server start.it.server.store start.disk up.awaits.ready (lasts start.disk));
   }
 
   pub goes-none : (start : AtDisk ServerStation D) → IsUp g start → (server_course g).goes start [] [] start
@@ -300,9 +300,11 @@ module _ {D : Type 0} (g : Ghosts D) (lasts : (disk : D) → g.lasts disk disk) 
           let same = (no-next start events said h.0.server is None (h.1 h.0.server h.0.serving)).1 in (
             runs-on,
             record {
-              healthy = among-healthy g runs.runs.missed start.it.server.store server_n.store start.disk old.disk runs.runs.done runs.runs.does;
-              stands_on = runs.runs.does.stands_on;
-              silent = ap server_pending same ∙ sym pending ∙ is;
+              awaits =
+                  record {
+                    silent = ap server_pending same ∙ sym pending ∙ is;
+                    ready = record { healthy = (runs.runs.does.done (λ never. never)).1; stands_on = runs.runs.does.stands_on };
+                  };
               memory = fine;
               server = runs.next;
               serving = runs.serving;
@@ -354,7 +356,7 @@ pub started : {D : Type 0} (g : Ghosts D) (terms : ServerTerms) (blocks : ℕ) (
 started g terms blocks old mid station server same memory recovered is silent =
     let serving = subst (λ (s : ServerState). IsServing s (server_from terms (store_in s.store))) (sym same) (record { is = is; silent = refl }) in
     let there = subst (λ (s : ServerState). IsRecovered g blocks old mid s.store) (sym same) recovered in
-    (record { healthy = there.healthy; stands_on = there.stands_on; silent = ap server_pending same ∙ silent; memory = memory; server = server_from terms (store_in station.server.store); serving = serving }, serving)
+    (record { awaits = record { silent = ap server_pending same ∙ silent; ready = there.ready }; memory = memory; server = server_from terms (store_in station.server.store); serving = serving }, serving)
 
 module _ {A C D : Type 0} (seen : Seen D A C) (terms : ServerTerms) (old new : Driven ServerStation D A C) (ended : Result Finished Stop)
     (took : TookTurns (NodeEvents terms.me) (server_course seen.disk) seen.air seen.given old new (turn_terms terms) ended) where

@@ -7,7 +7,7 @@ use Rattle.ftl0_packets.specs.Items.{texts}
 use Rattle.ftl0_packets.specs.Layout.{PacketValue}
 use Rattle.ftl0_session.specs.Lists.Lists.{CallerList}
 use Rattle.file_store.specs.Command.{Command}
-use Rattle.file_store.specs.State.{StoreState, store_in}
+use Rattle.file_store.specs.State.{IsReady, StoreState, store_in}
 use Rattle.file_store.specs.Working.{CutsOffAmongReads, DoesAmongReads}
 use Rattle.ftl0_session.specs.Uploads.Events.{Event}
 use Rattle.ftl0_session.specs.Run.{Event as MetEvent, Session, event_row}
@@ -23,15 +23,15 @@ use Rattle.node.specs.declared.stop.NodeStop.TheVariants as node_stop
 use Rattle.server_node.specs.Sessions.Packets.{Hears, events_to}
 use Rattle.server_node.specs.Sessions.Running.{session_steps}
 use Rattle.server_node.specs.Steps.{RunsOn, StopsOn, WithStore, with_store}
-use Rattle.server_node.specs.Sessions.ServerState.{IsUp, ServerState}
+use Rattle.server_node.specs.Sessions.ServerState.{ServerState}
 
 -- the server, with how much it has still to say: of the replies, and of what is due behind them
 abbrev pub most_left : ServerState → ℕ
 most_left server = length server.replies + octets_left (store_in server.store) (download_part server.state)
 
--- Its store is up, it goes on, and it has nothing to say.
-pub record IsReady {D : Type 0} (g : Ghosts D) (now : AtDisk ServerState D) : Type 0 where
-  pub up : IsUp g now.it.store now.disk
+-- Its store is ready, it goes on, and it has nothing to say.
+pub record AwaitsInput {D : Type 0} (g : Ghosts D) (now : AtDisk ServerState D) : Type 0 where
+  pub up : IsReady g now.it.store now.disk
   pub goes_on : now.it.halted ≡ false
   pub silent : now.it.replies ≡ []
   pub none_due : (fails : Bool) → next_due (store_in now.it.store) now.it.state fails ≡ None
@@ -149,7 +149,7 @@ HaltsOver g old inputs why unsaid text new =
 abbrev pub session_course : {D : Type 0} → Ghosts D → Course ServerState D Input
 session_course g =
     record {
-      is_fit = λ now. IsReady g now;
+      is_fit = λ now. AwaitsInput g now;
       goes = λ old inputs text new. GoesOver g old inputs text new;
       owes = λ old inputs why text new. Owes g old inputs why text new;
       halts = λ old inputs why unsaid text new. HaltsOver g old inputs why unsaid text new;
