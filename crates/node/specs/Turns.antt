@@ -5,12 +5,13 @@ use Rattle.std.specs.Prelude.{IfErr, MatchResult, Result, Ok, Err, ⊤}
 use Rattle.std.specs.List.{AllByRecursion}
 use Rattle.px_base.specs.Moments.{MomentsOf}
 use Rattle.px_base.specs.Outside.{Gains, HasCause, Rose}
-use Rattle.px_base.specs.Polling.{EndsWith, Hears, HearsAll, IsOpen}
+use Rattle.px_base.specs.Polling.{EndsWith, Hears, HearsAll, IsButLast, IsOpen}
 use Rattle.px_base.specs.declared.air.Air.{Ghosts as AirGhosts}
 use Rattle.px_base.specs.declared.air.AirDown.{AirDown}
 use Rattle.px_base.specs.declared.air.Turn.{Turn}
 use Rattle.px_base.specs.declared.air.Turn.TheVariants as turn
-use Rattle.node.specs.Course.{AtDisk, Course, Settles, at, stop_at_put}
+use Rattle.disk_model.specs.AtDisk.{AtDisk, at}
+use Rattle.node.specs.Course.{Course, Settles, stop_at_put}
 use Rattle.disk_model.specs.declared.halt.Halt.{Halt}
 use Rattle.node.specs.Inputs.{Input, inputs_of}
 use Rattle.node.specs.declared.stop.NodeStop.{NodeStop}
@@ -80,10 +81,6 @@ NextMoment (suc turn) first given before now moment = MomentsOf given before now
 
 abbrev pub IsMomentOf : ℕ → TurnTerms → Option (List ℕ) → Option (List ℕ) → ℕ → Type 0
 IsMomentOf turn terms before now moment = NextMoment turn terms.first terms.given before now moment
-
--- all turns but the last, if there is one
-abbrev pub IsButLast : List Turn → List Turn → Type 0
-IsButLast turns earlier = ((turns ≡ []) × (earlier ≡ [])) ⊎ ((last : Turn) × (turns ≡ earlier ++ last ∷ []))
 
 -- The turns, of which there are at most so many, by how they ended.
 abbrev pub TurnsBy : Result Finished NodeStop → ℕ → List Turn → Type 0

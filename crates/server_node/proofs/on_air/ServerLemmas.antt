@@ -33,7 +33,8 @@ use Rattle.std.proofs.lemmas.List.{length-take-le, take-append-drop}
 use Rattle.px_base.specs.declared.air.Turn.{Turn}
 use Rattle.file_store.specs.Store.{Store}
 use Rattle.node.specs.Lent.{Seen, lent}
-use Rattle.node.specs.Turns.{IsButLast, IsUnsaid, Lent as Driven, StoppedInLast, TookTurns, party_at}
+use Rattle.px_base.specs.Polling.{IsButLast}
+use Rattle.node.specs.Turns.{IsUnsaid, Lent as Driven, StoppedInLast, TookTurns, party_at}
 use Rattle.node.specs.declared.finished.Finished.{Finished}
 use Rattle.node.specs.declared.terms.TurnTerms.{TurnTerms}
 use Rattle.file_store.specs.Recovery.{IsRecovered}

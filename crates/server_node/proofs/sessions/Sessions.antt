@@ -1,6 +1,5 @@
 -- A session by the turns of its node.
-use Rattle.std.proofs.Common.{◌≡◌, ap, sym, ◌∙◌, subst, ◌⊎◌, inl, inr, ℕ, max, List, [], ◌∷◌, ◌++◌, length, Option, Some, Result, Ok, Err, refl, ap₂, ◌+◌, append_assoc, append-nil, arith, None}
-use Rattle.std.specs.Prelude.{◌≢◌, IsErrOf}
+use Rattle.std.proofs.Common.{◌≡◌, ap, sym, ◌∙◌, subst, ◌⊎◌, inl, inr, ℕ, max, List, [], ◌∷◌, ◌++◌, length, Option, Some, Result, Ok, Err, refl, ap₂, ◌+◌, append_assoc, append-nil, arith, None, ◌≢◌, IsErrOf}
 use Rattle.px_base.specs.CallSign.{CallSign}
 use Rattle.px_base.specs.Moments.{MomentsOf}
 use Rattle.px_base.specs.Octets.{IsFront, IsOctets}
@@ -17,7 +16,8 @@ use Rattle.ftl0_session.specs.Run.{Session}
 use Rattle.node.specs.Course.{AtDisk, at}
 use Rattle.node.specs.Inputs.{Input, inputs_of, octets_in}
 use Rattle.node.specs.Lent.{Seen, lent}
-use Rattle.node.specs.Turns.{AreHandedOver, IsButLast, IsUnsaid, Lent as Driven, MomentsFrom, TookTurns, party_at}
+use Rattle.px_base.specs.Polling.{IsButLast}
+use Rattle.node.specs.Turns.{AreHandedOver, IsUnsaid, Lent as Driven, MomentsFrom, TookTurns, party_at}
 use Rattle.node.specs.declared.finished.Finished.{Finished}
 use Rattle.node.specs.declared.finished.Finished.TheVariants as finished
 use Rattle.node.specs.declared.stop.NodeStop.{NodeStop as Stop}

@@ -1,11 +1,11 @@
 -- How a server goes on over the events of its node: which frames it says, and which commands of the store it does, up
 -- to a stop.
-use Rattle.std.specs.Prelude.{◌≡◌, ◌≢◌, ◌⊎◌, ℕ, List, [], ◌++◌, flat_map, Bool}
+use Rattle.std.specs.Prelude.{◌≡◌, ◌≢◌, ◌⊎◌, ℕ, List, [], ◌++◌, Bool}
 use Rattle.px_base.specs.Octets.{IsFront}
-use Rattle.kiss.specs.KissText.{kiss_text}
-use Rattle.ax25_frames.specs.FrameText.{FrameValue, canonical}
+use Rattle.ax25_frames.specs.FrameText.{FrameValue}
 use Rattle.file_store.specs.Command.{Command}
 use Rattle.node.specs.Events.{NodeEvent}
+pub use Rattle.node.specs.Said.{text_of}
 use Rattle.node.specs.declared.stop.NodeStop.{NodeStop as Stop}
 use Rattle.node.specs.declared.stop.NodeStop.TheVariants as node_stop
 use Rattle.ftl0_server.specs.Failures.{failed_reads, failed_write}
@@ -15,10 +15,6 @@ use Rattle.ftl0_server.specs.ServerStep.{ServerStep, happening, stepped}
 use Rattle.ftl0_server.specs.Serving.{ServesOver, TakesEvent}
 use Rattle.server_node.specs.Sessions.Running.{IsSaid}
 use Rattle.server_node.specs.Steps.{Made, Steps}
-
--- the KISS text of frames, one after another
-abbrev pub text_of : List FrameValue → List ℕ
-text_of frames = flat_map (λ frame. kiss_text (canonical frame)) frames
 
 -- Over these events, at none of which it stops, the server comes from one to another, by all that was said and done.
 pub record ServesAs (server : Server) (events : List NodeEvent) (all : Made) (now : Server) : Type 0 where

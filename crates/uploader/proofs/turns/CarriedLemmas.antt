@@ -11,7 +11,8 @@ use Rattle.node.specs.Course.{AtDisk, at}
 use Rattle.node.specs.Events.{NodeEvent, NodeEvents}
 use Rattle.node.specs.Laws.{OneRunLaw}
 use Rattle.node.specs.Lent.{Seen}
-use Rattle.node.specs.Turns.{Brought, HasAirCause, IsButLast, IsUnsaid, Lent, RanBy, StoppedInLast, TookAll, TookTurns, TurnsBy, lent, party_at}
+use Rattle.px_base.specs.Polling.{IsButLast}
+use Rattle.node.specs.Turns.{Brought, HasAirCause, IsUnsaid, Lent, RanBy, StoppedInLast, TookAll, TookTurns, TurnsBy, lent, party_at}
 use Rattle.node.specs.declared.finished.Finished.{Finished}
 use Rattle.node.specs.declared.finished.Finished.TheVariants as finished
 use Rattle.node.specs.declared.stop.NodeStop.{NodeStop}
