@@ -20,7 +20,7 @@ use Rattle.file_store.proofs.Offered.{puts-among, puts_none}
 use Rattle.ftl0_session.specs.Uploads.Failures.{Failure}
 use Rattle.ftl0_session.proofs.uploads.UploadRows.{same_call-decides}
 use Rattle.ftl0_session.specs.SessionState.{caller_of, working_on}
-use Rattle.ftl0_session.specs.Uploads.SessionState.{with_disk}
+use Rattle.disk_model.specs.AtDisk.{at}
 use Rattle.disk_model.specs.declared.halt.Halt.{Halt as Stop}
 use Rattle.disk_model.specs.declared.halt.Halt.TheVariants as stop
 use Rattle.ftl0_server.specs.Connection.Connected.{Connected}
@@ -110,7 +110,7 @@ module _ (self : ServerState) (server : Server) (is : IsServer self server) wher
 
 module _ {D : Type 0} (g : Ghosts D) (old new : ServerState) (server : Server) (is : IsServer old server)
     (settled : IsSettled old.me old.k old.store old.places) (frame : FrameValue) (moment : ℕ) (disk disk_now : D) (place : ℕ)
-    (found : position (has_caller frame.src) old.places ≡ Some place) (c : ConnectionState) (at : IsAt old.places place c) (p : Place)
+    (found : position (has_caller frame.src) old.places ≡ Some place) (c : ConnectionState) (is_at : IsAt old.places place c) (p : Place)
     (works : Works old.store new.store (Talking c) p) (me : new.me ≡ old.me) (k : new.k ≡ old.k) (stray : new.stray ≡ old.stray)
     (places : new.places ≡ set old.places place p) where
   -- the server that stands now, where the place is this one
@@ -121,12 +121,12 @@ module _ {D : Type 0} (g : Ghosts D) (old new : ServerState) (server : Server) (
   now-is : (s : Slot) (store : Store) (lists : List CallerList) → IsPlace server.window new.store p s → store_in new.store ≡ store → new.lists ≡ lists
       → IsServer new (record server { slots = set server.slots place s; store = store; lists = lists })
   now-is s store lists here same same_lists =
-      let all = all-works server.window old.me old.k old.store new.store old.places server.slots place (Talking c) p s at settled works (all-are old server is) here in
+      let all = all-works server.window old.me old.k old.store new.store old.places server.slots place (Talking c) p s is_at settled works (all-are old server is) here in
       let says = all-to (IsPlace server.window new.store) (SaysAs new.store) (set old.places place p) (set server.slots place s) (λ i q t there it both. both.1) all in
       let sends = now-sends s store lists here.0 in grind (arith, common_steps)
 
   module _ (event : List Failure → Happened) where
-    heard-by : (result : Result ⊤ Stop) → PlaceHearsBy g server.window event (with_disk old.store disk) (working_on new.store new.lists disk_now) p result
+    heard-by : (result : Result ⊤ Stop) → PlaceHearsBy g server.window event (at old.store disk) (working_on new.store new.lists disk_now) p result
         → HearsBy g (λ failures. heard_at server place (event failures)) old new disk disk_now result
     heard-by (Ok done) by = grind (arith, common_steps, now-is, never)
     heard-by (Err stop.Disk) by = search (rules, arith, now-sends)
@@ -138,7 +138,7 @@ module _ {D : Type 0} (g : Ghosts D) (old new : ServerState) (server : Server) (
 
   pub server-hears : (result : Result ⊤ Stop)
       → ((w : Window) (d : Connected) → IsPlace w old.store (Talking c) (connected d)
-      → PlaceHears g w (hearing w moment (store_in old.store) old.lists d frame) (with_disk old.store disk) (working_on new.store new.lists disk_now) p result)
+      → PlaceHears g w (hearing w moment (store_in old.store) old.lists d frame) (at old.store disk) (working_on new.store new.lists disk_now) p result)
       → Hears g (server_hearing server frame moment) old new disk disk_now result
   server-hears result hears =
       let slot = slot_is in

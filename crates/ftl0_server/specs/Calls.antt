@@ -1,6 +1,7 @@
 -- What a server's calls do.
 use Rattle.std.specs.Prelude.{◌≡◌, ◌⊎◌, ℕ, List, [], ◌∷◌, slice_set, true, false, Bool, Option, None, Some}
 use Rattle.std.specs.Prelude.{Result, Ok, Err, IsErrOf, ⊤}
+use Rattle.disk_model.specs.AtDisk.{at}
 use Rattle.disk_model.specs.declared.disk.Disk.{Ghosts}
 use Rattle.ax25_frames.specs.FrameText.{FrameText, FrameValue, canonical}
 use Rattle.ax25_frames.specs.Kinds.{FitsControl}
@@ -37,7 +38,7 @@ HearsBy g event old new disk disk_now (Ok done) =
     × DoesAmongReads g ⊥ (event []).missed old.store new.store disk disk_now (event []).done
 HearsBy g event old new disk disk_now (Err stop.Disk) =
     (part : ℕ) × ((event (failed_write part)).halt ≡ fails) × SendsFor new (event (failed_write part)).after
-    × CutsOffAmongReads g ⊤ (event (failed_write part)).missed old.store new.store disk disk_now
+    × CutsOffAmongReads g ⊤ (event (failed_write part)).missed (at old.store disk) (at new.store disk_now)
     (event (failed_write part)).done (event (failed_write part)).cut
 HearsBy g event old new disk disk_now (Err stop.OutOfMemory) =
     DoesAmongReads g ⊥ 0 old.store new.store disk disk_now []

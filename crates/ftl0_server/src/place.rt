@@ -5,7 +5,7 @@ ghost use Rattle.ax25_frames.specs.Values.{value_of};
 ghost use Rattle.ax25_link.specs.Window.{Window};
 ghost use Rattle.file_store.specs.State.{IsReady, store_in};
 ghost use Rattle.ftl0_session.specs.Downloads.Needs.{AreComplete};
-ghost use Rattle.ftl0_session.specs.Uploads.SessionState.{with_disk};
+ghost use Rattle.disk_model.specs.AtDisk.{at};
 ghost use Rattle.ftl0_session.specs.SessionState.{working_on};
 ghost use Rattle.ftl0_server.specs.Connection.Connected.{Connected};
 ghost use Rattle.ftl0_server.specs.Connection.Hearing.{hearing};
@@ -112,7 +112,7 @@ impl Place {
         requires complete { AreComplete (store_in store.old) lists.old }
         ensures hears { (w : Window) (c : Connected) → IsPlace w store.old self.old (connected c) →
             PlaceHears D.Disk w (hearing w moment (store_in store.old) lists.old c (value_of frame.now))
-            (with_disk store.old disk.old) (working_on store.new lists.new disk.new) self.new result }
+            (at store.old disk.old) (working_on store.new lists.new disk.new) self.new result }
         ensures keeps { KeepsStore D.Disk (IsErrOf result Halt.Disk) store.old store.new disk.old disk.new }
         ensures works { Works store.old store.new self.old self.new }
         ensures complete { AreComplete (store_in store.new) lists.new }

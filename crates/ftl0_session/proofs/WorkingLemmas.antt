@@ -10,7 +10,7 @@ use Rattle.std.proofs.lemmas.List.Folds.{list_any-append}
 use Rattle.px_base.specs.CallSign.{CallSign}
 use Rattle.disk_model.specs.declared.disk.Disk.{Ghosts}
 use Rattle.ftl0_packets.specs.Layout.{Item, PacketValue, dl_error_resp, packet_text}
-use Rattle.file_store.proofs.Offered.{among-same, among-then, at_told, cuts-among-cut, does-among, reads-only}
+use Rattle.file_store.proofs.Offered.{among-same, among-then, at_told, does-among, reads-only}
 use Rattle.file_store.specs.Store.{Store}
 use Rattle.file_store.specs.State.{IsReady, StoreState, store_in}
 use Rattle.file_store.specs.Working.{CutsOffAmongReads, DoesAmongReads, one_if}
@@ -25,7 +25,7 @@ use Rattle.ftl0_session.specs.Table.{failed_reads_told, tells_failed_read}
 use Rattle.ftl0_session.specs.Taking.{TakesPacket, Working, row_over}
 use Rattle.ftl0_session.specs.Downloads.Filling.{filled}
 use Rattle.ftl0_session.specs.Uploads.Events.{packet_of}
-use Rattle.ftl0_session.specs.Uploads.SessionState.{with_disk}
+use Rattle.disk_model.specs.AtDisk.{at}
 use Rattle.ftl0_session.proofs.FaultLemmas.{due_codes, fault_codes}
 
 -- ---- a read that failed is told, and no other
@@ -53,14 +53,14 @@ told-append (x ∷ xs) ys =
 module _ {D : Type 0} (g : Ghosts D) (on : (first second third : D) → g.lasts first second → g.lasts second third → g.lasts first third)
     (caller : CallSign) (moment : ℕ) (item : Item) (before now : Working) (disk disk_now : D) (replies : List ℕ) (ready : IsReady g before.store disk) where
   -- its reads
-  first : (result : Result ⊤ Halt) (takes : TakesPacket g (packet_of caller moment item) (with_disk before disk) (with_disk now disk_now) replies result)
+  first : (result : Result ⊤ Halt) (takes : TakesPacket g (packet_of caller moment item) (at before disk) (at now disk_now) replies result)
       → DoesAmongReads g ⊥ (failed_reads_told (row_over caller moment before item takes.fails).replies) before.store before.store disk takes.disk_then []
   first result takes =
       among-same g ⊥ ⊥ (one_if takes.fails) (failed_reads_told (row_over caller moment before item takes.fails).replies) before.store before.store disk takes.disk_then [] (λ p. p) (λ p. p)
       (sym (told-is caller moment item before takes.fails takes.told)) (reads-only g takes.fails before.store disk takes.disk_then takes.reads ready)
 
   -- its row's commands are done
-  pub taken-among : (done : ⊤) (takes : TakesPacket g (packet_of caller moment item) (with_disk before disk) (with_disk now disk_now) replies (Ok done))
+  pub taken-among : (done : ⊤) (takes : TakesPacket g (packet_of caller moment item) (at before disk) (at now disk_now) replies (Ok done))
       → DoesAmongReads g ⊥ (failed_reads_told (row_over caller moment before item takes.fails).replies) before.store now.store disk disk_now (row_over caller moment before item takes.fails).commands
   taken-among done takes =
       let row : Row = row_over caller moment before item takes.fails in
@@ -70,14 +70,12 @@ module _ {D : Type 0} (g : Ghosts D) (on : (first second third : D) → g.lasts 
       (does-among g ⊥ before.store now.store takes.disk_then disk_now row.commands takes.on_disk))
 
   -- the disk failed in one of them
-  pub taken-cut : (takes : TakesPacket g (packet_of caller moment item) (with_disk before disk) (with_disk now disk_now) replies (Err stop.Disk))
-      → CutsOffAmongReads g ⊤ (failed_reads_told (row_over caller moment before item takes.fails).replies) before.store now.store disk disk_now [] (row_over caller moment before item takes.fails).commands
-  taken-cut takes =
-      let row : Row = row_over caller moment before item takes.fails in
-      cuts-among-cut g ⊤ (failed_reads_told row.replies) before.store before.store now.store disk takes.disk_then disk_now [] row.commands (first (Err stop.Disk) takes) takes.on_disk
+  pub taken-cut : (takes : TakesPacket g (packet_of caller moment item) (at before disk) (at now disk_now) replies (Err stop.Disk))
+      → CutsOffAmongReads g ⊤ (failed_reads_told (row_over caller moment before item takes.fails).replies) (at before.store disk) (at now.store disk_now) [] (row_over caller moment before item takes.fails).commands
+  taken-cut takes = record { then_is = at before.store takes.disk_then; first = first (Err stop.Disk) takes; second = takes.on_disk }
 
   -- there was no memory
-  pub taken-none : (takes : TakesPacket g (packet_of caller moment item) (with_disk before disk) (with_disk now disk_now) replies (Err stop.OutOfMemory))
+  pub taken-none : (takes : TakesPacket g (packet_of caller moment item) (at before disk) (at now disk_now) replies (Err stop.OutOfMemory))
       → (now.store ≡ before.store) × DoesAmongReads g ⊥ (failed_reads_told (row_over caller moment before item takes.fails).replies) before.store before.store disk disk_now []
   taken-none takes = (
     ap (λ (w : Working). w.store) takes.answers.1,

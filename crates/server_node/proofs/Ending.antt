@@ -1,6 +1,7 @@
 -- A session or a server from the recovery of its store, which is refused or gives one, to its end by the turns of its
 -- node; what it does to its disk, and what stands there.
 use Rattle.std.proofs.Common.{◌≡◌, inl, inr, ⊎_elim, ◌⊎◌, ℕ, ◌+◌, ◌≤◌, List, ◌++◌, length, refl, ◌∙◌, ap, subst, arith, IfSome, length-append, append_assoc, [], ◌∷◌, Bool, true, false, sym, ◌≢◌, Result, Ok, Err, IsErrAnd, IsErrOf, Option}
+use Rattle.disk_model.specs.AtDisk.{AtDisk, at}
 use Rattle.disk_model.specs.declared.disk.Disk.{Ghosts}
 use Rattle.file_journal.specs.Through.{StandsThrough}
 use Rattle.file_store.specs.Calls.{Runs, ChangesReads, Becomes, Leaves, TakesStep}
@@ -9,7 +10,7 @@ use Rattle.file_store.specs.OnDisk.{MakesBetween, StayDone, kept_at}
 use Rattle.file_store.specs.Records.{store_form, store_magic}
 use Rattle.file_store.specs.Store.{Store}
 use Rattle.file_store.specs.Working.{PutsAmongReads, CutsOffAmongReads}
-use Rattle.file_store.proofs.Offered.{told_weaker, cuts-among-all, cuts-among-puts, cuts-among-same, own-number}
+use Rattle.file_store.proofs.Offered.{told_weaker, cuts-among-all, cuts-among-puts, cuts-among-same, stands-through}
 use Rattle.ftl0_packets.specs.Layout.{data_end}
 use Rattle.ftl0_session.specs.Laws.{AcknowledgedStandsLaw}
 use Rattle.ftl0_session.specs.Table.{Row, receiving, session_row}
@@ -252,10 +253,10 @@ by-disk node_stop.AirWrite is = absurd (cc is)
 by-disk node_stop.Spent is = absurd (cc is)
 by-disk node_stop.OutOfMemory is = absurd (cc is)
 
-pub disk-stop : {D : Type 0} (g : Ghosts D) (why : Stop) (missed : ℕ) (old new : StoreState) (disk disk_n : D) (done cut : List Command) → CutsOffAmongReads g (why ≡ node_stop.Disk) missed old new disk disk_n done cut
-    → CutsOffAmongReads g (IsErrOf {T = Served} (Err (stop_of_node why)) stop.Disk) missed old new disk disk_n done cut
-disk-stop g why missed old new disk disk_n done cut cuts =
-    cuts-among-same g (why ≡ node_stop.Disk) _ missed missed old new disk disk_n done cut (λ is. ap (λ (w : Stop). Err (stop_of_node w)) is) (λ is. by-disk why (error_of {T = Served} (stop_of_node why) stop.Disk is)) refl cuts
+pub disk-stop : {D : Type 0} (g : Ghosts D) (why : Stop) (missed : ℕ) (old now : AtDisk StoreState D) (done cut : List Command) → CutsOffAmongReads g (why ≡ node_stop.Disk) missed old now done cut
+    → CutsOffAmongReads g (IsErrOf {T = Served} (Err (stop_of_node why)) stop.Disk) missed old now done cut
+disk-stop g why missed old now done cut cuts =
+    cuts-among-same g (why ≡ node_stop.Disk) _ missed missed old now done cut (λ is. ap (λ (w : Stop). Err (stop_of_node w)) is) (λ is. by-disk why (error_of {T = Served} (stop_of_node why) stop.Disk is)) refl cuts
 
 -- ---- by how the turns ended: all that they bring was taken, or it stopped at an event of the last one
 
@@ -307,7 +308,7 @@ pub record Did {A C D : Type 0} (seen : Seen D A C) (given : Option ℕ) (Ran : 
   pub ran : Ran (store_in start) run
   pub ends : TurnsBy result polls run.turns
   pub counts : HasAirCause seen.air.read_faults seen.air.write_faults old.air new.air result
-  pub cuts : CutsOffAmongReads seen.disk (IsErrOf result stop.Disk) run.all.missed start store mid new.disk run.all.done run.cut
+  pub cuts : CutsOffAmongReads seen.disk (IsErrOf result stop.Disk) run.all.missed (at start mid) (at store new.disk) run.all.done run.cut
 
 module _ {A C D T : Type 0} (seen : Seen D A C) (on : (first second third : D) → seen.disk.lasts first second → seen.disk.lasts second third → seen.disk.lasts first third) (blocks : ℕ) (given : Option ℕ)
     (Ran : Result Served NodeStop → Store → Run → Type 0) (old new : Lent D A C) (mid : D) (value : T) (start store : StoreState) (polls : ℕ) (result : Result Served NodeStop)
@@ -331,13 +332,10 @@ module _ {A C D T : Type 0} (seen : Seen D A C) (on : (first second third : D) �
 
   standing : (stands : StandsThrough g store_form Failed (store_in start) run.all.done run.cut old.disk new.disk) × (stands.ready ≡ g.moment mid)
   standing =
-      let cuts = did.cuts in
-      stands_through g store_form own-number blocks Failed old.disk (kept_at start mid) (kept_at cuts.store_then cuts.disk_then) (kept_at store new.disk) run.all.done run.cut h.runs.told h.recovered.content
-      h.since_start synced h.magic_is (among_reads g Failed run.all.missed) (among_reads g ⊥ run.all.missed) (alone g Failed)
-      (cuts-among-all g on Failed run.all.missed start store mid new.disk run.all.done run.cut cuts) cuts.first cuts.second cuts.first.puts.told
+      stands-through g on Failed blocks old.disk mid new.disk start store run.all.done run.cut run.all.missed h.runs.told h.recovered.content h.since_start synced h.magic_is did.cuts
 
   puts : PutsAmongReads g Failed old.disk new.disk
-  puts = runs_among g on _ Failed old.disk mid new.disk fine h.runs (cuts-among-puts g on Failed run.all.missed start store mid new.disk run.all.done run.cut did.cuts)
+  puts = runs_among g on _ Failed old.disk mid new.disk fine h.runs (cuts-among-puts g on Failed run.all.missed (at start mid) (at store new.disk) run.all.done run.cut did.cuts)
 
   -- it isn't refused
   never_refused : (why : NodeStop) → ((turns : List Turn) → TurnsBy (Err why) polls turns → ⊥) → IsErrOf result why → ⊥
@@ -362,7 +360,7 @@ module _ {A C D T : Type 0} (seen : Seen D A C) (on : (first second third : D) �
       is_unsaid = did.is_unsaid;
       ran = did.ran;
       puts = puts;
-      reads = runs_missed g on _ Failed old.disk mid new.disk fine h.runs run.all.missed (cuts-among-all g on Failed run.all.missed start store mid new.disk run.all.done run.cut did.cuts).reads;
+      reads = runs_missed g on _ Failed old.disk mid new.disk fine h.runs run.all.missed (cuts-among-all g on Failed run.all.missed (at start mid) (at store new.disk) run.all.done run.cut did.cuts).reads;
       stands = standing.0;
       ready = standing.1;
       none = λ none.

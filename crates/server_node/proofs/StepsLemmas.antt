@@ -94,8 +94,8 @@ module _ {S E : Type 0} (steps : Steps S E) (laws : AreSteps steps) (why : Stop)
       pub behind-all : StopsBehind xs steps a.it (xs ++ ys) why unsaid (made (text ++ more) (h.done ++ k.done) (h.missed + k.missed)) k.cut
       behind-all = stop-behind a.it b.it xs ys (made text h.done h.missed) (made more k.done k.missed) k.cut h.goes k.stops
 
-      pub cuts-all : CutsOffAmongReads g (why ≡ node_stop.Disk) (h.missed + k.missed) a.store c.it a.disk c.disk (h.done ++ k.done) k.cut
-      cuts-all = cuts-among-then g on (why ≡ node_stop.Disk) h.missed k.missed a.store b.store c.it a.disk b.disk c.disk h.done k.done k.cut h.does k.cuts
+      pub cuts-all : CutsOffAmongReads g (why ≡ node_stop.Disk) (h.missed + k.missed) (at a.store a.disk) c (h.done ++ k.done) k.cut
+      cuts-all = cuts-among-then g on (why ≡ node_stop.Disk) h.missed k.missed (at a.store a.disk) (at b.store b.disk) c h.done k.done k.cut h.does k.cuts
 
       pub stops-on : StopsOn g steps a c (xs ++ ys) why unsaid (text ++ more)
       stops-on = record { done = h.done ++ k.done; cut = k.cut; missed = h.missed + k.missed; stops = behind-all.stops; cuts = cuts-all; kept = k.kept }

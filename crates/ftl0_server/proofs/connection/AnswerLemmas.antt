@@ -21,7 +21,7 @@ use Rattle.disk_model.specs.declared.halt.Halt.TheVariants as stop
 use Rattle.ftl0_session.specs.SessionState.{SessionState, WorkingOn, caller_of, state_in}
 use Rattle.ftl0_session.specs.Table.{Row, failed_reads_told}
 use Rattle.ftl0_session.specs.Taking.{TakesPacket, Working, at_work, packet_row, working}
-use Rattle.ftl0_session.specs.Uploads.SessionState.{with_disk}
+use Rattle.disk_model.specs.AtDisk.{at}
 use Rattle.ftl0_session.specs.Uploads.Events.{packet_of}
 use Rattle.ftl0_session.proofs.WorkingLemmas.{taken-among, taken-cut, taken-none}
 use Rattle.ftl0_server.specs.declared.connection.fate.Fate.{Fate}
@@ -61,11 +61,11 @@ module _ {D : Type 0} (g : Ghosts D) (on : (first second third : D) → g.lasts 
 
   abbrev Made : Fate × Result ⊤ Stop → Type 0
   Made told =
-      TakesPackets g w (taking_some moment session before end (item ∷ []) first) (IsAmong first 1) (with_disk before.store before.disk) now (with_nothing_left new.link new.session) told
+      TakesPackets g w (taking_some moment session before end (item ∷ []) first) (IsAmong first 1) (at before.store before.disk) now (with_nothing_left new.link new.session) told
 
   -- what came of these parts
   abbrev By : Progress → Fate → Result ⊤ Stop → Type 0
-  By p fate result = HearsBy g w (λ failures. progressed [] p) (with_disk before.store before.disk) now (with_nothing_left new.link new.session) fate result
+  By p fate result = HearsBy g w (λ failures. progressed [] p) (at before.store before.disk) now (with_nothing_left new.link new.session) fate result
 
   -- the packet's row was taken, and its replies queued or the link given up
   row-done : (row : Row) (enough : Bool) (fate : Fate) → is_over fate ≡ not enough → StandsFor w new.link (if enough then after_push end (texts row.replies) else after_abandon end)
@@ -103,6 +103,6 @@ module _ {D : Type 0} (g : Ghosts D) (on : (first second third : D) → g.lasts 
 
 -- what a packet does to the disk, with its reads
 pub taken-puts : {D : Type 0} (g : Ghosts D) (on : (first second third : D) → g.lasts first second → g.lasts second third → g.lasts first third) (caller : CallSign) (moment : ℕ) (item : Item)
-    (before now : Working) (disk disk_n : D) (replies : List ℕ) (result : Result ⊤ Stop) → TakesPacket g (packet_of caller moment item) (with_disk before disk) (with_disk now disk_n) replies result
+    (before now : Working) (disk disk_n : D) (replies : List ℕ) (result : Result ⊤ Stop) → TakesPacket g (packet_of caller moment item) (at before disk) (at now disk_n) replies result
     → PutsAmongReads g (IsErrOf result stop.Disk) disk disk_n
 taken-puts g on caller moment item before now disk disk_n replies result takes = grind (arith, common_steps, puts-among-then, puts-among-reads, puts-among)

@@ -17,7 +17,7 @@ use Rattle.ftl0_session.specs.Uploads.Failures.{Failure, failed_reads, read_fail
 use Rattle.disk_model.specs.declared.halt.Halt.{Halt as Stop}
 use Rattle.ftl0_session.specs.SessionState.{WorkingOn, state_in}
 use Rattle.ftl0_session.specs.Table.{State, due_at, next_due, tells_failed_read}
-use Rattle.ftl0_session.specs.Uploads.SessionState.{WithDisk}
+use Rattle.disk_model.specs.AtDisk.{AtDisk}
 use Rattle.ftl0_server.specs.declared.connection.fate.Fate.{Fate}
 use Rattle.ftl0_server.specs.declared.connection.fate.Fate.TheVariants.{Stays}
 use Rattle.ftl0_server.specs.Connection.ConnectionState.{ConnectionState, Hears, HearsBy}
@@ -114,7 +114,7 @@ module _ {D : Type 0} (g : Ghosts D) (lasts : (disk : D) → g.lasts disk disk) 
 
   -- ---- a frame
 
-  module _ (w : Window) (left : List ℕ) (event : List Failure → Progress) (before : WithDisk StoreState D) where
+  module _ (w : Window) (left : List ℕ) (event : List Failure → Progress) (before : AtDisk StoreState D) where
     -- with what is due behind it
     abbrev whole : List Failure → Progress
     whole failures = queued (store_in before.it) failures (event failures)

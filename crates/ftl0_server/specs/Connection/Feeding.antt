@@ -23,7 +23,7 @@ use Rattle.ftl0_session.specs.Uploads.Others.{KeepsOtherCallers}
 use Rattle.ftl0_session.specs.Downloads.Needs.{IsDueIn, MaySend}
 use Rattle.disk_model.specs.declared.halt.Halt.{Halt as Stop}
 use Rattle.disk_model.specs.declared.halt.Halt.TheVariants as stop
-use Rattle.ftl0_session.specs.Uploads.SessionState.{WithDisk, with_disk}
+use Rattle.disk_model.specs.AtDisk.{AtDisk, at}
 use Rattle.ftl0_session.specs.Run.{Session, session_over}
 use Rattle.ftl0_session.specs.SessionState.{MayTake as SessionMayTake, SessionState, IsFit, WorkingOn, caller_of}
 use Rattle.ftl0_session.specs.SessionState.{state_in}
@@ -58,7 +58,7 @@ pub record MayQueue {D : Type 0} (g : Ghosts D) (store : StoreState) (disk : D) 
   pub may : MaySend g store disk connection.session.downloads
 
 -- What packets leave of a link, a session, the store, the lists and the disk, whatever they were.
-pub record LeavesFit {D : Type 0} (g : Ghosts D) (before : WithDisk StoreState D) (now : WorkingOn D)
+pub record LeavesFit {D : Type 0} (g : Ghosts D) (before : AtDisk StoreState D) (now : WorkingOn D)
     (link link_now : Kept) (session session_now : SessionState) (told : Fate × Result ⊤ Stop) : Type 0 where
   pub puts : PutsAmongReads g (IsErrOf told.1 stop.Disk) before.disk now.disk
   pub kept : KeepsComplete (store_in before.it) (store_in now.store)
@@ -93,7 +93,7 @@ taking_some moment session on end items first failures =
 
 -- Packets were taken, of which this event is what they make, and reads failed at these of their parts.
 pub record TakesPackets {D : Type 0} (g : Ghosts D) (w : Window) (event : List Failure → Happened)
-    (IsPart : ℕ → Type 0) (before : WithDisk StoreState D) (now : WorkingOn D) (connection : ConnectionState)
+    (IsPart : ℕ → Type 0) (before : AtDisk StoreState D) (now : WorkingOn D) (connection : ConnectionState)
     (told : Fate × Result ⊤ Stop) : Type 0 where
   pub parts : List ℕ
   pub among : All IsPart parts
@@ -106,7 +106,7 @@ abbrev pub TakesSome :
 TakesSome g moment old before items now new told =
     (w : Window) (end : LinkEnd) (first : ℕ) → StandsFor w old.link end
     → TakesPackets g w (taking_some moment old.session before end items first) (IsAmong first (length items))
-    (with_disk before.store before.disk) now (with_nothing_left new.link new.session) told
+    (at before.store before.disk) now (with_nothing_left new.link new.session) told
 
 -- Packets at the front of the octets were taken, up to one that stops the connection, if one does: the rest are those
 -- of the octets that are left now.
@@ -135,7 +135,7 @@ pub record IsSettled (event : List Failure → Progress) (parts : List ℕ) : Ty
 -- A frame was heard, of which this event is what its packets make, and these octets were left; what is due behind them
 -- isn't queued yet. Where a write or a sync fails the session is over.
 pub record HearsParts {D : Type 0} (g : Ghosts D) (w : Window) (left : List ℕ) (event : List Failure → Progress)
-    (before : WithDisk StoreState D) (now : WorkingOn D) (connection : ConnectionState)
+    (before : AtDisk StoreState D) (now : WorkingOn D) (connection : ConnectionState)
     (told : Fate × Result ⊤ Stop) : Type 0 where
   pub hears : Hears g w (λ failures. progressed left (event failures)) before now connection told
   pub over : (failures : List Failure) → (event failures).halt ≡ fails → (event failures).over ≡ true

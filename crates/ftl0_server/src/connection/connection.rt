@@ -11,7 +11,8 @@ ghost use Rattle.ftl0_packets.specs.Reading.{is_whole, read_item};
 ghost use Rattle.ftl0_session.specs.Lists.Lists.{has_left};
 ghost use Rattle.file_store.specs.State.{StoreState, store_in};
 ghost use Rattle.ftl0_session.specs.Uploads.Others.{KeepsOtherCallers};
-ghost use Rattle.ftl0_session.specs.Uploads.SessionState.{IsHeld, IsOnlyOut, NoOtherOut, Parks, with_disk};
+ghost use Rattle.disk_model.specs.AtDisk.{at};
+ghost use Rattle.ftl0_session.specs.Uploads.SessionState.{IsHeld, IsOnlyOut, NoOtherOut, Parks};
 ghost use Rattle.ftl0_session.specs.SessionState.{caller_of, new_session, working_on};
 ghost use Rattle.ftl0_server.specs.Connection.Connected.{Connected, answering, beginning, greeted};
 ghost use Rattle.ftl0_server.specs.Connection.ConnectionState.{ConnectionState as Carried, Hears, IsConnection};
@@ -109,10 +110,10 @@ impl Connection {
         // Of whichever connection it stands for, it is what the frame makes of that, or the server stops.
         ensures hears { (w : Window) (c : Connected) → IsConnection w store.old self.old c →
             Hears D.Disk w (hearing w moment (store_in store.old) lists.old c (value_of frame.now))
-            (with_disk store.old disk.old) (working_on store.new lists.new disk.new) self.new result }
+            (at store.old disk.old) (working_on store.new lists.new disk.new) self.new result }
 
         // What the next event needs.
-        ensures fit { LeavesFit D.Disk (with_disk store.old disk.old) (working_on store.new lists.new disk.new)
+        ensures fit { LeavesFit D.Disk (at store.old disk.old) (working_on store.new lists.new disk.new)
             self.old.link self.new.link self.old.session self.new.session result }
     {
         let told = self.take_frame(disk, store, lists, frame, moment);
@@ -198,8 +199,8 @@ impl Connection {
         ensures hears { (w : Window) (c : Connected) → IsConnection w store.old self.old c →
             HearsParts D.Disk w (rest_of_frame w c (value_of frame.now))
             (parts_of_frame w moment (store_in store.old) lists.old c (value_of frame.now))
-            (with_disk store.old disk.old) (working_on store.new lists.new disk.new) self.new result }
-        ensures fit { LeavesFit D.Disk (with_disk store.old disk.old) (working_on store.new lists.new disk.new)
+            (at store.old disk.old) (working_on store.new lists.new disk.new) self.new result }
+        ensures fit { LeavesFit D.Disk (at store.old disk.old) (working_on store.new lists.new disk.new)
             self.old.link self.new.link self.old.session self.new.session result }
     {
         match self.link.take(frame) {
@@ -283,7 +284,7 @@ fn take_packets<D: Disk>(
     ensures feeds { FeedsAll D.Disk moment (carrying link.old.link (octets_in link.old ++ octets.now) session.old)
         (carrying link.new.link (octets_in link.new) session.new) (working_on store.old lists.old disk.old)
         (working_on store.new lists.new disk.new) result }
-    ensures fit { LeavesFit D.Disk (with_disk store.old disk.old) (working_on store.new lists.new disk.new)
+    ensures fit { LeavesFit D.Disk (at store.old disk.old) (working_on store.new lists.new disk.new)
         link.old.link link.new.link session.old session.new result }
 {
     let mut piece = octets;
@@ -312,7 +313,7 @@ fn answer<D: Disk>(
     ensures takes { TakesSome D.Disk moment (with_nothing_left link.old.link session.old)
         (working_on store.old lists.old disk.old) (read_item link.old.reader ∷ [])
         (working_on store.new lists.new disk.new) (with_nothing_left link.new.link session.new) result }
-    ensures fit { LeavesFit D.Disk (with_disk store.old disk.old) (working_on store.new lists.new disk.new)
+    ensures fit { LeavesFit D.Disk (at store.old disk.old) (working_on store.new lists.new disk.new)
         link.old.link link.new.link session.old session.new result }
     ensures reader { link.new.reader ≡ link.old.reader }
 {

@@ -23,7 +23,8 @@ use Rattle.disk_model.specs.declared.halt.Halt.TheVariants as stop
 use Rattle.ftl0_session.specs.Uploads.Others.{KeepsOtherCallers}
 use Rattle.ftl0_packets.specs.Items.{texts}
 use Rattle.ftl0_session.specs.Uploads.Session.{command, granted_row, refused_row, session_row}
-use Rattle.ftl0_session.specs.Uploads.SessionState.{MayTake, NoOtherOut, with_disk}
+use Rattle.disk_model.specs.AtDisk.{at}
+use Rattle.ftl0_session.specs.Uploads.SessionState.{MayTake, NoOtherOut}
 use Rattle.ftl0_session.specs.Uploads.Taking.{Answered, AnswersRefusal}
 use Rattle.ftl0_session.specs.Uploads.Events.{packet_of}
 use Rattle.ftl0_session.proofs.uploads.DoesLemmas.{answered-alone, does-row, some-at_front, touched}
@@ -85,7 +86,7 @@ module _ {D : Type 0} (g : Ghosts D) (caller : CallSign) (moment len : ℕ) (bef
   Item-asked = Ok (upload_cmd 0 len)
 
   abbrev Gives-it : StoreState → D → List ℕ → Result ⊤ Halt → Type 0
-  Gives-it now disk_now replies result = Answered g (packet_of caller moment (Ok (upload_cmd 0 len))) command (with_disk before disk) (with_disk now disk_now) replies (phase.Command, result)
+  Gives-it now disk_now replies result = Answered g (packet_of caller moment (Ok (upload_cmd 0 len))) command (at before disk) (at now disk_now) replies (phase.Command, result)
 
   -- nothing was touched
   untouched : (replies : List ℕ) (result : Result ⊤ Halt) → (now ≡ before) × (disk_now ≡ disk) → Gives-it before disk replies result → Gives-it now disk_now replies result

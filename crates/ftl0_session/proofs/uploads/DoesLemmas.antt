@@ -17,7 +17,7 @@ use Rattle.disk_model.specs.declared.halt.Halt.TheVariants as stop
 use Rattle.ftl0_session.specs.Uploads.Session.{Row, State, session_row}
 use Rattle.ftl0_session.specs.Uploads.Taking.{Answered, AnsweredAlone, Answers, DoesRow, LeavesDisk, PutsRow, row_of}
 use Rattle.ftl0_session.specs.Uploads.Events.{CallerPacket, packet_of}
-use Rattle.ftl0_session.specs.Uploads.SessionState.{WithDisk, with_disk}
+use Rattle.disk_model.specs.AtDisk.{AtDisk, at}
 
 -- the answer that is this stop
 abbrev stopped : Halt → Result ⊤ Halt
@@ -51,7 +51,7 @@ module _ {D : Type 0} (g : Ghosts D) where
   -- a packet that leaves the disk alone
   pub answered-alone : (caller : CallSign) (moment : ℕ) (state : State) (item : Item) (before now : StoreState) (disk : D) (replies : List ℕ) (taken : Phase × Result ⊤ Halt)
       → IsReady g before disk → g.lasts disk disk → AnsweredAlone (packet_of caller moment item) state before now replies taken
-      → Answered g (packet_of caller moment item) state (with_disk before disk) (with_disk now disk) replies taken
+      → Answered g (packet_of caller moment item) state (at before disk) (at now disk) replies taken
   answered-alone caller moment state item before now disk replies taken ready lasts alone = record {
     answers = alone.answers;
     on_disk =
@@ -65,7 +65,7 @@ module _ {D : Type 0} (g : Ghosts D) where
   }
 
   -- What stands after a packet, whatever the answer.
-  pub after-packet : (packet : CallerPacket) (state next : State) (before now : WithDisk StoreState D) (replies : List ℕ) (result : Result ⊤ Halt) → g.lasts before.disk before.disk
+  pub after-packet : (packet : CallerPacket) (state next : State) (before now : AtDisk StoreState D) (replies : List ℕ) (result : Result ⊤ Halt) → g.lasts before.disk before.disk
       → IsReady g before.it before.disk → Answers packet before.it state now.it next replies result
       → PutsRow g before.it now.it before.disk now.disk (row_of packet before.it state) result
       → Puts g (IsErrOf result stop.Disk) before.disk now.disk × (IsErrOf result stop.Disk → now.it.journal.failed ≡ true)

@@ -15,15 +15,6 @@ pub record SessionState : Type 0 where
   pub caller : CallSign
   pub phase : Phase
 
--- what a session works on, and the disk below it
-pub record WithDisk (X D : Type 0) : Type 0 where
-  pub it : X
-  pub disk : D
-
--- by its parts
-abbrev pub with_disk : {X D : Type 0} → X → D → WithDisk X D
-with_disk it disk = record { it = it; disk = disk }
-
 -- a session that was just connected
 abbrev pub new_session : CallSign → SessionState
 new_session caller = record { caller = caller; phase = phase.Command }

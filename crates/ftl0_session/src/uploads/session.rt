@@ -11,7 +11,8 @@ ghost use Rattle.file_store.specs.State.{StandsOn, store_in};
 ghost use Rattle.ftl0_session.specs.Uploads.Asked.{AnswersAborting, AnswersAsked};
 ghost use Rattle.ftl0_session.specs.Uploads.Others.{KeepsOtherCallers};
 ghost use Rattle.ftl0_session.specs.Uploads.Session.{command as in_command, is_upload_kind};
-ghost use Rattle.ftl0_session.specs.Uploads.SessionState.{IsHeld, IsOnlyOut, MayTake, NoOtherOut, Parks, with_disk};
+ghost use Rattle.disk_model.specs.AtDisk.{at};
+ghost use Rattle.ftl0_session.specs.Uploads.SessionState.{IsHeld, IsOnlyOut, MayTake, NoOtherOut, Parks};
 ghost use Rattle.ftl0_session.specs.Uploads.SessionState.{new_session, receiving_of, state_of};
 ghost use Rattle.ftl0_session.specs.Uploads.Taking.{Answered, AnsweredAlone, AnswersRefusal, LeavesDisk};
 ghost use Rattle.ftl0_session.specs.Uploads.Taking.{PutsRow, TakesPacket, row_for};
@@ -174,7 +175,7 @@ impl Session {
         requires { MayTake D.Disk store.old disk.old self.now.caller phase }
         ensures { AnswersAsked asked.entry
             (λ item. Answered D.Disk (packet_of self.now.caller moment item) (state_of store.old phase)
-            (with_disk store.old disk.old) (with_disk store.new disk.new) replies.new.items result) }
+            (at store.old disk.old) (at store.new disk.new) replies.new.items result) }
     {
         match phase {
             Phase::Command => take_command(disk, self.caller, asked, moment, store, replies),
@@ -196,7 +197,7 @@ impl Session {
         requires { MayTake D.Disk store.old disk.old self.now.caller (receiving_phase up) }
         ensures { AnswersAsked asked.entry
             (λ item. Answered D.Disk (packet_of self.now.caller moment item) (receiving_of store.old up)
-            (with_disk store.old disk.old) (with_disk store.new disk.new) replies.new.items result) }
+            (at store.old disk.old) (at store.new disk.new) replies.new.items result) }
     {
         match asked {
             Asked::Part(octets) => take_data(disk, self.caller, up, octets, store, replies),
@@ -216,7 +217,7 @@ impl Session {
     ) -> Taken
         requires { MayTake D.Disk store.old disk.old self.now.caller (receiving_phase up) }
         ensures { Answered D.Disk (packet_of self.now.caller moment (Ok data_end)) (receiving_of store.old up)
-            (with_disk store.old disk.old) (with_disk store.new disk.new) replies.new.items result }
+            (at store.old disk.old) (at store.new disk.new) replies.new.items result }
     {
         match store.seal(disk, up, moment) {
             Ok(receipt) => {
@@ -252,7 +253,7 @@ fn take_command<D: Disk>(
 ) -> Taken
     requires { MayTake D.Disk store.old disk.old caller command_phase }
     ensures { AnswersAsked asked.entry (λ item. Answered D.Disk (packet_of caller moment item) in_command
-        (with_disk store.old disk.old) (with_disk store.new disk.new) replies.new.items result) }
+        (at store.old disk.old) (at store.new disk.new) replies.new.items result) }
 {
     match asked {
         Asked::Upload { number: 0, length } => begin(disk, caller, length, moment, store, replies),
@@ -272,7 +273,7 @@ fn begin<D: Disk>(
 ) -> Taken
     requires { MayTake D.Disk store.old disk.old caller command_phase }
     ensures { Answered D.Disk (packet_of caller moment (Ok (upload_cmd 0 length))) in_command
-        (with_disk store.old disk.old) (with_disk store.new disk.new) replies.new.items result }
+        (at store.old disk.old) (at store.new disk.new) replies.new.items result }
 {
     // No entry has the number that comes next.
     state_law(store);
@@ -372,7 +373,7 @@ fn take_data<D: Disk>(
 ) -> Taken
     requires { MayTake D.Disk store.old disk.old caller (receiving_phase up) }
     ensures { (moment : ℕ) → Answered D.Disk (packet_of caller moment (Ok (data_part octets.entry.now)))
-        (receiving_of store.old up) (with_disk store.old disk.old) (with_disk store.new disk.new) replies.new.items
+        (receiving_of store.old up) (at store.old disk.old) (at store.new disk.new) replies.new.items
         result }
 {
     match store.append(disk, up, octets) {

@@ -31,7 +31,7 @@ use Rattle.ftl0_packets.specs.Layout.{PacketValue, packet_text, Item, PacketText
 use Rattle.file_store.specs.Command.{Command}
 use Rattle.file_store.specs.Working.{CutsOffAmongReads, DoesAmongReads, one_if}
 use Rattle.file_store.proofs.Offered.{among-at, among-same, among-store, among-then, cuts-among-none, cuts-among-same}
-use Rattle.ftl0_session.specs.Uploads.SessionState.{IsHeld, IsOnlyOut, with_disk}
+use Rattle.ftl0_session.specs.Uploads.SessionState.{IsHeld, IsOnlyOut}
 use Rattle.ftl0_session.specs.Downloads.Needs.{AreComplete, IsDueIn}
 use Rattle.ftl0_session.specs.Filling.{PutsDue}
 use Rattle.ftl0_session.specs.SessionState.{SessionState, state_in}
@@ -187,7 +187,7 @@ server-filled a store session h k due is = record {
 module _ {D : Type 0} (g : Ghosts D) (old : AtDisk ServerState D) (new : AtDisk StoreState D) (events : List Event) (event : Event) (only : events ≡ event ∷ []) (parts : List ℕ) (row : Row)
     (is_row : IsRowOf old.it (met_with event parts) row) (why : Stop) (unsaid : Bool) (text : List ℕ) where
   stop-at : (done cut : List Command) (missed : ℕ) → StopsAt why unsaid (session_in old.it) (met_with event parts) row (made text done missed) cut
-      → CutsOffAmongReads g (why ≡ node_stop.Disk) missed old.it.store new.it old.disk new.disk done cut → (why ≡ node_stop.OutOfMemory → unsaid ≡ false)
+      → CutsOffAmongReads g (why ≡ node_stop.Disk) missed (at old.it.store old.disk) new done cut → (why ≡ node_stop.OutOfMemory → unsaid ≡ false)
       → StopsOn g (session_steps old.it.caller) (session_at old) new events why unsaid text
   stop-at done cut missed stops cuts kept = record {
     done = done;
@@ -214,7 +214,7 @@ module _ {D : Type 0} (g : Ghosts D) (lasts : (disk : D) → g.lasts disk disk) 
       stops =
           let missed : ℕ = failed_reads_told h.row.replies in
           stop-at g start (at now.it.store now.disk) (events_to start.it inputs) h.event h.only h.parts h.row h.is_row (stop_of why) unsaid said [] h.cut missed stops
-          (cuts-among-same g (why ≡ halt.Disk) (stop_of why ≡ node_stop.Disk) missed missed start.it.store now.it.store start.disk now.disk [] h.cut (ap stop_of) (by-disk why) refl h.cuts) kept;
+          (cuts-among-same g (why ≡ halt.Disk) (stop_of why ≡ node_stop.Disk) missed missed (at start.it.store start.disk) (at now.it.store now.disk) [] h.cut (ap stop_of) (by-disk why) refl h.cuts) kept;
     }),
   )
     where
@@ -267,7 +267,7 @@ module _ {D : Type 0} (g : Ghosts D) (lasts : (disk : D) → g.lasts disk disk) 
                     refl,
                     refl,
                   )
-                  (cuts-among-none g (node_stop.AirWrite ≡ node_stop.Disk) (failed_reads_told answer) start.it.store now.it.store start.disk now.disk row.commands (λ e. cc e) (lasts now.disk)
+                  (cuts-among-none g (node_stop.AirWrite ≡ node_stop.Disk) (failed_reads_told answer) (at start.it.store start.disk) (at now.it.store now.disk) row.commands (λ e. cc e) (lasts now.disk)
                   (does (failed_reads_told answer) row.commands (ap failed_reads_told an.1.said_is) an.1.commands_are)) (λ memory. absurd (cc memory));
             })
         by (event ∷ next ∷ events) is never = absurd never
@@ -458,7 +458,7 @@ module _ {D : Type 0} (g : Ghosts D) (lasts : (disk : D) → g.lasts disk disk) 
 
     module _ (now : Working) (disk_n : D) (replies : List ℕ) where
       abbrev Takes : Result ⊤ Halt → Type 0
-      Takes result = TakesPacket g (packet_of a.caller moment item) (with_disk before disk) (with_disk now disk_n) replies result
+      Takes result = TakesPacket g (packet_of a.caller moment item) (at before disk) (at now disk_n) replies result
 
       -- the server behind it
       abbrev server_n : CallSign → Bool → ServerState
@@ -483,7 +483,7 @@ module _ {D : Type 0} (g : Ghosts D) (lasts : (disk : D) → g.lasts disk disk) 
 
       -- the session stopped at it
       halting : (caller : CallSign) (why : Halt) (fails : Bool) (cut : List Command) → LastOf why a.state (met_with event (with_part fails 0 [])) (row fails) replies cut
-          → CutsOffAmongReads g (why ≡ halt.Disk) (failed_reads_told (row fails).replies) a.store now.store disk disk_n [] cut → Owes g (at self disk) inputs (Some why) [] (at (server_n caller true) disk_n)
+          → CutsOffAmongReads g (why ≡ halt.Disk) (failed_reads_told (row fails).replies) (at a.store disk) (at now.store disk_n) [] cut → Owes g (at self disk) inputs (Some why) [] (at (server_n caller true) disk_n)
       halting caller why fails cut last cuts = of_self (Some why) _ (record {
         are_octets = inputs-octets;
         halted = refl;
@@ -501,11 +501,11 @@ module _ {D : Type 0} (g : Ghosts D) (lasts : (disk : D) → g.lasts disk disk) 
       pub owes-last : (caller : CallSign) (stop : Halt) → Takes (Err stop) → Owes g (at self disk) inputs (Some stop) [] (at (server_n caller true) disk_n)
       owes-last caller halt.Disk takes =
           halting caller halt.Disk takes.fails (row takes.fails).commands (takes.answers.2, refl)
-          (cuts-among-same g ⊤ (halt.Disk ≡ halt.Disk) (failed_reads_told (row takes.fails).replies) (failed_reads_told (row takes.fails).replies) a.store now.store disk disk_n [] (row takes.fails).commands
+          (cuts-among-same g ⊤ (halt.Disk ≡ halt.Disk) (failed_reads_told (row takes.fails).replies) (failed_reads_told (row takes.fails).replies) (at a.store disk) (at now.store disk_n) [] (row takes.fails).commands
           (λ _. refl) (λ _. tt) refl (taken-cut g on a.caller moment item before now disk disk_n replies ready.up takes))
       owes-last caller halt.OutOfMemory takes =
           let none = taken-none g on a.caller moment item before now disk disk_n replies ready.up takes in
           let missed : ℕ = failed_reads_told (row takes.fails).replies in
           halting caller halt.OutOfMemory takes.fails [] (takes.answers.0, takes.answers.2, refl)
-          (cuts-among-none g (halt.OutOfMemory ≡ halt.Disk) missed a.store now.store disk disk_n [] (λ e. cc e) (lasts disk_n)
+          (cuts-among-none g (halt.OutOfMemory ≡ halt.Disk) missed (at a.store disk) (at now.store disk_n) [] (λ e. cc e) (lasts disk_n)
           (subst (λ (s : StoreState). DoesAmongReads g ⊥ missed a.store s disk disk_n []) (sym none.0) none.1))

@@ -103,8 +103,8 @@ pub record IsHalting {D : Type 0} (g : Ghosts D) (old : AtDisk ServerState D) (i
   pub cut : List Command
   pub last : LastOf why old.it.state (met_with event parts) row text cut
   pub cuts :
-      CutsOffAmongReads g (why ≡ halt.Disk) (failed_reads_told row.replies) old.it.store new.it.store old.disk new.disk
-      [] cut
+      CutsOffAmongReads g (why ≡ halt.Disk) (failed_reads_told row.replies) (at old.it.store old.disk)
+      (at new.it.store new.disk) [] cut
 
 -- the server at its disk, with nothing to say but what is due
 abbrev pub silenced : {D : Type 0} → AtDisk ServerState D → AtDisk ServerState D

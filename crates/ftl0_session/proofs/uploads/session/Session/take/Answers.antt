@@ -3,7 +3,8 @@ use Rattle.std.proofs.Common.{◌≡◌, ap, ap₂, sym, ◌∙◌, subst}
 use Rattle.px_base.specs.CallSign.{CallSign}
 use Rattle.ftl0_packets.specs.Values.{item_of}
 use Rattle.ftl0_session.specs.declared.uploads.phase.Phase.{Phase}
-use Rattle.ftl0_session.specs.Uploads.SessionState.{IsHeld, IsOnlyOut, SessionState, state_of, with_disk}
+use Rattle.disk_model.specs.AtDisk.{at}
+use Rattle.ftl0_session.specs.Uploads.SessionState.{IsHeld, IsOnlyOut, SessionState, state_of}
 use Rattle.ftl0_session.specs.Uploads.Taking.{TakesPacket}
 use Rattle.ftl0_session.specs.Uploads.Events.{packet_of}
 use Rattle.ftl0_session.proofs.uploads.DoesLemmas.{after-packet}
@@ -21,7 +22,7 @@ returns g c =
     let all = rw (by, phase) at here in
     let same = ap₂ session_of by c.replace.ensures.after in
     let after = after-packet g.D.Disk (packet_of c.args.self.now.caller c.args.moment (item_of c.args.packet)) (state_of c.args.store.now c.args.self.now.phase)
-    (state_of c.take_asked-phase.new.store c.take_asked-phase.result.0) (with_disk c.args.store.now c.args.disk.now) (with_disk c.take_asked-phase.new.store c.take_asked-phase.new.disk)
+    (state_of c.take_asked-phase.new.store c.take_asked-phase.result.0) (at c.args.store.now c.args.disk.now) (at c.take_asked-phase.new.store c.take_asked-phase.new.disk)
     c.take_asked-phase.new.replies.items c.take_asked-phase.result.1 (g.met.D.Disk.lasts_same c.args.disk.now) c.requires.may.ready all.answers all.on_disk in
     record {
       takes =
