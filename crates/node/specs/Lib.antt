@@ -7,4 +7,5 @@ pub mod Reading
 pub mod Laws
 pub mod OnAir
 pub mod Said
+pub mod Stops
 pub mod Turns

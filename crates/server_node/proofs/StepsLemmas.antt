@@ -1,14 +1,15 @@
 -- Events one after another, and a stop at one of them, whatever serves them.
-use Rattle.std.proofs.Common.{◌≡◌, ℕ, ◌+◌, List, [], ◌∷◌, ◌++◌, Bool, refl, ap, sym, ◌∙◌, append_assoc}
+use Rattle.std.proofs.lemmas.Grind.{common_steps}
+use Rattle.std.proofs.Common.{◌≡◌, ℕ, ◌+◌, List, [], ◌∷◌, ◌++◌, Bool, refl, ap, sym, ◌∙◌, append_assoc, arith}
 use Rattle.std.proofs.Math.Nat.{add_assoc, zero-add}
 use Rattle.disk_model.specs.declared.disk.Disk.{Ghosts}
 use Rattle.file_store.specs.Command.{Command}
 use Rattle.file_store.specs.State.{IsReady, StoreState}
 use Rattle.file_store.specs.Working.{CutsOffAmongReads, DoesAmongReads}
 use Rattle.file_store.proofs.Offered.{Does-none, among-then, cuts-among-then, does-among}
-use Rattle.node.specs.Course.{AtDisk}
-use Rattle.node.specs.declared.stop.NodeStop.{NodeStop as Stop}
-use Rattle.node.specs.declared.stop.NodeStop.TheVariants as node_stop
+use Rattle.node.specs.Course.{AtDisk, at}
+use Rattle.node.specs.declared.stop.NodeStop.{NodeStop}
+use Rattle.node.specs.declared.stop.NodeStop.TheVariants as stop
 use Rattle.server_node.specs.Steps.{Made, RunsOn, Steps, StopsBehind, StopsOn, StopsOver, WithStore, both, made, with_store}
 
 -- no events make nothing, and events and others behind them what both make
@@ -26,7 +27,7 @@ both-assoc a b c =
 pub does-none : {D : Type 0} (g : Ghosts D) (store : StoreState) (disk : D) → IsReady g store disk → g.lasts disk disk → DoesAmongReads g ⊥ 0 store store disk disk []
 does-none g store disk ready lasts = does-among g ⊥ store store disk disk [] (Does-none g ⊥ store disk (λ never. never) ready lasts)
 
-module _ {S E : Type 0} (steps : Steps S E) (laws : AreSteps steps) (why : Stop) (unsaid : Bool) where
+module _ {S E : Type 0} (steps : Steps S E) (laws : AreSteps steps) (why : NodeStop) (unsaid : Bool) where
   -- a stop at the one event
   pub stop-one : (s : S) (event : E) (all : Made) (cut : List Command) → steps.stops why unsaid s event all cut → StopsOver steps s (event ∷ []) why unsaid all cut
   stop-one s event all cut h = record {
@@ -67,26 +68,7 @@ module _ {S E : Type 0} (steps : Steps S E) (laws : AreSteps steps) (why : Stop)
   module _ {D : Type 0} (g : Ghosts D) where
     -- others behind the one at which it stopped
     pub stops-more : (a : WithStore S D) (c : AtDisk StoreState D) (xs ys : List E) (text : List ℕ) → StopsOn g steps a c xs why unsaid text → StopsOn g steps a c (xs ++ ys) why unsaid text
-    stops-more a c xs ys text h = record {
-      done = h.done;
-      cut = h.cut;
-      missed = h.missed;
-      stops =
-          record {
-            before = h.stops.before;
-            next = h.stops.next;
-            later = h.stops.later ++ ys;
-            events_are = ap (λ (es : List E). es ++ ys) h.stops.events_are ∙ append_assoc h.stops.before (h.stops.next ∷ h.stops.later) ys;
-            earlier = h.stops.earlier;
-            then_is = h.stops.then_is;
-            goes = h.stops.goes;
-            last = h.stops.last;
-            stops = h.stops.stops;
-            all_is = h.stops.all_is;
-          };
-      cuts = h.cuts;
-      kept = h.kept;
-    }
+    stops-more a c xs ys text h = grind (arith, common_steps)
 
     -- others that were taken before it
     module _ (on : (first second third : D) → g.lasts first second → g.lasts second third → g.lasts first third) (a b : WithStore S D) (c : AtDisk StoreState D) (xs ys : List E) (text more : List ℕ)
@@ -94,8 +76,8 @@ module _ {S E : Type 0} (steps : Steps S E) (laws : AreSteps steps) (why : Stop)
       pub behind-all : StopsBehind xs steps a.it (xs ++ ys) why unsaid (made (text ++ more) (h.done ++ k.done) (h.missed + k.missed)) k.cut
       behind-all = stop-behind a.it b.it xs ys (made text h.done h.missed) (made more k.done k.missed) k.cut h.goes k.stops
 
-      pub cuts-all : CutsOffAmongReads g (why ≡ node_stop.Disk) (h.missed + k.missed) (at a.store a.disk) c (h.done ++ k.done) k.cut
-      cuts-all = cuts-among-then g on (why ≡ node_stop.Disk) h.missed k.missed (at a.store a.disk) (at b.store b.disk) c h.done k.done k.cut h.does k.cuts
+      pub cuts-all : CutsOffAmongReads g (why ≡ stop.Disk) (h.missed + k.missed) (at a.store a.disk) c (h.done ++ k.done) k.cut
+      cuts-all = cuts-among-then g on (why ≡ stop.Disk) h.missed k.missed (at a.store a.disk) (at b.store b.disk) c h.done k.done k.cut h.does k.cuts
 
       pub stops-on : StopsOn g steps a c (xs ++ ys) why unsaid (text ++ more)
       stops-on = record { done = h.done ++ k.done; cut = k.cut; missed = h.missed + k.missed; stops = behind-all.stops; cuts = cuts-all; kept = k.kept }

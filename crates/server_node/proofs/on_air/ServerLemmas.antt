@@ -1,5 +1,6 @@
 -- The course of a server as a node drives it, and what the server did over the turns of its node.
-use Rattle.std.proofs.Common.{◌≡◌, ℕ, ◌+◌, Bool, true, false, List, [], ◌∷◌, ◌++◌, Option, None, Some, refl, ap, ap₂, sym, subst, ◌∙◌, inl, inr, true≢false, append_assoc, append-nil, ◌⊎◌, length, take, drop, length-append, arith}
+use Rattle.std.proofs.lemmas.Grind.{common_steps}
+use Rattle.std.proofs.Common.{◌≡◌, ℕ, ◌+◌, Bool, true, false, List, [], ◌∷◌, ◌++◌, Option, None, Some, refl, ap, sym, subst, ◌∙◌, inl, inr, true≢false, append_assoc, append-nil, ◌⊎◌, length, take, drop, length-append, arith}
 use Rattle.std.specs.Prelude.{◌≢◌, Result, Ok, Err, ⊤, IsErrOf}
 use Rattle.kiss.specs.KissText.{kiss_text}
 use Rattle.px_base.specs.Octets.{IsFront}
@@ -12,7 +13,7 @@ use Rattle.file_store.proofs.Offered.{cuts-among-none, cuts-among-same}
 use Rattle.node.specs.Course.{AtDisk, GaveAll, GivesNext, IsLawful, at, stop_at_put}
 use Rattle.node.specs.Events.{NodeEvent, NodeEvents}
 use Rattle.disk_model.specs.declared.halt.Halt.{Halt}
-use Rattle.node.specs.declared.stop.NodeStop.{NodeStop as Stop}
+use Rattle.node.specs.declared.stop.NodeStop.{NodeStop}
 use Rattle.ftl0_server.specs.Failures.{failed_reads, failed_write}
 use Rattle.ftl0_server.specs.Connection.Taking.{fails}
 use Rattle.ftl0_server.specs.Connection.ConnectionState.{with_reads}
@@ -38,28 +39,19 @@ use Rattle.node.specs.Turns.{IsUnsaid, Lent as Driven, StoppedInLast, TookTurns,
 use Rattle.node.specs.declared.finished.Finished.{Finished}
 use Rattle.node.specs.declared.terms.TurnTerms.{TurnTerms}
 use Rattle.file_store.specs.Recovery.{IsRecovered}
-use Rattle.server_node.specs.declared.stop.NodeStop.{NodeStop}
 use Rattle.server_node.specs.declared.terms.Served.{Served}
 use Rattle.server_node.specs.declared.terms.ServerTerms.{ServerTerms}
 use Rattle.server_node.specs.Served.{Run, TurnsBy}
-use Rattle.server_node.specs.Stops.{HasAirCause, served_by, stop_of_node}
+use Rattle.server_node.specs.Stops.{HasAirCause, served_by}
 use Rattle.server_node.specs.OnAir.Served.{ServerRan, server_from}
 use Rattle.server_node.proofs.Ending.{Did, Stopped, Taken, but_last, did-by, disk-stop, never-over}
 use Rattle.disk_model.specs.declared.halt.Halt.TheVariants as halt
-use Rattle.node.specs.declared.stop.NodeStop.TheVariants as node_stop
+use Rattle.node.specs.declared.stop.NodeStop.TheVariants as stop
 use Rattle.node.specs.declared.finished.Finished.TheVariants as finished
-use Rattle.server_node.specs.declared.stop.NodeStop.TheVariants as stop
 
 -- a server goes over its events one after another
 pub are_steps : AreSteps server_steps
-are_steps = record {
-  none = λ server. record { frames = []; text_is = refl; serves = (refl, refl, refl, refl) };
-  on = λ server mid now events others all more h k. record {
-    frames = h.frames ++ k.frames;
-    text_is = ap₂ (λ (t u : List ℕ). t ++ u) h.text_is k.text_is ∙ sym (flat_map-append (λ (frame : FrameValue). kiss_text (canonical frame)) h.frames k.frames);
-    serves = serves-append server events h.frames all.done all.missed mid others k.frames more.done more.missed now h.serves k.serves;
-  };
-}
+are_steps = grind (arith, common_steps, flat_map-append, serves-append)
 
 -- how a server answers an event, by the halt of its node
 abbrev answer_by : Option Halt → Result ⊤ Halt
@@ -92,15 +84,15 @@ module _ {D : Type 0} (g : Ghosts D) (lasts : (disk : D) → g.lasts disk disk) 
     moved missed done does = subst (λ (store : StoreState). DoesAmongReads g ⊥ missed old.it.server.store store old.disk new.disk done) (sym same) does
 
     -- It stopped at the event.
-    stopped : (why : Stop) (unsaid : Bool) (text : List ℕ) (done cut : List Command) (missed : ℕ) → StopsAt why unsaid server event (made text done missed) cut
-        → CutsOffAmongReads g (why ≡ node_stop.Disk) missed (store_at old) (store_at new) done cut → (why ≡ node_stop.OutOfMemory → unsaid ≡ false)
+    stopped : (why : NodeStop) (unsaid : Bool) (text : List ℕ) (done cut : List Command) (missed : ℕ) → StopsAt why unsaid server event (made text done missed) cut
+        → CutsOffAmongReads g (why ≡ stop.Disk) missed (store_at old) (store_at new) done cut → (why ≡ stop.OutOfMemory → unsaid ≡ false)
         → HaltsOn g server old (event ∷ []) why unsaid text new
     stopped why unsaid text done cut missed at_event cuts kept =
         record { done = done; cut = cut; missed = missed; stops = stop-one server_steps are_steps why unsaid server event (made text done missed) cut at_event; cuts = cuts; kept = kept }
 
     -- Not by the disk.
-    none-cut : (why : Stop) → ¬ (why ≡ node_stop.Disk) → (done : List Command) (missed : ℕ) → DoesAmongReads g ⊥ missed old.it.server.store made_so.store old.disk new.disk done
-        → CutsOffAmongReads g (why ≡ node_stop.Disk) missed (store_at old) (store_at new) done []
+    none-cut : (why : NodeStop) → ¬ (why ≡ stop.Disk) → (done : List Command) (missed : ℕ) → DoesAmongReads g ⊥ missed old.it.server.store made_so.store old.disk new.disk done
+        → CutsOffAmongReads g (why ≡ stop.Disk) missed (store_at old) (store_at new) done []
     none-cut why fine done missed does = cuts-among-none g _ missed (store_at old) (store_at new) done fine (lasts new.disk) (moved missed done does)
 
     module _ (by : Heard (Ok tt)) (frames : List FrameValue) (last : Server) (sent : Empties taken.after frames last) where
@@ -112,36 +104,32 @@ module _ {D : Type 0} (g : Ghosts D) (lasts : (disk : D) → g.lasts disk disk) 
 
       -- All of it was taken, and its frames were said.
       event-taken : IsServer new.it.server (settled last) → ComesOn g server old (event ∷ []) (text_of frames) new
-      event-taken stands = record {
-        next = settled last;
-        serving = record { is = stands; silent = silent-settled last (empties-silent taken.after frames last sent) };
-        runs = record { done = taken.done; missed = taken.missed; goes = record { frames = frames; text_is = refl; serves = serves-one server event taken.done frames taken.missed (settled last) takes-event }; does = moved taken.missed taken.done by.2 };
-      }
+      event-taken stands = grind (arith, common_steps, empties-silent, moved, serves-one, silent-settled, takes-event)
 
       -- All of it was taken, and saying its frames failed.
-      event-unsaid : (text : List ℕ) → frames ≢ [] → IsFront text (text_of frames) → HaltsOn g server old (event ∷ []) node_stop.AirWrite true text new
+      event-unsaid : (text : List ℕ) → frames ≢ [] → IsFront text (text_of frames) → HaltsOn g server old (event ∷ []) stop.AirWrite true text new
       event-unsaid text some is_front =
-          stopped node_stop.AirWrite true text taken.done [] taken.missed (frames, settled last, takes-event, some, is_front, refl)
-          (none-cut node_stop.AirWrite (λ e. cc e) taken.done taken.missed by.2) (λ is. cc is)
+          stopped stop.AirWrite true text taken.done [] taken.missed (frames, settled last, takes-event, some, is_front, refl)
+          (none-cut stop.AirWrite (λ e. cc e) taken.done taken.missed by.2) (λ is. cc is)
 
     -- The disk failed in it, and the frames of that step were said, or a front of them.
     event-failed : (by : Heard (Err halt.Disk)) (frames : List FrameValue) (last : Server) → Empties (failing server event by.0 parts).after frames last → (text : List ℕ) (unsaid : Bool)
-        → IsSaid unsaid (text_of frames) text → HaltsOn g server old (event ∷ []) node_stop.Disk unsaid text new
+        → IsSaid unsaid (text_of frames) text → HaltsOn g server old (event ∷ []) stop.Disk unsaid text new
     event-failed by frames last sent text unsaid said =
         let failed : ServerHappened = failing server event by.0 parts in
         let step : ServerStep server event (failed_write by.0 ++ failed_reads parts) (stepped failed.done failed.cut failed.missed fails frames (settled last)) =
         record { silent = serving.silent; done_is = refl; cut_is = refl; missed_is = refl; halt_is = sym by.1; last = last; sent = sent; new_is = refl } in
-        stopped node_stop.Disk unsaid text failed.done failed.cut failed.missed (by.0, parts, frames, settled last, step, said)
-        (cuts-among-same g ⊤ (node_stop.Disk ≡ node_stop.Disk) failed.missed failed.missed (store_at old) (store_at new) failed.done failed.cut (λ _. refl) (λ _. tt) refl
+        stopped stop.Disk unsaid text failed.done failed.cut failed.missed (by.0, parts, frames, settled last, step, said)
+        (cuts-among-same g ⊤ (stop.Disk ≡ stop.Disk) failed.missed failed.missed (store_at old) (store_at new) failed.done failed.cut (λ _. refl) (λ _. tt) refl
         (subst (λ (store : StoreState). CutsOffAmongReads g ⊤ failed.missed (store_at old) (at store new.disk) failed.done failed.cut) (sym same) by.3)) (λ is. cc is)
 
     -- There was no memory for it.
-    event-unmade : Heard (Err halt.OutOfMemory) → HaltsOn g server old (event ∷ []) node_stop.OutOfMemory false [] new
-    event-unmade (inl does) = stopped node_stop.OutOfMemory false [] [] [] 0 (inl (refl, refl), refl, refl) (none-cut node_stop.OutOfMemory (λ e. cc e) [] 0 does) (λ is. refl)
+    event-unmade : Heard (Err halt.OutOfMemory) → HaltsOn g server old (event ∷ []) stop.OutOfMemory false [] new
+    event-unmade (inl does) = stopped stop.OutOfMemory false [] [] [] 0 (inl (refl, refl), refl, refl) (none-cut stop.OutOfMemory (λ e. cc e) [] 0 does) (λ is. refl)
     event-unmade (inr by) =
         let failed : ServerHappened = failing server event by.0 parts in
-        stopped node_stop.OutOfMemory false [] failed.done [] failed.missed (inr (by.0, parts, by.1, refl, refl), refl, refl)
-        (none-cut node_stop.OutOfMemory (λ e. cc e) failed.done failed.missed by.2) (λ is. refl)
+        stopped stop.OutOfMemory false [] failed.done [] failed.missed (inr (by.0, parts, by.1, refl, refl), refl, refl)
+        (none-cut stop.OutOfMemory (λ e. cc e) failed.done failed.missed by.2) (λ is. refl)
 
   -- It came, and its frames are to be said.
   module _ (old : AtDisk ServerStation D) (made : ServerState) (disk : D) (event : NodeEvent) (up : IsUp g old) where
@@ -175,11 +163,7 @@ module _ {D : Type 0} (g : Ghosts D) (lasts : (disk : D) → g.lasts disk disk) 
   -- ---- no events
 
   comes-none : (start : AtDisk ServerStation D) (self : ServerState) (server : Server) → IsUp g start → self.store ≡ start.it.server.store → IsServing self server → ComesOn g server start [] [] (with_server start self)
-  comes-none start self server up same serving = record {
-    next = server;
-    serving = serving;
-    runs = rw same (runs-none server_steps are_steps g server start.it.server.store start.disk up.awaits.ready (lasts start.disk));
-  }
+  comes-none start self server up same serving = grind (arith, common_steps, are_steps, runs-none)
 
   pub goes-none : (start : AtDisk ServerStation D) → IsUp g start → (server_course g).goes start [] [] start
   goes-none start up server serving = comes-none start start.it.server server up refl serving
@@ -363,7 +347,7 @@ started g terms blocks old mid station server same memory recovered is silent =
     let there = subst (λ (s : ServerState). IsRecovered g blocks old mid s.store) (sym same) recovered in
     (record { awaits = record { silent = ap server_pending same ∙ silent; ready = there.ready }; memory = memory; server = server_from terms (store_in station.server.store); serving = serving }, serving)
 
-module _ {A C D : Type 0} (seen : Seen D A C) (terms : ServerTerms) (old new : Driven ServerStation D A C) (ended : Result Finished Stop)
+module _ {A C D : Type 0} (seen : Seen D A C) (terms : ServerTerms) (old new : Driven ServerStation D A C) (ended : Result Finished NodeStop)
     (took : TookTurns (NodeEvents terms.me) (server_course seen.disk) seen.air seen.given old new (turn_terms terms) ended) where
   -- a server is never over
   pub not-over : ended ≢ Ok finished.Over
@@ -441,10 +425,10 @@ module _ {A C D : Type 0} (seen : Seen D A C) (terms : ServerTerms) (old new : D
         (cuts-among-none g _ runs.missed (store_at (party_at old)) (store_at (party_at new)) runs.done fine (lasts new.disk) runs.does)
 
     -- it stopped at an event of the last turn, and went on to somewhere first
-    abbrev Began : (why : Stop) → StoppedInLast (NodeEvents terms.me) (server_course g) (party_at old) took.all why took.text took.unsaid (party_at new) → Type 0
+    abbrev Began : (why : NodeStop) → StoppedInLast (NodeEvents terms.me) (server_course g) (party_at old) took.all why took.text took.unsaid (party_at new) → Type 0
     Began why h = (then_is : AtDisk ServerStation D) × (server_course g).goes (party_at old) h.least h.first then_is × (server_course g).halts then_is h.more why took.unsaid h.last (party_at new)
 
-    began : (why : Stop) (h : StoppedInLast (NodeEvents terms.me) (server_course g) (party_at old) took.all why took.text took.unsaid (party_at new))
+    began : (why : NodeStop) (h : StoppedInLast (NodeEvents terms.me) (server_course g) (party_at old) took.all why took.text took.unsaid (party_at new))
         → ((took.all.turns ≡ []) × (h.least ≡ []) × (h.first ≡ []) × (server_course g).halts (party_at old) h.more why took.unsaid h.last (party_at new)) ⊎ Began why h → Began why h
     began why h (inl none) = (party_at old, rw (none.1, none.2) (goes-none g lasts (party_at old) up), none.3)
     began why h (inr from) = from
@@ -458,9 +442,9 @@ module _ {A C D : Type 0} (seen : Seen D A C) (terms : ServerTerms) (old new : D
         let then_is = serving_at comes.next from.0 in
         let end = at new.party.server.store new.disk in
         let behind = behind-all server_steps are_steps why took.unsaid g on (serving_at server (party_at old)) then_is end h.least h.more h.first h.last comes.runs halts in
-        did (Err (stop_of_node why)) all.done halts.cut all.missed ends (counts (λ is. subst (λ b. IsUnsaid b (seen.air.write_faults old.air) (seen.air.write_faults new.air)) (halts.kept is) took.is_unsaid))
+        did (Err why) all.done halts.cut all.missed ends (counts (λ is. subst (λ b. IsUnsaid b (seen.air.write_faults old.air) (seen.air.write_faults new.air)) (halts.kept is) took.is_unsaid))
         (record { earlier = h.earlier; but_last = h.but_last; before = h.before; behind = h.behind; split = h.split; least = h.least; brought = h.brought })
-        (subst (λ (t : List ℕ). EndsOver (Err (stop_of_node why)) h.least server_steps server took.all.events took.unsaid (made t all.done all.missed) halts.cut) (sym h.text_is)
+        (subst (λ (t : List ℕ). EndsOver (Err why) h.least server_steps server took.all.events took.unsaid (made t all.done all.missed) halts.cut) (sym h.text_is)
         (over h.least all halts.cut (subst (λ (es : List NodeEvent). StopsBehind h.least server_steps server es why took.unsaid all halts.cut) (sym h.events_are) behind)))
         (disk-stop g why all.missed (store_at (party_at old)) (store_at (party_at new)) all.done halts.cut
         (cuts-all server_steps are_steps why took.unsaid g on (serving_at server (party_at old)) then_is end h.least h.more h.first h.last comes.runs halts))

@@ -6,8 +6,8 @@ use Rattle.ax25_frames.specs.FrameText.{FrameValue}
 use Rattle.file_store.specs.Command.{Command}
 use Rattle.node.specs.Events.{NodeEvent}
 pub use Rattle.node.specs.Said.{text_of}
-use Rattle.node.specs.declared.stop.NodeStop.{NodeStop as Stop}
-use Rattle.node.specs.declared.stop.NodeStop.TheVariants as node_stop
+use Rattle.node.specs.declared.stop.NodeStop.{NodeStop}
+use Rattle.node.specs.declared.stop.NodeStop.TheVariants as stop
 use Rattle.ftl0_server.specs.Failures.{failed_reads, failed_write}
 use Rattle.ftl0_server.specs.Connection.Taking.{fails}
 use Rattle.ftl0_server.specs.Server.{Server, ServerHappened}
@@ -31,22 +31,24 @@ failing server event part parts = happening server event (failed_write part ++ f
 -- Where the disk failed, at a write or a sync of one of its packets and nowhere else, the frames of that step were
 -- said. Where there is no memory none was, and no command is done, as for a new session, or those before one of its
 -- packets.
-abbrev pub StopsAt : Stop → Bool → Server → NodeEvent → Made → List Command → Type 0
-StopsAt node_stop.AirWrite unsaid server event all cut =
+abbrev pub StopsAt : NodeStop → Bool → Server → NodeEvent → Made → List Command → Type 0
+StopsAt stop.AirWrite unsaid server event all cut =
     (frames : List FrameValue) × (next : Server) × TakesEvent server event frames all.done all.missed next
     × (frames ≢ []) × IsFront all.text (text_of frames) × (cut ≡ [])
-StopsAt node_stop.Disk unsaid server event all cut =
+StopsAt stop.Disk unsaid server event all cut =
     (part : ℕ) × (parts : List ℕ) × (frames : List FrameValue) × (next : Server)
     × ServerStep server event (failed_write part ++ failed_reads parts)
     (stepped all.done cut all.missed fails frames next)
     × IsSaid unsaid (text_of frames) all.text
-StopsAt node_stop.OutOfMemory unsaid server event all cut =
+StopsAt stop.OutOfMemory unsaid server event all cut =
     (((all.done ≡ []) × (all.missed ≡ 0)) ⊎ ((part : ℕ) × (parts : List ℕ)
     × ((failing server event part parts).halt ≡ fails) × (all.done ≡ (failing server event part parts).done)
     × (all.missed ≡ (failing server event part parts).missed)))
     × (all.text ≡ []) × (cut ≡ [])
-StopsAt node_stop.AirRead unsaid server event all cut = ⊥
-StopsAt node_stop.Spent unsaid server event all cut = ⊥
+StopsAt stop.AirRead unsaid server event all cut = ⊥
+StopsAt stop.Spent unsaid server event all cut = ⊥
+StopsAt (stop.NotAStore found) unsaid server event all cut = ⊥
+StopsAt (stop.Damaged at) unsaid server event all cut = ⊥
 
 -- a server over the events of its node
 abbrev pub server_steps : Steps Server NodeEvent

@@ -1,7 +1,6 @@
 -- What a client that has nothing to send is, and what it tells whatever of its frames was given out.
-use Rattle.std.proofs.Common.{◌≡◌, List, [], ◌∷◌, Bool, true, false, not, Option, None, Some, refl, sym, ◌∙◌, ap, subst}
+use Rattle.std.proofs.Common.{◌≡◌, List, [], ◌∷◌, Bool, true, false, not, Option, None, Some, refl, sym, ◌∙◌, ap, subst, ◌||◌, ◌&&◌}
 use Rattle.std.proofs.lemmas.Option.{same_Some}
-use Rattle.std.specs.Prelude.{◌||◌, ◌&&◌}
 use Rattle.disk_model.specs.declared.disk.Disk.{Ghosts}
 use Rattle.ax25_frames.specs.FrameText.{FrameValue}
 use Rattle.ax25_link.specs.Kept.{Kept, is_pending, is_there}

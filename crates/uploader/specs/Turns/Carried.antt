@@ -64,6 +64,8 @@ EndsOver (Err stop.Disk) least client events reached text done cut =
     StopsBehind least client events stop.Disk reached text done cut
 EndsOver (Err stop.OutOfMemory) least client events reached text done cut =
     StopsBehind least client events stop.OutOfMemory reached text done cut
+EndsOver (Err (stop.NotAStore found)) least client events reached text done cut = ⊥
+EndsOver (Err (stop.Damaged at)) least client events reached text done cut = ⊥
 
 -- the events of a client's run: what is asked comes first, and then what its turns bring
 abbrev pub asked_first : JobState → List NodeEvent → List ClientEvent

@@ -45,6 +45,8 @@ StopsAt stop.OutOfMemory client event reached text done cut =
     × MayFindNoMemory client event done × (text ≡ []) × (cut ≡ []) × (reached ≡ outcome.Working)
 StopsAt stop.AirRead client event reached text done cut = ⊥
 StopsAt stop.Spent client event reached text done cut = ⊥
+StopsAt (stop.NotAStore found) client event reached text done cut = ⊥
+StopsAt (stop.Damaged at) client event reached text done cut = ⊥
 
 -- The client stopped at one of these events. At none of those before it did it stop: all their frames were said and all
 -- their commands noted; of those after it nothing was taken.
