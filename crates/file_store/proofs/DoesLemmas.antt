@@ -1,6 +1,7 @@
 -- What a store's commands do to its disk: what file_journal proves of a state that is kept, at the store's form.
 use Rattle.std.proofs.Common.{◌≡◌, ℕ, ◌+◌, ◌*◌, ◌≤◌, Bool, true, false, List, [], ◌++◌, length, refl, sym, ◌∙◌, subst}
 use Rattle.std.proofs.Math.Nat.{add-zero}
+use Rattle.disk_model.specs.AtDisk.{AtDisk}
 use Rattle.disk_model.specs.Moments.{LeavesOnly}
 use Rattle.disk_model.specs.declared.disk.Disk.{Ghosts}
 use Rattle.file_journal.specs.AmongReads as among
@@ -12,7 +13,7 @@ use Rattle.file_entries.specs.Command.{AreAllowed, Command, after_all}
 use Rattle.file_entries.specs.Records.{store_form}
 use Rattle.file_entries.specs.Store.{Store}
 use Rattle.file_store.specs.OnDisk.{Does, MakesBetween, MakesFirst, StayDone, after_first, kept_at}
-use Rattle.file_store.specs.State.{StandsOn, StoreState, store_in}
+use Rattle.file_store.specs.State.{IsReady, StoreState, store_in}
 use Rattle.file_store.specs.Working.{CutsOffAmongReads, DoesAmongReads, PutsAmongReads, one_if}
 
 -- ---- the first of some commands
@@ -46,8 +47,8 @@ module _ {D : Type 0} (g : Ghosts D) where
 
   -- ---- commands alone
 
-  pub Does-none : (P : Type 0) (self : StoreState) (disk : D) → ¬ P → StandsOn g self disk → self.journal.failed ≡ false → g.lasts disk disk → Does g P self self disk disk []
-  Does-none P self disk = does_none g store_form P (store_in self) self.journal disk
+  pub Does-none : (P : Type 0) (self : StoreState) (disk : D) → ¬ P → IsReady g self disk → g.lasts disk disk → Does g P self self disk disk []
+  Does-none P self disk fine ready = does_none g store_form P (store_in self) self.journal disk fine ready.stands_on ready.healthy
 
   pub Does-same : (P Q : Type 0) (old new : StoreState) (disk disk_now : D) (commands : List Command) → (P → Q) → (Q → P) → Does g P old new disk disk_now commands → Does g Q old new disk disk_now commands
   Does-same P Q old new disk disk_now commands = does_same g store_form P Q commands (kept_at old disk) (kept_at new disk_now)
@@ -70,9 +71,9 @@ module _ {D : Type 0} (g : Ghosts D) where
 
   -- ---- among reads
 
-  pub reads-only : (failed : Bool) (self : StoreState) (old new : D) → Reads g (failed ≡ true) old new → self.journal.failed ≡ false → StandsOn g self old
+  pub reads-only : (failed : Bool) (self : StoreState) (old new : D) → Reads g (failed ≡ true) old new → IsReady g self old
       → DoesAmongReads g ⊥ (one_if failed) self self old new []
-  reads-only failed self old new = reads_only g store_form failed (store_in self) self.journal old new
+  reads-only failed self old new reads ready = reads_only g store_form failed (store_in self) self.journal old new reads ready.healthy ready.stands_on
 
   pub does-among : (P : Type 0) (old new : StoreState) (disk disk_now : D) (commands : List Command) → Does g P old new disk disk_now commands → DoesAmongReads g P 0 old new disk disk_now commands
   does-among P old new disk disk_now commands = among_does g store_form P commands (kept_at old disk) (kept_at new disk_now)
@@ -111,48 +112,39 @@ module _ {D : Type 0} (g : Ghosts D) where
         → DoesAmongReads g Q (missed + other) old new disk disk_now (a ++ b)
     among-then P Q missed other old mid new disk disk_mid disk_now a b = among_then g store_form on P Q missed other a b (kept_at old disk) (kept_at mid disk_mid) (kept_at new disk_now)
 
-    pub cuts-among-then : (F : Type 0) (missed other : ℕ) (a b c : StoreState) (d e f : D) (xs done cut : List Command) → DoesAmongReads g ⊥ missed a b d e xs
-        → CutsOffAmongReads g F other b c e f done cut → CutsOffAmongReads g F (missed + other) a c d f (xs ++ done) cut
-    cuts-among-then F missed other a b c d e f xs done cut first cuts = record {
-      store_then = cuts.store_then;
-      disk_then = cuts.disk_then;
-      first = among-then ⊥ ⊥ missed other a b cuts.store_then d e cuts.disk_then xs done (λ never. never) first cuts.first;
+    pub cuts-among-then : (F : Type 0) (missed other : ℕ) (a b c : AtDisk StoreState D) (xs done cut : List Command) → DoesAmongReads g ⊥ missed a.it b.it a.disk b.disk xs
+        → CutsOffAmongReads g F other b c done cut → CutsOffAmongReads g F (missed + other) a c (xs ++ done) cut
+    cuts-among-then F missed other a b c xs done cut first cuts = record {
+      then_is = cuts.then_is;
+      first = among-then ⊥ ⊥ missed other a.it b.it cuts.then_is.it a.disk b.disk cuts.then_is.disk xs done (λ never. never) first cuts.first;
       second = cuts.second;
     }
 
-    pub cuts-among-puts : (F : Type 0) (missed : ℕ) (old new : StoreState) (disk disk_now : D) (done cut : List Command) → CutsOffAmongReads g F missed old new disk disk_now done cut
-        → PutsAmongReads g F disk disk_now
-    cuts-among-puts F missed old new disk disk_now done cut cuts =
-        puts_among_then g on ⊥ F disk cuts.disk_then disk_now (λ never. never) cuts.first.puts (puts_among g F cuts.disk_then disk_now cuts.second.puts)
+    pub cuts-among-puts : (F : Type 0) (missed : ℕ) (old now : AtDisk StoreState D) (done cut : List Command) → CutsOffAmongReads g F missed old now done cut → PutsAmongReads g F old.disk now.disk
+    cuts-among-puts F missed old now done cut cuts =
+        puts_among_then g on ⊥ F old.disk cuts.then_is.disk now.disk (λ never. never) cuts.first.puts (puts_among g F cuts.then_is.disk now.disk cuts.second.puts)
 
     -- all of them together
-    pub cuts-among-all : (F : Type 0) (missed : ℕ) (old new : StoreState) (disk disk_now : D) (done cut : List Command) → CutsOffAmongReads g F missed old new disk disk_now done cut
-        → DoesAmongReads g F missed old new disk disk_now (done ++ cut)
-    cuts-among-all F missed old new disk disk_now done cut cuts =
-        among-same F F (missed + 0) missed old new disk disk_now (done ++ cut) (λ p. p) (λ p. p) (add-zero missed)
-        (among-then ⊥ F missed 0 old cuts.store_then new disk cuts.disk_then disk_now done cut (λ never. never) cuts.first
-        (does-among F cuts.store_then new cuts.disk_then disk_now cut cuts.second))
+    pub cuts-among-all : (F : Type 0) (missed : ℕ) (old now : AtDisk StoreState D) (done cut : List Command) → CutsOffAmongReads g F missed old now done cut
+        → DoesAmongReads g F missed old.it now.it old.disk now.disk (done ++ cut)
+    cuts-among-all F missed old now done cut cuts =
+        let then_is : AtDisk StoreState D = cuts.then_is in
+        among-same F F (missed + 0) missed old.it now.it old.disk now.disk (done ++ cut) (λ p. p) (λ p. p) (add-zero missed)
+        (among-then ⊥ F missed 0 old.it then_is.it now.it old.disk then_is.disk now.disk done cut (λ never. never) cuts.first (does-among F then_is.it now.it then_is.disk now.disk cut cuts.second))
 
-  pub cuts-among-same : (P Q : Type 0) (missed other : ℕ) (old new : StoreState) (disk disk_now : D) (done cut : List Command) → (P → Q) → (Q → P) → missed ≡ other
-      → CutsOffAmongReads g P missed old new disk disk_now done cut → CutsOffAmongReads g Q other old new disk disk_now done cut
-  cuts-among-same P Q missed other old new disk disk_now done cut there back same cuts = record {
-    store_then = cuts.store_then;
-    disk_then = cuts.disk_then;
-    first = among-same ⊥ ⊥ missed other old cuts.store_then disk cuts.disk_then done (λ p. p) (λ p. p) same cuts.first;
-    second = Does-same P Q cuts.store_then new cuts.disk_then disk_now cut there back cuts.second;
+  pub cuts-among-same : (P Q : Type 0) (missed other : ℕ) (old now : AtDisk StoreState D) (done cut : List Command) → (P → Q) → (Q → P) → missed ≡ other
+      → CutsOffAmongReads g P missed old now done cut → CutsOffAmongReads g Q other old now done cut
+  cuts-among-same P Q missed other old now done cut there back same cuts = record {
+    then_is = cuts.then_is;
+    first = among-same ⊥ ⊥ missed other old.it cuts.then_is.it old.disk cuts.then_is.disk done (λ p. p) (λ p. p) same cuts.first;
+    second = Does-same P Q cuts.then_is.it now.it cuts.then_is.disk now.disk cut there back cuts.second;
   }
 
   -- commands that were all done
-  pub cuts-among-none : (F : Type 0) (missed : ℕ) (old new : StoreState) (disk disk_now : D) (done : List Command) → ¬ F → g.lasts disk_now disk_now
-      → DoesAmongReads g ⊥ missed old new disk disk_now done → CutsOffAmongReads g F missed old new disk disk_now done []
-  cuts-among-none F missed old new disk disk_now done fine lasts does = record {
-    store_then = new;
-    disk_then = disk_now;
+  pub cuts-among-none : (F : Type 0) (missed : ℕ) (old now : AtDisk StoreState D) (done : List Command) → ¬ F → g.lasts now.disk now.disk
+      → DoesAmongReads g ⊥ missed old.it now.it old.disk now.disk done → CutsOffAmongReads g F missed old now done []
+  cuts-among-none F missed old now done fine lasts does = record {
+    then_is = now;
     first = does;
-    second = Does-none F new disk_now fine does.stands_on (among-healthy missed old new disk disk_now done does) lasts;
+    second = Does-none F now.it now.disk fine (record { healthy = among-healthy missed old.it now.it old.disk now.disk done does; stands_on = does.stands_on }) lasts;
   }
-
-  -- a first command that the disk cut off, behind reads
-  pub cuts-among-cut : (F : Type 0) (missed : ℕ) (old mid new : StoreState) (disk disk_mid disk_now : D) (done cut : List Command) → DoesAmongReads g ⊥ missed old mid disk disk_mid done
-      → Does g F mid new disk_mid disk_now cut → CutsOffAmongReads g F missed old new disk disk_now done cut
-  cuts-among-cut F missed old mid new disk disk_mid disk_now done cut first second = record { store_then = mid; disk_then = disk_mid; first = first; second = second }

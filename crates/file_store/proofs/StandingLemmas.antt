@@ -7,6 +7,7 @@ use Rattle.std.specs.Str.{bytes_eq}
 use Rattle.std.proofs.lemmas.List.Elements.{All-drop}
 use Rattle.px_base.specs.Numbers.{le32}
 use Rattle.px_base.specs.Octets.{IsOctets}
+use Rattle.disk_model.specs.AtDisk.{at}
 use Rattle.disk_model.specs.declared.disk.Disk.{Ghosts}
 use Rattle.file_journal.specs.AmongReads.{among_reads}
 use Rattle.file_journal.specs.Calls.{Leaves, TellsAlike}
@@ -179,8 +180,8 @@ module _ {D : Type 0} (g : Ghosts D) (on : (first second third : D) → g.lasts 
     (start new : StoreState) (done cut : List Command) (missed : ℕ) (alike : TellsAlike (g.content old) (g.content mid))
     (stood : IfSome (g.content old) (λ before. standing_of blocks before ≡ state (store_in start)))
     (since_start : Leaves g old mid (StandsAlike blocks)) (since_sync : IfSome (g.content old) (λ before. IsSyncedFirst g old mid (StandsAlike blocks before)))
-    (magic_is : start.journal.magic ≡ store_magic) (cuts : CutsOffAmongReads g failed missed start new mid now done cut) where
+    (magic_is : start.journal.magic ≡ store_magic) (cuts : CutsOffAmongReads g failed missed (at start mid) (at new now) done cut) where
   pub stands-through : (stands : StandsThrough g store_form failed (store_in start) done cut old now) × (stands.ready ≡ g.moment mid)
   stands-through =
-      stands_through g store_form own-number blocks failed old (kept_at start mid) (kept_at cuts.store_then cuts.disk_then) (kept_at new now) done cut alike stood since_start since_sync magic_is
-      (among_reads g failed missed) (among_reads g ⊥ missed) (alone g failed) (cuts-among-all g on failed missed start new mid now done cut cuts) cuts.first cuts.second cuts.first.puts.told
+      stands_through g store_form own-number blocks failed old (kept_at start mid) (kept_at cuts.then_is.it cuts.then_is.disk) (kept_at new now) done cut alike stood since_start since_sync magic_is
+      (among_reads g failed missed) (among_reads g ⊥ missed) (alone g failed) (cuts-among-all g on failed missed (at start mid) (at new now) done cut cuts) cuts.first cuts.second cuts.first.puts.told

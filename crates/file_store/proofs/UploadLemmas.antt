@@ -14,7 +14,7 @@ use Rattle.file_entries.specs.IsStore.{IsStore}
 use Rattle.file_entries.specs.Kept.{KeepsComplete}
 use Rattle.file_entries.specs.Store.{Entry, Store, entry_of, new_entry, partial}
 use Rattle.file_entries.proofs.Offered.{after-other, entry-of-file, find-append_found, find-map-changed, find-push, find_past, grows-after, has_number, never-both, number_of}
-use Rattle.file_store.specs.Kept.{KeepsOthers, KeepsUploads}
+use Rattle.file_store.specs.Kept.{KeepsOtherFiles, KeepsOthers, KeepsUploads}
 use Rattle.file_store.specs.OnDisk.{Does}
 use Rattle.file_store.specs.State.{StoreState, rest_in, store_in}
 use Rattle.file_store.specs.Upload.{FitsWaiting, Holds, IsWholeWaiting, Upload, appended, appending, came, ending, entry_for, new_upload, sealing_of, waiting, with_bytes}
@@ -84,18 +84,20 @@ entries-complete before now number entry held is partial_is entries other found 
       | inr w ↦ entries other found w.1 there
     ]
 
-module _ {D : Type 0} (g : Ghosts D) (b : Bool) (old new : StoreState) (disk disk_now : D) (commands : List Command) (number : ℕ) (are : AreOf number commands)
+module _ {D : Type 0} (g : Ghosts D) (b : Bool) (old new : StoreState) (disk disk_now : D) (commands : List Command) (up : Upload) (h : Holds old up) (are : AreOf up.number commands)
     (does : Does g (b ≡ true) old new disk disk_now commands) where
-  pub does-entries : KeepsEntries (store_in old) (store_in new) number
+  does-entries : KeepsEntries (store_in old) (store_in new) up.number
   does-entries other entry ne found =
       let first = Does-first g b old new disk disk_now commands does in
-      ap (λ (s : Store). entry_of s other) first.1 ∙ others-after (take first.0 commands) (store_in old) number other entry (take-of first.0 number commands are) ne found
+      ap (λ (s : Store). entry_of s other) first.1 ∙ others-after (take first.0 commands) (store_in old) up.number other entry (take-of first.0 up.number commands are) ne found
 
-  pub does-uploads : KeepsRests old.files new.files number → KeepsOthers old new number
-  does-uploads rests = entries-uploads old new number does-entries rests
-
-  pub does-complete : (up : Upload) → up.number ≡ number → Holds old up → KeepsComplete (store_in old) (store_in new)
-  does-complete up same h = entries-complete (store_in old) (store_in new) number _ h.held (ap (λ (n : ℕ). entry_of (store_in old) n) (sym same) ∙ h.entry) refl does-entries
+  pub does-keeps : KeepsRests old.files new.files up.number → KeepsOtherFiles g old new disk_now up.number
+  does-keeps rests = record {
+    stands_on = does.stands_on;
+    uploads = entries-uploads old new up.number does-entries rests;
+    rests = rests;
+    kept = entries-complete (store_in old) (store_in new) up.number _ h.held h.entry refl does-entries;
+  }
 
 -- ---- octets that come
 

@@ -1,6 +1,9 @@
 -- What each call of the store keeps.
 use Rattle.std.specs.Prelude.{◌≢◌, ℕ}
-use Rattle.file_store.specs.State.{StoreState}
+use Rattle.disk_model.specs.declared.disk.Disk.{Ghosts}
+use Rattle.file_entries.specs.Files.{KeepsRests}
+use Rattle.file_entries.specs.Kept.{KeepsComplete}
+use Rattle.file_store.specs.State.{StandsOn, StoreState, store_in}
 use Rattle.file_store.specs.Upload.{Upload, Holds}
 
 -- each upload that the store holds it still holds
@@ -10,3 +13,12 @@ KeepsUploads before now = (other : Upload) → Holds before other → Holds now 
 -- each upload of another number that the store holds it still holds
 abbrev pub KeepsOthers : StoreState → StoreState → ℕ → Type 0
 KeepsOthers before now number = (other : Upload) → other.number ≢ number → Holds before other → Holds now other
+
+-- A call on the upload of this number leaves the store on its disk. It keeps each upload of another number with what
+-- waits of it, and each complete entry.
+pub record KeepsOtherFiles {D : Type 0} (g : Ghosts D) (before now : StoreState) (disk_now : D) (number : ℕ) :
+    Type 0 where
+  pub stands_on : StandsOn g now disk_now
+  pub uploads : KeepsOthers before now number
+  pub rests : KeepsRests before.files now.files number
+  pub kept : KeepsComplete (store_in before) (store_in now)

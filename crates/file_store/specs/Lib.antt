@@ -3,6 +3,7 @@ pub mod Changes
 pub mod Kept
 pub mod Laws
 pub mod OnDisk
+pub mod Reads
 pub mod Recovery
 pub mod Refusals
 pub mod State

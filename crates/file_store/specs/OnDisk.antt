@@ -1,13 +1,14 @@
 -- What the commands of a call do to the disk, at every moment of it.
-use Rattle.std.specs.Prelude.{ℕ, List}
+use Rattle.std.specs.Prelude.{◌≡◌, ℕ, List, None}
 use Rattle.disk_model.specs.declared.disk.Disk.{Ghosts}
 use Rattle.file_journal.specs.Commands as kept_commands
 use Rattle.file_journal.specs.Kept as kept
 use Rattle.file_journal.specs.Kept.{KeptOn, by_fours, kept_on}
 use Rattle.file_entries.specs.Command.{Command}
+use Rattle.file_entries.specs.Files.{KeepsRests}
 use Rattle.file_entries.specs.Records.{store_form}
 use Rattle.file_entries.specs.Store.{Store}
-use Rattle.file_store.specs.State.{StoreState, store_in}
+use Rattle.file_store.specs.State.{StoreState, rest_in, store_in}
 
 -- the store after the first so many of these commands
 abbrev pub after_first : ℕ → Store → List Command → Store
@@ -38,3 +39,15 @@ abbrev pub Does :
     {D : Type 0} → Ghosts D → Type 0 → StoreState → StoreState → D → D → List Command → Type 0
 Does g failed old new disk disk_now commands =
     kept.Does g store_form failed commands (kept_at old disk) (kept_at new disk_now)
+
+-- So a call on the file of this number: what waits of other files stays.
+pub record DoesTo {D : Type 0} (g : Ghosts D) (failed : Type 0) (old new : StoreState) (disk disk_now : D)
+    (commands : List Command) (number : ℕ) : Type 0 where
+  pub does : Does g failed old new disk disk_now commands
+  pub rests : KeepsRests old.files new.files number
+
+-- So a call that ends that file: no upload of it is out then.
+pub record EndsFile {D : Type 0} (g : Ghosts D) (failed : Type 0) (old new : StoreState) (disk disk_now : D)
+    (commands : List Command) (number : ℕ) : Type 0 where
+  pub does_to : DoesTo g failed old new disk disk_now commands number
+  pub rest : ¬ failed → rest_in new number ≡ None

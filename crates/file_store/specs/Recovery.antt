@@ -1,23 +1,20 @@
 -- What a recovery of the store makes of a disk, what it answers, and what a crash in it leaves.
-use Rattle.std.specs.Prelude.{◌≡◌, ◌⊎◌, ◌↔◌, ℕ, List, false, Option, IfSome, Result, IsErrOf}
+use Rattle.std.specs.Prelude.{◌≡◌, ℕ, List, Option, IfSome, Result}
 use Rattle.disk_model.specs.declared.disk.Disk.{Ghosts}
 use Rattle.file_entries.specs.Files.{NothingOut}
 use Rattle.file_entries.specs.Records.{store_form}
 use Rattle.file_journal.specs.Calls.{IsQuietNow}
-use Rattle.file_journal.specs.Recovery.{IsFailedSync, IsSyncedFirst}
 use Rattle.file_journal.specs.Restoring as restoring
-use Rattle.file_journal.specs.Walk.{damaged_at, no_store, state}
-use Rattle.file_store.specs.State.{StandsOn, StoreState, standing_of, store_in}
+use Rattle.file_journal.specs.Walk.{state}
+use Rattle.file_store.specs.State.{IsReady, StoreState, standing_of, store_in}
 use Rattle.file_journal.specs.declared.faults.StoreFault.{StoreFault}
-use Rattle.file_journal.specs.declared.faults.StoreFault.TheVariants as fault
 
--- The store that a recovery gives is the one that the content stood for. No upload is out, the store hasn't failed, and it
--- stands on the disk, which is quiet.
+-- The store that a recovery gives is the one that the content stood for. No upload is out, and the store is ready on the
+-- disk, which is quiet.
 pub record IsRecovered {D : Type 0} (g : Ghosts D) (blocks : ℕ) (disk disk_now : D) (self : StoreState) : Type 0 where
   pub content : IfSome (g.content disk) (λ before. standing_of blocks before ≡ state (store_in self))
   pub nothing_out : NothingOut self.files
-  pub healthy : self.journal.failed ≡ false
-  pub stands_on : StandsOn g self disk_now
+  pub ready : IsReady g self disk_now
   pub quiet : IsQuietNow g disk_now
 
 -- each refusal comes exactly where the content stands for it

@@ -1,5 +1,5 @@
 -- A store of files on a disk as contracts see it, and what octets on a disk stand for as one.
-use Rattle.std.specs.Prelude.{◌≡◌, ℕ, List, Option, true}
+use Rattle.std.specs.Prelude.{◌≡◌, ℕ, List, Option, false, true}
 use Rattle.disk_model.specs.declared.disk.Disk.{Ghosts}
 use Rattle.file_entries.specs.Files.{Files, rest_of, store_of}
 use Rattle.file_entries.specs.Records.{store_form, store_magic}
@@ -44,6 +44,11 @@ StandsFor image store = form.StandsFor store_form store image
 -- left stand for it.
 abbrev pub StandsOn : {D : Type 0} → Ghosts D → StoreState → D → Type 0
 StandsOn g self disk = IsKept g store_form (kept_on (store_in self) self.journal disk)
+
+-- The store hasn't failed, and stands on its disk.
+pub record IsReady {D : Type 0} (g : Ghosts D) (self : StoreState) (disk : D) : Type 0 where
+  pub healthy : self.journal.failed ≡ false
+  pub stands_on : StandsOn g self disk
 
 -- The journal has the store's magic, and was read to its end.
 pub record IsRead (journal : Position) : Type 0 where

@@ -1,5 +1,6 @@
 -- What a run of a store's calls does to the disk where reads come among its commands.
 use Rattle.std.specs.Prelude.{ℕ, List}
+use Rattle.disk_model.specs.AtDisk.{AtDisk}
 use Rattle.disk_model.specs.declared.disk.Disk.{Ghosts}
 use Rattle.file_journal.specs.AmongReads as among
 use Rattle.file_entries.specs.Command.{Command}
@@ -19,9 +20,8 @@ DoesAmongReads g failed missed old new disk disk_now commands =
 
 -- The store did the first of these commands on its disk, and then the others, or the disk failed in one of these. Reads
 -- came among the first, of which so many failed at least, or none did.
-pub record CutsOffAmongReads {D : Type 0} (g : Ghosts D) (failed : Type 0) (missed : ℕ) (old new : StoreState)
-    (disk disk_now : D) (done cut : List Command) : Type 0 where
-  pub store_then : StoreState
-  pub disk_then : D
-  pub first : DoesAmongReads g ⊥ missed old store_then disk disk_then done
-  pub second : Does g failed store_then new disk_then disk_now cut
+pub record CutsOffAmongReads {D : Type 0} (g : Ghosts D) (failed : Type 0) (missed : ℕ) (before now : AtDisk StoreState D)
+    (done cut : List Command) : Type 0 where
+  pub then_is : AtDisk StoreState D
+  pub first : DoesAmongReads g ⊥ missed before.it then_is.it before.disk then_is.disk done
+  pub second : Does g failed then_is.it now.it then_is.disk now.disk cut

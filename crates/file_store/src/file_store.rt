@@ -12,18 +12,19 @@ ghost use Rattle.file_journal.specs.Journal.{after_recovery};
 ghost use Rattle.file_entries.specs.Command.{begin, drop_entry, fault_at, grow, grows, is_allowed, last_grow, seal, unfilled_block};
 ghost use Rattle.file_entries.specs.Files.{ChangesRest, IsOut, KeepsRests, octets_or_none};
 ghost use Rattle.file_entries.specs.Headers.{IsHeaderOf, IsWholeHeader};
-ghost use Rattle.file_entries.specs.Info.{IsCompleteIn, IsNextComplete, info_of};
+ghost use Rattle.file_entries.specs.Info.{IsNextComplete, info_of};
 ghost use Rattle.file_entries.specs.IsStore.{IsStore};
 ghost use Rattle.file_entries.specs.Kept.{KeepsComplete};
 ghost use Rattle.file_entries.specs.Records.{store_magic};
 ghost use Rattle.file_entries.specs.Store.{complete, entry_of, holding_of_number, octets_at};
 ghost use Rattle.file_store.specs.Answers.{RefusesAppend, RefusesBegin, RefusesResume, RefusesSeal, Resumes};
 ghost use Rattle.file_store.specs.Answers.{append_reaches, back_of_append, back_of_seal, begin_reaches, seal_reaches};
-ghost use Rattle.file_store.specs.Kept.{KeepsOthers, KeepsUploads};
+ghost use Rattle.file_store.specs.Kept.{KeepsOtherFiles, KeepsOthers, KeepsUploads};
 ghost use Rattle.file_store.specs.Laws.{HoldsInEach, IsKeptInEach};
-ghost use Rattle.file_store.specs.OnDisk.{Does};
+ghost use Rattle.file_store.specs.OnDisk.{Does, DoesTo, EndsFile};
+ghost use Rattle.file_store.specs.Reads.{MayRead, OnlyReads};
 ghost use Rattle.file_store.specs.Recovery.{IsRecovered, LeavesAlikeSinceSync, RefusesRecovery, StandsAlike};
-ghost use Rattle.file_store.specs.State.{IsRead, StandsOn, rest_in, store_in};
+ghost use Rattle.file_store.specs.State.{IsRead, IsReady, StandsOn, rest_in, store_in};
 ghost use Rattle.file_store.specs.Upload.{FitsWaiting, HasEntry, Holds, IsHeldWhole, IsWholeWaiting, MayResume, Upload, WaitFew, appended, appending, came, come_of, ending, kept_file, new_upload, octets_come, sealing, sealing_of, upload_of, with_bytes};
 
 use crate::change::EntriesChange;
@@ -215,10 +216,7 @@ impl FileStore {
         ensures holds { IfOk result (λ next. Holds self.new next) }
         ensures every_image { IfOk result (λ next. HoldsInEach D.Disk next disk.new) }
 
-        ensures stands_on { StandsOn D.Disk self.new disk.new }
-        ensures uploads { KeepsOthers self.old self.new up.number }
-        ensures rests { KeepsRests self.old.files self.new.files up.number }
-        ensures kept { KeepsComplete (store_in self.old) (store_in self.new) }
+        ensures keeps { KeepsOtherFiles D.Disk self.old self.new disk.new up.number }
     {
         if bytes.len() > self.missing(&up) {
             return Err(AppendRefusal::TooMuch(up));
@@ -274,10 +272,7 @@ impl FileStore {
         ensures every_image { OnOk result (IsKeptInEach D.Disk up (kept_file self.old up moment) moment disk.new) }
         ensures ended { OnOk result (rest_in self.new up.number ≡ None) }
 
-        ensures stands_on { StandsOn D.Disk self.new disk.new }
-        ensures uploads { KeepsOthers self.old self.new up.number }
-        ensures rests { KeepsRests self.old.files self.new.files up.number }
-        ensures kept { KeepsComplete (store_in self.old) (store_in self.new) }
+        ensures keeps { KeepsOtherFiles D.Disk self.old self.new disk.new up.number }
     {
         if self.missing(&up) > 0 {
             return Err(SealRefusal::Short(up));
@@ -384,17 +379,12 @@ impl FileStore {
         offset: u32,
         room: &mut [u8],
     ) -> Result<(), DiskFault>
-        requires healthy { self.old.journal.failed ≡ false }
-        requires complete { IsCompleteIn (store_in self.old) number }
+        requires may { MayRead D.Disk self.old disk.old number }
         requires there { offset + length room.old ≤ length (octets_at (entry_of (store_in self.old) number)) }
-        requires stands_on { StandsOn D.Disk self.old disk.old }
         ensures room { OnOk result
             (FillsRoom (octets_at (entry_of (store_in self.old) number)) offset (length room.old) room.new) }
 
-        // It makes no write and no sync: but for the count of failed reads the disk is as it was, and so is the store.
-        ensures reads { Reads D.Disk (IsErr result) disk.old disk.new }
-        ensures store { self.new ≡ self.old }
-        ensures stands_on { StandsOn D.Disk self.new disk.new }
+        ensures reads { OnlyReads D.Disk (IsErr result) self.old self.new disk.old disk.new }
     {
         let start = offset as usize;
         let octets = self.kept.ledger.octets(number);
@@ -408,9 +398,7 @@ impl FileStore {
     ///
     /// [`header_in`]: crate::header_in
     pub fn header<D: Disk>(&mut self, disk: &mut D, number: u32) -> Result<&[u8], DiskFault>
-        requires healthy { self.old.journal.failed ≡ false }
-        requires complete { IsCompleteIn (store_in self.old) number }
-        requires stands_on { StandsOn D.Disk self.old disk.old }
+        requires { MayRead D.Disk self.old disk.old number }
         ensures header { IfOk result (λ octets.
             IsHeaderOf (octets_at (entry_of (store_in self.old) number)) octets.now) }
         ensures whole { IfOk result (λ octets. IsWholeHeader octets.now) }
@@ -418,7 +406,7 @@ impl FileStore {
         // It makes no write and no sync: but for the count of failed reads the disk is as it was. So is the store, once
         // the header is given back.
         ensures reads { Reads D.Disk (IsErr result) disk.old disk.new }
-        ensures stands_on { StandsOn D.Disk self.old disk.new }
+        ensures ready { IsReady D.Disk self.old disk.new }
         ensures* store { sem 𝓛 (Rests the_row self.entry (λ new. new ≡ self.old)) }
     {
         Ok(self.kept.ledger.header(number))
@@ -447,15 +435,13 @@ impl FileStore {
         number: u32,
         blocks: usize,
     ) -> Result<(), DiskFault>
-        requires healthy { self.old.journal.failed ≡ false }
-        requires stands_on { StandsOn D.Disk self.old disk.old }
+        requires ready { IsReady D.Disk self.old disk.old }
         requires fits { FitsWaiting self.old number }
         requires there { 512 * blocks ≤ length (octets_or_none (rest_in self.old number)) }
-        ensures does { Does D.Disk (IsErr result) self.old self.new disk.old disk.new
-            (grows number blocks (octets_or_none (rest_in self.old number))) }
+        ensures does { DoesTo D.Disk (IsErr result) self.old self.new disk.old disk.new
+            (grows number blocks (octets_or_none (rest_in self.old number))) number }
         ensures rest { OnOk result
             (rest_in self.new number ≡ option_map (drop (512 * blocks)) (rest_in self.old number)) }
-        ensures rests { KeepsRests self.old.files self.new.files number }
     {
         for block in 0..blocks {
             self.hold(disk, number, BLOCK)?;
@@ -465,16 +451,14 @@ impl FileStore {
 
     /// The first octets that wait of the upload of this number become held, by one Grow.
     fn hold<D: Disk>(&mut self, disk: &mut D, number: u32, count: usize) -> Result<(), DiskFault>
-        requires healthy { self.old.journal.failed ≡ false }
-        requires stands_on { StandsOn D.Disk self.old disk.old }
+        requires ready { IsReady D.Disk self.old disk.old }
         requires fits { FitsWaiting self.old number }
         requires some { 1 ≤ count }
         requires most { count ≤ 512 }
         requires there { count ≤ length (octets_or_none (rest_in self.old number)) }
-        ensures does { Does D.Disk (IsErr result) self.old self.new disk.old disk.new
-            (grow number (take count (octets_or_none (rest_in self.old number))) ∷ []) }
+        ensures does { DoesTo D.Disk (IsErr result) self.old self.new disk.old disk.new
+            (grow number (take count (octets_or_none (rest_in self.old number))) ∷ []) number }
         ensures rest { OnOk result (rest_in self.new number ≡ option_map (drop count) (rest_in self.old number)) }
-        ensures rests { KeepsRests self.old.files self.new.files number }
     {
         // A crash before the record's gate is synced leaves the octets not held: the entry says that they are only after it.
         put_change(&mut self.kept, disk, &EntriesChange::Hold { number, count })
@@ -488,14 +472,11 @@ impl FileStore {
         number: u32,
         moment: u32,
     ) -> Result<Option<u8>, DiskFault>
-        requires healthy { self.old.journal.failed ≡ false }
-        requires stands_on { StandsOn D.Disk self.old disk.old }
+        requires ready { IsReady D.Disk self.old disk.old }
         requires whole { IsWholeWaiting self.old number }
-        ensures does { Does D.Disk (IsErr result) self.old self.new disk.old disk.new
-            (sealing_of self.old number moment) }
+        ensures ends { EndsFile D.Disk (IsErr result) self.old self.new disk.old disk.new
+            (sealing_of self.old number moment) number }
         ensures fault { IfOk result (λ fault. fault ≡ fault_code (come_of self.old number)) }
-        ensures rest { OnOk result (rest_in self.new number ≡ None) }
-        ensures rests { KeepsRests self.old.files self.new.files number }
     {
         self.hold_rest(disk, number)?;
         self.kept.ledger.park(number);
@@ -505,12 +486,10 @@ impl FileStore {
     /// The octets that wait of the upload of this number, of whose file all came, become held, by one Grow where there are
     /// any.
     fn hold_rest<D: Disk>(&mut self, disk: &mut D, number: u32) -> Result<(), DiskFault>
-        requires healthy { self.old.journal.failed ≡ false }
-        requires stands_on { StandsOn D.Disk self.old disk.old }
+        requires ready { IsReady D.Disk self.old disk.old }
         requires whole { IsWholeWaiting self.old number }
-        ensures does { Does D.Disk (IsErr result) self.old self.new disk.old disk.new
-            (last_grow number (octets_or_none (rest_in self.old number))) }
-        ensures rests { KeepsRests self.old.files self.new.files number }
+        ensures does { DoesTo D.Disk (IsErr result) self.old self.new disk.old disk.new
+            (last_grow number (octets_or_none (rest_in self.old number))) number }
     {
         let waiting = self.kept.ledger.waiting(number).len();
         if waiting == 0 {
@@ -527,15 +506,12 @@ impl FileStore {
         number: u32,
         moment: u32,
     ) -> Result<Option<u8>, DiskFault>
-        requires healthy { self.old.journal.failed ≡ false }
-        requires stands_on { StandsOn D.Disk self.old disk.old }
+        requires ready { IsReady D.Disk self.old disk.old }
         requires held { IsHeldWhole self.old number }
         requires in_ { rest_in self.old number ≡ None }
-        ensures does { Does D.Disk (IsErr result) self.old self.new disk.old disk.new
-            (ending number moment (fault_at (store_in self.old) number) ∷ []) }
+        ensures ends { EndsFile D.Disk (IsErr result) self.old self.new disk.old disk.new
+            (ending number moment (fault_at (store_in self.old) number) ∷ []) number }
         ensures fault { IfOk result (λ fault. fault ≡ fault_at (store_in self.old) number) }
-        ensures rest { OnOk result (rest_in self.new number ≡ None) }
-        ensures rests { KeepsRests self.old.files self.new.files number }
     {
         match self.kept.ledger.fault(number) {
             None => {
@@ -556,13 +532,11 @@ impl FileStore {
         number: u32,
         moment: u32,
     ) -> Result<(), DiskFault>
-        requires healthy { self.old.journal.failed ≡ false }
-        requires stands_on { StandsOn D.Disk self.old disk.old }
+        requires ready { IsReady D.Disk self.old disk.old }
         requires allowed { IsTrue (is_allowed (store_in self.old) (seal number moment)) }
         requires in_ { rest_in self.old number ≡ None }
-        ensures does { Does D.Disk (IsErr result) self.old self.new disk.old disk.new (seal number moment ∷ []) }
-        ensures rest { OnOk result (rest_in self.new number ≡ None) }
-        ensures rests { KeepsRests self.old.files self.new.files number }
+        ensures ends { EndsFile D.Disk (IsErr result) self.old self.new disk.old disk.new
+            (seal number moment ∷ []) number }
     {
         // A crash before the record's gate is synced leaves the file whole and under way: the caller goes on with it and
         // ends it again. No receipt is given before.
@@ -575,12 +549,10 @@ impl FileStore {
 
     /// Drops the entry of this number, which is under way.
     fn drop_entry<D: Disk>(&mut self, disk: &mut D, number: u32) -> Result<(), DiskFault>
-        requires healthy { self.old.journal.failed ≡ false }
-        requires stands_on { StandsOn D.Disk self.old disk.old }
+        requires ready { IsReady D.Disk self.old disk.old }
         requires allowed { IsTrue (is_allowed (store_in self.old) (drop_entry number)) }
-        ensures does { Does D.Disk (IsErr result) self.old self.new disk.old disk.new (drop_entry number ∷ []) }
-        ensures rest { OnOk result (rest_in self.new number ≡ None) }
-        ensures rests { KeepsRests self.old.files self.new.files number }
+        ensures ends { EndsFile D.Disk (IsErr result) self.old self.new disk.old disk.new
+            (drop_entry number ∷ []) number }
     {
         // A crash before the record's gate is synced leaves the file whole and under way; it is found faulty again.
         put_change(&mut self.kept, disk, &EntriesChange::Drop { number })

@@ -1,11 +1,11 @@
 //! Laws of a store on a disk.
 
-ghost use Rattle.std.specs.Prelude.{◌≡◌, ℕ, Some, IsTrue, false};
+ghost use Rattle.std.specs.Prelude.{◌≡◌, ℕ, Some, IsTrue};
 ghost use Rattle.file_entries.specs.Info.{is_complete};
 ghost use Rattle.file_entries.specs.IsStore.{IsStore};
 ghost use Rattle.file_entries.specs.Store.{Entry, entry_of};
 ghost use Rattle.file_store.specs.Laws.{HoldsInEach, ReceiptLaw, StandingLaw, StandsInEach};
-ghost use Rattle.file_store.specs.State.{IsRead, StandsOn, store_in};
+ghost use Rattle.file_store.specs.State.{IsRead, IsReady, store_in};
 ghost use Rattle.file_store.specs.Upload.{Holds};
 
 use crate::{FileStore, OpenUpload};
@@ -28,9 +28,8 @@ pub fn state_law(store: &FileStore)
 /// What an upload that is out knows: in every image of a disk on which the store stands, its entry is under way and holds
 /// at least the octets that the upload says. The store hasn't failed. Takes no memory.
 pub fn token_law<D: Disk>(store: &FileStore, up: &OpenUpload, disk: &D)
-    requires healthy { store.now.journal.failed ≡ false }
+    requires ready { IsReady D.Disk store.now disk.now }
     requires holds { Holds store.now up.now }
-    requires stands_on { StandsOn D.Disk store.now disk.now }
     ensures { HoldsInEach D.Disk up.now disk.now }
 {
     store.read_law();
@@ -39,8 +38,7 @@ pub fn token_law<D: Disk>(store: &FileStore, up: &OpenUpload, disk: &D)
 /// What stays of a file that is complete: in every image of a disk on which the store stands, the entry stands as it is.
 /// The store hasn't failed; each of its calls keeps each complete entry. Takes no memory.
 pub fn complete_law<D: Disk>(store: &FileStore, disk: &D)
-    requires healthy { store.now.journal.failed ≡ false }
-    requires stands_on { StandsOn D.Disk store.now disk.now }
+    requires { IsReady D.Disk store.now disk.now }
     ensures { (number : ℕ) (entry : Entry) → entry_of (store_in store.now) number ≡ Some entry
         → IsTrue (is_complete entry.holding) → StandsInEach D.Disk number entry disk.now }
 {

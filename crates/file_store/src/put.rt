@@ -1,11 +1,11 @@
 //! A change of the entries, put on the disk.
 
-ghost use Rattle.std.specs.Prelude.{◌≡◌, ◌∷◌, [], false, IsErr, OnErr, OnOk};
+ghost use Rattle.std.specs.Prelude.{◌≡◌, ◌∷◌, [], IsErr, OnErr, OnOk};
 ghost use Rattle.file_entries.specs.Command.{after};
 ghost use Rattle.file_entries.specs.Files.{Becomes, store_of};
 ghost use Rattle.file_store.specs.Changes.{MayMake, command_by, number_by, rest_by};
 ghost use Rattle.file_store.specs.OnDisk.{Does};
-ghost use Rattle.file_store.specs.State.{IsRead, StandsOn, state_from};
+ghost use Rattle.file_store.specs.State.{IsRead, IsReady, state_from};
 
 use crate::change::EntriesChange;
 use disk_model::{Disk, DiskFault};
@@ -19,9 +19,8 @@ pub(crate) fn put_change<D: Disk>(
     disk: &mut D,
     change: &EntriesChange,
 ) -> Result<(), DiskFault>
-    requires stands_on { StandsOn D.Disk (state_from kept.old.ledger.files kept.old.journal) disk.old }
+    requires ready { IsReady D.Disk (state_from kept.old.ledger.files kept.old.journal) disk.old }
     requires read { IsRead kept.old.journal }
-    requires healthy { kept.old.journal.failed ≡ false }
     requires may { MayMake change.now kept.old.ledger }
     ensures does { Does D.Disk (IsErr result) (state_from kept.old.ledger.files kept.old.journal)
         (state_from kept.new.ledger.files kept.new.journal) disk.old disk.new

@@ -2,7 +2,7 @@
 use Rattle.std.proofs.lemmas.Grind.{common_steps}
 use Rattle.std.proofs.Common.{◌≡◌, ℕ, zero, suc, ◌<◌, List, [], ◌∷◌, length, get_or, set, Bool, true, false, Option, rules}
 use Rattle.std.proofs.Common.{None, Some, sym, ◌∙◌, ap, subst, inr, arith}
-use Rattle.std.specs.Prelude.{slice_get, ⊤, Result, Ok, Err}
+use Rattle.std.specs.Prelude.{slice_get, ⊤, Result, Ok, Err, IsErrOf}
 use Rattle.std.specs.List.{position}
 use Rattle.std.proofs.lemmas.List.Quantifiers.{position-Some}
 use Rattle.std.proofs.lemmas.Option.{slice_get-get_or}
@@ -14,20 +14,21 @@ use Rattle.ax25_link.specs.Kept.{is_pending}
 use Rattle.ax25_link.specs.Window.{Window}
 use Rattle.ftl0_session.specs.Lists.Lists.{CallerList}
 use Rattle.file_store.specs.Store.{Store}
-use Rattle.file_store.specs.State.{StandsOn, StoreState, store_in}
+use Rattle.file_store.specs.State.{IsReady, StoreState, store_in}
 use Rattle.file_store.specs.Working.{DoesAmongReads}
+use Rattle.file_store.proofs.Offered.{puts-among, puts_none}
 use Rattle.ftl0_session.specs.Uploads.Failures.{Failure}
 use Rattle.ftl0_session.proofs.uploads.UploadRows.{same_call-decides}
 use Rattle.ftl0_session.specs.SessionState.{caller_of, working_on}
-use Rattle.ftl0_session.specs.Uploads.SessionState.{with_disk}
+use Rattle.disk_model.specs.AtDisk.{at}
 use Rattle.disk_model.specs.declared.halt.Halt.{Halt as Stop}
 use Rattle.disk_model.specs.declared.halt.Halt.TheVariants as stop
 use Rattle.ftl0_server.specs.Connection.Connected.{Connected}
 use Rattle.ftl0_server.specs.Connection.ConnectionState.{ConnectionState, with_reads}
 use Rattle.ftl0_server.specs.Connection.Hearing.{Happened, hearing}
 use Rattle.node.specs.Events.{IsFor}
-use Rattle.ftl0_server.specs.AtPlace.{IsPlace, MayHear, PlaceHears, PlaceHearsBy, Works}
-use Rattle.ftl0_server.specs.Calls.{Hears, HearsBy, HearsStranger}
+use Rattle.ftl0_server.specs.AtPlace.{IsPlace, KeepsStore, MayHear, PlaceHears, PlaceHearsBy, Works}
+use Rattle.ftl0_server.specs.Calls.{Hears, HearsBy, HearsEvent, HearsStranger, SameStore}
 use Rattle.ftl0_server.specs.declared.place.Place.{Place}
 use Rattle.ftl0_server.specs.declared.place.Place.TheVariants.{Free, Talking}
 use Rattle.ftl0_server.specs.Kept.{IsAt, IsSettled}
@@ -109,7 +110,7 @@ module _ (self : ServerState) (server : Server) (is : IsServer self server) wher
 
 module _ {D : Type 0} (g : Ghosts D) (old new : ServerState) (server : Server) (is : IsServer old server)
     (settled : IsSettled old.me old.k old.store old.places) (frame : FrameValue) (moment : ℕ) (disk disk_now : D) (place : ℕ)
-    (found : position (has_caller frame.src) old.places ≡ Some place) (c : ConnectionState) (at : IsAt old.places place c) (p : Place)
+    (found : position (has_caller frame.src) old.places ≡ Some place) (c : ConnectionState) (is_at : IsAt old.places place c) (p : Place)
     (works : Works old.store new.store (Talking c) p) (me : new.me ≡ old.me) (k : new.k ≡ old.k) (stray : new.stray ≡ old.stray)
     (places : new.places ≡ set old.places place p) where
   -- the server that stands now, where the place is this one
@@ -120,12 +121,12 @@ module _ {D : Type 0} (g : Ghosts D) (old new : ServerState) (server : Server) (
   now-is : (s : Slot) (store : Store) (lists : List CallerList) → IsPlace server.window new.store p s → store_in new.store ≡ store → new.lists ≡ lists
       → IsServer new (record server { slots = set server.slots place s; store = store; lists = lists })
   now-is s store lists here same same_lists =
-      let all = all-works server.window old.me old.k old.store new.store old.places server.slots place (Talking c) p s at settled works (all-are old server is) here in
+      let all = all-works server.window old.me old.k old.store new.store old.places server.slots place (Talking c) p s is_at settled works (all-are old server is) here in
       let says = all-to (IsPlace server.window new.store) (SaysAs new.store) (set old.places place p) (set server.slots place s) (λ i q t there it both. both.1) all in
       let sends = now-sends s store lists here.0 in grind (arith, common_steps)
 
   module _ (event : List Failure → Happened) where
-    heard-by : (result : Result ⊤ Stop) → PlaceHearsBy g server.window event (with_disk old.store disk) (working_on new.store new.lists disk_now) p result
+    heard-by : (result : Result ⊤ Stop) → PlaceHearsBy g server.window event (at old.store disk) (working_on new.store new.lists disk_now) p result
         → HearsBy g (λ failures. heard_at server place (event failures)) old new disk disk_now result
     heard-by (Ok done) by = grind (arith, common_steps, now-is, never)
     heard-by (Err stop.Disk) by = search (rules, arith, now-sends)
@@ -137,7 +138,7 @@ module _ {D : Type 0} (g : Ghosts D) (old new : ServerState) (server : Server) (
 
   pub server-hears : (result : Result ⊤ Stop)
       → ((w : Window) (d : Connected) → IsPlace w old.store (Talking c) (connected d)
-      → PlaceHears g w (hearing w moment (store_in old.store) old.lists d frame) (with_disk old.store disk) (working_on new.store new.lists disk_now) p result)
+      → PlaceHears g w (hearing w moment (store_in old.store) old.lists d frame) (at old.store disk) (working_on new.store new.lists disk_now) p result)
       → Hears g (server_hearing server frame moment) old new disk disk_now result
   server-hears result hears =
       let slot = slot_is in
@@ -156,24 +157,41 @@ module _ {D : Type 0} (g : Ghosts D) (old new : ServerState) (server : Server) (
 
 -- ---- a frame of a station without a connection
 
-module _ {D : Type 0} (g : Ghosts D) (old new : ServerState) (server : Server) (is : IsServer old server)
-    (settled : IsSettled old.me old.k old.store old.places) (frame : FrameValue) (moment : ℕ) (disk : D)
-    (found : position (has_caller frame.src) old.places ≡ None) (healthy : old.store.journal.failed ≡ false)
-    (stands : StandsOn g old.store disk) (lasts : g.lasts disk disk) (same : new.store ≡ old.store) where
+module _ {D : Type 0} (g : Ghosts D) (old new : ServerState) (settled : IsSettled old.me old.k old.store old.places) (frame : FrameValue) (moment : ℕ) (disk : D)
+    (found : position (has_caller frame.src) old.places ≡ None) (ready : IsReady g old.store disk) (lasts : g.lasts disk disk) (same : SameStore old new) where
   nothing-done : DoesAmongReads g ⊥ 0 old.store new.store disk disk []
   nothing-done = grind (arith, common_steps)
 
-  stranger-by : (result : Result ⊤ Stop) → HearsStranger (λ s. hearing_stranger s frame moment) old new result
-      → HearsBy g (λ failures. becoming (hearing_stranger server frame moment)) old new disk disk result
-  stranger-by result heard = grind (arith, common_steps)
+  module _ (server : Server) (is : IsServer old server) where
+    stranger-by : (result : Result ⊤ Stop) → HearsStranger (λ s. hearing_stranger s frame moment) old new result
+        → HearsBy g (λ failures. becoming (hearing_stranger server frame moment)) old new disk disk result
+    stranger-by result heard = grind (arith, common_steps)
 
-  pub stranger-hears : (result : Result ⊤ Stop) → HearsStranger (λ s. hearing_stranger s frame moment) old new result
-      → Hears g (server_hearing server frame moment) old new disk disk result
-  stranger-hears result heard =
-      let by : Hears g (λ failures. becoming (hearing_stranger server frame moment)) old new disk disk result =
-      record { parts = []; by = stranger-by result heard; since = nothing-done.since } in
-      subst (λ (o : Option ℕ). Hears g (λ failures. hearing_by server frame moment failures o) old new disk disk result)
-      (sym found ∙ same-place_of old server is old.me old.k settled frame.src) by
+    stranger-hears : (result : Result ⊤ Stop) → HearsStranger (λ s. hearing_stranger s frame moment) old new result
+        → Hears g (server_hearing server frame moment) old new disk disk result
+    stranger-hears result heard =
+        let by : Hears g (λ failures. becoming (hearing_stranger server frame moment)) old new disk disk result =
+        record { parts = []; by = stranger-by result heard; since = nothing-done.since } in
+        subst (λ (o : Option ℕ). Hears g (λ failures. hearing_by server frame moment failures o) old new disk disk result)
+        (sym found ∙ same-place_of old server is old.me old.k settled frame.src) by
+
+  no-disk : (result : Result ⊤ Stop) → HearsStranger (λ s. hearing_stranger s frame moment) old new result → ¬ IsErrOf result stop.Disk
+  no-disk (Ok done) heard is = absurd cc
+  no-disk (Err stop.Disk) heard is = heard
+  no-disk (Err stop.OutOfMemory) heard is = absurd cc
+
+  stranger-keeps : (result : Result ⊤ Stop) → HearsStranger (λ s. hearing_stranger s frame moment) old new result → KeepsStore g (IsErrOf result stop.Disk) old.store new.store disk disk
+  stranger-keeps result heard = rw same.store (record {
+    puts = puts-among g (IsErrOf result stop.Disk) disk disk (puts_none g disk (IsErrOf result stop.Disk) (no-disk result heard) lasts);
+    kept = λ number entry there whole. there;
+    healthy = λ fine. ready.healthy;
+    stands_on = ready.stands_on;
+  })
+
+  -- what it does to the server
+  pub stranger-event : (result : Result ⊤ Stop) → HearsStranger (λ s. hearing_stranger s frame moment) old new result
+      → HearsEvent g (λ server. server_hearing server frame moment) old new disk disk result
+  stranger-event result heard = record { hears = λ server is. stranger-hears server is result heard; keeps = stranger-keeps result heard; me = same.me }
 
 -- what a frame of a station without a connection makes of a server, said otherwise
 pub stranger-at : (step other : Server → Server) (old new : ServerState) (result : Result ⊤ Stop) → ((s : Server) → step s ≡ other s)

@@ -1,19 +1,22 @@
 -- What an event at one place leaves.
 use Rattle.std.proofs.lemmas.Grind.{common_steps}
-use Rattle.std.proofs.Common.{◌≡◌, List, Bool, true, false, sym, subst, arith}
-use Rattle.std.specs.Prelude.{⊤, Result}
+use Rattle.std.proofs.Common.{◌≡◌, List, Bool, true, false, refl, sym, subst, arith}
+use Rattle.std.specs.Prelude.{⊤, Result, Ok, Err}
 use Rattle.px_base.specs.CallSign.{CallSign}
 use Rattle.disk_model.specs.declared.disk.Disk.{Ghosts}
 use Rattle.ax25_link.specs.Kept.{StandsFor}
 use Rattle.ax25_link.specs.Window.{Window}
 use Rattle.file_store.specs.State.{StoreState, store_in}
 use Rattle.ftl0_session.specs.Lists.Lists.{CallerList}
-use Rattle.ftl0_session.specs.Uploads.Failures.{Failure}
+use Rattle.file_store.proofs.Offered.{Does-moved}
+use Rattle.ftl0_session.specs.Uploads.Failures.{Failure, failed_write}
 use Rattle.ftl0_session.specs.Uploads.Others.{KeepsOtherCallers}
-use Rattle.ftl0_session.specs.Uploads.SessionState.{IsOnlyOut, Parks, with_disk}
+use Rattle.disk_model.specs.AtDisk.{AtDisk, at}
+use Rattle.ftl0_session.specs.Uploads.SessionState.{IsOnlyOut, Parks}
 use Rattle.ftl0_session.specs.declared.uploads.phase.Phase.{Phase}
 use Rattle.ftl0_session.specs.SessionState.{caller_of, working_on}
 use Rattle.disk_model.specs.declared.halt.Halt.{Halt as Stop}
+use Rattle.disk_model.specs.declared.halt.Halt.TheVariants as stop
 use Rattle.ftl0_server.specs.Connection.ConnectionState.{ConnectionState, HearsBy, IsConnection}
 use Rattle.ftl0_server.specs.declared.connection.fate.Fate.TheVariants.{Ends}
 use Rattle.ftl0_server.specs.Connection.Hearing.{Happened}
@@ -34,9 +37,17 @@ module _ {D : Type 0} (g : Ghosts D) (w : Window) (event : List Failure → Happ
       → SendsAs w (Leaving connection.link) (slot_after happened)
   left happened over stands = subst (λ (b : Bool). SendsAs w (Leaving connection.link) (left_by b happened.after)) (sym over) stands
 
-  pub heard-over : (result : Result ⊤ Stop) → HearsBy g w event (with_disk store disk) (working_on mid lists disk_now) connection Ends result
-      → PlaceHearsBy g w event (with_disk store disk) (working_on now lists disk_now) (Leaving connection.link) result
-  heard-over result by = grind (arith, common_steps)
+  pub heard-over : (result : Result ⊤ Stop) → HearsBy g w event (at store disk) (working_on mid lists disk_now) connection Ends result
+      → PlaceHearsBy g w event (at store disk) (working_on now lists disk_now) (Leaving connection.link) result
+  heard-over (Ok done) by = grind (arith, common_steps)
+  heard-over (Err stop.Disk) by =
+      let then_is : AtDisk StoreState D = by.3.then_is in (
+        by.0,
+        by.1,
+        left (event (failed_write by.0)) by.2.1.0 by.2.1.1,
+        record { then_is = then_is; first = by.3.first; second = Does-moved g ⊤ then_is.it mid then_is.it now then_is.disk disk_now (event (failed_write by.0)).cut refl refl same journal by.3.second },
+      )
+  heard-over (Err stop.OutOfMemory) by = grind (arith, common_steps)
 
 -- Where it goes on so does the connection.
 module _ {D : Type 0} (g : Ghosts D) (w : Window) (event : List Failure → Happened) (store now : StoreState) (lists : List CallerList) (disk disk_now : D)

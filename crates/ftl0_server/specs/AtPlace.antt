@@ -6,12 +6,14 @@ use Rattle.ax25_link.specs.Kept.{Fits, IsFromPeer, SameStations, is_pending}
 use Rattle.ax25_link.specs.Window.{Window}
 use Rattle.ax25_link.specs.declared.state.LinkState.TheVariants.{Up}
 use Rattle.file_store.specs.Calls.{Leaves}
+use Rattle.file_store.specs.EntriesKept.{KeepsComplete}
 use Rattle.file_store.specs.OnDisk.{MakesFirst}
-use Rattle.file_store.specs.State.{StoreState, store_in}
-use Rattle.file_store.specs.Working.{CutsOffAmongReads, DoesAmongReads}
+use Rattle.file_store.specs.State.{StandsOn, StoreState, store_in}
+use Rattle.file_store.specs.Working.{CutsOffAmongReads, DoesAmongReads, PutsAmongReads}
 use Rattle.ftl0_session.specs.Uploads.Failures.{Failure, failed_write}
 use Rattle.ftl0_session.specs.Uploads.Others.{KeepsOtherCallers}
-use Rattle.ftl0_session.specs.Uploads.SessionState.{IsHeld, IsOnlyOut, NoOtherOut, Parks, WithDisk}
+use Rattle.disk_model.specs.AtDisk.{AtDisk, at}
+use Rattle.ftl0_session.specs.Uploads.SessionState.{IsHeld, IsOnlyOut, NoOtherOut, Parks}
 use Rattle.ftl0_session.specs.Downloads.Needs.{IsDueIn}
 use Rattle.ftl0_session.specs.SessionState.{WorkingOn, caller_of}
 use Rattle.disk_model.specs.declared.halt.Halt.{Halt as Stop}
@@ -23,6 +25,15 @@ use Rattle.ftl0_server.specs.declared.place.Place.{Place}
 use Rattle.ftl0_server.specs.declared.place.Place.TheVariants.{Free, Talking, Leaving}
 use Rattle.ftl0_server.specs.ServerState.{SaysAs, SendsAs}
 use Rattle.ftl0_server.specs.Slots.{Slot, slot_after}
+
+-- What any event leaves of a store and its disk: no write and no sync came behind one that failed, each complete entry
+-- is kept, and the store stands on the disk, and has failed only where this holds.
+pub record KeepsStore {D : Type 0} (g : Ghosts D) (failed : Type 0) (before now : StoreState) (disk disk_now : D) :
+    Type 0 where
+  pub puts : PutsAmongReads g failed disk disk_now
+  pub kept : KeepsComplete (store_in before) (store_in now)
+  pub healthy : ¬ failed → now.journal.failed ≡ false
+  pub stands_on : StandsOn g now disk_now
 
 -- the place is that one, over this store
 abbrev pub IsPlace : Window → StoreState → Place → Slot → Type 0
@@ -82,14 +93,14 @@ Works before now (Leaving link) new = (now ≡ before) × (new ≡ Leaving link)
 -- What a frame that is heard at a place does, where `event` gives what it makes of the connection there by the writes
 -- and syncs that fail in it: as the connection's call says it, but that the place is the one that is left.
 abbrev pub PlaceHearsBy :
-    {D : Type 0} → Ghosts D → Window → (List Failure → Happened) → WithDisk StoreState D → WorkingOn D → Place
+    {D : Type 0} → Ghosts D → Window → (List Failure → Happened) → AtDisk StoreState D → WorkingOn D → Place
     → Result ⊤ Stop → Type 0
 PlaceHearsBy g w event before now place (Ok done) =
     ((event []).halt ≡ goes_on) × (now.lists ≡ (event []).lists) × IsPlace w now.store place (slot_after (event []))
     × DoesAmongReads g ⊥ (event []).missed before.it now.store before.disk now.disk (event []).done
 PlaceHearsBy g w event before now place (Err stop.Disk) =
     (part : ℕ) × ((event (failed_write part)).halt ≡ fails) × SendsAs w place (slot_after (event (failed_write part)))
-    × CutsOffAmongReads g ⊤ (event (failed_write part)).missed before.it now.store before.disk now.disk
+    × CutsOffAmongReads g ⊤ (event (failed_write part)).missed before (at now.store now.disk)
     (event (failed_write part)).done (event (failed_write part)).cut
 PlaceHearsBy g w event before now place (Err stop.OutOfMemory) =
     (part : ℕ) × ((event (failed_write part)).halt ≡ fails)
@@ -100,7 +111,7 @@ PlaceHearsBy g w event before now place (Err stop.OutOfMemory) =
 -- reads failed at these parts of it. Since it came each image stands for the store after the first of the commands that
 -- it has where no write and no sync fails, for some number of them.
 pub record PlaceHears {D : Type 0} (g : Ghosts D) (w : Window) (event : List Failure → Happened)
-    (before : WithDisk StoreState D) (now : WorkingOn D) (place : Place) (result : Result ⊤ Stop) : Type 0 where
+    (before : AtDisk StoreState D) (now : WorkingOn D) (place : Place) (result : Result ⊤ Stop) : Type 0 where
   pub parts : List ℕ
   pub by : PlaceHearsBy g w (with_reads event parts) before now place result
   pub since :

@@ -1,25 +1,29 @@
 -- What a server's calls do.
 use Rattle.std.specs.Prelude.{◌≡◌, ◌⊎◌, ℕ, List, [], ◌∷◌, slice_set, true, false, Bool, Option, None, Some}
-use Rattle.std.specs.Prelude.{Result, Ok, Err, ⊤}
+use Rattle.std.specs.Prelude.{Result, Ok, Err, IsErrOf, ⊤}
+use Rattle.disk_model.specs.AtDisk.{at}
 use Rattle.disk_model.specs.declared.disk.Disk.{Ghosts}
-use Rattle.ax25_frames.specs.FrameText.{FrameText, canonical}
+use Rattle.ax25_frames.specs.FrameText.{FrameText, FrameValue, canonical}
+use Rattle.ax25_frames.specs.Kinds.{FitsControl}
 use Rattle.ax25_link.specs.Kept.{HasStations}
 use Rattle.ax25_link.specs.declared.state.LinkState.TheVariants.{Up}
 use Rattle.file_store.specs.Calls.{Leaves}
 use Rattle.file_store.specs.OnDisk.{MakesFirst}
-use Rattle.file_store.specs.State.{store_in}
+use Rattle.file_store.specs.State.{IsReady, store_in}
 use Rattle.file_store.specs.Working.{CutsOffAmongReads, DoesAmongReads}
 use Rattle.ftl0_session.specs.Uploads.Failures.{Failure, failed_write}
 use Rattle.ftl0_session.specs.SessionState.{caller_of, new_session}
 use Rattle.disk_model.specs.declared.halt.Halt.{Halt as Stop}
 use Rattle.disk_model.specs.declared.halt.Halt.TheVariants as stop
+use Rattle.node.specs.Events.{IsFor}
+use Rattle.ftl0_server.specs.AtPlace.{KeepsStore}
 use Rattle.ftl0_server.specs.Connection.ConnectionState.{ConnectionState, with_reads}
 use Rattle.ftl0_server.specs.Connection.Taking.{fails, goes_on}
 use Rattle.ftl0_server.specs.declared.place.Place.{Place}
 use Rattle.ftl0_server.specs.declared.place.Place.TheVariants.{Talking}
 use Rattle.ftl0_server.specs.Places.{SamePlace}
 use Rattle.ftl0_server.specs.Server.{Server, ServerHappened, ServerSends, server_next}
-use Rattle.ftl0_server.specs.ServerState.{IsServer, SendsFor, ServerState}
+use Rattle.ftl0_server.specs.ServerState.{IsServer, SendsFor, ServerState, server_pending}
 
 -- What an event does, where `event` gives what it makes of the server by the writes and syncs that fail in it. Where
 -- all was taken none failed, and its commands are done. Where the disk failed, at a write or a sync of some packet and
@@ -34,7 +38,7 @@ HearsBy g event old new disk disk_now (Ok done) =
     × DoesAmongReads g ⊥ (event []).missed old.store new.store disk disk_now (event []).done
 HearsBy g event old new disk disk_now (Err stop.Disk) =
     (part : ℕ) × ((event (failed_write part)).halt ≡ fails) × SendsFor new (event (failed_write part)).after
-    × CutsOffAmongReads g ⊤ (event (failed_write part)).missed old.store new.store disk disk_now
+    × CutsOffAmongReads g ⊤ (event (failed_write part)).missed (at old.store disk) (at new.store disk_now)
     (event (failed_write part)).done (event (failed_write part)).cut
 HearsBy g event old new disk disk_now (Err stop.OutOfMemory) =
     DoesAmongReads g ⊥ 0 old.store new.store disk disk_now []
@@ -50,6 +54,25 @@ pub record Hears {D : Type 0} (g : Ghosts D) (event : List Failure → ServerHap
   pub parts : List ℕ
   pub by : HearsBy g (with_reads event parts) old new disk disk_now result
   pub since : Leaves g disk disk_now (λ _. MakesFirst (store_in old.store) (with_reads event parts []).done)
+
+-- What an event needs of a server: nothing is to be given out, and the store is ready.
+pub record AwaitsEvent {D : Type 0} (g : Ghosts D) (self : ServerState) (disk : D) : Type 0 where
+  pub silent : server_pending self ≡ false
+  pub ready : IsReady g self.store disk
+
+-- So a frame, which is one for the server.
+pub record AwaitsFrame {D : Type 0} (g : Ghosts D) (self : ServerState) (disk : D) (frame : FrameValue) : Type 0 where
+  pub is_for : IsFor self.me frame
+  pub numbers : FitsControl frame.kind.control
+  pub awaits : AwaitsEvent g self disk
+
+-- What an event does, which makes this of a server by the failures of the disk: of whichever server it stood for, it is
+-- what the event makes of that, or it stops. It keeps its store and its call.
+pub record HearsEvent {D : Type 0} (g : Ghosts D) (event : Server → List Failure → ServerHappened)
+    (old new : ServerState) (disk disk_now : D) (result : Result ⊤ Stop) : Type 0 where
+  pub hears : (server : Server) → IsServer old server → Hears g (event server) old new disk disk_now result
+  pub keeps : KeepsStore g (IsErrOf result stop.Disk) old.store new.store disk disk_now
+  pub me : new.me ≡ old.me
 
 -- What is handed out where this is sent next: nothing, and nothing changes; or the octets of its frame in place of
 -- those that the buffer held. The server is then, in this sense, the one that has sent it.
@@ -79,6 +102,11 @@ pub record SameButLinks (old new : ServerState) : Type 0 where
   pub places : SamePlaces old.places new.places
   pub store : new.store ≡ old.store
   pub lists : new.lists ≡ old.lists
+
+-- the store and the call are as they were
+pub record SameStore (old new : ServerState) : Type 0 where
+  pub store : new.store ≡ old.store
+  pub me : new.me ≡ old.me
 
 -- A frame of a station without a connection makes this of whichever server it was, or there is no memory, and nothing
 -- changes.

@@ -3,16 +3,14 @@
 ghost use Rattle.std.specs.Prelude.{◌≡◌, ◌<◌, [], false, true, IsErrOf};
 ghost use Rattle.ax25_frames.specs.Values.{value_of};
 ghost use Rattle.ax25_link.specs.Window.{Window};
-ghost use Rattle.file_store.specs.EntriesKept.{KeepsComplete};
-ghost use Rattle.file_store.specs.State.{StandsOn, store_in};
-ghost use Rattle.file_store.specs.Working.{PutsAmongReads};
+ghost use Rattle.file_store.specs.State.{IsReady, store_in};
 ghost use Rattle.ftl0_session.specs.Downloads.Needs.{AreComplete};
-ghost use Rattle.ftl0_session.specs.Uploads.SessionState.{with_disk};
+ghost use Rattle.disk_model.specs.AtDisk.{at};
 ghost use Rattle.ftl0_session.specs.SessionState.{working_on};
 ghost use Rattle.ftl0_server.specs.Connection.Connected.{Connected};
 ghost use Rattle.ftl0_server.specs.Connection.Hearing.{hearing};
-ghost use Rattle.ftl0_server.specs.AtPlace.{HasEnded, HasLeft, IsPlace, MayEnd, MayHear, MayLeave, MayTick, PlaceFits};
-ghost use Rattle.ftl0_server.specs.AtPlace.{PlaceHears, Works};
+ghost use Rattle.ftl0_server.specs.AtPlace.{HasEnded, HasLeft, IsPlace, KeepsStore, MayEnd, MayHear, MayLeave, MayTick};
+ghost use Rattle.ftl0_server.specs.AtPlace.{PlaceFits, PlaceHears, Works};
 ghost use Rattle.ftl0_server.specs.Slots.{Slot, connected, slot_ticking};
 ghost use Rattle.ftl0_server.specs.Places.{PlaceGives, SamePlace};
 ghost use Rattle.ftl0_server.specs.ServerState.{has_caller, is_empty_place, place_most, place_pending};
@@ -110,17 +108,13 @@ impl Place {
         moment: u32,
     ) -> Result<(), Halt>
         requires may { MayHear store.old (value_of frame.now) self.old }
-        requires healthy { store.old.journal.failed ≡ false }
-        requires stands_on { StandsOn D.Disk store.old disk.old }
+        requires ready { IsReady D.Disk store.old disk.old }
         requires complete { AreComplete (store_in store.old) lists.old }
         ensures hears { (w : Window) (c : Connected) → IsPlace w store.old self.old (connected c) →
             PlaceHears D.Disk w (hearing w moment (store_in store.old) lists.old c (value_of frame.now))
-            (with_disk store.old disk.old) (working_on store.new lists.new disk.new) self.new result }
-        ensures puts { PutsAmongReads D.Disk (IsErrOf result Halt.Disk) disk.old disk.new }
-        ensures kept { KeepsComplete (store_in store.old) (store_in store.new) }
+            (at store.old disk.old) (working_on store.new lists.new disk.new) self.new result }
+        ensures keeps { KeepsStore D.Disk (IsErrOf result Halt.Disk) store.old store.new disk.old disk.new }
         ensures works { Works store.old store.new self.old self.new }
-        ensures healthy { ¬ IsErrOf result Halt.Disk → store.new.journal.failed ≡ false }
-        ensures stands_on { StandsOn D.Disk store.new disk.new }
         ensures complete { AreComplete (store_in store.new) lists.new }
     {
         match self {

@@ -2,22 +2,20 @@
 
 ghost use Rattle.std.specs.Prelude.{◌≡◌, ◌<◌, ◌≤◌, ℕ, [], false, true, IfErr, IfOk, IsErrOf, None, Ok, OnOk, Some};
 ghost use Rattle.std.specs.List.{position};
-ghost use Rattle.ax25_frames.specs.Kinds.{FitsControl};
 ghost use Rattle.ax25_frames.specs.Values.{value_of};
 ghost use Rattle.ax25_link.specs.Window.{IsGoodK, window_of};
-ghost use Rattle.file_store.specs.EntriesKept.{KeepsComplete};
 ghost use Rattle.file_store.specs.IsStore.{IsStore};
 ghost use Rattle.file_store.specs.Records.{store_magic};
 ghost use Rattle.file_store.specs.Calls.{Becomes, Leaves, Runs, TakesStep};
 ghost use Rattle.file_store.specs.Journal.{after_recovery};
 ghost use Rattle.file_store.specs.Recovery.{IsRecovered, LeavesAlikeSinceSync, RefusesRecovery, StandsAlike};
-ghost use Rattle.file_store.specs.State.{StandsOn, store_in};
-ghost use Rattle.file_store.specs.Working.{PutsAmongReads};
+ghost use Rattle.file_store.specs.State.{IsReady, store_in};
 ghost use Rattle.ftl0_session.specs.SessionState.{caller_of};
-ghost use Rattle.node.specs.Events.{IsFor, ticks};
+ghost use Rattle.node.specs.Events.{ticks};
 ghost use Rattle.ftl0_server.specs.ServerStep.{happening};
 ghost use Rattle.ftl0_server.specs.AtPlace.{AllFit};
-ghost use Rattle.ftl0_server.specs.Calls.{HandsOutNext, Hears, HearsStranger, IsNew, SameButLinks, Seats};
+ghost use Rattle.ftl0_server.specs.Calls.{AwaitsEvent, AwaitsFrame, HandsOutNext, HearsStranger, IsNew, SameButLinks};
+ghost use Rattle.ftl0_server.specs.Calls.{SameStore, Seats, HearsEvent};
 ghost use Rattle.ftl0_server.specs.Server.{Server as ServerValue, called_by, hearing_stranger, new_server, refusing};
 ghost use Rattle.ftl0_server.specs.Server.{server_hearing, server_ticking, settled};
 ghost use Rattle.ftl0_server.specs.ServerState.{IsServer, SendsFor, has_caller, is_empty_place, server_most};
@@ -144,23 +142,12 @@ impl Server {
         frame: &Frame<'_>,
         moment: u32,
     ) -> Result<(), Halt>
-        requires frame { IsFor self.old.me (value_of frame.now) }
-        requires numbers { FitsControl (value_of frame.now).kind.control }
-        requires silent { server_pending self.old ≡ false }
-        requires healthy { self.old.store.journal.failed ≡ false }
-        requires stands_on { StandsOn D.Disk self.old.store disk.old }
+        requires { AwaitsFrame D.Disk self.old disk.old (value_of frame.now) }
 
-        // Of whichever server it stands for, it is what the frame makes of that, or it stops.
-        ensures hears { (server : ServerValue) → IsServer self.old server →
-            Hears D.Disk (server_hearing server (value_of frame.now) moment)
+        // Of whichever server it stands for, it is what the frame makes of that, or it stops. It keeps what the next
+        // event needs.
+        ensures { HearsEvent D.Disk (λ server. server_hearing server (value_of frame.now) moment)
             self.old self.new disk.old disk.new result }
-        ensures puts { PutsAmongReads D.Disk (IsErrOf result Halt.Disk) disk.old disk.new }
-        ensures kept { KeepsComplete (store_in self.old.store) (store_in self.new.store) }
-
-        // What the next event needs.
-        ensures healthy { ¬ IsErrOf result Halt.Disk → self.new.store.journal.failed ≡ false }
-        ensures stands_on { StandsOn D.Disk self.new.store disk.new }
-        ensures me { self.new.me ≡ self.old.me }
     {
         match place_of(&self.places, frame.src) {
             Some(place) => self.hear_at(place, disk, frame, moment),
@@ -172,23 +159,17 @@ impl Server {
     /// answer any more. It frees no octets of a link, so nothing more of what is due is queued. So far a tick has
     /// nothing to do on the disk, and its moment makes no difference. It costs the eight places. Takes no memory.
     pub fn tick<D: Disk>(&mut self, _disk: &mut D, _moment: u32) -> Result<(), Halt>
-        requires silent { server_pending self.old ≡ false }
-        requires healthy { self.old.store.journal.failed ≡ false }
-        requires stands_on { StandsOn D.Disk self.old.store _disk.old }
+        requires { AwaitsEvent D.Disk self.old _disk.old }
         ensures ok { result ≡ Ok tt }
 
         // What a power cut inside it leaves, said as of a frame.
-        ensures happens { (server : ServerValue) → IsServer self.old server →
-            Hears D.Disk (happening server (ticks _moment)) self.old self.new _disk.old _disk.new result }
-        ensures puts { PutsAmongReads D.Disk (IsErrOf result Halt.Disk) _disk.old _disk.new }
-        ensures kept { KeepsComplete (store_in self.old.store) (store_in self.new.store) }
+        ensures takes { HearsEvent D.Disk (λ server. happening server (ticks _moment))
+            self.old self.new _disk.old _disk.new result }
         ensures ticks { (server : ServerValue) → IsServer self.old server → IsServer self.new (server_ticking server) }
         ensures untouched { _disk.new ≡ _disk.old }
-        ensures healthy { self.new.store.journal.failed ≡ false }
-        ensures stands_on { StandsOn D.Disk self.new.store _disk.new }
+        ensures ready { IsReady D.Disk self.new.store _disk.new }
         ensures store { store_in self.new.store ≡ store_in self.old.store }
         ensures lists { self.new.lists ≡ self.old.lists }
-        ensures me { self.new.me ≡ self.old.me }
     {
         tick_all(&mut self.places, &mut self.store);
         Ok(())
@@ -265,19 +246,9 @@ impl Server {
         moment: u32,
     ) -> Result<(), Halt>
         requires place { position (has_caller (value_of frame.now).src) self.old.places ≡ Some place }
-        requires frame { IsFor self.old.me (value_of frame.now) }
-        requires numbers { FitsControl (value_of frame.now).kind.control }
-        requires silent { server_pending self.old ≡ false }
-        requires healthy { self.old.store.journal.failed ≡ false }
-        requires stands_on { StandsOn D.Disk self.old.store disk.old }
-        ensures hears { (server : ServerValue) → IsServer self.old server →
-            Hears D.Disk (server_hearing server (value_of frame.now) moment)
+        requires awaits { AwaitsFrame D.Disk self.old disk.old (value_of frame.now) }
+        ensures { HearsEvent D.Disk (λ server. server_hearing server (value_of frame.now) moment)
             self.old self.new disk.old disk.new result }
-        ensures puts { PutsAmongReads D.Disk (IsErrOf result Halt.Disk) disk.old disk.new }
-        ensures kept { KeepsComplete (store_in self.old.store) (store_in self.new.store) }
-        ensures healthy { ¬ IsErrOf result Halt.Disk → self.new.store.journal.failed ≡ false }
-        ensures stands_on { StandsOn D.Disk self.new.store disk.new }
-        ensures me { self.new.me ≡ self.old.me }
     {
         let places: &mut [Place] = &mut self.places;
         let at = &mut places[place];
@@ -289,8 +260,7 @@ impl Server {
         requires { position (has_caller (value_of frame.now).src) self.old.places ≡ None }
         ensures heard { HearsStranger (λ server. hearing_stranger server (value_of frame.now) moment)
             self.old self.new result }
-        ensures store { self.new.store ≡ self.old.store }
-        ensures me { self.new.me ≡ self.old.me }
+        ensures same { SameStore self.old self.new }
     {
         if is_call(frame) {
             return self.answer(frame.src, frame.poll, moment);
@@ -308,8 +278,7 @@ impl Server {
         requires { position (has_caller caller) self.old.places ≡ None }
         ensures heard { HearsStranger (λ server. called_by server caller poll moment (first_empty server.slots))
             self.old self.new result }
-        ensures store { self.new.store ≡ self.old.store }
-        ensures me { self.new.me ≡ self.old.me }
+        ensures same { SameStore self.old self.new }
     {
         let Some(place) = empty_place(&self.places) else {
             self.refuse(caller, poll);
@@ -337,8 +306,7 @@ impl Server {
     fn refuse(&mut self, to: Call, poll: bool)
         ensures refuses { (server : ServerValue) → IsServer self.old server →
             IsServer self.new (refusing server to poll) }
-        ensures store { self.new.store ≡ self.old.store }
-        ensures me { self.new.me ≡ self.old.me }
+        ensures same { SameStore self.old self.new }
     {
         self.stray = Some(Refusal { to, poll });
     }
@@ -349,8 +317,7 @@ impl Server {
         requires stranger { position (has_caller (caller_of connection.session)) self.old.places ≡ None }
         requires new { IsNew self.old connection }
         ensures seats { Seats place connection self.old self.new }
-        ensures store { self.new.store ≡ self.old.store }
-        ensures me { self.new.me ≡ self.old.me }
+        ensures same { SameStore self.old self.new }
     {
         let places: &mut [Place] = &mut self.places;
         let at = &mut places[place];

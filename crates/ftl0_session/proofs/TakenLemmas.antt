@@ -11,13 +11,13 @@ use Rattle.file_store.specs.Calls.{Reads}
 use Rattle.file_store.proofs.Offered.{Does-none, puts_none}
 use Rattle.file_store.specs.Command.{Command, DoesAll}
 use Rattle.file_store.specs.OnDisk.{Does}
-use Rattle.file_store.specs.State.{StandsOn, StoreState, store_in}
+use Rattle.file_store.specs.State.{IsReady, StoreState, store_in}
 use Rattle.ftl0_session.specs.declared.uploads.phase.Phase.{Phase}
 use Rattle.ftl0_session.specs.declared.uploads.phase.Phase.TheVariants as phase
 use Rattle.ftl0_session.specs.Uploads.Session.{is_upload_kind}
 use Rattle.ftl0_session.specs.Uploads.SessionState.{SessionState as Uploading, state_of}
 use Rattle.ftl0_session.proofs.uploads.Rows.{others-same}
-use Rattle.ftl0_session.specs.Downloads.Needs.{AreComplete, IsDueIn}
+use Rattle.ftl0_session.specs.Downloads.Needs.{AreComplete, IsDueIn, KeepsFiles}
 use Rattle.ftl0_session.specs.Downloads.Table.{DownloadRow, DownloadState}
 use Rattle.ftl0_session.specs.Downloads.Taking.{IsRow, Made, TakesByRow, made, made_by}
 use Rattle.disk_model.specs.declared.halt.Halt.{Halt}
@@ -49,16 +49,15 @@ is_some_at P x is holds = subst (λ o. IsSomeAnd o P) is holds
 
 module _ {D : Type 0} (g : Ghosts D) where
   -- what the next packet needs, where the store stayed
-  pub may-still : (uploads : Uploading) (part part_now : DownloadState) (store store_now : StoreState) (lists lists_now : List CallerList) (disk disk_now : D) → store_now ≡ store
-      → MayTake g store disk lists (session_of uploads part) → StandsOn g store_now disk_now → IsDueIn (store_in store_now) part_now → AreComplete (store_in store_now) lists_now
+  pub may-still : (uploads : Uploading) (part part_now : DownloadState) (store store_now : StoreState) (lists lists_now : List CallerList) (disk disk_now : D)
+      → MayTake g store disk lists (session_of uploads part) → KeepsFiles g store store_now disk_now lists_now part_now
       → MayTake g store disk_now lists_now (session_of uploads part_now)
-  may-still uploads part part_now store store_now lists lists_now disk disk_now same may stands due complete = record {
-    healthy = may.healthy;
-    stands_on = subst (λ (s : StoreState). StandsOn g s disk_now) same stands;
+  may-still uploads part part_now store store_now lists lists_now disk disk_now may keeps = let same = keeps.stays.same in record {
+    ready = subst (λ (s : StoreState). IsReady g s disk_now) same keeps.stays.ready;
     held = may.held;
     only = may.only;
-    due = subst (λ (s : StoreState). IsDueIn (store_in s) part_now) same due;
-    complete = subst (λ (s : StoreState). AreComplete (store_in s) lists_now) same complete;
+    due = subst (λ (s : StoreState). IsDueIn (store_in s) part_now) same keeps.due;
+    complete = subst (λ (s : StoreState). AreComplete (store_in s) lists_now) same keeps.complete;
   }
 
   -- a row without commands
@@ -83,7 +82,7 @@ module _ {D : Type 0} (g : Ghosts D) where
           reads = reads;
           on_disk =
               subst (λ (cs : List Command). Does g ⊥ store store disk_now disk_now cs) (sym commands)
-              (Does-none g ⊥ store disk_now (λ never. never) may.stands_on may.healthy lasts);
+              (Does-none g ⊥ store disk_now (λ never. never) may.ready lasts);
           puts = puts_none g disk_now (IsErrOf answered stop.Disk) fine lasts;
         };
         untouched = λ any without. reads.only;
@@ -91,8 +90,8 @@ module _ {D : Type 0} (g : Ghosts D) where
         kept = λ number entry found whole. found;
         others = others-same store (caller_of old);
         caller = ap (λ (u : Uploading). u.caller) same;
-        healthy = λ no_fault. may.healthy;
-        stands_on = may.stands_on;
+        healthy = λ no_fault. may.ready.healthy;
+        stands_on = may.ready.stands_on;
         held = may.held;
         only = may.only;
         due = may.due;
@@ -103,11 +102,11 @@ module _ {D : Type 0} (g : Ghosts D) where
       (none : upload_row uploads.caller moment (store_in store) (state_in store (session_of uploads part)) item ≡ None)
       (may : MayTake g store disk_now lists_now (session_of uploads part_now)) (lasts : g.lasts disk_now disk_now) where
     -- the packet's row of downloading
-    pub taken-download : (replies : List ℕ) → TakesByRow g (download_row_of (session_of uploads part) store lists item) disk disk_now (made part lists []) (made part_now lists_now replies) true
+    pub taken-download : (said replies : List ℕ) → TakesByRow g (download_row_of (session_of uploads part) store lists item) disk disk_now (made part lists said) (made part_now lists_now replies) true
         → Taken g (packet_of uploads.caller moment item) (session_of uploads part) (session_of uploads part_now) (working_on store lists disk) (working_on store lists_now disk_now) replies answered
-    taken-download replies takes =
+    taken-download said replies takes =
         let has = row-taken (download_row uploads.caller (store_in store) lists (state_in store (session_of uploads part)) item takes.fails) disk disk_now
-        (made part lists []) (made part_now lists_now replies) takes.is_row in
+        (made part lists said) (made part_now lists_now replies) takes.is_row in
         let row : Row = by_download has.0 in
         let is : row_over uploads.caller moment (working (session_of uploads part) store lists) item takes.fails ≡ row =
         row-download uploads.caller moment (store_in store) lists (state_in store (session_of uploads part)) item takes.fails has.0 none has.1 in
@@ -118,12 +117,12 @@ module _ {D : Type 0} (g : Ghosts D) where
         (λ failed. is_some_at (λ r. r.replies ≡ dl_error_resp 3 ∷ []) has.0 has.1 (takes.told failed)) takes.reads refl may lasts
 
     -- error 1
-    pub taken-error : (given replies : List ℕ) (of_uploading : Bool) → of_uploading ≡ is_upload_kind (kind_of_item item) → replies ≡ packet_text (error_by of_uploading)
-        → TakesByRow g (download_row_of (session_of uploads part) store lists item) disk disk_now (made part lists []) (made part_now lists_now given) false
+    pub taken-error : (said given replies : List ℕ) (of_uploading : Bool) → of_uploading ≡ is_upload_kind (kind_of_item item) → replies ≡ packet_text (error_by of_uploading)
+        → TakesByRow g (download_row_of (session_of uploads part) store lists item) disk disk_now (made part lists said) (made part_now lists_now given) false
         → Taken g (packet_of uploads.caller moment item) (session_of uploads part) (session_of uploads part_now) (working_on store lists disk) (working_on store lists_now disk_now) replies answered
-    taken-error given replies of_uploading kind text takes =
+    taken-error said given replies of_uploading kind text takes =
         let none_of = row-passed (download_row uploads.caller (store_in store) lists (state_in store (session_of uploads part)) item takes.fails) disk disk_now
-        (made part lists []) (made part_now lists_now given) takes.is_row in
+        (made part lists said) (made part_now lists_now given) takes.is_row in
         let row : Row = error_row lists (state_in store (session_of uploads part)) item in
         let is : row_over uploads.caller moment (working (session_of uploads part) store lists) item takes.fails ≡ row =
         row-error uploads.caller moment (store_in store) lists (state_in store (session_of uploads part)) item takes.fails none none_of.0 in
@@ -134,11 +133,11 @@ module _ {D : Type 0} (g : Ghosts D) where
 
 -- while a file is received, or the end of one is waited for, nothing of downloading is done by any packet
 pub one-download : {D : Type 0} (caller : CallSign) (files : StoreState) (lists lists_now : List CallerList) (here : Phase) (part part_now : DownloadState) (item : Item) (fails taken : Bool)
-    (disk disk_now : D) (replies : List ℕ) → DoesOne here part
-    → IsRow (download_row caller (store_in files) lists (state_by (state_of files here) part) item fails) taken disk disk_now (made part lists []) (made part_now lists_now replies) → DoesOne here part_now
-one-download caller files lists lists_now here part part_now item fails true disk disk_now replies one is =
-    let has = row-taken (download_row caller (store_in files) lists (state_by (state_of files here) part) item fails) disk disk_now (made part lists []) (made part_now lists_now replies) is in
+    (disk disk_now : D) (said replies : List ℕ) → DoesOne here part
+    → IsRow (download_row caller (store_in files) lists (state_by (state_of files here) part) item fails) taken disk disk_now (made part lists said) (made part_now lists_now replies) → DoesOne here part_now
+one-download caller files lists lists_now here part part_now item fails true disk disk_now said replies one is =
+    let has = row-taken (download_row caller (store_in files) lists (state_by (state_of files here) part) item fails) disk disk_now (made part lists said) (made part_now lists_now replies) is in
     subst (λ (p : Phase). DoesOne p part_now) (sym (download-command caller files lists here part item fails has.0 has.1)) tt
-one-download caller files lists lists_now here part part_now item fails false disk disk_now replies one is =
-    let none = row-passed (download_row caller (store_in files) lists (state_by (state_of files here) part) item fails) disk disk_now (made part lists []) (made part_now lists_now replies) is in
+one-download caller files lists lists_now here part part_now item fails false disk disk_now said replies one is =
+    let none = row-passed (download_row caller (store_in files) lists (state_by (state_of files here) part) item fails) disk disk_now (made part lists said) (made part_now lists_now replies) is in
     subst (λ (p : DownloadState). DoesOne here p) (sym (ap (λ (m : Made). m.state) none.1)) one

@@ -10,9 +10,9 @@ use Rattle.std.proofs.lemmas.List.Folds.{list_any-append}
 use Rattle.px_base.specs.CallSign.{CallSign}
 use Rattle.disk_model.specs.declared.disk.Disk.{Ghosts}
 use Rattle.ftl0_packets.specs.Layout.{Item, PacketValue, dl_error_resp, packet_text}
-use Rattle.file_store.proofs.Offered.{among-same, among-then, at_told, cuts-among-cut, does-among, reads-only}
+use Rattle.file_store.proofs.Offered.{among-same, among-then, at_told, does-among, reads-only}
 use Rattle.file_store.specs.Store.{Store}
-use Rattle.file_store.specs.State.{StandsOn, StoreState, store_in}
+use Rattle.file_store.specs.State.{IsReady, StoreState, store_in}
 use Rattle.file_store.specs.Working.{CutsOffAmongReads, DoesAmongReads, one_if}
 use Rattle.ftl0_session.specs.Uploads.Failures.{Failure, failed_reads, failed_write, is_read_fault, is_write_fault}
 use Rattle.ftl0_session.specs.Uploads.Failures.{read_fails, write_fails}
@@ -25,7 +25,7 @@ use Rattle.ftl0_session.specs.Table.{failed_reads_told, tells_failed_read}
 use Rattle.ftl0_session.specs.Taking.{TakesPacket, Working, row_over}
 use Rattle.ftl0_session.specs.Downloads.Filling.{filled}
 use Rattle.ftl0_session.specs.Uploads.Events.{packet_of}
-use Rattle.ftl0_session.specs.Uploads.SessionState.{with_disk}
+use Rattle.disk_model.specs.AtDisk.{at}
 use Rattle.ftl0_session.proofs.FaultLemmas.{due_codes, fault_codes}
 
 -- ---- a read that failed is told, and no other
@@ -51,16 +51,16 @@ told-append (x ∷ xs) ys =
 -- ---- a packet that is taken
 
 module _ {D : Type 0} (g : Ghosts D) (on : (first second third : D) → g.lasts first second → g.lasts second third → g.lasts first third)
-    (caller : CallSign) (moment : ℕ) (item : Item) (before now : Working) (disk disk_now : D) (replies : List ℕ) (healthy : before.store.journal.failed ≡ false) (stands : StandsOn g before.store disk) where
+    (caller : CallSign) (moment : ℕ) (item : Item) (before now : Working) (disk disk_now : D) (replies : List ℕ) (ready : IsReady g before.store disk) where
   -- its reads
-  first : (result : Result ⊤ Halt) (takes : TakesPacket g (packet_of caller moment item) (with_disk before disk) (with_disk now disk_now) replies result)
+  first : (result : Result ⊤ Halt) (takes : TakesPacket g (packet_of caller moment item) (at before disk) (at now disk_now) replies result)
       → DoesAmongReads g ⊥ (failed_reads_told (row_over caller moment before item takes.fails).replies) before.store before.store disk takes.disk_then []
   first result takes =
       among-same g ⊥ ⊥ (one_if takes.fails) (failed_reads_told (row_over caller moment before item takes.fails).replies) before.store before.store disk takes.disk_then [] (λ p. p) (λ p. p)
-      (sym (told-is caller moment item before takes.fails takes.told)) (reads-only g takes.fails before.store disk takes.disk_then takes.reads healthy stands)
+      (sym (told-is caller moment item before takes.fails takes.told)) (reads-only g takes.fails before.store disk takes.disk_then takes.reads ready)
 
   -- its row's commands are done
-  pub taken-among : (done : ⊤) (takes : TakesPacket g (packet_of caller moment item) (with_disk before disk) (with_disk now disk_now) replies (Ok done))
+  pub taken-among : (done : ⊤) (takes : TakesPacket g (packet_of caller moment item) (at before disk) (at now disk_now) replies (Ok done))
       → DoesAmongReads g ⊥ (failed_reads_told (row_over caller moment before item takes.fails).replies) before.store now.store disk disk_now (row_over caller moment before item takes.fails).commands
   taken-among done takes =
       let row : Row = row_over caller moment before item takes.fails in
@@ -70,14 +70,12 @@ module _ {D : Type 0} (g : Ghosts D) (on : (first second third : D) → g.lasts 
       (does-among g ⊥ before.store now.store takes.disk_then disk_now row.commands takes.on_disk))
 
   -- the disk failed in one of them
-  pub taken-cut : (takes : TakesPacket g (packet_of caller moment item) (with_disk before disk) (with_disk now disk_now) replies (Err stop.Disk))
-      → CutsOffAmongReads g ⊤ (failed_reads_told (row_over caller moment before item takes.fails).replies) before.store now.store disk disk_now [] (row_over caller moment before item takes.fails).commands
-  taken-cut takes =
-      let row : Row = row_over caller moment before item takes.fails in
-      cuts-among-cut g ⊤ (failed_reads_told row.replies) before.store before.store now.store disk takes.disk_then disk_now [] row.commands (first (Err stop.Disk) takes) takes.on_disk
+  pub taken-cut : (takes : TakesPacket g (packet_of caller moment item) (at before disk) (at now disk_now) replies (Err stop.Disk))
+      → CutsOffAmongReads g ⊤ (failed_reads_told (row_over caller moment before item takes.fails).replies) (at before.store disk) (at now.store disk_now) [] (row_over caller moment before item takes.fails).commands
+  taken-cut takes = record { then_is = at before.store takes.disk_then; first = first (Err stop.Disk) takes; second = takes.on_disk }
 
   -- there was no memory
-  pub taken-none : (takes : TakesPacket g (packet_of caller moment item) (with_disk before disk) (with_disk now disk_now) replies (Err stop.OutOfMemory))
+  pub taken-none : (takes : TakesPacket g (packet_of caller moment item) (at before disk) (at now disk_now) replies (Err stop.OutOfMemory))
       → (now.store ≡ before.store) × DoesAmongReads g ⊥ (failed_reads_told (row_over caller moment before item takes.fails).replies) before.store before.store disk disk_now []
   taken-none takes = (
     ap (λ (w : Working). w.store) takes.answers.1,
@@ -116,9 +114,9 @@ pub record Sent {D : Type 0} (g : Ghosts D) (files : StoreState) (disk disk_now 
   pub does : DoesAmongReads g ⊥ (one_if (tells_failed_read next.packet)) files files disk disk_now []
 
 module _ {D : Type 0} (g : Ghosts D) (files : StoreState) (disk disk_now : D) (state state_now : State) (out out_now : List ℕ) where
-  pub due-among : (puts : PutsDue g (store_in files) (filled disk state out) (filled disk_now state_now out_now) true) → files.journal.failed ≡ false → StandsOn g files disk
+  pub due-among : (puts : PutsDue g (store_in files) (filled disk state out) (filled disk_now state_now out_now) true) → IsReady g files disk
       → Sent g files disk disk_now state state_now out_now puts.fails
-  due-among puts healthy stands =
+  due-among puts ready =
       let has = due-put (next_due (store_in files) state puts.fails) disk disk_now state state_now out out_now puts.is_due in
       let tells = told-due (store_in files) state puts.fails has.0 has.1 puts.told in
       record {
@@ -129,7 +127,7 @@ module _ {D : Type 0} (g : Ghosts D) (files : StoreState) (disk disk_now : D) (s
         tells = tells;
         does =
             among-same g ⊥ ⊥ (one_if puts.fails) (one_if (tells_failed_read has.0.packet)) files files disk disk_now [] (λ p. p) (λ p. p) (ap one_if (sym tells))
-            (reads-only g puts.fails files disk disk_now puts.reads healthy stands);
+            (reads-only g puts.fails files disk disk_now puts.reads ready);
       }
 
   -- nothing was due, whether a read fails or none does

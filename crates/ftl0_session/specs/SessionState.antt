@@ -1,9 +1,9 @@
 -- A session as contracts see it, the state of the table that it is in, and what it needs to take a packet.
-use Rattle.std.specs.Prelude.{◌≡◌, List, false, ⊤}
+use Rattle.std.specs.Prelude.{◌≡◌, List, ⊤}
 use Rattle.px_base.specs.CallSign.{CallSign}
 use Rattle.disk_model.specs.declared.disk.Disk.{Ghosts}
 use Rattle.ftl0_session.specs.Lists.Lists.{CallerList}
-use Rattle.file_store.specs.State.{StandsOn, StoreState, store_in}
+use Rattle.file_store.specs.State.{IsReady, StandsOn, StoreState, store_in}
 use Rattle.ftl0_session.specs.declared.uploads.phase.Phase.{Phase}
 use Rattle.ftl0_session.specs.declared.uploads.phase.Phase.TheVariants as phase
 use Rattle.ftl0_session.specs.Uploads.SessionState as upload
@@ -48,13 +48,11 @@ DoesOne phase.Command downloads = ⊤
 DoesOne (phase.Receiving up) downloads = downloads ≡ ready
 DoesOne phase.Aborting downloads = downloads ≡ ready
 
--- What a session needs to take a packet: the store hasn't failed, stands on the disk, holds the session's upload, and
--- has no other upload of an entry of its caller out; what is due lies within complete files, and the lists' numbers are
--- those of complete files.
+-- What a session needs to take a packet: the store is ready, holds the session's upload, and has no other upload of an
+-- entry of its caller out; what is due lies within complete files, and the lists' numbers are those of complete files.
 pub record MayTake {D : Type 0} (g : Ghosts D) (store : StoreState) (disk : D) (lists : List CallerList)
     (session : SessionState) : Type 0 where
-  pub healthy : store.journal.failed ≡ false
-  pub stands_on : StandsOn g store disk
+  pub ready : IsReady g store disk
   pub held : upload.IsHeld store session.uploads
   pub only : upload.IsOnlyOut store session.uploads
   pub due : IsDueIn (store_in store) session.downloads

@@ -13,7 +13,8 @@ use Rattle.file_store.specs.State.{StandsOn, StoreState, store_in}
 use Rattle.disk_model.specs.declared.halt.Halt.{Halt}
 use Rattle.ftl0_session.specs.Uploads.Events.{CallerPacket}
 use Rattle.ftl0_session.specs.Uploads.Others.{KeepsOtherCallers}
-use Rattle.ftl0_session.specs.Uploads.SessionState.{IsHeld, IsOnlyOut, WithDisk, with_disk}
+use Rattle.disk_model.specs.AtDisk.{AtDisk, at}
+use Rattle.ftl0_session.specs.Uploads.SessionState.{IsHeld, IsOnlyOut}
 use Rattle.ftl0_session.specs.Downloads.Needs.{AreComplete, IsDueIn}
 use Rattle.ftl0_session.specs.Downloads.Table.{DownloadRow}
 use Rattle.disk_model.specs.declared.halt.Halt.TheVariants as stop
@@ -68,7 +69,7 @@ PutsRow g before now disk disk_now row (Err stop.OutOfMemory) = disk_now ≡ dis
 
 -- A session takes a packet, malformed or not. First the disk is read, and a read failed or none did; the answer is the
 -- packet's row for that, which tells of a read that failed by code 3. Then the row's commands are done.
-pub record TakesPacket {D : Type 0} (g : Ghosts D) (packet : CallerPacket) (before now : WithDisk Working D)
+pub record TakesPacket {D : Type 0} (g : Ghosts D) (packet : CallerPacket) (before now : AtDisk Working D)
     (replies : List ℕ) (result : Result ⊤ Halt) : Type 0 where
   pub fails : Bool
   pub told : fails ≡ true → (packet_row packet before.it fails).replies ≡ dl_error_resp 3 ∷ []
@@ -83,8 +84,8 @@ abbrev pub ReadsAlone : {D : Type 0} → Ghosts D → (Bool → Row) → D → D
 ReadsAlone g row disk disk_now = (fails : Bool) → (row fails).commands ≡ [] → ChangesReads g disk disk_now
 
 -- a session at work, with its disk
-abbrev pub at_work : {D : Type 0} → SessionState → WorkingOn D → WithDisk Working D
-at_work session on = with_disk (working session on.store on.lists) on.disk
+abbrev pub at_work : {D : Type 0} → SessionState → WorkingOn D → AtDisk Working D
+at_work session on = at (working session on.store on.lists) on.disk
 
 -- What a packet of its caller does to a session, to the store, the lists and the disk, and what it keeps.
 pub record Taken {D : Type 0} (g : Ghosts D) (packet : CallerPacket) (old new : SessionState)

@@ -5,19 +5,17 @@ ghost use Rattle.ftl0_packets.specs.Items.{kind_of_item};
 ghost use Rattle.ftl0_packets.specs.Layout.{packet_text};
 ghost use Rattle.ftl0_packets.specs.Values.{item_of};
 ghost use Rattle.ftl0_session.specs.Lists.Lists.{has_left};
-ghost use Rattle.file_store.specs.EntriesKept.{KeepsComplete};
-ghost use Rattle.file_store.specs.State.{StandsOn, store_in};
+ghost use Rattle.file_store.specs.State.{store_in};
 ghost use Rattle.ftl0_session.specs.Uploads.Others.{KeepsOtherCallers};
 ghost use Rattle.ftl0_session.specs.Uploads.Session.{is_upload_kind};
-ghost use Rattle.ftl0_session.specs.Uploads.SessionState.{IsHeld, IsOnlyOut, NoOtherOut, Parks, with_disk};
-ghost use Rattle.ftl0_session.specs.Downloads.Needs.{AreComplete, IsDueIn};
+ghost use Rattle.ftl0_session.specs.Uploads.SessionState.{IsHeld, IsOnlyOut, NoOtherOut, Parks};
+ghost use Rattle.ftl0_session.specs.Downloads.Needs.{KeepsFiles, MaySend};
 ghost use Rattle.ftl0_session.specs.Downloads.Table.{ready};
 ghost use Rattle.ftl0_session.specs.Filling.{PutsDue};
 ghost use Rattle.ftl0_session.specs.SessionState.{DoesOne, MayTake, caller_of, new_session, session_of, state_in};
 ghost use Rattle.ftl0_session.specs.SessionState.{working_on};
 ghost use Rattle.ftl0_session.specs.Table.{error_by, flags, greeting};
-ghost use Rattle.ftl0_session.specs.Taking.{ReadsAlone, Taken, TakesPacket, download_row_of, row_over};
-ghost use Rattle.ftl0_session.specs.Taking.{working};
+ghost use Rattle.ftl0_session.specs.Taking.{Taken, download_row_of};
 ghost use Rattle.ftl0_session.specs.Downloads.Filling.{filled};
 ghost use Rattle.ftl0_session.specs.Uploads.Events.{packet_of};
 ghost use Rattle.ftl0_session.specs.Downloads.Taking.{TakesByRow, made};
@@ -60,10 +58,10 @@ impl Model for Session {
 }
 
 impl Session {
-    /// The session of this caller, in the state Command, with LOGIN_RESP at this moment among the replies (FTL0 1990,
-    /// LOGIN_RESP): bit 3 of its flags says whether the caller's selection has numbers left. Takes no memory.
+    /// The session of this caller, in the state Command, with LOGIN_RESP at this moment in place of what `replies`
+    /// holds (FTL0 1990, LOGIN_RESP): bit 3 of its flags says whether the caller's selection has numbers left. Takes
+    /// no memory.
     pub fn new(caller: Call, moment: u32, lists: &Lists, replies: &mut Replies) -> Session
-        requires { replies.old.items ≡ [] }
         ensures session { result ≡ new_session caller }
         ensures text { replies.new.items ≡ packet_text (greeting moment (has_left lists.now caller)) }
     {
@@ -85,9 +83,9 @@ impl Session {
         self.uploads.caller()
     }
 
-    /// Takes a packet: one row of the session's table, or code 3 where a write or a sync of the disk fails. The row's
-    /// commands are on the disk before its replies are given. A read that fails gives the row for that, and the session
-    /// goes on. Takes memory, before it writes to the disk.
+    /// Takes a packet: one row of the session's table, or code 3 where a write or a sync of the disk fails. The replies
+    /// stand in place of what `replies` holds; the row's commands are on the disk before they are given. A read that
+    /// fails gives the row for that, and the session goes on. Takes memory, before it writes to the disk.
     ///
     /// `Disk`: the upload is spent, and the store has failed. Some of the packet's octets may be held, and its file
     /// begun, complete or gone. `OutOfMemory`: the packet gave nothing; session, store, lists and disk are as they
@@ -101,34 +99,13 @@ impl Session {
         lists: &mut Lists,
         replies: &mut Replies,
     ) -> Result<(), Halt>
-        requires empty { replies.old.items ≡ [] }
-        requires healthy { store.old.journal.failed ≡ false }
-        requires stands_on { StandsOn D.Disk store.old disk.old }
-        requires held { IsHeld store.old self.old.uploads }
-        requires only { IsOnlyOut store.old self.old.uploads }
-        requires due { IsDueIn (store_in store.old) self.old.downloads }
-        requires complete { AreComplete (store_in store.old) lists.old }
+        requires { MayTake D.Disk store.old disk.old lists.old self.old }
 
         // The answer is the packet's row for the reads that were made, and the row's commands are on the disk; or the
-        // disk failed in one of them.
-        ensures takes { TakesPacket D.Disk (packet_of (caller_of self.old) moment (item_of packet.entry))
-            (with_disk (working self.old store.old lists.old) disk.old)
-            (with_disk (working self.new store.new lists.new) disk.new) replies.new.items result }
-        ensures untouched { ReadsAlone D.Disk
-            (row_over (caller_of self.old) moment (working self.old store.old lists.old) (item_of packet.entry))
-            disk.old disk.new }
-        ensures failed { IsErrOf result Halt.Disk → store.new.journal.failed ≡ true }
-        ensures kept { KeepsComplete (store_in store.old) (store_in store.new) }
-        ensures others { KeepsOtherCallers store.old store.new (caller_of self.old) }
-
-        // What the next packet needs.
-        ensures caller { caller_of self.new ≡ caller_of self.old }
-        ensures healthy { ¬ IsErrOf result Halt.Disk → store.new.journal.failed ≡ false }
-        ensures stands_on { StandsOn D.Disk store.new disk.new }
-        ensures held { IsHeld store.new self.new.uploads }
-        ensures only { IsOnlyOut store.new self.new.uploads }
-        ensures due { IsDueIn (store_in store.new) self.new.downloads }
-        ensures complete { AreComplete (store_in store.new) lists.new }
+        // disk failed in one of them. It leaves what the next packet needs.
+        ensures { Taken D.Disk (packet_of (caller_of self.old) moment (item_of packet.entry)) self.old self.new
+            (working_on store.old lists.old disk.old) (working_on store.new lists.new disk.new) replies.new.items
+            result }
     {
         take_packet(
             &mut self.uploads,
@@ -151,15 +128,12 @@ impl Session {
         store: &mut FileStore,
         out: &mut ArrayVec<u8, 256>,
     ) -> bool
-        requires healthy { store.old.journal.failed ≡ false }
-        requires stands_on { StandsOn D.Disk store.old disk.old }
-        requires due { IsDueIn (store_in store.old) self.old.downloads }
+        requires { MaySend D.Disk store.old disk.old self.old.downloads }
         ensures puts { PutsDue D.Disk (store_in store.old) (filled disk.old (state_in store.old self.old) out.old.items)
             (filled disk.new (state_in store.new self.new) out.new.items) result }
         ensures uploads { self.new.uploads ≡ self.old.uploads }
         ensures store { store.new ≡ store.old }
-        ensures stands_on { StandsOn D.Disk store.new disk.new }
-        ensures due { IsDueIn (store_in store.new) self.new.downloads }
+        ensures may { MaySend D.Disk store.new disk.new self.new.downloads }
     {
         self.downloads.fill(disk, store, out)
     }
@@ -199,7 +173,6 @@ fn take_packet<D: Disk>(
     lists: &mut Lists,
     replies: &mut Replies,
 ) -> Result<(), Halt>
-    requires empty { replies.old.items ≡ [] }
     requires may { MayTake D.Disk store.old disk.old lists.old (session_of uploads.old downloads.old) }
     requires one { DoesOne uploads.old.phase downloads.old }
     ensures taken { Taken D.Disk (packet_of uploads.old.caller moment (item_of packet.entry))
@@ -234,7 +207,6 @@ fn take_upload<D: Disk>(
     lists: &Lists,
     replies: &mut Replies,
 ) -> Result<(), Halt>
-    requires empty { replies.old.items ≡ [] }
     requires may { MayTake D.Disk store.old disk.old lists.now (session_of uploads.old ready) }
     requires kind { is_upload_kind (kind_of_item (item_of packet)) ≡ true }
     ensures { Taken D.Disk (packet_of uploads.old.caller moment (item_of packet.entry)) (session_of uploads.old ready)
@@ -257,7 +229,6 @@ fn take_other<D: Disk>(
     lists: &mut Lists,
     replies: &mut Replies,
 )
-    requires empty { replies.old.items ≡ [] }
     requires may { MayTake D.Disk store.old disk.old lists.old (session_of uploads.now downloads.old) }
     requires one { DoesOne uploads.now.phase downloads.old }
     requires kind { of_uploading ≡ is_upload_kind (kind_of_item (item_of packet)) }
@@ -283,15 +254,11 @@ fn take_download<D: Disk>(
     lists: &mut Lists,
     replies: &mut Replies,
 ) -> bool
-    requires empty { replies.old.items ≡ [] }
-    requires may { MayTake D.Disk store.old disk.old lists.old (session_of uploads.now downloads.old) }
+    requires { MayTake D.Disk store.old disk.old lists.old (session_of uploads.now downloads.old) }
     ensures takes { TakesByRow D.Disk (download_row_of (session_of uploads.now downloads.old) store.old lists.old
-        (item_of packet.entry)) disk.old disk.new (made downloads.old lists.old [])
+        (item_of packet.entry)) disk.old disk.new (made downloads.old lists.old replies.old.items)
         (made downloads.new lists.new replies.new.items) result }
-    ensures store { store.new ≡ store.old }
-    ensures stands_on { StandsOn D.Disk store.new disk.new }
-    ensures due { IsDueIn (store_in store.new) downloads.new }
-    ensures complete { AreComplete (store_in store.new) lists.new }
+    ensures keeps { KeepsFiles D.Disk store.old store.new disk.new lists.new downloads.new }
 {
     let Ok(packet) = packet else {
         return false;

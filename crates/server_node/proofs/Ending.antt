@@ -2,15 +2,16 @@
 -- node; what it does to its disk, and what stands there.
 use Rattle.std.proofs.lemmas.Grind.{common_steps}
 use Rattle.std.proofs.Common.{◌≡◌, inl, inr, ⊎_elim, ◌⊎◌, ℕ, ◌+◌, ◌≤◌, List, ◌++◌, length, refl, ◌∙◌, ap, subst, arith, IfSome, length-append, append_assoc, [], ◌∷◌, Bool, true, false, sym, ◌≢◌, Result, Ok, Err, IsErrAnd, IsErrOf, Option}
+use Rattle.disk_model.specs.AtDisk.{AtDisk, at}
 use Rattle.disk_model.specs.declared.disk.Disk.{Ghosts}
 use Rattle.file_journal.specs.Through.{StandsThrough}
 use Rattle.file_store.specs.Calls.{Runs, ChangesReads, Becomes, Leaves, TakesStep}
 use Rattle.file_store.specs.Command.{AreAllowed, Command}
-use Rattle.file_store.specs.OnDisk.{MakesBetween, StayDone, kept_at}
+use Rattle.file_store.specs.OnDisk.{MakesBetween, StayDone}
 use Rattle.file_store.specs.Records.{store_form, store_magic}
 use Rattle.file_store.specs.Store.{Store}
 use Rattle.file_store.specs.Working.{PutsAmongReads, CutsOffAmongReads}
-use Rattle.file_store.proofs.Offered.{told_weaker, cuts-among-all, cuts-among-puts, cuts-among-same, own-number}
+use Rattle.file_store.proofs.Offered.{told_weaker, cuts-among-all, cuts-among-puts, cuts-among-same, stands-through}
 use Rattle.server_node.specs.OnDisk.{NodeRuns}
 use Rattle.node.specs.declared.stop.NodeStop.{NodeStop}
 use Rattle.server_node.specs.declared.terms.Served.{Served}
@@ -26,9 +27,7 @@ use Rattle.node.specs.Course.{AtDisk, Course}
 use Rattle.node.specs.Lent.{Lent, Seen, lent}
 use Rattle.node.specs.Turns.{HasAirCause as NodeHasCause, IsUnsaid, RanBy, StoppedInLast, TookAll, TurnsBy as NodeTurnsBy, Brought}
 use Rattle.node.specs.declared.finished.Finished.{Finished}
-use Rattle.file_journal.specs.AmongReads.{among_reads}
-use Rattle.file_journal.specs.Kept.{alone}
-use Rattle.file_journal.proofs.Offered.{runs_among, runs_missed, stands_through, runs_same}
+use Rattle.file_journal.proofs.Offered.{runs_among, runs_missed, runs_same}
 use Rattle.server_node.specs.Served.{Run, TurnsBy, Ends}
 use Rattle.server_node.specs.Steps.{EndsOver, Made, Steps, StopsBehind, TakesAll}
 use Rattle.node.specs.Stops.{stop_of_fault}
@@ -182,10 +181,10 @@ but_last (next ∷ turns) = by (but_last turns).0 (but_last turns).1
     by earlier (inr some) = (next ∷ earlier, inr (some.0, ap (λ (ts : List Turn). next ∷ ts) some.1))
 
 -- the disk is why it stopped
-pub disk-stop : {D : Type 0} (g : Ghosts D) (why : NodeStop) (missed : ℕ) (old new : StoreState) (disk disk_n : D) (done cut : List Command) → CutsOffAmongReads g (why ≡ stop.Disk) missed old new disk disk_n done cut
-    → CutsOffAmongReads g (IsErrOf {T = Served} (Err why) stop.Disk) missed old new disk disk_n done cut
-disk-stop g why missed old new disk disk_n done cut cuts =
-    cuts-among-same g (why ≡ stop.Disk) _ missed missed old new disk disk_n done cut (ap Err) (error_of why stop.Disk) refl cuts
+pub disk-stop : {D : Type 0} (g : Ghosts D) (why : NodeStop) (missed : ℕ) (old now : AtDisk StoreState D) (done cut : List Command) → CutsOffAmongReads g (why ≡ stop.Disk) missed old now done cut
+    → CutsOffAmongReads g (IsErrOf {T = Served} (Err why) stop.Disk) missed old now done cut
+disk-stop g why missed old now done cut cuts =
+    cuts-among-same g (why ≡ stop.Disk) _ missed missed old now done cut (ap Err) (error_of why stop.Disk) refl cuts
 
 -- ---- by how the turns ended: all that they bring was taken, or it stopped at an event of the last one
 
@@ -239,7 +238,7 @@ pub record Did {A C D : Type 0} (seen : Seen D A C) (given : Option ℕ) (Ran : 
   pub ran : Ran (store_in start) run
   pub ends : TurnsBy result polls run.turns
   pub counts : HasAirCause seen.air.read_faults seen.air.write_faults old.air new.air result
-  pub cuts : CutsOffAmongReads seen.disk (IsErrOf result stop.Disk) run.all.missed start store mid new.disk run.all.done run.cut
+  pub cuts : CutsOffAmongReads seen.disk (IsErrOf result stop.Disk) run.all.missed (at start mid) (at store new.disk) run.all.done run.cut
 
 module _ {A C D T : Type 0} (seen : Seen D A C) (on : (first second third : D) → seen.disk.lasts first second → seen.disk.lasts second third → seen.disk.lasts first third) (blocks : ℕ) (given : Option ℕ)
     (Ran : Result Served NodeStop → Store → Run → Type 0) (old new : Lent D A C) (mid : D) (value : T) (start store : StoreState) (polls : ℕ) (result : Result Served NodeStop)
@@ -263,13 +262,10 @@ module _ {A C D T : Type 0} (seen : Seen D A C) (on : (first second third : D) �
 
   standing : (stands : StandsThrough g store_form Failed (store_in start) run.all.done run.cut old.disk new.disk) × (stands.ready ≡ g.moment mid)
   standing =
-      let cuts = did.cuts in
-      stands_through g store_form own-number blocks Failed old.disk (kept_at start mid) (kept_at cuts.store_then cuts.disk_then) (kept_at store new.disk) run.all.done run.cut h.runs.told h.recovered.content
-      h.since_start synced h.magic_is (among_reads g Failed run.all.missed) (among_reads g ⊥ run.all.missed) (alone g Failed)
-      (cuts-among-all g on Failed run.all.missed start store mid new.disk run.all.done run.cut cuts) cuts.first cuts.second cuts.first.puts.told
+      stands-through g on Failed blocks old.disk mid new.disk start store run.all.done run.cut run.all.missed h.runs.told h.recovered.content h.since_start synced h.magic_is did.cuts
 
   puts : PutsAmongReads g Failed old.disk new.disk
-  puts = runs_among g on _ Failed old.disk mid new.disk fine h.runs (cuts-among-puts g on Failed run.all.missed start store mid new.disk run.all.done run.cut did.cuts)
+  puts = runs_among g on _ Failed old.disk mid new.disk fine h.runs (cuts-among-puts g on Failed run.all.missed (at start mid) (at store new.disk) run.all.done run.cut did.cuts)
 
   -- it isn't refused
   never_refused : (why : NodeStop) → ((turns : List Turn) → TurnsBy (Err why) polls turns → ⊥) → IsErrOf result why → ⊥
@@ -294,7 +290,7 @@ module _ {A C D T : Type 0} (seen : Seen D A C) (on : (first second third : D) �
       is_unsaid = did.is_unsaid;
       ran = did.ran;
       puts = puts;
-      reads = runs_missed g on _ Failed old.disk mid new.disk fine h.runs run.all.missed (cuts-among-all g on Failed run.all.missed start store mid new.disk run.all.done run.cut did.cuts).reads;
+      reads = runs_missed g on _ Failed old.disk mid new.disk fine h.runs run.all.missed (cuts-among-all g on Failed run.all.missed (at start mid) (at store new.disk) run.all.done run.cut did.cuts).reads;
       stands = standing.0;
       ready = standing.1;
       none = λ none.

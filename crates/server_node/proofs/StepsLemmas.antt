@@ -1,13 +1,13 @@
 -- Events one after another, and a stop at one of them, whatever serves them.
 use Rattle.std.proofs.lemmas.Grind.{common_steps}
-use Rattle.std.proofs.Common.{◌≡◌, ℕ, ◌+◌, List, [], ◌∷◌, ◌++◌, Bool, false, refl, ap, sym, ◌∙◌, append_assoc, arith}
+use Rattle.std.proofs.Common.{◌≡◌, ℕ, ◌+◌, List, [], ◌∷◌, ◌++◌, Bool, refl, ap, sym, ◌∙◌, append_assoc, arith}
 use Rattle.std.proofs.Math.Nat.{add_assoc, zero-add}
 use Rattle.disk_model.specs.declared.disk.Disk.{Ghosts}
 use Rattle.file_store.specs.Command.{Command}
-use Rattle.file_store.specs.State.{StandsOn, StoreState}
+use Rattle.file_store.specs.State.{IsReady, StoreState}
 use Rattle.file_store.specs.Working.{CutsOffAmongReads, DoesAmongReads}
 use Rattle.file_store.proofs.Offered.{Does-none, among-then, cuts-among-then, does-among}
-use Rattle.node.specs.Course.{AtDisk}
+use Rattle.node.specs.Course.{AtDisk, at}
 use Rattle.node.specs.declared.stop.NodeStop.{NodeStop}
 use Rattle.node.specs.declared.stop.NodeStop.TheVariants as stop
 use Rattle.server_node.specs.Steps.{Made, RunsOn, Steps, StopsBehind, StopsOn, StopsOver, WithStore, both, made, with_store}
@@ -24,8 +24,8 @@ both-assoc a b c =
     ∙ ap (λ (n : ℕ). made (a.text ++ (b.text ++ c.text)) (a.done ++ (b.done ++ c.done)) n) (add_assoc a.missed b.missed c.missed)
 
 -- nothing is done
-pub does-none : {D : Type 0} (g : Ghosts D) (store : StoreState) (disk : D) → store.journal.failed ≡ false → StandsOn g store disk → g.lasts disk disk → DoesAmongReads g ⊥ 0 store store disk disk []
-does-none g store disk healthy stands lasts = does-among g ⊥ store store disk disk [] (Does-none g ⊥ store disk (λ never. never) stands healthy lasts)
+pub does-none : {D : Type 0} (g : Ghosts D) (store : StoreState) (disk : D) → IsReady g store disk → g.lasts disk disk → DoesAmongReads g ⊥ 0 store store disk disk []
+does-none g store disk ready lasts = does-among g ⊥ store store disk disk [] (Does-none g ⊥ store disk (λ never. never) ready lasts)
 
 module _ {S E : Type 0} (steps : Steps S E) (laws : AreSteps steps) (why : NodeStop) (unsaid : Bool) where
   -- a stop at the one event
@@ -76,16 +76,16 @@ module _ {S E : Type 0} (steps : Steps S E) (laws : AreSteps steps) (why : NodeS
       pub behind-all : StopsBehind xs steps a.it (xs ++ ys) why unsaid (made (text ++ more) (h.done ++ k.done) (h.missed + k.missed)) k.cut
       behind-all = stop-behind a.it b.it xs ys (made text h.done h.missed) (made more k.done k.missed) k.cut h.goes k.stops
 
-      pub cuts-all : CutsOffAmongReads g (why ≡ stop.Disk) (h.missed + k.missed) a.store c.it a.disk c.disk (h.done ++ k.done) k.cut
-      cuts-all = cuts-among-then g on (why ≡ stop.Disk) h.missed k.missed a.store b.store c.it a.disk b.disk c.disk h.done k.done k.cut h.does k.cuts
+      pub cuts-all : CutsOffAmongReads g (why ≡ stop.Disk) (h.missed + k.missed) (at a.store a.disk) c (h.done ++ k.done) k.cut
+      cuts-all = cuts-among-then g on (why ≡ stop.Disk) h.missed k.missed (at a.store a.disk) (at b.store b.disk) c h.done k.done k.cut h.does k.cuts
 
       pub stops-on : StopsOn g steps a c (xs ++ ys) why unsaid (text ++ more)
       stops-on = record { done = h.done ++ k.done; cut = k.cut; missed = h.missed + k.missed; stops = behind-all.stops; cuts = cuts-all; kept = k.kept }
 
 module _ {S E D : Type 0} (steps : Steps S E) (laws : AreSteps steps) (g : Ghosts D) where
-  pub runs-none : (s : S) (store : StoreState) (disk : D) → store.journal.failed ≡ false → StandsOn g store disk → g.lasts disk disk
+  pub runs-none : (s : S) (store : StoreState) (disk : D) → IsReady g store disk → g.lasts disk disk
       → RunsOn g steps (with_store s store disk) (with_store s store disk) [] []
-  runs-none s store disk healthy stands lasts = record { done = []; missed = 0; goes = laws.none s; does = does-none g store disk healthy stands lasts }
+  runs-none s store disk ready lasts = record { done = []; missed = 0; goes = laws.none s; does = does-none g store disk ready lasts }
 
   pub runs-on : ((first second third : D) → g.lasts first second → g.lasts second third → g.lasts first third) → (a b c : WithStore S D) (xs ys : List E) (text more : List ℕ)
       → RunsOn g steps a b xs text → RunsOn g steps b c ys more → RunsOn g steps a c (xs ++ ys) (text ++ more)

@@ -4,7 +4,7 @@ use Rattle.disk_model.specs.declared.disk.Disk.{Ghosts}
 use Rattle.file_store.specs.Command.{Command}
 use Rattle.file_store.specs.State.{StoreState}
 use Rattle.file_store.specs.Working.{CutsOffAmongReads, DoesAmongReads}
-use Rattle.node.specs.Course.{AtDisk}
+use Rattle.node.specs.Course.{AtDisk, at}
 use Rattle.node.specs.declared.stop.NodeStop.{NodeStop}
 use Rattle.node.specs.declared.stop.NodeStop.TheVariants as stop
 use Rattle.server_node.specs.declared.terms.Served.{Served}
@@ -101,5 +101,5 @@ pub record StopsOn {S E D : Type 0} (g : Ghosts D) (steps : Steps S E) (old : Wi
   pub cut : List Command
   pub missed : ℕ
   pub stops : StopsOver steps old.it events why unsaid (made text done missed) cut
-  pub cuts : CutsOffAmongReads g (why ≡ stop.Disk) missed old.store new.it old.disk new.disk done cut
+  pub cuts : CutsOffAmongReads g (why ≡ stop.Disk) missed (at old.store old.disk) new done cut
   pub kept : why ≡ stop.OutOfMemory → unsaid ≡ false

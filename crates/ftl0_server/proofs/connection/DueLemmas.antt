@@ -10,15 +10,14 @@ use Rattle.ax25_link.specs.Ends.{free_octets}
 use Rattle.ax25_link.specs.Kept.{Kept, StandsFor}
 use Rattle.ax25_link.specs.Window.{Window}
 use Rattle.file_store.specs.Command.{after_all}
-use Rattle.file_store.specs.State.{StandsOn, StoreState, store_in}
+use Rattle.file_store.specs.State.{IsReady, StoreState, store_in}
 use Rattle.file_store.specs.Working.{DoesAmongReads, one_if}
 use Rattle.file_store.proofs.Offered.{among-same, among-then, does-among, Does-none, puts-among-then}
 use Rattle.ftl0_session.specs.Uploads.Failures.{Failure, failed_reads, read_fails}
 use Rattle.disk_model.specs.declared.halt.Halt.{Halt as Stop}
-use Rattle.disk_model.specs.declared.halt.Halt.TheVariants as stop
 use Rattle.ftl0_session.specs.SessionState.{WorkingOn, state_in}
 use Rattle.ftl0_session.specs.Table.{State, due_at, next_due, tells_failed_read}
-use Rattle.ftl0_session.specs.Uploads.SessionState.{WithDisk}
+use Rattle.disk_model.specs.AtDisk.{AtDisk}
 use Rattle.ftl0_server.specs.declared.connection.fate.Fate.{Fate}
 use Rattle.ftl0_server.specs.declared.connection.fate.Fate.TheVariants.{Stays}
 use Rattle.ftl0_server.specs.Connection.ConnectionState.{ConnectionState, Hears, HearsBy}
@@ -36,10 +35,10 @@ use Rattle.ftl0_server.proofs.connection.QueuingLemmas.{queuing-fewer, queuing-k
 module _ {D : Type 0} (g : Ghosts D) (lasts : (disk : D) → g.lasts disk disk) (on : (first second third : D) → g.lasts first second → g.lasts second third → g.lasts first third) where
   -- ---- no packet
 
-  pub does-none : (store : StoreState) (disk : D) → store.journal.failed ≡ false → StandsOn g store disk → DoesAmongReads g ⊥ 0 store store disk disk []
-  does-none store disk healthy stands = does-among g ⊥ store store disk disk [] (Does-none g ⊥ store disk (λ never. never) stands healthy (lasts disk))
+  pub does-none : (store : StoreState) (disk : D) → IsReady g store disk → DoesAmongReads g ⊥ 0 store store disk disk []
+  does-none store disk ready = does-among g ⊥ store store disk disk [] (Does-none g ⊥ store disk (λ never. never) ready (lasts disk))
 
-  module _ (store : StoreState) (disk disk_n : D) (old new : ConnectionState) (healthy : store.journal.failed ≡ false) (stands_on : StandsOn g store disk) (link : new.link ≡ old.link)
+  module _ (store : StoreState) (disk disk_n : D) (old new : ConnectionState) (ready : IsReady g store disk) (link : new.link ≡ old.link)
       (state : state_in store new.session ≡ state_in store old.session) (untouched : disk_n ≡ disk) where
     -- it stands as it stood
     still : (w : Window) (progress : Progress) → StandsFor w old.link progress.end → state_in store old.session ≡ progress.state
@@ -53,7 +52,7 @@ module _ {D : Type 0} (g : Ghosts D) (lasts : (disk : D) → g.lasts disk disk) 
       state = state ∙ stood;
       missed = 0;
       missed_is = sym (add-zero progress.missed);
-      reads = subst (λ (d : D). DoesAmongReads g ⊥ 0 store store disk d []) (sym untouched) (does-none store disk healthy stands_on);
+      reads = subst (λ (d : D). DoesAmongReads g ⊥ 0 store store disk d []) (sym untouched) (does-none store disk ready);
     }
 
     pub queues-none : IsNothingDue store old.session ⊎ AreFree old.link (λ free. free < enough_free) → QueuesDue g store disk disk_n old new
@@ -115,7 +114,7 @@ module _ {D : Type 0} (g : Ghosts D) (lasts : (disk : D) → g.lasts disk disk) 
 
   -- ---- a frame
 
-  module _ (w : Window) (left : List ℕ) (event : List Failure → Progress) (before : WithDisk StoreState D) where
+  module _ (w : Window) (left : List ℕ) (event : List Failure → Progress) (before : AtDisk StoreState D) where
     -- with what is due behind it
     abbrev whole : List Failure → Progress
     whole failures = queued (store_in before.it) failures (event failures)

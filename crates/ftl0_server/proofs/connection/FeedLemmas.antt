@@ -12,10 +12,11 @@ use Rattle.packet_link.proofs.Fronts.{front-none, front-then, stations-same, sta
 use Rattle.file_store.specs.Store.{Store, entry_of}
 use Rattle.file_store.specs.Position.{Position}
 use Rattle.file_store.proofs.Offered.{does-among, Does-none, puts-among, puts-among-same, puts-among-then, puts_none}
-use Rattle.file_store.specs.State.{StandsOn, StoreState, store_in}
+use Rattle.file_store.specs.State.{StoreState, store_in}
 use Rattle.ftl0_session.specs.Uploads.Others.{KeepsOtherCallers}
-use Rattle.ftl0_session.specs.Uploads.SessionState.{NoOtherOut, SessionState as Uploading, WithDisk, with_disk}
-use Rattle.ftl0_session.specs.Downloads.Needs.{AreComplete, IsDueIn}
+use Rattle.disk_model.specs.AtDisk.{AtDisk, at}
+use Rattle.ftl0_session.specs.Uploads.SessionState.{NoOtherOut, SessionState as Uploading}
+use Rattle.ftl0_session.specs.Downloads.Needs.{AreComplete}
 use Rattle.disk_model.specs.declared.halt.Halt.{Halt as Stop}
 use Rattle.disk_model.specs.declared.halt.Halt.TheVariants as stop
 use Rattle.ftl0_session.specs.SessionState.{MayTake as SessionMayTake, SessionState, caller_of, new_session}
@@ -23,7 +24,7 @@ use Rattle.ftl0_session.specs.SessionState.{WorkingOn, working_on}
 use Rattle.ftl0_server.specs.declared.connection.fate.Fate.{Fate}
 use Rattle.ftl0_server.specs.declared.connection.fate.Fate.TheVariants.{Stays}
 use Rattle.ftl0_server.specs.Connection.ConnectionState.{ConnectionState}
-use Rattle.ftl0_server.specs.Connection.Feeding.{Feeds, FeedsAll, IsAmong, IsGoing, KeepsFit, LeavesFit, MayTake, TakesSome, carrying}
+use Rattle.ftl0_server.specs.Connection.Feeding.{Feeds, FeedsAll, IsAmong, IsGoing, KeepsFit, LeavesFit, MayQueue, MayTake, TakesSome, carrying}
 use Rattle.ftl0_server.proofs.connection.HearsLemmas.{IsStop, takes-then}
 use Rattle.ftl0_server.proofs.connection.Invariants.{IsTaking}
 
@@ -39,20 +40,20 @@ no-fault same = cc
 module _ {D : Type 0} (g : Ghosts D) where
   -- a frame without packets was heard
   pub fit-heard : (on : WorkingOn D) (link link_n : Kept) (session : SessionState) (fate : Fate) → g.lasts on.disk on.disk → SessionMayTake g on.store on.disk on.lists session
-      → (fate ≡ Stays → link_n.state ≡ Up) → SameStations link link_n → LeavesFit g (with_disk on.store on.disk) on link link_n session session (fate, Ok tt)
+      → (fate ≡ Stays → link_n.state ≡ Up) → SameStations link link_n → LeavesFit g (at on.store on.disk) on link link_n session session (fate, Ok tt)
   fit-heard on link link_n session fate lasts may up stations = grind (arith, common_steps, puts-among, puts_none)
 
   -- a session began anew, over a store that has only given up the upload of the one before
   pub fit-anew : (on : WorkingOn D) (store_n : StoreState) (link link_n : Kept) (session session_n : SessionState) → g.lasts on.disk on.disk → SessionMayTake g on.store on.disk on.lists session
       → store_in store_n ≡ store_in on.store → store_n.journal ≡ on.store.journal → session_n ≡ new_session (caller_of session) → NoOtherOut store_n (caller_of session) None
       → KeepsOtherCallers on.store store_n (caller_of session) → link_n.state ≡ Up → SameStations link link_n
-      → LeavesFit g (with_disk on.store on.disk) (working_on store_n on.lists on.disk) link link_n session session_n (Stays, Ok tt)
+      → LeavesFit g (at on.store on.disk) (working_on store_n on.lists on.disk) link link_n session session_n (Stays, Ok tt)
   fit-anew on store_n link link_n session session_n lasts may same journal anew only others up stations =
       rw anew (record {
         puts = puts-among g (fine ≡ Err stop.Disk) on.disk on.disk (puts_none g on.disk (fine ≡ Err stop.Disk) no-fault lasts);
         kept = λ number e found complete. ap (λ (s : Store). entry_of s number) same ∙ found;
         others = others;
-        healthy = λ fine. ap (λ (p : Position). p.failed) journal ∙ may.healthy;
+        healthy = λ fine. ap (λ (p : Position). p.failed) journal ∙ may.ready.healthy;
         fit = record {
           stands_on = grind arith;
           held = tt;
@@ -66,19 +67,19 @@ module _ {D : Type 0} (g : Ghosts D) where
       })
 
   -- nothing was queued
-  pub keeps-none : (store : StoreState) (disk : D) (now : ConnectionState) → g.lasts disk disk → StandsOn g store disk → IsDueIn (store_in store) now.session.downloads → now.link.state ≡ Up
+  pub keeps-none : (store : StoreState) (disk : D) (now : ConnectionState) → g.lasts disk disk → MayQueue g store disk now
       → KeepsFit g store store disk disk now now
-  keeps-none store disk now lasts stands_on due up = grind (arith, common_steps, puts-among, puts_none, stations-same)
+  keeps-none store disk now lasts may = grind (arith, common_steps, puts-among, puts_none, stations-same)
 
   module _ (on : (first second third : D) → g.lasts first second → g.lasts second third → g.lasts first third) where
     -- one part, and then another
-    pub fit-then : (before : WithDisk StoreState D) (between now : WorkingOn D) (link link_m link_n : Kept) (session session_m session_n : SessionState) (told : Fate × Result ⊤ Stop)
-        → LeavesFit g before between link link_m session session_m (Stays, Ok tt) → LeavesFit g (with_disk between.store between.disk) now link_m link_n session_m session_n told
+    pub fit-then : (before : AtDisk StoreState D) (between now : WorkingOn D) (link link_m link_n : Kept) (session session_m session_n : SessionState) (told : Fate × Result ⊤ Stop)
+        → LeavesFit g before between link link_m session session_m (Stays, Ok tt) → LeavesFit g (at between.store between.disk) now link_m link_n session_m session_n told
         → LeavesFit g before now link link_n session session_n told
     fit-then before between now link link_m link_n session session_m session_n told first second = grind (arith, common_steps, puts-among-then, stations-then)
 
     -- packets, and then what is due behind them
-    pub fit-queued : (before : WithDisk StoreState D) (between now : WorkingOn D) (link : Kept) (session : SessionState) (mid new : ConnectionState) → now.lists ≡ between.lists
+    pub fit-queued : (before : AtDisk StoreState D) (between now : WorkingOn D) (link : Kept) (session : SessionState) (mid new : ConnectionState) → now.lists ≡ between.lists
         → LeavesFit g before between link mid.link session mid.session (Stays, Ok tt) → KeepsFit g between.store now.store between.disk now.disk mid new
         → LeavesFit g before now link new.link session new.session (Stays, Ok tt)
     fit-queued before between now link session mid new lists first second = record {
@@ -86,7 +87,7 @@ module _ {D : Type 0} (g : Ghosts D) where
       kept = rw second.same first.kept;
       others = rw second.same first.others;
       healthy = rw second.same first.healthy;
-      fit = rw (second.same, lists, second.uploads) (record { stands_on = second.stands_on; held = first.fit.held; only = first.fit.only; due = second.due; complete = first.fit.complete });
+      fit = rw (second.same, lists, second.uploads) (record { stands_on = second.ready.stands_on; held = first.fit.held; only = first.fit.only; due = second.due; complete = first.fit.complete });
       up = λ stays. second.up;
       caller = ap (λ (u : Uploading). u.caller) second.uploads ∙ first.caller;
       stations = stations-then link mid.link new.link first.stations second.stations;
@@ -104,7 +105,7 @@ module _ {D : Type 0} (g : Ghosts D) where
           takes = λ w end first stands. record {
             parts = [];
             among = All-nil (IsAmong first 0);
-            by = (refl, (refl, (refl, record { link = stands; rest = refl; state = refl })), does-among g ⊥ _ _ _ _ [] (Does-none g ⊥ _ _ (λ never. never) may.may.stands_on may.may.healthy lasts));
+            by = (refl, (refl, (refl, record { link = stands; rest = refl; state = refl })), does-among g ⊥ _ _ _ _ [] (Does-none g ⊥ _ _ (λ never. never) may.may.ready lasts));
           };
         };
         fit = fit-heard before old.link old.link old.session Stays lasts may.may (λ stays. may.up) (stations-same old.link);
@@ -122,9 +123,9 @@ module _ {D : Type 0} (g : Ghosts D) where
               (λ next there. takes w next (from + length h.feeds.items) there);
         }
 
-        module _ (fit : LeavesFit g (with_disk between.store between.disk) now mid.link new.link mid.session new.session told) where
-          pub fit-all : LeavesFit g (with_disk before.store before.disk) now old.link new.link old.session new.session told
-          fit-all = fit-then (with_disk before.store before.disk) between now old.link mid.link new.link old.session mid.session new.session told h.fit fit
+        module _ (fit : LeavesFit g (at between.store between.disk) now mid.link new.link mid.session new.session told) where
+          pub fit-all : LeavesFit g (at before.store before.disk) now old.link new.link old.session new.session told
+          fit-all = fit-then (at before.store before.disk) between now old.link mid.link new.link old.session mid.session new.session told h.fit fit
 
           pub taking-next : IsGoing told → IsTaking g moment old new before now
           taking-next going = record { feeds = rw going at feeds-one; fit = rw going at fit-all }

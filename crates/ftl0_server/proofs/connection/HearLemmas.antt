@@ -1,6 +1,6 @@
 -- How a connection hears a frame.
 use Rattle.std.proofs.lemmas.Grind.{common_steps}
-use Rattle.std.proofs.Common.{arith, ◌≡◌, ◌⊎◌, inl, inr, ℕ, ◌<◌, false, true, List, [], ◌++◌, refl, ap, sym, ◌∙◌, subst}
+use Rattle.std.proofs.Common.{arith, ◌≡◌, ◌⊎◌, inl, inr, ℕ, ◌<◌, true, List, [], ◌++◌, refl, ap, sym, ◌∙◌, subst}
 use Rattle.std.specs.Prelude.{Result, Ok, ⊤}
 use Rattle.std.proofs.lemmas.List.Elements.{All-nil}
 use Rattle.px_base.specs.CallSign.{CallSign}
@@ -14,12 +14,12 @@ use Rattle.ax25_link.specs.Rows.{after_frame, heard_of}
 use Rattle.ax25_link.specs.Window.{Window}
 use Rattle.ftl0_packets.specs.Reading.{packets_of, rest_of}
 use Rattle.ftl0_session.specs.Lists.Lists.{CallerList, has_left}
-use Rattle.file_store.specs.State.{StandsOn, StoreState, store_in}
+use Rattle.file_store.specs.State.{IsReady, StoreState, store_in}
 use Rattle.file_store.specs.Working.{DoesAmongReads}
 use Rattle.file_store.proofs.Offered.{among-parked, does-among, Does-none}
 use Rattle.ftl0_session.specs.declared.uploads.phase.Phase.{Phase}
-use Rattle.ftl0_session.specs.declared.uploads.phase.Phase.TheVariants as phase
-use Rattle.ftl0_session.specs.Uploads.SessionState.{Parks, with_disk}
+use Rattle.disk_model.specs.AtDisk.{at}
+use Rattle.ftl0_session.specs.Uploads.SessionState.{Parks}
 use Rattle.disk_model.specs.declared.halt.Halt.{Halt as Stop}
 use Rattle.ftl0_session.specs.Table.{State}
 use Rattle.ftl0_session.specs.SessionState.{WorkingOn, working_on}
@@ -37,14 +37,14 @@ pub parks-same : (store store_n : StoreState) (of : Phase) → Parks store store
 parks-same store store_n of parks = grind (arith, common_steps)
 
 module _ {D : Type 0} (g : Ghosts D) (lasts : (disk : D) → g.lasts disk disk) (w : Window) (left : List ℕ) (end : LinkEnd) (state : State) (on : WorkingOn D) (store_n : StoreState)
-    (connection : ConnectionState) (healthy : on.store.journal.failed ≡ false) (stands_on : StandsOn g on.store on.disk) (same : store_in store_n ≡ store_in on.store) (journal : store_n.journal ≡ on.store.journal) where
+    (connection : ConnectionState) (ready : IsReady g on.store on.disk) (same : store_in store_n ≡ store_in on.store) (journal : store_n.journal ≡ on.store.journal) where
   -- nothing was done to the store
   does-nothing : DoesAmongReads g ⊥ 0 on.store store_n on.disk on.disk []
   does-nothing = grind (arith, common_steps, among-parked, does-among, Does-none)
 
   -- no packet was taken, and the session goes on
   pub parts-on : IsConnection w store_n connection (record { end = end; rest = left; state = state })
-      → HearsParts g w left (λ failures. resting end state on.lists 0) (with_disk on.store on.disk) (working_on store_n on.lists on.disk) connection (Stays, Ok tt)
+      → HearsParts g w left (λ failures. resting end state on.lists 0) (at on.store on.disk) (working_on store_n on.lists on.disk) connection (Stays, Ok tt)
   parts-on is = record {
     hears = record { parts = []; by = (refl, (refl, (refl, is)), does-nothing); since = does-nothing.since };
     over = λ failures halts. absurd cc;
@@ -53,14 +53,14 @@ module _ {D : Type 0} (g : Ghosts D) (lasts : (disk : D) → g.lasts disk disk) 
 
   -- the session is over
   pub parts-over : StandsFor w connection.link end
-      → HearsParts g w left (λ failures. record (resting end state on.lists 0) { over = true }) (with_disk on.store on.disk) (working_on store_n on.lists on.disk) connection (Ends, Ok tt)
+      → HearsParts g w left (λ failures. record (resting end state on.lists 0) { over = true }) (at on.store on.disk) (working_on store_n on.lists on.disk) connection (Ends, Ok tt)
   parts-over stands = grind (arith, common_steps, does-nothing)
 
 module _ {D : Type 0} (g : Ghosts D) (w : Window) (moment : ℕ) (frame : FrameValue) (before now : WorkingOn D) (new : ConnectionState) (result : Fate × Result ⊤ Stop) where
   -- what was heard of these octets, by what the link told
   abbrev Told : Heard → Connected → LinkEnd → List ℕ → Type 0
   Told told c end octets =
-      HearsParts g w (rest_as told c octets) (parts_as told moment (store_in before.store) before.lists c end octets) (with_disk before.store before.disk) now new result
+      HearsParts g w (rest_as told c octets) (parts_as told moment (store_in before.store) before.lists c end octets) (at before.store before.disk) now new result
 
   -- what the link told decides
   pub parts-told : (old : ConnectionState) (told : Heard) → Tells old.link (λ w end. heard_of w end frame) told → (c : Connected) → IsConnection w before.store old c
@@ -77,7 +77,7 @@ module _ {D : Type 0} (g : Ghosts D) (w : Window) (moment : ℕ) (frame : FrameV
   parts-bytes c end octets information peer same h =
       let P : CallSign → List ℕ → Type 0 =
       λ caller o. HearsParts g w (rest_of (c.rest ++ o)) (λ failures. taking caller moment (session_over (store_in before.store) before.lists c.state) end (packets_of (c.rest ++ o)) failures 0)
-      (with_disk before.store before.disk) now new result in
+      (at before.store before.disk) now new result in
       subst (P c.end.peer) same (subst (λ (caller : CallSign). P caller octets) peer h)
 
 -- the peer of an end is that of the link that stands for it

@@ -20,11 +20,12 @@ use Rattle.ftl0_session.specs.Uploads.Failures.{Failure, failed_reads, failed_wr
 use Rattle.disk_model.specs.declared.halt.Halt.{Halt as Stop}
 use Rattle.disk_model.specs.declared.halt.Halt.TheVariants as stop
 use Rattle.ftl0_session.specs.SessionState.{SessionState, WorkingOn, caller_of}
-use Rattle.ftl0_session.specs.Uploads.SessionState.{WithDisk, with_disk}
+use Rattle.ftl0_session.specs.Table.{State}
+use Rattle.disk_model.specs.AtDisk.{AtDisk, at}
 use Rattle.ftl0_session.specs.Run.{Session}
 use Rattle.ftl0_server.specs.declared.connection.fate.Fate.{Fate}
-use Rattle.ftl0_server.specs.declared.connection.fate.Fate.TheVariants.{Stays}
-use Rattle.ftl0_server.specs.Connection.ConnectionState.{ConnectionState, HearsBy, with_nothing_left, with_reads}
+use Rattle.ftl0_server.specs.declared.connection.fate.Fate.TheVariants.{Ends, Stays}
+use Rattle.ftl0_server.specs.Connection.ConnectionState.{ConnectionState, HearsBy, StandsAfter, with_nothing_left, with_reads}
 use Rattle.ftl0_server.specs.Connection.Feeding.{HearsParts, IsAmong, IsGoing, TakesPackets, session_on, taking_some}
 use Rattle.ftl0_server.specs.Connection.Hearing.{Happened, progressed}
 use Rattle.ftl0_server.specs.Connection.Taking.{Halt, Progress, fails, goes_on, taking}
@@ -63,12 +64,12 @@ module _ {D : Type 0} (g : Ghosts D) (on : (first second third : D) → g.lasts 
   abbrev pub BeginsWhole : (List Failure → Happened) → Type 0
   BeginsWhole event = (part : ℕ) → IsFront ((event (failed_write part)).done ++ (event (failed_write part)).cut) (event []).done
 
-  pub by-since : (event : List Failure → Happened) (before : WithDisk StoreState D) (now : WorkingOn D) (connection : ConnectionState) (fate : Fate) (result : Result ⊤ Stop)
+  pub by-since : (event : List Failure → Happened) (before : AtDisk StoreState D) (now : WorkingOn D) (connection : ConnectionState) (fate : Fate) (result : Result ⊤ Stop)
       → BeginsWhole event → HearsBy g w event before now connection fate result → Leaves g before.disk now.disk (λ _. MakesFirst (store_in before.it) (event []).done)
   by-since event before now connection fate (Ok done) begins h = h.2.since
   by-since event before now connection fate (Err stop.Disk) begins h =
       leaves-front g (store_in before.it) before.disk now.disk _ _ (begins h.0)
-      (cuts-among-all g on ⊤ (event (failed_write h.0)).missed before.it now.store before.disk now.disk (event (failed_write h.0)).done (event (failed_write h.0)).cut h.3).since
+      (cuts-among-all g on ⊤ (event (failed_write h.0)).missed before (at now.store now.disk) (event (failed_write h.0)).done (event (failed_write h.0)).cut h.3).since
   by-since event before now connection fate (Err stop.OutOfMemory) begins h =
       leaves-front g (store_in before.it) before.disk now.disk _ _ (front-part (event (failed_write h.0)).done (event (failed_write h.0)).cut (event []).done (begins h.0)) h.3.since
 
@@ -80,7 +81,7 @@ module _ {D : Type 0} (g : Ghosts D) (on : (first second third : D) → g.lasts 
   -- ---- packets, and then others
 
   module _ (moment : ℕ) (old mid new : ConnectionState) (before between now : WorkingOn D) (end : LinkEnd) (items others : List Item) (first : ℕ) (callers : caller_of mid.session ≡ caller_of old.session)
-      (one : TakesPackets g w (taking_some moment old.session before end items first) (IsAmong first (length items)) (with_disk before.store before.disk) between (with_nothing_left mid.link mid.session) (Stays, Ok tt)) where
+      (one : TakesPackets g w (taking_some moment old.session before end items first) (IsAmong first (length items)) (at before.store before.disk) between (with_nothing_left mid.link mid.session) (Stays, Ok tt)) where
     -- the parts behind them begin here
     abbrev next : ℕ
     next = first + length items
@@ -127,16 +128,24 @@ module _ {D : Type 0} (g : Ghosts D) (on : (first second third : D) → g.lasts 
         same (failed_write part) parts (one-writes part) (λ n low. other-part part n (λ here. omega (arith, same-part part there.0 parts there.2, here, there.1))) later
 
     abbrev By : Fate → Result ⊤ Stop → Progress → Type 0
-    By fate result p = HearsBy g w (λ failures. progressed [] p) (with_disk before.store before.disk) now (with_nothing_left new.link new.session) fate result
+    By fate result p = HearsBy g w (λ failures. progressed [] p) (at before.store before.disk) now (with_nothing_left new.link new.session) fate result
 
     by-then : (parts : List ℕ) → All (λ part. next ≤ part) parts → (fate : Fate) (result : Result ⊤ Stop)
-        → HearsBy g w (λ writes. progressed [] (part_of (writes ++ failed_reads parts))) (with_disk between.store between.disk) now (with_nothing_left new.link new.session) fate result
-        → HearsBy g w (λ writes. progressed [] (whole (writes ++ failed_reads (one.parts ++ parts)))) (with_disk before.store before.disk) now (with_nothing_left new.link new.session) fate result
+        → HearsBy g w (λ writes. progressed [] (part_of (writes ++ failed_reads parts))) (at between.store between.disk) now (with_nothing_left new.link new.session) fate result
+        → HearsBy g w (λ writes. progressed [] (whole (writes ++ failed_reads (one.parts ++ parts)))) (at before.store before.disk) now (with_nothing_left new.link new.session) fate result
     by-then parts later fate (Ok done) h =
         let part : Progress = part_of ([] ++ failed_reads parts) in
         subst (By fate (Ok done)) (sym (same [] parts none-writes (λ n low. refl) later))
         (h.0, h.1, among-then g on ⊥ ⊥ made.missed part.missed _ _ _ _ _ _ made.done part.done (λ never. never) one.by.2 h.2)
-    by-then parts later fate (Err stop.Disk) h = grind (arith, same-fault, cuts-among-then)
+    by-then parts later fate (Err stop.Disk) h =
+        let part : Progress = part_of (failed_write h.0 ++ failed_reads parts) in
+        let is = subst (By fate (Err stop.Disk)) (sym (same-fault h.0 parts later h.1)) (
+          h.0,
+          h.1,
+          h.2,
+          cuts-among-then g on ⊤ made.missed part.missed (at before.store before.disk) (at between.store between.disk) (at now.store now.disk) made.done part.done part.cut one.by.2 h.3,
+        ) in
+        (h.0, is.1, is.2, is.3)
     by-then parts later fate (Err stop.OutOfMemory) h =
         let part : Progress = part_of (failed_write h.0 ++ failed_reads parts) in
         let at = subst (By fate (Err stop.OutOfMemory)) (sym (same-fault h.0 parts later h.1))
@@ -145,8 +154,8 @@ module _ {D : Type 0} (g : Ghosts D) (on : (first second third : D) → g.lasts 
 
     -- packets were taken, and then the others
     pub takes-then : (told : Fate × Result ⊤ Stop)
-        → ((at : LinkEnd) → StandsFor w mid.link at → TakesPackets g w (taking_some moment mid.session between at others next) (IsAmong next (length others)) (with_disk between.store between.disk) now (with_nothing_left new.link new.session) told)
-        → TakesPackets g w (taking_some moment old.session before end (items ++ others) first) (IsAmong first (length (items ++ others))) (with_disk before.store before.disk) now (with_nothing_left new.link new.session) told
+        → ((there : LinkEnd) → StandsFor w mid.link there → TakesPackets g w (taking_some moment mid.session between there others next) (IsAmong next (length others)) (at between.store between.disk) now (with_nothing_left new.link new.session) told)
+        → TakesPackets g w (taking_some moment old.session before end (items ++ others) first) (IsAmong first (length (items ++ others))) (at before.store before.disk) now (with_nothing_left new.link new.session) told
     takes-then told more =
         let two = more made.end one.by.1.1.1.link in
         let sum : length (items ++ others) ≡ length items + length others = length-append items others in
@@ -174,17 +183,29 @@ module _ {D : Type 0} (g : Ghosts D) (on : (first second third : D) → g.lasts 
       ended failures stops = taking-ended (caller_of session) moment (session_on session before) end items others failures 0 stops
 
       abbrev To : Fate → Result ⊤ Stop → Progress → Type 0
-      To fate result p = HearsBy g w (λ failures. progressed left p) (with_disk before.store before.disk) now new fate result
+      To fate result p = HearsBy g w (λ failures. progressed left p) (at before.store before.disk) now new fate result
+
+      -- a session that is over isn't carried on
+      after-over : (fate : Fate) (over : Bool) (at_end : LinkEnd) (state : State) → over ≡ true
+          → StandsAfter w now.store (with_nothing_left new.link new.session) over (record { end = at_end; rest = []; state = state }) fate → StandsAfter w now.store new over (record { end = at_end; rest = left; state = state }) fate
+      after-over Stays over at_end state is h = absurd (let e : false ≡ true = sym h.0 ∙ is in cc)
+      after-over Ends over at_end state is h = h
 
       by-ended : (parts : List ℕ) (fate : Fate) (result : Result ⊤ Stop) → IsStop (fate, result)
-          → HearsBy g w (λ writes. progressed [] (of_items (writes ++ failed_reads parts))) (with_disk before.store before.disk) now (with_nothing_left new.link new.session) fate result
-          → HearsBy g w (λ writes. progressed left (of_all (writes ++ failed_reads parts))) (with_disk before.store before.disk) now new fate result
-      by-ended parts fate result stops h = grind (arith, common_steps, ended, going-over, taking-failed, going-halted)
+          → HearsBy g w (λ writes. progressed [] (of_items (writes ++ failed_reads parts))) (at before.store before.disk) now (with_nothing_left new.link new.session) fate result
+          → HearsBy g w (λ writes. progressed left (of_all (writes ++ failed_reads parts))) (at before.store before.disk) now new fate result
+      by-ended parts fate (Ok done) stops h = grind (arith, common_steps, ended, going-over, taking-failed, going-halted)
+      by-ended parts fate (Err stop.Disk) stops h =
+          let failures : List Failure = failed_write h.0 ++ failed_reads parts in
+          let over : (of_items failures).over ≡ true = taking-failed (caller_of session) moment (session_on session before) end items failures 0 h.1 in
+          let is = subst (To fate (Err stop.Disk)) (sym (ended failures (going-over (of_items failures) over))) (h.0, h.1, (h.2.0, after-over fate _ _ _ over h.2.1), h.3) in
+          (h.0, is.1, is.2, is.3)
+      by-ended parts fate (Err stop.OutOfMemory) stops h = grind (arith, common_steps, ended, going-over, taking-failed, going-halted)
 
       -- whatever comes behind packets that stopped the connection isn't taken
       pub parts-stopped : (told : Fate × Result ⊤ Stop) → IsStop told
-          → TakesPackets g w (taking_some moment session before end items 0) (IsAmong 0 (length items)) (with_disk before.store before.disk) now (with_nothing_left new.link new.session) told
-          → HearsParts g w left of_all (with_disk before.store before.disk) now new told
+          → TakesPackets g w (taking_some moment session before end items 0) (IsAmong 0 (length items)) (at before.store before.disk) now (with_nothing_left new.link new.session) told
+          → HearsParts g w left of_all (at before.store before.disk) now new told
       parts-stopped told stops takes =
           let by = by-ended takes.parts told.0 told.1 stops takes.by in
           record {
@@ -193,7 +214,7 @@ module _ {D : Type 0} (g : Ghosts D) (on : (first second third : D) → g.lasts 
                   parts = takes.parts;
                   by = by;
                   since =
-                      by-since (with_reads (λ failures. progressed left (of_all failures)) takes.parts) (with_disk before.store before.disk) now new told.0 told.1
+                      by-since (with_reads (λ failures. progressed left (of_all failures)) takes.parts) (at before.store before.disk) now new told.0 told.1
                       (taking-whole left (caller_of session) moment (session_on session before) end (items ++ others) takes.parts 0) by;
                 };
             over = λ failures. taking-failed (caller_of session) moment (session_on session before) end (items ++ others) failures 0;
@@ -201,8 +222,8 @@ module _ {D : Type 0} (g : Ghosts D) (on : (first second third : D) → g.lasts 
           }
 
     -- all packets were taken, and these octets are left
-    pub parts-whole : new.octets ≡ left → TakesPackets g w (taking_some moment session before end items 0) (IsAmong 0 (length items)) (with_disk before.store before.disk) now (with_nothing_left new.link new.session) (Stays, Ok tt)
-        → HearsParts g w left of_items (with_disk before.store before.disk) now new (Stays, Ok tt)
+    pub parts-whole : new.octets ≡ left → TakesPackets g w (taking_some moment session before end items 0) (IsAmong 0 (length items)) (at before.store before.disk) now (with_nothing_left new.link new.session) (Stays, Ok tt)
+        → HearsParts g w left of_items (at before.store before.disk) now new (Stays, Ok tt)
     parts-whole octets takes =
         let h = takes.by in
         let failures : List Failure = [] ++ failed_reads takes.parts in

@@ -2,7 +2,7 @@
 use Rattle.std.proofs.Common.{ℕ}
 use Rattle.std.specs.Prelude.{Ok}
 use Rattle.disk_model.specs.declared.disk.Disk.{Ghosts}
-use Rattle.ftl0_session.specs.Uploads.SessionState.{with_disk}
+use Rattle.disk_model.specs.AtDisk.{at}
 use Rattle.ftl0_session.specs.SessionState.{WorkingOn}
 use Rattle.file_store.specs.State.{StoreState}
 use Rattle.ftl0_server.specs.declared.connection.fate.Fate.TheVariants.{Stays}
@@ -12,7 +12,7 @@ use Rattle.ftl0_server.specs.Connection.Feeding.{Feeds, KeepsFit, LeavesFit, Que
 -- From old to new packets were taken from the front of the octets, and these are left.
 pub record IsTaking {D : Type 0} (g : Ghosts D) (moment : ℕ) (old new : ConnectionState) (before now : WorkingOn D) : Type 0 where
   pub feeds : Feeds g moment old new before now (Stays, Ok tt)
-  pub fit : LeavesFit g (with_disk before.store before.disk) now old.link new.link old.session new.session (Stays, Ok tt)
+  pub fit : LeavesFit g (at before.store before.disk) now old.link new.link old.session new.session (Stays, Ok tt)
 
 -- From old to now packets that were due were queued: whatever is queued of what is due from now on, with them it is what was due.
 pub record IsQueuing {D : Type 0} (g : Ghosts D) (old now : ConnectionState) (store store_now : StoreState) (disk disk_now : D) : Type 0 where

@@ -12,7 +12,7 @@ use Rattle.file_store.specs.State.{store_in}
 use Rattle.disk_model.specs.declared.halt.Halt.{Halt as Stop}
 use Rattle.ftl0_session.specs.SessionState.{WorkingOn, caller_of, state_in}
 use Rattle.ftl0_session.specs.Table.{State}
-use Rattle.ftl0_session.specs.Uploads.SessionState.{with_disk}
+use Rattle.disk_model.specs.AtDisk.{at}
 use Rattle.ftl0_session.specs.Run.{session_over}
 use Rattle.ftl0_server.specs.declared.connection.fate.Fate.{Fate}
 use Rattle.ftl0_server.specs.Connection.Connected.{Connected}
@@ -31,7 +31,7 @@ module _ {D : Type 0} (g : Ghosts D) (on : (first second third : D) → g.lasts 
   abbrev Heard : CallSign → State → List ℕ → List Item → Type 0
   Heard caller state waiting items =
       HearsParts g w (rest_of (waiting ++ octets)) (λ failures. taking caller moment (session_over (store_in before.store) before.lists state) c.end items failures 0)
-      (with_disk before.store before.disk) now new told
+      (at before.store before.disk) now new told
 
   -- by the octets, the state and the caller of the definitions' connection
   at-connected : Heard (caller_of old.session) (state_in before.store old.session) old.octets (packets_of (old.octets ++ octets)) → Heard c.end.peer c.state c.rest (packets_of (c.rest ++ octets))

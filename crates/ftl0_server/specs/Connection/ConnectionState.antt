@@ -12,7 +12,7 @@ use Rattle.ftl0_session.specs.Uploads.Failures.{Failure, failed_reads, failed_wr
 use Rattle.disk_model.specs.declared.halt.Halt.{Halt as Stop}
 use Rattle.disk_model.specs.declared.halt.Halt.TheVariants as stop
 use Rattle.ftl0_session.specs.SessionState.{SessionState, WorkingOn, state_in}
-use Rattle.ftl0_session.specs.Uploads.SessionState.{WithDisk}
+use Rattle.disk_model.specs.AtDisk.{AtDisk, at}
 use Rattle.ftl0_server.specs.declared.connection.fate.Fate.{Fate}
 use Rattle.ftl0_server.specs.declared.connection.fate.Fate.TheVariants.{Stays, Ends}
 use Rattle.ftl0_server.specs.Connection.Connected.{Connected}
@@ -53,7 +53,7 @@ IsAfter w store lists connection happened fate =
 -- before it are done, and its own aren't begun. The count of failed reads rose by at least as many as the parts told
 -- of.
 abbrev pub HearsBy :
-    {D : Type 0} → Ghosts D → Window → (List Failure → Happened) → WithDisk StoreState D → WorkingOn D → ConnectionState
+    {D : Type 0} → Ghosts D → Window → (List Failure → Happened) → AtDisk StoreState D → WorkingOn D → ConnectionState
     → Fate → Result ⊤ Stop → Type 0
 HearsBy g w event before now connection fate (Ok done) =
     ((event []).halt ≡ goes_on) × IsAfter w now.store now.lists connection (event []) fate
@@ -61,7 +61,7 @@ HearsBy g w event before now connection fate (Ok done) =
 HearsBy g w event before now connection fate (Err stop.Disk) =
     (part : ℕ) × ((event (failed_write part)).halt ≡ fails)
     × IsAfter w now.store now.lists connection (event (failed_write part)) fate
-    × CutsOffAmongReads g ⊤ (event (failed_write part)).missed before.it now.store before.disk now.disk
+    × CutsOffAmongReads g ⊤ (event (failed_write part)).missed before (at now.store now.disk)
     (event (failed_write part)).done (event (failed_write part)).cut
 HearsBy g w event before now connection fate (Err stop.OutOfMemory) =
     (part : ℕ) × ((event (failed_write part)).halt ≡ fails) × (fate ≡ Stays)
@@ -76,7 +76,7 @@ with_reads event parts writes = event (writes ++ failed_reads parts)
 -- these parts of it. Since it came each image stands for the store after the first of the commands that it has where no
 -- write and no sync fails, for some number of them.
 pub record Hears {D : Type 0} (g : Ghosts D) (w : Window) (event : List Failure → Happened)
-    (before : WithDisk StoreState D) (now : WorkingOn D) (connection : ConnectionState)
+    (before : AtDisk StoreState D) (now : WorkingOn D) (connection : ConnectionState)
     (heard : Fate × Result ⊤ Stop) : Type 0 where
   pub parts : List ℕ
   pub by : HearsBy g w (with_reads event parts) before now connection heard.0 heard.1

@@ -6,7 +6,8 @@ use Rattle.disk_model.specs.declared.disk.Disk.{Ghosts}
 use Rattle.ax25_link.specs.declared.state.LinkState.TheVariants.{Up}
 use Rattle.ax25_link.specs.Calls.{after_push}
 use Rattle.ax25_link.specs.Ends.{LinkEnd, free_octets}
-use Rattle.ax25_link.specs.Kept.{Kept, SameStations, StandsFor, Steps}
+use Rattle.ax25_frames.specs.FrameText.{FrameValue}
+use Rattle.ax25_link.specs.Kept.{IsFromPeer, Kept, SameStations, StandsFor, Steps, is_pending}
 use Rattle.ax25_link.specs.Queue.{room_of}
 use Rattle.ax25_link.specs.Window.{Window}
 use Rattle.ftl0_packets.specs.Layout.{Item, packet_text}
@@ -15,14 +16,14 @@ use Rattle.packet_link.specs.PacketLink.{HasFront}
 use Rattle.packet_link.specs.Queuing.{enough_free}
 use Rattle.file_store.specs.EntriesKept.{KeepsComplete}
 use Rattle.ftl0_session.specs.Lists.Lists.{CallerList}
-use Rattle.file_store.specs.State.{StandsOn, StoreState, store_in}
+use Rattle.file_store.specs.State.{IsReady, StoreState, store_in}
 use Rattle.file_store.specs.Working.{DoesAmongReads, PutsAmongReads, one_if}
 use Rattle.ftl0_session.specs.Uploads.Failures.{Failure, failed_reads}
 use Rattle.ftl0_session.specs.Uploads.Others.{KeepsOtherCallers}
-use Rattle.ftl0_session.specs.Downloads.Needs.{IsDueIn}
+use Rattle.ftl0_session.specs.Downloads.Needs.{IsDueIn, MaySend}
 use Rattle.disk_model.specs.declared.halt.Halt.{Halt as Stop}
 use Rattle.disk_model.specs.declared.halt.Halt.TheVariants as stop
-use Rattle.ftl0_session.specs.Uploads.SessionState.{WithDisk, with_disk}
+use Rattle.disk_model.specs.AtDisk.{AtDisk, at}
 use Rattle.ftl0_session.specs.Run.{Session, session_over}
 use Rattle.ftl0_session.specs.SessionState.{MayTake as SessionMayTake, SessionState, IsFit, WorkingOn, caller_of}
 use Rattle.ftl0_session.specs.SessionState.{state_in}
@@ -41,8 +42,23 @@ pub record MayTake {D : Type 0} (g : Ghosts D) (store : StoreState) (disk : D) (
   pub up : link.state ≡ Up
   pub may : SessionMayTake g store disk lists session
 
+-- What a connection needs to hear this frame: it is the peer's, nothing is pending, the link is up, and the session may
+-- take a packet.
+pub record MayHear {D : Type 0} (g : Ghosts D) (store : StoreState) (disk : D) (lists : List CallerList)
+    (connection : ConnectionState) (frame : FrameValue) : Type 0 where
+  pub of_peer : IsFromPeer connection.link frame
+  pub quiet : is_pending connection.link ≡ false
+  pub up : connection.link.state ≡ Up
+  pub may : SessionMayTake g store disk lists connection.session
+
+-- What queuing what is due needs: the link is up, and the session may send.
+pub record MayQueue {D : Type 0} (g : Ghosts D) (store : StoreState) (disk : D) (connection : ConnectionState) :
+    Type 0 where
+  pub up : connection.link.state ≡ Up
+  pub may : MaySend g store disk connection.session.downloads
+
 -- What packets leave of a link, a session, the store, the lists and the disk, whatever they were.
-pub record LeavesFit {D : Type 0} (g : Ghosts D) (before : WithDisk StoreState D) (now : WorkingOn D)
+pub record LeavesFit {D : Type 0} (g : Ghosts D) (before : AtDisk StoreState D) (now : WorkingOn D)
     (link link_now : Kept) (session session_now : SessionState) (told : Fate × Result ⊤ Stop) : Type 0 where
   pub puts : PutsAmongReads g (IsErrOf told.1 stop.Disk) before.disk now.disk
   pub kept : KeepsComplete (store_in before.it) (store_in now.store)
@@ -77,7 +93,7 @@ taking_some moment session on end items first failures =
 
 -- Packets were taken, of which this event is what they make, and reads failed at these of their parts.
 pub record TakesPackets {D : Type 0} (g : Ghosts D) (w : Window) (event : List Failure → Happened)
-    (IsPart : ℕ → Type 0) (before : WithDisk StoreState D) (now : WorkingOn D) (connection : ConnectionState)
+    (IsPart : ℕ → Type 0) (before : AtDisk StoreState D) (now : WorkingOn D) (connection : ConnectionState)
     (told : Fate × Result ⊤ Stop) : Type 0 where
   pub parts : List ℕ
   pub among : All IsPart parts
@@ -90,7 +106,7 @@ abbrev pub TakesSome :
 TakesSome g moment old before items now new told =
     (w : Window) (end : LinkEnd) (first : ℕ) → StandsFor w old.link end
     → TakesPackets g w (taking_some moment old.session before end items first) (IsAmong first (length items))
-    (with_disk before.store before.disk) now (with_nothing_left new.link new.session) told
+    (at before.store before.disk) now (with_nothing_left new.link new.session) told
 
 -- Packets at the front of the octets were taken, up to one that stops the connection, if one does: the rest are those
 -- of the octets that are left now.
@@ -119,7 +135,7 @@ pub record IsSettled (event : List Failure → Progress) (parts : List ℕ) : Ty
 -- A frame was heard, of which this event is what its packets make, and these octets were left; what is due behind them
 -- isn't queued yet. Where a write or a sync fails the session is over.
 pub record HearsParts {D : Type 0} (g : Ghosts D) (w : Window) (left : List ℕ) (event : List Failure → Progress)
-    (before : WithDisk StoreState D) (now : WorkingOn D) (connection : ConnectionState)
+    (before : AtDisk StoreState D) (now : WorkingOn D) (connection : ConnectionState)
     (told : Fate × Result ⊤ Stop) : Type 0 where
   pub hears : Hears g w (λ failures. progressed left (event failures)) before now connection told
   pub over : (failures : List Failure) → (event failures).halt ≡ fails → (event failures).over ≡ true
@@ -179,7 +195,7 @@ pub record KeepsFit {D : Type 0} (g : Ghosts D) (store store_now : StoreState) (
     (old new : ConnectionState) : Type 0 where
   pub same : store_now ≡ store
   pub puts : PutsAmongReads g ⊥ disk disk_now
-  pub stands_on : StandsOn g store disk_now
+  pub ready : IsReady g store disk_now
   pub due : IsDueIn (store_in store) new.session.downloads
   pub uploads : new.session.uploads ≡ old.session.uploads
   pub octets : new.octets ≡ old.octets

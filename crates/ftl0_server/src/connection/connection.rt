@@ -3,23 +3,23 @@
 ghost use Rattle.std.specs.Prelude.{◌≡◌, ◌<◌, ◌↔◌, [], ◌∷◌, ◌++◌, false, true, not};
 ghost use Rattle.std.specs.Prelude.{IfOk, IsTrue, None};
 ghost use Rattle.ax25_frames.specs.Values.{value_of};
-ghost use Rattle.ax25_link.specs.Kept.{Fits, HasStations, IsFromPeer, SameStations, StandsFor, Steps};
+ghost use Rattle.ax25_link.specs.Kept.{Fits, HasStations, SameStations, StandsFor, Steps};
 ghost use Rattle.ax25_link.specs.Kept.{Tells, is_pending};
 ghost use Rattle.ax25_link.specs.declared.state.LinkState.{LinkState};
 ghost use Rattle.ax25_link.specs.Window.{IsGoodK, Window, window_of};
 ghost use Rattle.ftl0_packets.specs.Reading.{is_whole, read_item};
 ghost use Rattle.ftl0_session.specs.Lists.Lists.{has_left};
-ghost use Rattle.file_store.specs.State.{StandsOn, StoreState, store_in};
+ghost use Rattle.file_store.specs.State.{StoreState, store_in};
 ghost use Rattle.ftl0_session.specs.Uploads.Others.{KeepsOtherCallers};
-ghost use Rattle.ftl0_session.specs.Uploads.SessionState.{IsHeld, IsOnlyOut, NoOtherOut, Parks, with_disk};
-ghost use Rattle.ftl0_session.specs.Downloads.Needs.{IsDueIn};
-ghost use Rattle.ftl0_session.specs.SessionState.{MayTake as SessionMayTake, caller_of, new_session, working_on};
+ghost use Rattle.disk_model.specs.AtDisk.{at};
+ghost use Rattle.ftl0_session.specs.Uploads.SessionState.{IsHeld, IsOnlyOut, NoOtherOut, Parks};
+ghost use Rattle.ftl0_session.specs.SessionState.{caller_of, new_session, working_on};
 ghost use Rattle.ftl0_server.specs.Connection.Connected.{Connected, answering, beginning, greeted};
 ghost use Rattle.ftl0_server.specs.Connection.ConnectionState.{ConnectionState as Carried, Hears, IsConnection};
 ghost use Rattle.ftl0_server.specs.Connection.ConnectionState.{StandsAfter, with_nothing_left};
 ghost use Rattle.ftl0_server.specs.Connection.ConnectionState.{is_over};
-ghost use Rattle.ftl0_server.specs.Connection.Feeding.{FeedsAll, HearsParts, IsGoing, KeepsFit, LeavesFit, MayTake};
-ghost use Rattle.ftl0_server.specs.Connection.Feeding.{QueuesDue, TakesSome};
+ghost use Rattle.ftl0_server.specs.Connection.Feeding.{FeedsAll, HearsParts, IsGoing, KeepsFit, LeavesFit, MayHear};
+ghost use Rattle.ftl0_server.specs.Connection.Feeding.{MayQueue, MayTake, QueuesDue, TakesSome};
 ghost use Rattle.ftl0_server.specs.Connection.Feeding.{QueuesNext, carrying};
 ghost use Rattle.ftl0_server.specs.Connection.Hearing.{hearing, parts_of_frame, rest_of_frame, ticking};
 ghost use Rattle.ftl0_server.specs.Connection.Taking.{replied};
@@ -105,18 +105,15 @@ impl Connection {
         frame: &Frame<'_>,
         moment: u32,
     ) -> Told
-        requires frame { IsFromPeer self.old.link (value_of frame.now) }
-        requires quiet { is_pending self.old.link ≡ false }
-        requires up { self.old.link.state ≡ LinkState.Up }
-        requires may { SessionMayTake D.Disk store.old disk.old lists.old self.old.session }
+        requires { MayHear D.Disk store.old disk.old lists.old self.old (value_of frame.now) }
 
         // Of whichever connection it stands for, it is what the frame makes of that, or the server stops.
         ensures hears { (w : Window) (c : Connected) → IsConnection w store.old self.old c →
             Hears D.Disk w (hearing w moment (store_in store.old) lists.old c (value_of frame.now))
-            (with_disk store.old disk.old) (working_on store.new lists.new disk.new) self.new result }
+            (at store.old disk.old) (working_on store.new lists.new disk.new) self.new result }
 
         // What the next event needs.
-        ensures fit { LeavesFit D.Disk (with_disk store.old disk.old) (working_on store.new lists.new disk.new)
+        ensures fit { LeavesFit D.Disk (at store.old disk.old) (working_on store.new lists.new disk.new)
             self.old.link self.new.link self.old.session self.new.session result }
     {
         let told = self.take_frame(disk, store, lists, frame, moment);
@@ -198,15 +195,12 @@ impl Connection {
         frame: &Frame<'_>,
         moment: u32,
     ) -> Told
-        requires frame { IsFromPeer self.old.link (value_of frame.now) }
-        requires quiet { is_pending self.old.link ≡ false }
-        requires up { self.old.link.state ≡ LinkState.Up }
-        requires may { SessionMayTake D.Disk store.old disk.old lists.old self.old.session }
+        requires { MayHear D.Disk store.old disk.old lists.old self.old (value_of frame.now) }
         ensures hears { (w : Window) (c : Connected) → IsConnection w store.old self.old c →
             HearsParts D.Disk w (rest_of_frame w c (value_of frame.now))
             (parts_of_frame w moment (store_in store.old) lists.old c (value_of frame.now))
-            (with_disk store.old disk.old) (working_on store.new lists.new disk.new) self.new result }
-        ensures fit { LeavesFit D.Disk (with_disk store.old disk.old) (working_on store.new lists.new disk.new)
+            (at store.old disk.old) (working_on store.new lists.new disk.new) self.new result }
+        ensures fit { LeavesFit D.Disk (at store.old disk.old) (working_on store.new lists.new disk.new)
             self.old.link self.new.link self.old.session self.new.session result }
     {
         match self.link.take(frame) {
@@ -230,10 +224,7 @@ impl Connection {
 
     /// Queues DATA and DATA_END that are due, one after another, while enough octets are free.
     fn queue_due<D: Disk>(&mut self, disk: &mut D, store: &mut FileStore)
-        requires up { self.old.link.state ≡ LinkState.Up }
-        requires healthy { store.old.journal.failed ≡ false }
-        requires stands_on { StandsOn D.Disk store.old disk.old }
-        requires due { IsDueIn (store_in store.old) self.old.session.downloads }
+        requires { MayQueue D.Disk store.old disk.old self.old }
         ensures queues { QueuesDue D.Disk store.old disk.old disk.new self.old self.new }
         ensures keeps { KeepsFit D.Disk store.old store.new disk.old disk.new self.old self.new }
     {
@@ -243,10 +234,7 @@ impl Connection {
     /// Queues what is due next, where enough octets are free. It answers false, and nothing changed, where nothing is
     /// due, or fewer are free.
     fn queue_next<D: Disk>(&mut self, disk: &mut D, store: &mut FileStore) -> bool
-        requires up { self.old.link.state ≡ LinkState.Up }
-        requires healthy { store.old.journal.failed ≡ false }
-        requires stands_on { StandsOn D.Disk store.old disk.old }
-        requires due { IsDueIn (store_in store.old) self.old.session.downloads }
+        requires { MayQueue D.Disk store.old disk.old self.old }
         ensures next { QueuesNext D.Disk store.old disk.old disk.new self.old self.new result }
         ensures keeps { KeepsFit D.Disk store.old store.new disk.old disk.new self.old self.new }
     {
@@ -296,7 +284,7 @@ fn take_packets<D: Disk>(
     ensures feeds { FeedsAll D.Disk moment (carrying link.old.link (octets_in link.old ++ octets.now) session.old)
         (carrying link.new.link (octets_in link.new) session.new) (working_on store.old lists.old disk.old)
         (working_on store.new lists.new disk.new) result }
-    ensures fit { LeavesFit D.Disk (with_disk store.old disk.old) (working_on store.new lists.new disk.new)
+    ensures fit { LeavesFit D.Disk (at store.old disk.old) (working_on store.new lists.new disk.new)
         link.old.link link.new.link session.old session.new result }
 {
     let mut piece = octets;
@@ -325,7 +313,7 @@ fn answer<D: Disk>(
     ensures takes { TakesSome D.Disk moment (with_nothing_left link.old.link session.old)
         (working_on store.old lists.old disk.old) (read_item link.old.reader ∷ [])
         (working_on store.new lists.new disk.new) (with_nothing_left link.new.link session.new) result }
-    ensures fit { LeavesFit D.Disk (with_disk store.old disk.old) (working_on store.new lists.new disk.new)
+    ensures fit { LeavesFit D.Disk (at store.old disk.old) (working_on store.new lists.new disk.new)
         link.old.link link.new.link session.old session.new result }
     ensures reader { link.new.reader ≡ link.old.reader }
 {

@@ -1,5 +1,5 @@
 -- What is taken, by its row.
-use Rattle.std.proofs.Common.{◌≡◌, ℕ, List, [], Bool, true, false, Option, None, Some, refl, sym, ◌∙◌, ap, Bor}
+use Rattle.std.proofs.Common.{◌≡◌, ℕ, List, Bool, true, false, Option, None, Some, refl, sym, ◌∙◌, ap, Bor}
 use Rattle.std.proofs.lemmas.List.{append-nil}
 use Rattle.px_base.specs.CallSign.{CallSign}
 use Rattle.disk_model.specs.declared.disk.Disk.{Ghosts}
@@ -112,11 +112,11 @@ module _ {D : Type 0} (g : Ghosts D) (row : Bool → Option DownloadRow) (before
 
 -- a download ends by this reply, if there is one
 pub ended_by : {D : Type 0} (g : Ghosts D) (row : Bool → Option DownloadRow) (lists : List CallerList) (state : DownloadState) (disk : D) → g.lasts disk disk → (reply : Option Packet) (now : DownloadState)
-    (replies_before replies : List ℕ) (result : Bool) → row false ≡ option_map (ended_row lists) (option_map value_of reply) → replies_before ≡ []
+    (replies_before replies : List ℕ) (result : Bool) → row false ≡ option_map (ended_row lists) (option_map value_of reply)
     → IfNone reply ((result ≡ false) × (now ≡ state) × (replies ≡ replies_before)) → IfSome reply (λ packet. (result ≡ true) × (now ≡ ready) × (replies ≡ packet_text (value_of packet)))
-    → TakesByRow g row disk disk (made state lists []) (made now lists replies) result
-ended_by g row lists state disk same None now replies_before replies result is empty none some = rw (none.0, none.1, none.2 ∙ empty) (not_taken g row (made state lists []) disk same is)
-ended_by g row lists state disk same (Some packet) now replies_before replies result is empty none some =
+    → TakesByRow g row disk disk (made state lists replies_before) (made now lists replies) result
+ended_by g row lists state disk same None now replies_before replies result is none some = rw (none.0, none.1, none.2) (not_taken g row (made state lists replies_before) disk same is)
+ended_by g row lists state disk same (Some packet) now replies_before replies result is none some =
     rw (some.0, some.1)
-    (taken_alone g row (made state lists []) disk same (made ready lists replies) (ended_row lists (value_of packet)) is
+    (taken_alone g row (made state lists replies_before) disk same (made ready lists replies) (ended_row lists (value_of packet)) is
     (ap (λ (l : List ℕ). made ready lists l) (some.2 ∙ sym (append-nil (packet_text (value_of packet))))))

@@ -23,7 +23,8 @@ use Rattle.disk_model.specs.declared.halt.Halt.TheVariants as stop
 use Rattle.ftl0_session.specs.Uploads.Others.{KeepsOtherCallers}
 use Rattle.ftl0_packets.specs.Items.{texts}
 use Rattle.ftl0_session.specs.Uploads.Session.{command, granted_row, refused_row, session_row}
-use Rattle.ftl0_session.specs.Uploads.SessionState.{IsReady, NoOtherOut, with_disk}
+use Rattle.disk_model.specs.AtDisk.{at}
+use Rattle.ftl0_session.specs.Uploads.SessionState.{MayTake, NoOtherOut}
 use Rattle.ftl0_session.specs.Uploads.Taking.{Answered, AnswersRefusal}
 use Rattle.ftl0_session.specs.Uploads.Events.{packet_of}
 use Rattle.ftl0_session.proofs.uploads.DoesLemmas.{answered-alone, does-row, some-at_front, touched}
@@ -80,12 +81,12 @@ abbrev refusing : BeginRefusal → Result Upload BeginRefusal
 refusing r = Err r
 
 module _ {D : Type 0} (g : Ghosts D) (caller : CallSign) (moment len : ℕ) (before now : StoreState) (disk disk_now : D) (is : IsStore (store_in before))
-    (ready : IsReady g before disk caller phase.Command) (lasts : g.lasts disk disk) where
+    (may : MayTake g before disk caller phase.Command) (lasts : g.lasts disk disk) where
   abbrev Item-asked : Item
   Item-asked = Ok (upload_cmd 0 len)
 
   abbrev Gives-it : StoreState → D → List ℕ → Result ⊤ Halt → Type 0
-  Gives-it now disk_now replies result = Answered g (packet_of caller moment (Ok (upload_cmd 0 len))) command (with_disk before disk) (with_disk now disk_now) replies (phase.Command, result)
+  Gives-it now disk_now replies result = Answered g (packet_of caller moment (Ok (upload_cmd 0 len))) command (at before disk) (at now disk_now) replies (phase.Command, result)
 
   -- nothing was touched
   untouched : (replies : List ℕ) (result : Result ⊤ Halt) → (now ≡ before) × (disk_now ≡ disk) → Gives-it before disk replies result → Gives-it now disk_now replies result
@@ -97,9 +98,9 @@ module _ {D : Type 0} (g : Ghosts D) (caller : CallSign) (moment len : ℕ) (bef
   barred replies result same row answer =
       subst (λ (r : Result ⊤ Halt). Gives-it now disk_now replies r) (sym answer.0)
       (untouched replies (Ok tt) same
-      (answered-alone g caller moment command (Ok (upload_cmd 0 len)) before before disk replies (phase.Command, Ok tt) ready.healthy ready.stands_on lasts
+      (answered-alone g caller moment command (Ok (upload_cmd 0 len)) before before disk replies (phase.Command, Ok tt) may.ready lasts
       (alone-row caller moment command (Ok (upload_cmd 0 len)) before phase.Command (refused_row command 13) replies row refl
-      (refused_row command 13, row, ((tt, refl), refl, answer.1)) tt ready.only)))
+      (refused_row command 13, row, ((tt, refl), refl, answer.1)) tt may.only)))
 
   not_reached : {P : Type 0} → IsTrue (begin_reaches (refusing refusal.OutOfMemory)) ⊎ P → P
   not_reached (inl never) = absurd (true≢false (sym never))
@@ -128,7 +129,7 @@ module _ {D : Type 0} (g : Ghosts D) (caller : CallSign) (moment len : ℕ) (bef
         on_disk = refl;
         untouched = as-it-was disk disk _ (granted_row caller moment (store_in before).next len) row (λ none. refl);
         held = tt;
-        only = ready.only;
+        only = may.only;
         others = others-same before caller;
         kept = λ number entry found whole. found;
       }))
@@ -144,7 +145,7 @@ module _ {D : Type 0} (g : Ghosts D) (caller : CallSign) (moment len : ℕ) (bef
         on_disk = does-row g _ _ _ _ _ _ ⊤ _ row (λ failed. tt) (λ failed. refl) done;
         untouched = touched disk disk_now _ (granted_row caller moment (store_in before).next len) row (some-at_front (begin (store_in before).next caller len moment) []);
         held = tt;
-        only = unbegun-only caller moment len before now is rests still ready.only;
+        only = unbegun-only caller moment len before now is rests still may.only;
         others = unbegun-others caller moment len before now is rests still uploads;
         kept = kept;
       })

@@ -10,14 +10,14 @@ use Rattle.file_store.specs.Command.{Command}
 use Rattle.file_store.specs.EntriesKept.{KeepsComplete}
 use Rattle.file_store.specs.Store.{Store}
 use Rattle.file_store.specs.OnDisk.{Does}
-use Rattle.file_store.specs.State.{StandsOn, StoreState, store_in}
+use Rattle.file_store.specs.State.{IsReady, StandsOn, StoreState, store_in}
 use Rattle.ftl0_session.specs.declared.uploads.phase.Phase.{Phase}
 use Rattle.disk_model.specs.declared.halt.Halt.{Halt}
 use Rattle.disk_model.specs.declared.halt.Halt.TheVariants as stop
 use Rattle.ftl0_session.specs.Uploads.Session.{Row, State, session_row}
 use Rattle.ftl0_session.specs.Uploads.Taking.{Answered, AnsweredAlone, Answers, DoesRow, LeavesDisk, PutsRow, row_of}
 use Rattle.ftl0_session.specs.Uploads.Events.{CallerPacket, packet_of}
-use Rattle.ftl0_session.specs.Uploads.SessionState.{WithDisk, with_disk}
+use Rattle.disk_model.specs.AtDisk.{AtDisk, at}
 
 -- the answer that is this stop
 abbrev stopped : Halt → Result ⊤ Halt
@@ -25,10 +25,10 @@ stopped stop = Err stop
 
 module _ {D : Type 0} (g : Ghosts D) where
   -- no commands
-  pub does-none : (before now : StoreState) (disk : D) → before.journal.failed ≡ false → StandsOn g before disk → store_in now ≡ store_in before
+  pub does-none : (before now : StoreState) (disk : D) → IsReady g before disk → store_in now ≡ store_in before
       → now.journal ≡ before.journal → g.lasts disk disk → Does g ⊥ before now disk disk []
-  does-none before now disk healthy stands same journal lasts =
-      Does-moved g ⊥ before before before now disk disk [] refl refl same journal (Does-none g ⊥ before disk (λ never. never) stands healthy lasts)
+  does-none before now disk ready same journal lasts =
+      Does-moved g ⊥ before before before now disk disk [] refl refl same journal (Does-none g ⊥ before disk (λ never. never) ready lasts)
 
   -- the same commands, said otherwise
   pub does-at : (P : Type 0) (before now : StoreState) (disk disk_now : D) (these those : List Command) → these ≡ those
@@ -50,13 +50,13 @@ module _ {D : Type 0} (g : Ghosts D) where
 
   -- a packet that leaves the disk alone
   pub answered-alone : (caller : CallSign) (moment : ℕ) (state : State) (item : Item) (before now : StoreState) (disk : D) (replies : List ℕ) (taken : Phase × Result ⊤ Halt)
-      → before.journal.failed ≡ false → StandsOn g before disk → g.lasts disk disk → AnsweredAlone (packet_of caller moment item) state before now replies taken
-      → Answered g (packet_of caller moment item) state (with_disk before disk) (with_disk now disk) replies taken
-  answered-alone caller moment state item before now disk replies taken healthy stands lasts alone = record {
+      → IsReady g before disk → g.lasts disk disk → AnsweredAlone (packet_of caller moment item) state before now replies taken
+      → Answered g (packet_of caller moment item) state (at before disk) (at now disk) replies taken
+  answered-alone caller moment state item before now disk replies taken ready lasts alone = record {
     answers = alone.answers;
     on_disk =
         on_disk-alone caller moment state item before now disk taken.1 alone.no_fault alone.no_commands
-        (does-none before now disk healthy stands alone.store alone.journal lasts);
+        (does-none before now disk ready alone.store alone.journal lasts);
     untouched = told_weaker (session_row caller moment (store_in before) state item) _ _ (λ row is no_commands. λ none. refl) alone.no_commands;
     held = alone.held;
     only = alone.only;
@@ -65,19 +65,19 @@ module _ {D : Type 0} (g : Ghosts D) where
   }
 
   -- What stands after a packet, whatever the answer.
-  pub after-packet : (packet : CallerPacket) (state next : State) (before now : WithDisk StoreState D) (replies : List ℕ) (result : Result ⊤ Halt) → g.lasts before.disk before.disk
-      → before.it.journal.failed ≡ false → StandsOn g before.it before.disk → Answers packet before.it state now.it next replies result
+  pub after-packet : (packet : CallerPacket) (state next : State) (before now : AtDisk StoreState D) (replies : List ℕ) (result : Result ⊤ Halt) → g.lasts before.disk before.disk
+      → IsReady g before.it before.disk → Answers packet before.it state now.it next replies result
       → PutsRow g before.it now.it before.disk now.disk (row_of packet before.it state) result
       → Puts g (IsErrOf result stop.Disk) before.disk now.disk × (IsErrOf result stop.Disk → now.it.journal.failed ≡ true)
       × (¬ IsErrOf result stop.Disk → now.it.journal.failed ≡ false) × StandsOn g now.it now.disk
-  after-packet packet state next before now replies (Ok done) lasts healthy stands answers on_disk =
+  after-packet packet state next before now replies (Ok done) lasts ready answers on_disk =
       let does = at_told (λ row. Does g ⊥ before.it now.it before.disk now.disk row.commands) answers.0 answers.1 on_disk in
       (puts_same g before.disk now.disk ⊥ _ (λ never. absurd never) (λ e. cc e) does.puts, λ e. absurd (cc e), λ fine. (does.done (λ never. never)).1, does.stands_on)
-  after-packet packet state next before now replies (Err stop.Disk) lasts healthy stands answers on_disk =
+  after-packet packet state next before now replies (Err stop.Disk) lasts ready answers on_disk =
       let does = at_told (λ row. Does g ⊤ before.it now.it before.disk now.disk row.commands) answers.0 answers.1 on_disk in
       (puts_same g before.disk now.disk ⊤ _ (λ failed. refl) (λ failed. tt) does.puts, λ e. (does.cut tt).failed, λ fine. absurd (fine refl), does.stands_on)
-  after-packet packet state next before now replies (Err stop.OutOfMemory) lasts healthy stands answers on_disk =
-      rw (on_disk, answers.3.0) (puts_none g before.disk _ (λ e. cc e) lasts, λ e. absurd (cc e), λ fine. healthy, stands)
+  after-packet packet state next before now replies (Err stop.OutOfMemory) lasts ready answers on_disk =
+      rw (on_disk, answers.3.0) (puts_none g before.disk _ (λ e. cc e) lasts, λ e. absurd (cc e), λ fine. ready.healthy, ready.stands_on)
 
 -- a row with commands may touch the disk
 pub touched : {D : Type 0} (disk disk_now : D) (o : Option Row) (row : Row) → o ≡ Some row → (row.commands ≡ [] → ⊥) → LeavesDisk disk disk_now o

@@ -1,10 +1,10 @@
 -- A session as contracts see it, and the state of the table that it is in.
-use Rattle.std.specs.Prelude.{◌≡◌, ◌≢◌, ℕ, false, Option, None, Some, ⊤}
+use Rattle.std.specs.Prelude.{◌≡◌, ◌≢◌, ℕ, Option, None, Some, ⊤}
 use Rattle.px_base.specs.CallSign.{CallSign}
 use Rattle.disk_model.specs.declared.disk.Disk.{Ghosts}
 use Rattle.file_store.specs.Files.{ChangesRest}
 use Rattle.file_store.specs.Store.{Entry, entry_of}
-use Rattle.file_store.specs.State.{StandsOn, StoreState, rest_in, store_in}
+use Rattle.file_store.specs.State.{IsReady, StoreState, rest_in, store_in}
 use Rattle.file_store.specs.Upload.{Holds, Upload, waiting}
 use Rattle.ftl0_session.specs.declared.uploads.phase.Phase.{Phase}
 use Rattle.ftl0_session.specs.declared.uploads.phase.Phase.TheVariants as phase
@@ -14,15 +14,6 @@ use Rattle.ftl0_session.specs.Uploads.Session.{State, command, receiving, aborti
 pub record SessionState : Type 0 where
   pub caller : CallSign
   pub phase : Phase
-
--- what a session works on, and the disk below it
-pub record WithDisk (X D : Type 0) : Type 0 where
-  pub it : X
-  pub disk : D
-
--- by its parts
-abbrev pub with_disk : {X D : Type 0} → X → D → WithDisk X D
-with_disk it disk = record { it = it; disk = disk }
 
 -- a session that was just connected
 abbrev pub new_session : CallSign → SessionState
@@ -63,12 +54,11 @@ NoOtherOut store caller own =
 abbrev pub IsOnlyOut : StoreState → SessionState → Type 0
 IsOnlyOut store session = NoOtherOut store session.caller (number_of session.phase)
 
--- What a session of this caller in this phase needs to take a packet: the store hasn't failed, stands on the disk,
--- holds the session's upload, and has no other upload of an entry of the caller out.
-pub record IsReady {D : Type 0} (g : Ghosts D) (store : StoreState) (disk : D) (caller : CallSign) (phase : Phase) :
+-- What a session of this caller in this phase needs to take a packet: the store is ready, holds the session's upload,
+-- and has no other upload of an entry of the caller out.
+pub record MayTake {D : Type 0} (g : Ghosts D) (store : StoreState) (disk : D) (caller : CallSign) (phase : Phase) :
     Type 0 where
-  pub healthy : store.journal.failed ≡ false
-  pub stands_on : StandsOn g store disk
+  pub ready : IsReady g store disk
   pub held : PhaseIsHeld store caller phase
   pub only : NoOtherOut store caller (number_of phase)
 

@@ -18,7 +18,8 @@ use Rattle.ftl0_session.specs.Uploads.Events.{CallerPacket, packet_of}
 use Rattle.ftl0_session.specs.Uploads.Others.{KeepsOtherCallers}
 use Rattle.ftl0_packets.specs.Items.{texts}
 use Rattle.ftl0_session.specs.Uploads.Session.{Row, State, command, fault_reply, session_row, takes_memory}
-use Rattle.ftl0_session.specs.Uploads.SessionState.{NoOtherOut, PhaseIsHeld, SessionState, WithDisk, number_of}
+use Rattle.disk_model.specs.AtDisk.{AtDisk}
+use Rattle.ftl0_session.specs.Uploads.SessionState.{NoOtherOut, PhaseIsHeld, SessionState, number_of}
 use Rattle.ftl0_session.specs.Uploads.SessionState.{state_of}
 
 -- the packet's row over this store: each packet of uploading has one
@@ -94,7 +95,7 @@ row_for moment old before packet =
 
 -- What a packet gives in a state: the phase after it and the answer, and what it keeps.
 pub record Answered {D : Type 0} (g : Ghosts D) (packet : CallerPacket) (state : State)
-    (before now : WithDisk StoreState D) (replies : List ℕ) (taken : Phase × Result ⊤ Halt) : Type 0 where
+    (before now : AtDisk StoreState D) (replies : List ℕ) (taken : Phase × Result ⊤ Halt) : Type 0 where
   pub answers : Answers packet before.it state now.it (state_of now.it taken.0) replies taken.1
   pub on_disk : PutsRow g before.it now.it before.disk now.disk (row_of packet before.it state) taken.1
   pub untouched : LeavesDisk before.disk now.disk (row_of packet before.it state)

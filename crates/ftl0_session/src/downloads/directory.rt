@@ -1,11 +1,10 @@
 //! The headers of files that a directory command lists.
 
-ghost use Rattle.std.specs.Prelude.{◌≡◌, ◌+◌, ◌*◌, ◌≤◌, ◌++◌, [], length, map, flat_map, IsErr, IfOk, OnOk, false};
-ghost use Rattle.file_store.specs.Calls.{Reads};
+ghost use Rattle.std.specs.Prelude.{◌≡◌, ◌+◌, ◌*◌, ◌≤◌, ◌++◌, [], length, map, flat_map, IsErr, IfOk, OnOk};
 ghost use Rattle.file_store.specs.Headers.{header_octets};
-ghost use Rattle.file_store.specs.Info.{IsCompleteIn};
-ghost use Rattle.file_store.specs.State.{StandsOn, store_in};
-ghost use Rattle.ftl0_session.specs.Downloads.Needs.{AreFiles, AreStored, LiesIn};
+ghost use Rattle.file_store.specs.Reads.{MayRead, OnlyReads};
+ghost use Rattle.file_store.specs.State.{store_in};
+ghost use Rattle.ftl0_session.specs.Downloads.Needs.{AreStored, LiesIn, MayList};
 ghost use Rattle.ftl0_session.specs.Downloads.Spans.{due_of};
 ghost use Rattle.ftl0_session.specs.Downloads.Table.{header_due, long_due, octets_in, short_octets};
 
@@ -29,15 +28,10 @@ pub(crate) fn read_short_forms<D: Disk>(
     numbers: &[u32],
     forms: &mut ShortForms,
 ) -> Result<(), DiskFault>
-    requires healthy { store.old.journal.failed ≡ false }
-    requires stands_on { StandsOn D.Disk store.old disk.old }
-    requires few { length numbers.now ≤ 10 }
-    requires complete { AreFiles (store_in store.old) numbers.now }
+    requires { MayList D.Disk store.old disk.old numbers.now }
     ensures forms { OnOk result (forms.new.items
         ≡ flat_map (λ number. short_octets (octets_in (store_in store.old) number)) numbers.now) }
-    ensures reads { Reads D.Disk (IsErr result) disk.old disk.new }
-    ensures store { store.new ≡ store.old }
-    ensures stands_on { StandsOn D.Disk store.new disk.new }
+    ensures reads { OnlyReads D.Disk (IsErr result) store.old store.new disk.old disk.new }
 {
     forms.clear();
     for number in numbers {
@@ -53,13 +47,9 @@ fn read_short_form<D: Disk>(
     store: &mut FileStore,
     number: u32,
 ) -> Result<[u8; SHORT_LEN], DiskFault>
-    requires healthy { store.old.journal.failed ≡ false }
-    requires stands_on { StandsOn D.Disk store.old disk.old }
-    requires complete { IsCompleteIn (store_in store.old) number }
+    requires { MayRead D.Disk store.old disk.old number }
     ensures form { IfOk result (λ form. form ≡ short_octets (octets_in (store_in store.old) number)) }
-    ensures reads { Reads D.Disk (IsErr result) disk.old disk.new }
-    ensures store { store.new ≡ store.old }
-    ensures stands_on { StandsOn D.Disk store.new disk.new }
+    ensures reads { OnlyReads D.Disk (IsErr result) store.old store.new disk.old disk.new }
 {
     let header = store.header(disk, number)?;
     Ok(short_form(&header_in(header)))
@@ -72,15 +62,10 @@ pub(crate) fn read_spans_of_headers<D: Disk>(
     store: &mut FileStore,
     numbers: &[u32],
 ) -> Result<Spans, DiskFault>
-    requires healthy { store.old.journal.failed ≡ false }
-    requires stands_on { StandsOn D.Disk store.old disk.old }
-    requires few { length numbers.now ≤ 10 }
-    requires complete { AreFiles (store_in store.old) numbers.now }
+    requires { MayList D.Disk store.old disk.old numbers.now }
     ensures spans { IfOk result (λ spans. map due_of spans.items ≡ long_due (store_in store.old) numbers.now) }
     ensures within { OnOk result (AreStored (store_in store.old) (long_due (store_in store.old) numbers.now)) }
-    ensures reads { Reads D.Disk (IsErr result) disk.old disk.new }
-    ensures store { store.new ≡ store.old }
-    ensures stands_on { StandsOn D.Disk store.new disk.new }
+    ensures reads { OnlyReads D.Disk (IsErr result) store.old store.new disk.old disk.new }
 {
     let mut spans = ArrayVec::new();
     for number in numbers {
@@ -91,14 +76,10 @@ pub(crate) fn read_spans_of_headers<D: Disk>(
 
 /// Reads the header of a complete file, and gives where it lies.
 fn read_span<D: Disk>(disk: &mut D, store: &mut FileStore, number: u32) -> Result<Span, DiskFault>
-    requires healthy { store.old.journal.failed ≡ false }
-    requires stands_on { StandsOn D.Disk store.old disk.old }
-    requires complete { IsCompleteIn (store_in store.old) number }
+    requires { MayRead D.Disk store.old disk.old number }
     ensures span { IfOk result (λ span. due_of span ≡ header_due (store_in store.old) number) }
     ensures within { IfOk result (λ span. LiesIn (store_in store.old) span.number span.place span.last) }
-    ensures reads { Reads D.Disk (IsErr result) disk.old disk.new }
-    ensures store { store.new ≡ store.old }
-    ensures stands_on { StandsOn D.Disk store.new disk.new }
+    ensures reads { OnlyReads D.Disk (IsErr result) store.old store.new disk.old disk.new }
 {
     let header = store.header(disk, number)?;
     Ok(Span {

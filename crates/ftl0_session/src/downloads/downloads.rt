@@ -7,12 +7,13 @@ ghost use Rattle.std.specs.List.{list_all};
 ghost use Rattle.std.specs.Option.{ForSome, option_map};
 ghost use Rattle.ftl0_packets.specs.Layout.{dl_error_resp, information, packet_text};
 ghost use Rattle.ftl0_packets.specs.Values.{value_of};
-ghost use Rattle.file_store.specs.Calls.{Reads};
-ghost use Rattle.file_store.specs.State.{StandsOn, store_in};
+ghost use Rattle.file_store.specs.Reads.{OnlyReads};
+ghost use Rattle.file_store.specs.State.{IsReady, store_in};
 ghost use Rattle.selection.specs.Values.{tree_of};
 ghost use Rattle.ftl0_session.specs.Lists.Lists.{left_of};
 ghost use Rattle.ftl0_session.specs.Downloads.Filling.{PutsDue, filled};
-ghost use Rattle.ftl0_session.specs.Downloads.Needs.{AreComplete, AreFiles, IsDueIn, LiesIn};
+ghost use Rattle.ftl0_session.specs.Downloads.Needs.{AreComplete, IsDueIn, KeepsFiles, LiesIn, MayCommand, MayList};
+ghost use Rattle.ftl0_session.specs.Downloads.Needs.{MaySend, MayTake};
 ghost use Rattle.ftl0_session.specs.Downloads.Sending.{is_due as is_due_in, is_read, most_data, octets_due};
 ghost use Rattle.ftl0_session.specs.Downloads.Sending.{state_after, state_at_end};
 ghost use Rattle.ftl0_session.specs.Downloads.Table.{asked_file, directory_row, download_cmd_row, file_of, has_file};
@@ -128,9 +129,10 @@ impl Downloads {
         matches!(self.phase, Phase::Ready)
     }
 
-    /// Takes a packet: one row of the session's table. It answers false, and nothing changed, exactly where the
-    /// packet has no row in the state. A directory command reads the headers of its files, and SELECT_CMD those of
-    /// all complete files; a read that fails gives code 3. Takes no memory.
+    /// Takes a packet: one row of the session's table, whose replies stand in place of what `replies` holds. It answers
+    /// false, and nothing changed, exactly where the packet has no row in the state. A directory command reads the
+    /// headers of its files, and SELECT_CMD those of all complete files; a read that fails gives code 3. Takes no
+    /// memory.
     pub fn take<D: Disk>(
         &mut self,
         disk: &mut D,
@@ -140,22 +142,13 @@ impl Downloads {
         lists: &mut Lists,
         replies: &mut Replies,
     ) -> bool
-        requires empty { replies.old.items ≡ [] }
-        requires healthy { store.old.journal.failed ≡ false }
-        requires stands_on { StandsOn D.Disk store.old disk.old }
-        requires due { IsDueIn (store_in store.old) self.old }
-        requires complete { AreComplete (store_in store.old) lists.old }
+        requires { MayTake D.Disk store.old disk.old lists.old self.old }
 
         // The answer is the packet's row, if it has one.
         ensures takes { TakesByRow D.Disk (download_row caller (store_in store.old) lists.old self.old
-            (value_of packet.now)) disk.old disk.new (made self.old lists.old [])
+            (value_of packet.now)) disk.old disk.new (made self.old lists.old replies.old.items)
             (made self.new lists.new replies.new.items) result }
-        ensures store { store.new ≡ store.old }
-
-        // What the next call needs.
-        ensures stands_on { StandsOn D.Disk store.new disk.new }
-        ensures due { IsDueIn (store_in store.new) self.new }
-        ensures complete { AreComplete (store_in store.new) lists.new }
+        ensures keeps { KeepsFiles D.Disk store.old store.new disk.new lists.new self.new }
     {
         match self.phase {
             Phase::Ready => self.take_command(disk, packet, caller, store, lists, replies),
@@ -174,14 +167,11 @@ impl Downloads {
         store: &mut FileStore,
         out: &mut ArrayVec<u8, 256>,
     ) -> bool
-        requires healthy { store.old.journal.failed ≡ false }
-        requires stands_on { StandsOn D.Disk store.old disk.old }
-        requires due { IsDueIn (store_in store.old) self.old }
+        requires { MaySend D.Disk store.old disk.old self.old }
         ensures puts { PutsDue D.Disk (store_in store.old) (filled disk.old self.old out.old.items)
             (filled disk.new self.new out.new.items) result }
         ensures store { store.new ≡ store.old }
-        ensures stands_on { StandsOn D.Disk store.new disk.new }
-        ensures due { IsDueIn (store_in store.new) self.new }
+        ensures may { MaySend D.Disk store.new disk.new self.new }
     {
         if !self.is_due() {
             return false;
@@ -225,17 +215,13 @@ impl Downloads {
         store: &mut FileStore,
         part: &mut Part,
     ) -> Result<(), DiskFault>
-        requires healthy { store.old.journal.failed ≡ false }
-        requires stands_on { StandsOn D.Disk store.old disk.old }
-        requires due { IsDueIn (store_in store.old) self.old }
+        requires may { MaySend D.Disk store.old disk.old self.old }
         requires empty { part.old.items ≡ [] }
         ensures octets { OnOk result (part.new.items ≡ front most_data (octets_due (store_in store.old) self.old)) }
         ensures state { OnOk result (self.new ≡ state_after most_data self.old) }
         ensures some { OnErr result (0 < length (octets_due (store_in store.old) self.old)) }
         ensures read { OnErr result (IsTrue (is_read self.old)) }
-        ensures reads { Reads D.Disk (IsErr result) disk.old disk.new }
-        ensures store { store.new ≡ store.old }
-        ensures stands_on { StandsOn D.Disk store.new disk.new }
+        ensures reads { OnlyReads D.Disk (IsErr result) store.old store.new disk.old disk.new }
     {
         match self.phase {
             Phase::Ready | Phase::Waiting => {}
@@ -265,18 +251,11 @@ impl Downloads {
         lists: &mut Lists,
         replies: &mut Replies,
     ) -> bool
-        requires empty { replies.old.items ≡ [] }
-        requires healthy { store.old.journal.failed ≡ false }
-        requires stands_on { StandsOn D.Disk store.old disk.old }
-        requires ready { self.old ≡ ready }
-        requires complete { AreComplete (store_in store.old) lists.old }
+        requires { MayCommand D.Disk store.old disk.old lists.old self.old }
         ensures takes { TakesByRow D.Disk (download_row caller (store_in store.old) lists.old self.old
-            (value_of packet.now)) disk.old disk.new (made self.old lists.old [])
+            (value_of packet.now)) disk.old disk.new (made self.old lists.old replies.old.items)
             (made self.new lists.new replies.new.items) result }
-        ensures store { store.new ≡ store.old }
-        ensures stands_on { StandsOn D.Disk store.new disk.new }
-        ensures due { IsDueIn (store_in store.new) self.new }
-        ensures complete { AreComplete (store_in store.new) lists.new }
+        ensures keeps { KeepsFiles D.Disk store.old store.new disk.new lists.new self.new }
     {
         match *packet {
             Packet::DownloadCmd {
@@ -307,7 +286,6 @@ impl Downloads {
         lists: &mut Lists,
         replies: &mut Replies,
     )
-        requires empty { replies.old.items ≡ [] }
         requires ready { self.old ≡ ready }
         requires complete { AreComplete (store_in store.now) lists.old }
         ensures row { made self.new lists.new replies.new.items ≡ made_by
@@ -319,6 +297,7 @@ impl Downloads {
             Ok(span) => {
                 take_numbers(number, 1, caller, lists);
                 self.phase = Phase::Sending(span);
+                replies.clear();
             }
             Err(code) => refuse(code, replies),
         }
@@ -335,18 +314,11 @@ impl Downloads {
         lists: &mut Lists,
         replies: &mut Replies,
     )
-        requires empty { replies.old.items ≡ [] }
-        requires healthy { store.old.journal.failed ≡ false }
-        requires stands_on { StandsOn D.Disk store.old disk.old }
-        requires ready { self.old ≡ ready }
-        requires complete { AreComplete (store_in store.old) lists.old }
+        requires { MayCommand D.Disk store.old disk.old lists.old self.old }
         ensures row { MakesRow D.Disk disk.old disk.new
             (directory_row caller (store_in store.old) lists.old number (due_by form))
             (made self.new lists.new replies.new.items) }
-        ensures store { store.new ≡ store.old }
-        ensures stands_on { StandsOn D.Disk store.new disk.new }
-        ensures due { IsDueIn (store_in store.new) self.new }
-        ensures complete { AreComplete (store_in store.new) lists.new }
+        ensures keeps { KeepsFiles D.Disk store.old store.new disk.new lists.new self.new }
     {
         let numbers = files_to_list(number, caller, lists);
         if numbers.is_empty() {
@@ -356,7 +328,10 @@ impl Downloads {
             return refuse(NO_SUCH_FILE, replies);
         }
         match self.read_headers(disk, form, &numbers, store) {
-            Ok(()) => take_numbers(number, numbers.len(), caller, lists),
+            Ok(()) => {
+                take_numbers(number, numbers.len(), caller, lists);
+                replies.clear();
+            }
             Err(DiskFault) => refuse(FILE_SYSTEM, replies),
         }
     }
@@ -369,17 +344,12 @@ impl Downloads {
         numbers: &[u32],
         store: &mut FileStore,
     ) -> Result<(), DiskFault>
-        requires healthy { store.old.journal.failed ≡ false }
-        requires stands_on { StandsOn D.Disk store.old disk.old }
+        requires may { MayList D.Disk store.old disk.old numbers.now }
         requires ready { self.old ≡ ready }
-        requires few { length numbers.now ≤ 10 }
-        requires complete { AreFiles (store_in store.old) numbers.now }
         ensures listing { OnOk result (self.new ≡ listing (due_by form (store_in store.old) numbers.now)) }
         ensures ready { OnErr result (self.new ≡ ready) }
         ensures due { IsDueIn (store_in store.new) self.new }
-        ensures reads { Reads D.Disk (IsErr result) disk.old disk.new }
-        ensures store { store.new ≡ store.old }
-        ensures stands_on { StandsOn D.Disk store.new disk.new }
+        ensures reads { OnlyReads D.Disk (IsErr result) store.old store.new disk.old disk.new }
     {
         match form {
             Form::Short => {
@@ -532,15 +502,11 @@ fn select<D: Disk>(
     lists: &mut Lists,
     replies: &mut Replies,
 )
-    requires empty { replies.old.items ≡ [] }
-    requires healthy { store.old.journal.failed ≡ false }
-    requires stands_on { StandsOn D.Disk store.old disk.old }
+    requires ready { IsReady D.Disk store.old disk.old }
     requires complete { AreComplete (store_in store.old) lists.old }
     ensures row { MakesRow D.Disk disk.old disk.new (select_row caller (store_in store.old) lists.old tokens.now)
         (made ready lists.new replies.new.items) }
-    ensures store { store.new ≡ store.old }
-    ensures stands_on { StandsOn D.Disk store.new disk.new }
-    ensures complete { AreComplete (store_in store.new) lists.new }
+    ensures keeps { KeepsFiles D.Disk store.old store.new disk.new lists.new ready }
 {
     let Some(selection) = selection_of(tokens) else {
         return refuse(BAD_SELECTION, replies);
@@ -567,7 +533,6 @@ fn selection_of(tokens: &[u8]) -> Option<Selection>
 
 /// Refuses a command with this code.
 fn refuse(code: u8, replies: &mut Replies)
-    requires { replies.old.items ≡ [] }
     ensures { replies.new.items ≡ packet_text (dl_error_resp code) }
 {
     write_packet(&Packet::DlErrorResp(code), replies);

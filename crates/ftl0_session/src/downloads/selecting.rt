@@ -1,10 +1,9 @@
 //! The files of which a selection holds.
 
-ghost use Rattle.std.specs.Prelude.{◌≡◌, ◌≤◌, [], length, IsErr, IfOk, OnOk, false};
-ghost use Rattle.file_store.specs.Calls.{Reads};
+ghost use Rattle.std.specs.Prelude.{◌≡◌, ◌≤◌, [], length, IsErr, IfOk, OnOk};
 ghost use Rattle.file_store.specs.Headers.{header_items};
-ghost use Rattle.file_store.specs.Info.{IsCompleteIn};
-ghost use Rattle.file_store.specs.State.{StandsOn, store_in};
+ghost use Rattle.file_store.specs.Reads.{MayRead, OnlyReads};
+ghost use Rattle.file_store.specs.State.{IsReady, store_in};
 ghost use Rattle.selection.specs.Meaning.{holds as holds_of};
 ghost use Rattle.selection.specs.Values.{tree_of};
 ghost use Rattle.ftl0_session.specs.Downloads.Needs.{AreFiles};
@@ -27,14 +26,11 @@ pub(crate) fn chosen_files<D: Disk>(
     store: &mut FileStore,
     selection: &Selection,
 ) -> Result<Numbers, DiskFault>
-    requires healthy { store.old.journal.failed ≡ false }
-    requires stands_on { StandsOn D.Disk store.old disk.old }
+    requires { IsReady D.Disk store.old disk.old }
     ensures numbers { IfOk result (λ numbers.
         numbers.items ≡ chosen (tree_of selection.now) (store_in store.old).entries) }
     ensures complete { IfOk result (λ numbers. AreFiles (store_in store.old) numbers.items) }
-    ensures reads { Reads D.Disk (IsErr result) disk.old disk.new }
-    ensures store { store.new ≡ store.old }
-    ensures stands_on { StandsOn D.Disk store.new disk.new }
+    ensures reads { OnlyReads D.Disk (IsErr result) store.old store.new disk.old disk.new }
 {
     // The entries' numbers rise, and there are at most 1,024.
     state_law(store);
@@ -57,14 +53,10 @@ fn is_chosen<D: Disk>(
     number: u32,
     selection: &Selection,
 ) -> Result<bool, DiskFault>
-    requires healthy { store.old.journal.failed ≡ false }
-    requires stands_on { StandsOn D.Disk store.old disk.old }
-    requires complete { IsCompleteIn (store_in store.old) number }
+    requires { MayRead D.Disk store.old disk.old number }
     ensures holds { IfOk result (λ holds.
         holds ≡ holds_of (tree_of selection.now) (header_items (octets_in (store_in store.old) number))) }
-    ensures reads { Reads D.Disk (IsErr result) disk.old disk.new }
-    ensures store { store.new ≡ store.old }
-    ensures stands_on { StandsOn D.Disk store.new disk.new }
+    ensures reads { OnlyReads D.Disk (IsErr result) store.old store.new disk.old disk.new }
 {
     let header = store.header(disk, number)?;
     Ok(selection.holds(&header_in(header)))

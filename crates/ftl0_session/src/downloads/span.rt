@@ -1,9 +1,8 @@
 //! Octets of complete files that are still to be sent.
 
 ghost use Rattle.std.specs.Prelude.{◌≡◌, ◌-◌, ◌<◌, ◌≤◌, ◌++◌, [], length, map, min, take, IfOk, IsErr, OnErr, OnOk};
-ghost use Rattle.std.specs.Prelude.{false};
-ghost use Rattle.file_store.specs.Calls.{Reads};
-ghost use Rattle.file_store.specs.State.{StandsOn, store_in};
+ghost use Rattle.file_store.specs.Reads.{OnlyReads};
+ghost use Rattle.file_store.specs.State.{IsReady, store_in};
 ghost use Rattle.ftl0_session.specs.Downloads.Needs.{AreStored, LiesIn};
 ghost use Rattle.ftl0_session.specs.Downloads.Sending.{after_octets, due_len, due_octets, joined, most_data, moved};
 ghost use Rattle.ftl0_session.specs.Downloads.Spans.{due_of};
@@ -41,17 +40,14 @@ impl Span {
         store: &mut FileStore,
         part: &mut Part,
     ) -> Result<(), DiskFault>
-        requires healthy { store.old.journal.failed ≡ false }
-        requires stands_on { StandsOn D.Disk store.old disk.old }
+        requires ready { IsReady D.Disk store.old disk.old }
         requires within { LiesIn (store_in store.old) self.old.number self.old.place self.old.last }
         ensures octets { OnOk result (part.new.items ≡ part.old.items
             ++ take (most_data - length part.old.items) (due_octets (store_in store.old) (due_of self.old))) }
         ensures moved { OnOk result (due_of self.new
             ≡ moved (min (most_data - length part.old.items) (due_len (due_of self.old))) (due_of self.old)) }
         ensures some { OnErr result (0 < due_len (due_of self.old)) }
-        ensures reads { Reads D.Disk (IsErr result) disk.old disk.new }
-        ensures store { store.new ≡ store.old }
-        ensures stands_on { StandsOn D.Disk store.new disk.new }
+        ensures reads { OnlyReads D.Disk (IsErr result) store.old store.new disk.old disk.new }
     {
         let count = (MOST_DATA - part.len()).min((self.last - self.place) as usize);
         if count == 0 {
@@ -73,8 +69,7 @@ pub(crate) fn read_spans<D: Disk>(
     spans: &[Span],
     part: &mut Part,
 ) -> Result<Spans, DiskFault>
-    requires healthy { store.old.journal.failed ≡ false }
-    requires stands_on { StandsOn D.Disk store.old disk.old }
+    requires ready { IsReady D.Disk store.old disk.old }
     requires few { length spans.now ≤ 10 }
     requires within { AreStored (store_in store.old) (map due_of spans.now) }
     requires empty { part.old.items ≡ [] }
@@ -82,9 +77,7 @@ pub(crate) fn read_spans<D: Disk>(
         ≡ take most_data (joined (store_in store.old) (map due_of spans.now))) }
     ensures left { IfOk result (λ left. map due_of left.items ≡ after_octets most_data (map due_of spans.now)) }
     ensures some { OnErr result (0 < length (joined (store_in store.old) (map due_of spans.now))) }
-    ensures reads { Reads D.Disk (IsErr result) disk.old disk.new }
-    ensures store { store.new ≡ store.old }
-    ensures stands_on { StandsOn D.Disk store.new disk.new }
+    ensures reads { OnlyReads D.Disk (IsErr result) store.old store.new disk.old disk.new }
 {
     let mut left = ArrayVec::new();
     for span in spans {

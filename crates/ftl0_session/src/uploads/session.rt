@@ -11,7 +11,8 @@ ghost use Rattle.file_store.specs.State.{StandsOn, store_in};
 ghost use Rattle.ftl0_session.specs.Uploads.Asked.{AnswersAborting, AnswersAsked};
 ghost use Rattle.ftl0_session.specs.Uploads.Others.{KeepsOtherCallers};
 ghost use Rattle.ftl0_session.specs.Uploads.Session.{command as in_command, is_upload_kind};
-ghost use Rattle.ftl0_session.specs.Uploads.SessionState.{IsHeld, IsOnlyOut, IsReady, NoOtherOut, Parks, with_disk};
+ghost use Rattle.disk_model.specs.AtDisk.{at};
+ghost use Rattle.ftl0_session.specs.Uploads.SessionState.{IsHeld, IsOnlyOut, MayTake, NoOtherOut, Parks};
 ghost use Rattle.ftl0_session.specs.Uploads.SessionState.{new_session, receiving_of, state_of};
 ghost use Rattle.ftl0_session.specs.Uploads.Taking.{Answered, AnsweredAlone, AnswersRefusal, LeavesDisk};
 ghost use Rattle.ftl0_session.specs.Uploads.Taking.{PutsRow, TakesPacket, row_for};
@@ -108,12 +109,8 @@ impl Session {
         store: &mut FileStore,
         replies: &mut Replies,
     ) -> Result<(), Halt>
-        requires empty { replies.old.items ≡ [] }
         requires kind { is_upload_kind (kind_of_item (item_of packet)) ≡ true }
-        requires healthy { store.old.journal.failed ≡ false }
-        requires stands_on { StandsOn D.Disk store.old disk.old }
-        requires held { IsHeld store.old self.old }
-        requires only { IsOnlyOut store.old self.old }
+        requires may { MayTake D.Disk store.old disk.old self.old.caller self.old.phase }
 
         // The answer is the packet's row, and the row's commands are on the disk; or the disk failed in one of them.
         ensures takes { TakesPacket moment self.old store.old packet.entry self.new store.new replies.new.items result }
@@ -143,10 +140,8 @@ impl Session {
 
     /// Acknowledges a file: no other call replies UL_ACK_RESP, and none does without a receipt, which it spends. Takes
     /// no memory.
-    pub fn ack(&mut self, receipt: Receipt, replies: &mut Replies)
-        requires { replies.old.items ≡ [] }
-        ensures text { replies.new.items ≡ packet_text ul_ack_resp }
-        ensures session { self.new ≡ self.old }
+    pub fn ack(&self, receipt: Receipt, replies: &mut Replies)
+        ensures { replies.new.items ≡ packet_text ul_ack_resp }
     {
         receipt.spend();
         write_packet(&Packet::UlAckResp, replies);
@@ -169,7 +164,7 @@ impl Session {
 
     /// What is asked of the session in this phase, which was taken from it: one row of its table.
     fn take_asked<D: Disk>(
-        &mut self,
+        &self,
         disk: &mut D,
         phase: Phase,
         asked: Asked<'_>,
@@ -177,12 +172,10 @@ impl Session {
         store: &mut FileStore,
         replies: &mut Replies,
     ) -> Taken
-        requires empty { replies.old.items ≡ [] }
-        requires ready { IsReady D.Disk store.old disk.old self.old.caller phase }
-        ensures session { self.new ≡ self.old }
-        ensures answered { AnswersAsked asked.entry
-            (λ item. Answered D.Disk (packet_of self.old.caller moment item) (state_of store.old phase)
-            (with_disk store.old disk.old) (with_disk store.new disk.new) replies.new.items result) }
+        requires { MayTake D.Disk store.old disk.old self.now.caller phase }
+        ensures { AnswersAsked asked.entry
+            (λ item. Answered D.Disk (packet_of self.now.caller moment item) (state_of store.old phase)
+            (at store.old disk.old) (at store.new disk.new) replies.new.items result) }
     {
         match phase {
             Phase::Command => take_command(disk, self.caller, asked, moment, store, replies),
@@ -193,7 +186,7 @@ impl Session {
 
     /// Receiving: DATA and DATA_END.
     fn take_receiving<D: Disk>(
-        &mut self,
+        &self,
         disk: &mut D,
         up: OpenUpload,
         asked: Asked<'_>,
@@ -201,12 +194,10 @@ impl Session {
         store: &mut FileStore,
         replies: &mut Replies,
     ) -> Taken
-        requires empty { replies.old.items ≡ [] }
-        requires ready { IsReady D.Disk store.old disk.old self.old.caller (receiving_phase up) }
-        ensures session { self.new ≡ self.old }
-        ensures answered { AnswersAsked asked.entry
-            (λ item. Answered D.Disk (packet_of self.old.caller moment item) (receiving_of store.old up)
-            (with_disk store.old disk.old) (with_disk store.new disk.new) replies.new.items result) }
+        requires { MayTake D.Disk store.old disk.old self.now.caller (receiving_phase up) }
+        ensures { AnswersAsked asked.entry
+            (λ item. Answered D.Disk (packet_of self.now.caller moment item) (receiving_of store.old up)
+            (at store.old disk.old) (at store.new disk.new) replies.new.items result) }
     {
         match asked {
             Asked::Part(octets) => take_data(disk, self.caller, up, octets, store, replies),
@@ -217,18 +208,16 @@ impl Session {
 
     /// Receiving, DATA_END: the file is sealed and acknowledged, or refused.
     fn take_end<D: Disk>(
-        &mut self,
+        &self,
         disk: &mut D,
         up: OpenUpload,
         moment: u32,
         store: &mut FileStore,
         replies: &mut Replies,
     ) -> Taken
-        requires empty { replies.old.items ≡ [] }
-        requires ready { IsReady D.Disk store.old disk.old self.old.caller (receiving_phase up) }
-        ensures session { self.new ≡ self.old }
-        ensures answered { Answered D.Disk (packet_of self.old.caller moment (Ok data_end)) (receiving_of store.old up)
-            (with_disk store.old disk.old) (with_disk store.new disk.new) replies.new.items result }
+        requires { MayTake D.Disk store.old disk.old self.now.caller (receiving_phase up) }
+        ensures { Answered D.Disk (packet_of self.now.caller moment (Ok data_end)) (receiving_of store.old up)
+            (at store.old disk.old) (at store.new disk.new) replies.new.items result }
     {
         match store.seal(disk, up, moment) {
             Ok(receipt) => {
@@ -262,10 +251,9 @@ fn take_command<D: Disk>(
     store: &mut FileStore,
     replies: &mut Replies,
 ) -> Taken
-    requires empty { replies.old.items ≡ [] }
-    requires ready { IsReady D.Disk store.old disk.old caller command_phase }
+    requires { MayTake D.Disk store.old disk.old caller command_phase }
     ensures { AnswersAsked asked.entry (λ item. Answered D.Disk (packet_of caller moment item) in_command
-        (with_disk store.old disk.old) (with_disk store.new disk.new) replies.new.items result) }
+        (at store.old disk.old) (at store.new disk.new) replies.new.items result) }
 {
     match asked {
         Asked::Upload { number: 0, length } => begin(disk, caller, length, moment, store, replies),
@@ -283,10 +271,9 @@ fn begin<D: Disk>(
     store: &mut FileStore,
     replies: &mut Replies,
 ) -> Taken
-    requires empty { replies.old.items ≡ [] }
-    requires ready { IsReady D.Disk store.old disk.old caller command_phase }
+    requires { MayTake D.Disk store.old disk.old caller command_phase }
     ensures { Answered D.Disk (packet_of caller moment (Ok (upload_cmd 0 length))) in_command
-        (with_disk store.old disk.old) (with_disk store.new disk.new) replies.new.items result }
+        (at store.old disk.old) (at store.new disk.new) replies.new.items result }
 {
     // No entry has the number that comes next.
     state_law(store);
@@ -301,7 +288,6 @@ fn begin<D: Disk>(
 
 /// Answers a refusal to begin a file. The store hadn't failed before.
 fn refuse_begin(refusal: BeginRefusal, replies: &mut Replies) -> Result<(), Halt>
-    requires empty { replies.old.items ≡ [] }
     requires healthy { refusal ≢ BeginRefusal.Failed }
     ensures { AnswersRefusal refusal replies.new.items result }
 {
@@ -317,7 +303,10 @@ fn refuse_begin(refusal: BeginRefusal, replies: &mut Replies) -> Result<(), Halt
             write_packet(&Packet::UlErrorResp(FILE_SYSTEM), replies);
             Err(Halt::Disk)
         }
-        BeginRefusal::OutOfMemory => Err(Halt::OutOfMemory),
+        BeginRefusal::OutOfMemory => {
+            replies.clear();
+            Err(Halt::OutOfMemory)
+        }
         BeginRefusal::Failed => unreachable!(),
     }
 }
@@ -330,7 +319,6 @@ fn resume(
     store: &mut FileStore,
     replies: &mut Replies,
 ) -> Taken
-    requires empty { replies.old.items ≡ [] }
     requires healthy { store.old.journal.failed ≡ false }
     requires only { NoOtherOut store.old caller None }
     requires number { number ≢ 0 }
@@ -351,7 +339,6 @@ fn resume(
 
 /// Lets the octets of the file of this number come, from this place on.
 fn go_on(number: u32, offset: u32, replies: &mut Replies)
-    requires { replies.old.items ≡ [] }
     ensures { replies.new.items ≡ texts (ul_go_resp number offset ∷ []) }
 {
     write_packet(&Packet::UlGoResp { number, offset }, replies);
@@ -359,11 +346,19 @@ fn go_on(number: u32, offset: u32, replies: &mut Replies)
 
 /// Refuses a packet with this code. The phase stays.
 fn refuse(phase: Phase, code: u8, replies: &mut Replies) -> Taken
-    requires { replies.old.items ≡ [] }
     ensures text { replies.new.items ≡ texts (ul_error_resp code ∷ []) }
     ensures taken { result ≡ (phase, Ok tt) }
 {
     write_packet(&Packet::UlErrorResp(code), replies);
+    (phase, Ok(()))
+}
+
+/// Replies nothing to a packet, which leaves this phase.
+fn reply_nothing(phase: Phase, replies: &mut Replies) -> Taken
+    ensures text { replies.new.items ≡ [] }
+    ensures taken { result ≡ (phase, Ok tt) }
+{
+    replies.clear();
     (phase, Ok(()))
 }
 
@@ -376,14 +371,13 @@ fn take_data<D: Disk>(
     store: &mut FileStore,
     replies: &mut Replies,
 ) -> Taken
-    requires empty { replies.old.items ≡ [] }
-    requires ready { IsReady D.Disk store.old disk.old caller (receiving_phase up) }
+    requires { MayTake D.Disk store.old disk.old caller (receiving_phase up) }
     ensures { (moment : ℕ) → Answered D.Disk (packet_of caller moment (Ok (data_part octets.entry.now)))
-        (receiving_of store.old up) (with_disk store.old disk.old) (with_disk store.new disk.new) replies.new.items
+        (receiving_of store.old up) (at store.old disk.old) (at store.new disk.new) replies.new.items
         result }
 {
     match store.append(disk, up, octets) {
-        Ok(up) => (Phase::Receiving(up), Ok(())),
+        Ok(up) => reply_nothing(Phase::Receiving(up), replies),
         Err(AppendRefusal::TooMuch(up)) => {
             store.park(up);
             write_packet(&Packet::UlNakResp(ILL_FORMED), replies);
@@ -393,19 +387,21 @@ fn take_data<D: Disk>(
             write_packet(&Packet::UlNakResp(FILE_SYSTEM), replies);
             (Phase::Command, Err(Halt::Disk))
         }
-        Err(AppendRefusal::OutOfMemory(up)) => { (Phase::Receiving(up), Err(Halt::OutOfMemory)) }
+        Err(AppendRefusal::OutOfMemory(up)) => {
+            replies.clear();
+            (Phase::Receiving(up), Err(Halt::OutOfMemory))
+        }
         Err(AppendRefusal::Failed) => unreachable!(),
     }
 }
 
 /// Aborting: what is left of the refused file is passed over, up to its end.
 fn take_aborting(asked: Asked<'_>, replies: &mut Replies) -> Taken
-    requires { replies.old.items ≡ [] }
     ensures { AnswersAborting asked.entry replies.new.items result }
 {
     match asked {
-        Asked::Part(_) => (Phase::Aborting, Ok(())),
-        Asked::End => (Phase::Command, Ok(())),
+        Asked::Part(_) => reply_nothing(Phase::Aborting, replies),
+        Asked::End => reply_nothing(Phase::Command, replies),
         _ => refuse(Phase::Aborting, ILL_FORMED, replies),
     }
 }

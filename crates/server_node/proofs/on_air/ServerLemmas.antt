@@ -9,7 +9,7 @@ use Rattle.ax25_frames.specs.FrameText.{FrameValue, canonical}
 use Rattle.file_store.specs.Command.{Command}
 use Rattle.file_store.specs.State.{StoreState, store_in}
 use Rattle.file_store.specs.Working.{CutsOffAmongReads, DoesAmongReads}
-use Rattle.file_store.proofs.Offered.{among-healthy, cuts-among-none, cuts-among-same}
+use Rattle.file_store.proofs.Offered.{cuts-among-none, cuts-among-same}
 use Rattle.node.specs.Course.{AtDisk, GaveAll, GivesNext, IsLawful, at, stop_at_put}
 use Rattle.node.specs.Events.{NodeEvent, NodeEvents}
 use Rattle.disk_model.specs.declared.halt.Halt.{Halt}
@@ -59,6 +59,10 @@ answer_by None = Ok tt
 answer_by (Some halt.Disk) = Err halt.Disk
 answer_by (Some halt.OutOfMemory) = Err halt.OutOfMemory
 
+-- its store, at its disk
+abbrev store_at : {D : Type 0} → AtDisk ServerStation D → AtDisk StoreState D
+store_at a = at a.it.server.store a.disk
+
 -- whether nothing more is said
 abbrev silenced_by : Bool → Option Halt → Bool
 silenced_by before None = before
@@ -81,15 +85,15 @@ module _ {D : Type 0} (g : Ghosts D) (lasts : (disk : D) → g.lasts disk disk) 
 
     -- It stopped at the event.
     stopped : (why : NodeStop) (unsaid : Bool) (text : List ℕ) (done cut : List Command) (missed : ℕ) → StopsAt why unsaid server event (made text done missed) cut
-        → CutsOffAmongReads g (why ≡ stop.Disk) missed old.it.server.store new.it.server.store old.disk new.disk done cut → (why ≡ stop.OutOfMemory → unsaid ≡ false)
+        → CutsOffAmongReads g (why ≡ stop.Disk) missed (store_at old) (store_at new) done cut → (why ≡ stop.OutOfMemory → unsaid ≡ false)
         → HaltsOn g server old (event ∷ []) why unsaid text new
     stopped why unsaid text done cut missed at_event cuts kept =
         record { done = done; cut = cut; missed = missed; stops = stop-one server_steps are_steps why unsaid server event (made text done missed) cut at_event; cuts = cuts; kept = kept }
 
     -- Not by the disk.
     none-cut : (why : NodeStop) → ¬ (why ≡ stop.Disk) → (done : List Command) (missed : ℕ) → DoesAmongReads g ⊥ missed old.it.server.store made_so.store old.disk new.disk done
-        → CutsOffAmongReads g (why ≡ stop.Disk) missed old.it.server.store new.it.server.store old.disk new.disk done []
-    none-cut why fine done missed does = cuts-among-none g _ missed old.it.server.store new.it.server.store old.disk new.disk done fine (lasts new.disk) (moved missed done does)
+        → CutsOffAmongReads g (why ≡ stop.Disk) missed (store_at old) (store_at new) done []
+    none-cut why fine done missed does = cuts-among-none g _ missed (store_at old) (store_at new) done fine (lasts new.disk) (moved missed done does)
 
     module _ (by : Heard (Ok tt)) (frames : List FrameValue) (last : Server) (sent : Empties taken.after frames last) where
       takes-event : TakesEvent server event frames taken.done taken.missed (settled last)
@@ -116,8 +120,8 @@ module _ {D : Type 0} (g : Ghosts D) (lasts : (disk : D) → g.lasts disk disk) 
         let step : ServerStep server event (failed_write by.0 ++ failed_reads parts) (stepped failed.done failed.cut failed.missed fails frames (settled last)) =
         record { silent = serving.silent; done_is = refl; cut_is = refl; missed_is = refl; halt_is = sym by.1; last = last; sent = sent; new_is = refl } in
         stopped stop.Disk unsaid text failed.done failed.cut failed.missed (by.0, parts, frames, settled last, step, said)
-        (cuts-among-same g ⊤ (stop.Disk ≡ stop.Disk) failed.missed failed.missed old.it.server.store new.it.server.store old.disk new.disk failed.done failed.cut (λ _. refl) (λ _. tt) refl
-        (subst (λ (store : StoreState). CutsOffAmongReads g ⊤ failed.missed old.it.server.store store old.disk new.disk failed.done failed.cut) (sym same) by.3)) (λ is. cc is)
+        (cuts-among-same g ⊤ (stop.Disk ≡ stop.Disk) failed.missed failed.missed (store_at old) (store_at new) failed.done failed.cut (λ _. refl) (λ _. tt) refl
+        (subst (λ (store : StoreState). CutsOffAmongReads g ⊤ failed.missed (store_at old) (at store new.disk) failed.done failed.cut) (sym same) by.3)) (λ is. cc is)
 
     -- There was no memory for it.
     event-unmade : Heard (Err halt.OutOfMemory) → HaltsOn g server old (event ∷ []) stop.OutOfMemory false [] new
@@ -285,9 +289,11 @@ module _ {D : Type 0} (g : Ghosts D) (lasts : (disk : D) → g.lasts disk disk) 
           let same = (no-next start events said h.0.server is None (h.1 h.0.server h.0.serving)).1 in (
             runs-on,
             record {
-              healthy = among-healthy g runs.runs.missed start.it.server.store server_n.store start.disk old.disk runs.runs.done runs.runs.does;
-              stands_on = runs.runs.does.stands_on;
-              silent = ap server_pending same ∙ sym pending ∙ is;
+              awaits =
+                  record {
+                    silent = ap server_pending same ∙ sym pending ∙ is;
+                    ready = record { healthy = (runs.runs.does.done (λ never. never)).1; stands_on = runs.runs.does.stands_on };
+                  };
               memory = fine;
               server = runs.next;
               serving = runs.serving;
@@ -339,7 +345,7 @@ pub started : {D : Type 0} (g : Ghosts D) (terms : ServerTerms) (blocks : ℕ) (
 started g terms blocks old mid station server same memory recovered is silent =
     let serving = subst (λ (s : ServerState). IsServing s (server_from terms (store_in s.store))) (sym same) (record { is = is; silent = refl }) in
     let there = subst (λ (s : ServerState). IsRecovered g blocks old mid s.store) (sym same) recovered in
-    (record { healthy = there.healthy; stands_on = there.stands_on; silent = ap server_pending same ∙ silent; memory = memory; server = server_from terms (store_in station.server.store); serving = serving }, serving)
+    (record { awaits = record { silent = ap server_pending same ∙ silent; ready = there.ready }; memory = memory; server = server_from terms (store_in station.server.store); serving = serving }, serving)
 
 module _ {A C D : Type 0} (seen : Seen D A C) (terms : ServerTerms) (old new : Driven ServerStation D A C) (ended : Result Finished NodeStop)
     (took : TookTurns (NodeEvents terms.me) (server_course seen.disk) seen.air seen.given old new (turn_terms terms) ended) where
@@ -382,7 +388,7 @@ module _ {A C D : Type 0} (seen : Seen D A C) (terms : ServerTerms) (old new : D
 
     did : (result : Result Served NodeStop) (done cut : List Command) (missed : ℕ) → TurnsBy result terms.polls took.all.turns → HasAirCause seen.air.read_faults seen.air.write_faults old.air new.air result → (l : Least)
         → EndsOver result l.least server_steps server took.all.events took.unsaid (made took.text done missed) cut
-        → CutsOffAmongReads g (IsErrOf result stop.Disk) missed old.party.server.store new.party.server.store old.disk new.disk done cut → DidSo result
+        → CutsOffAmongReads g (IsErrOf result stop.Disk) missed (store_at (party_at old)) (store_at (party_at new)) done cut → DidSo result
     did result done cut missed ends counts l over cuts = record {
       run = record { turns = took.all.turns; moments = took.all.moments; all = made took.text done missed; cut = cut; unsaid = took.unsaid };
       turns_heard = took.turns_heard;
@@ -416,7 +422,7 @@ module _ {A C D : Type 0} (seen : Seen D A C) (terms : ServerTerms) (old new : D
         let runs = comes.runs in
         let l = least_by (but_last took.all.turns).0 (but_last took.all.turns).1 in
         did result runs.done [] runs.missed ends counts l (over l.least (made took.text runs.done runs.missed) (comes.next, runs.goes, refl))
-        (cuts-among-none g _ runs.missed old.party.server.store new.party.server.store old.disk new.disk runs.done fine (lasts new.disk) runs.does)
+        (cuts-among-none g _ runs.missed (store_at (party_at old)) (store_at (party_at new)) runs.done fine (lasts new.disk) runs.does)
 
     -- it stopped at an event of the last turn, and went on to somewhere first
     abbrev Began : (why : NodeStop) → StoppedInLast (NodeEvents terms.me) (server_course g) (party_at old) took.all why took.text took.unsaid (party_at new) → Type 0
@@ -440,7 +446,7 @@ module _ {A C D : Type 0} (seen : Seen D A C) (terms : ServerTerms) (old new : D
         (record { earlier = h.earlier; but_last = h.but_last; before = h.before; behind = h.behind; split = h.split; least = h.least; brought = h.brought })
         (subst (λ (t : List ℕ). EndsOver (Err why) h.least server_steps server took.all.events took.unsaid (made t all.done all.missed) halts.cut) (sym h.text_is)
         (over h.least all halts.cut (subst (λ (es : List NodeEvent). StopsBehind h.least server_steps server es why took.unsaid all halts.cut) (sym h.events_are) behind)))
-        (disk-stop g why all.missed old.party.server.store new.party.server.store old.disk new.disk all.done halts.cut
+        (disk-stop g why all.missed (store_at (party_at old)) (store_at (party_at new)) all.done halts.cut
         (cuts-all server_steps are_steps why took.unsaid g on (serving_at server (party_at old)) then_is end h.least h.more h.first h.last comes.runs halts))
 
     pub server-did : DidSo (served_by ended)

@@ -4,7 +4,7 @@ use Rattle.std.proofs.Common.{◌≡◌, inl, inr, ℕ, Bool, false, None, List,
 use Rattle.std.specs.List.{AllByRecursion}
 use Rattle.px_base.specs.CallSign.{CallSign}
 use Rattle.disk_model.specs.declared.disk.Disk.{Ghosts}
-use Rattle.file_store.specs.State.{store_in, StoreState}
+use Rattle.file_store.specs.State.{IsReady, StoreState, store_in}
 use Rattle.ftl0_session.specs.Uploads.Events.{Event, at_moment, packet_of}
 use Rattle.ftl0_session.specs.Answering.{IsAnswering, met_with}
 use Rattle.ftl0_session.specs.Run.{Event as MetEvent, RunsOver, heard_of, session_over}
@@ -13,11 +13,11 @@ use Rattle.node.specs.Course.{AtDisk, IsLawful, GaveAll, GivesNext, OwesSome, at
 use Rattle.node.specs.Inputs.{Input, IsInput, octets_at, octets_in}
 use Rattle.node.specs.declared.stop.NodeStop.{NodeStop}
 use Rattle.node.proofs.InputLemmas.{are-octets, octets_in-at}
-use Rattle.server_node.specs.Sessions.Course.{GoesOver, HaltsOver, IsReady, session_course, IsUnderWay, IsAnswered, IsHalting, IsRowOf, IsStopped, IsUnsaidFirst, LastOf, Owes, OwesAll, most_left, session_at, session_in}
+use Rattle.server_node.specs.Sessions.Course.{GoesOver, HaltsOver, AwaitsInput, session_course, IsUnderWay, IsAnswered, IsHalting, IsRowOf, IsStopped, IsUnsaidFirst, LastOf, Owes, OwesAll, most_left, session_at, session_in}
 use Rattle.server_node.specs.Sessions.Packets.{events_behind, events_to, waiting_behind}
 use Rattle.server_node.specs.Sessions.Running.{StopsAt, session_steps}
 use Rattle.server_node.specs.Steps.{RunsOn, StopsOn, made}
-use Rattle.server_node.specs.Sessions.ServerState.{IsUp, ServerState}
+use Rattle.server_node.specs.Sessions.ServerState.{ServerState}
 use Rattle.server_node.proofs.sessions.PacketLemmas.{both-octets, events-append, events-then, hears-none, hears-then, events-of}
 use Rattle.std.proofs.lemmas.List.{map-append, nil_from_length}
 use Rattle.server_node.proofs.Ending.{append-none}
@@ -32,7 +32,7 @@ use Rattle.ftl0_packets.specs.Layout.{PacketValue, packet_text, Item, PacketText
 use Rattle.file_store.specs.Command.{Command}
 use Rattle.file_store.specs.Working.{CutsOffAmongReads, DoesAmongReads, one_if}
 use Rattle.file_store.proofs.Offered.{among-at, among-same, among-store, among-then, cuts-among-none, cuts-among-same}
-use Rattle.ftl0_session.specs.Uploads.SessionState.{IsHeld, IsOnlyOut, with_disk}
+use Rattle.ftl0_session.specs.Uploads.SessionState.{IsHeld, IsOnlyOut}
 use Rattle.ftl0_session.specs.Downloads.Needs.{AreComplete, IsDueIn}
 use Rattle.ftl0_session.specs.Filling.{PutsDue}
 use Rattle.ftl0_session.specs.SessionState.{SessionState, state_in}
@@ -77,16 +77,16 @@ not-nil xs some none = let e : true ≡ false = sym (ap (λ ys. length ys == 0) 
 
 module _ {D : Type 0} (g : Ghosts D) (lasts : (disk : D) → g.lasts disk disk) (on : (first second third : D) → g.lasts first second → g.lasts second third → g.lasts first third) where
   -- before the first input, whatever it has to say
-  pub owes-first : (a : AtDisk ServerState D) → IsUp g a.it.store a.disk → a.it.halted ≡ false → ((fails : Bool) → next_due (store_in a.it.store) a.it.state fails ≡ None) → Owes g a [] None [] a
+  pub owes-first : (a : AtDisk ServerState D) → IsReady g a.it.store a.disk → a.it.halted ≡ false → ((fails : Bool) → next_due (store_in a.it.store) a.it.state fails ≡ None) → Owes g a [] None [] a
   owes-first a up going none_due = grind (arith, common_steps, IsOctets-nil, does-none)
 
-  goes-none : (a : AtDisk ServerState D) → IsReady g a → GoesOver g a [] [] a
+  goes-none : (a : AtDisk ServerState D) → AwaitsInput g a → GoesOver g a [] [] a
   goes-none a ready = record {
     hears = hears-none a.it;
     silent = ready.silent;
     replies = [];
     text_is = sym (append-nil a.it.replies ∙ ready.silent);
-    runs = runs-none (session_steps a.it.caller) (are_steps a.it.caller) g (session_in a.it) a.it.store a.disk ready.up.healthy ready.up.stands_on (lasts a.disk);
+    runs = runs-none (session_steps a.it.caller) (are_steps a.it.caller) g (session_in a.it) a.it.store a.disk ready.up (lasts a.disk);
   }
 
   module _ (a b c : AtDisk ServerState D) (xs ys : List Input) (text more : List ℕ) (h : GoesOver g a xs text b) where
@@ -170,7 +170,7 @@ server-filled a store session h k due is = record {
 module _ {D : Type 0} (g : Ghosts D) (old : AtDisk ServerState D) (new : AtDisk StoreState D) (events : List Event) (event : Event) (only : events ≡ event ∷ []) (parts : List ℕ) (row : Row)
     (is_row : IsRowOf old.it (met_with event parts) row) (why : NodeStop) (unsaid : Bool) (text : List ℕ) where
   stop-at : (done cut : List Command) (missed : ℕ) → StopsAt why unsaid (session_in old.it) (met_with event parts) row (made text done missed) cut
-      → CutsOffAmongReads g (why ≡ stop.Disk) missed old.it.store new.it old.disk new.disk done cut → (why ≡ stop.OutOfMemory → unsaid ≡ false)
+      → CutsOffAmongReads g (why ≡ stop.Disk) missed (at old.it.store old.disk) new done cut → (why ≡ stop.OutOfMemory → unsaid ≡ false)
       → StopsOn g (session_steps old.it.caller) (session_at old) new events why unsaid text
   stop-at done cut missed stops cuts kept = record {
     done = done;
@@ -197,7 +197,7 @@ module _ {D : Type 0} (g : Ghosts D) (lasts : (disk : D) → g.lasts disk disk) 
       stops =
           let missed : ℕ = failed_reads_told h.row.replies in
           stop-at g start (at now.it.store now.disk) (events_to start.it inputs) h.event h.only h.parts h.row h.is_row (stop_of why) unsaid said [] h.cut missed stops
-          (cuts-among-same g (why ≡ halt.Disk) (stop_of why ≡ stop.Disk) missed missed start.it.store now.it.store start.disk now.disk [] h.cut (ap stop_of) (by-disk why) refl h.cuts) kept;
+          (cuts-among-same g (why ≡ halt.Disk) (stop_of why ≡ stop.Disk) missed missed (at start.it.store start.disk) (at now.it.store now.disk) [] h.cut (ap stop_of) (by-disk why) refl h.cuts) kept;
     }),
   )
     where
@@ -250,7 +250,7 @@ module _ {D : Type 0} (g : Ghosts D) (lasts : (disk : D) → g.lasts disk disk) 
                     refl,
                     refl,
                   )
-                  (cuts-among-none g (stop.AirWrite ≡ stop.Disk) (failed_reads_told answer) start.it.store now.it.store start.disk now.disk row.commands (λ e. cc e) (lasts now.disk)
+                  (cuts-among-none g (stop.AirWrite ≡ stop.Disk) (failed_reads_told answer) (at start.it.store start.disk) (at now.it.store now.disk) row.commands (λ e. cc e) (lasts now.disk)
                   (does (failed_reads_told answer) row.commands (ap failed_reads_told an.1.said_is) an.1.commands_are)) (λ memory. absurd (cc memory));
             })
         by (event ∷ next ∷ events) is never = absurd never
@@ -258,7 +258,7 @@ module _ {D : Type 0} (g : Ghosts D) (lasts : (disk : D) → g.lasts disk disk) 
   -- ---- it goes on, and all was given
 
   settled : (text : List ℕ) → now.it.replies ≡ [] → ((fails : Bool) → next_due (store_in now.it.store) now.it.state fails ≡ None) → IsUnderWay g start inputs text now
-      → GoesOver g start inputs text now × IsReady g now
+      → GoesOver g start inputs text now × AwaitsInput g now
   settled text silent none_due h = (
     record { hears = h.hears; silent = silent; replies = texts h.said; text_is = h.text_is; runs = by (events_to start.it inputs) h.answered },
     record { up = record { healthy = (h.does.done (λ never. never)).1; stands_on = h.does.stands_on }; goes_on = h.goes_on; silent = silent; none_due = none_due },
@@ -310,7 +310,7 @@ module _ {D : Type 0} (g : Ghosts D) (lasts : (disk : D) → g.lasts disk disk) 
       by start inputs (Some why) text h = halts-whole g lasts start inputs (replying []) why text (ended start inputs (Some why) text h)
 
   -- while it goes on its store is up
-  pub owes-up : a.halted ≡ false → OwesSome (session_course g) now → IsUp g a.store disk
+  pub owes-up : a.halted ≡ false → OwesSome (session_course g) now → IsReady g a.store disk
   owes-up going (start, inputs, None, text, h) = record { healthy = (h.does.done (λ never. never)).1; stands_on = h.does.stands_on }
   owes-up going (start, inputs, Some why, text, h) = absurd (not-both a.halted h.halted going)
 
@@ -329,7 +329,7 @@ module _ {D : Type 0} (g : Ghosts D) (lasts : (disk : D) → g.lasts disk disk) 
 
     module _ (start : AtDisk ServerState D) (inputs : List Input) (text : List ℕ) (h : IsUnderWay g start inputs text (replying [])) where
       packet : Sent g a.store disk disk_n a.state state_n out_n puts.fails
-      packet = due-among g a.store disk disk_n a.state state_n out out_n puts (h.does.done (λ never. never)).1 h.does.stands_on
+      packet = due-among g a.store disk disk_n a.state state_n out out_n puts (record { healthy = (h.does.done (λ never. never)).1; stands_on = h.does.stands_on })
 
       abbrev said_n : List PacketValue
       said_n = h.said ++ packet.next.packet ∷ []
@@ -366,9 +366,9 @@ module _ {D : Type 0} (g : Ghosts D) (lasts : (disk : D) → g.lasts disk disk) 
       }
 
     -- and less is left
-    pub less-left : (session : SessionState) → a.state ≡ state_in a.store session → IsDueIn (store_in a.store) session.downloads → IsUp g a.store disk → most_left (record a { state = state_n }) < most_left a
+    pub less-left : (session : SessionState) → a.state ≡ state_in a.store session → IsDueIn (store_in a.store) session.downloads → IsReady g a.store disk → most_left (record a { state = state_n }) < most_left a
     less-left session is due up =
-        let p = due-among g a.store disk disk_n a.state state_n out out_n puts up.healthy up.stands_on in
+        let p = due-among g a.store disk disk_n a.state state_n out out_n puts up in
         let less = smaller a.store session puts.fails p.next due (ap (λ s. next_due (store_in a.store) s puts.fails) (sym is) ∙ p.is_next) in
         let left = rw (sym is, sym p.state_is) at less in omega (arith, left)
 
@@ -391,7 +391,7 @@ module _ {D : Type 0} (g : Ghosts D) (lasts : (disk : D) → g.lasts disk disk) 
 -- ---- what it owes by what it hears
 
 module _ {D : Type 0} (g : Ghosts D) (lasts : (disk : D) → g.lasts disk disk) (on : (first second third : D) → g.lasts first second → g.lasts second third → g.lasts first third)
-    (moment : ℕ) (inside : Inside) (self : ServerState) (is : server_state inside ≡ self) (disk : D) (fit : IsReady g (at self disk)) (holds : IsServer inside)
+    (moment : ℕ) (inside : Inside) (self : ServerState) (is : server_state inside ≡ self) (disk : D) (fit : AwaitsInput g (at self disk)) (holds : IsServer inside)
     (piece : List ℕ) (are : IsOctets piece) (taken : ℕ) (reader : List ℕ) (fed : reader ≡ under_way inside.reader ++ take taken piece) where
   abbrev inputs : List Input
   inputs = octets_at moment (take taken piece)
@@ -399,8 +399,8 @@ module _ {D : Type 0} (g : Ghosts D) (lasts : (disk : D) → g.lasts disk disk) 
   abbrev a : ServerState
   a = server_state inside
 
-  ready : IsReady g (at a disk)
-  ready = subst (λ (s : ServerState). IsReady g (at s disk)) (sym is) fit
+  ready : AwaitsInput g (at a disk)
+  ready = subst (λ (s : ServerState). AwaitsInput g (at s disk)) (sym is) fit
 
   of_self : (why : Option Halt) (now : AtDisk ServerState D) → Owes g (at a disk) inputs why [] now → Owes g (at self disk) inputs why [] now
   of_self why now h = subst (λ (s : ServerState). Owes g (at s disk) inputs why [] now) is h
@@ -423,7 +423,7 @@ module _ {D : Type 0} (g : Ghosts D) (lasts : (disk : D) → g.lasts disk disk) 
         text_is = sym (append-nil a.replies);
         commands = [];
         answered = subst (λ (es : List Event). IsAnswered a a.store a.lists a.state es [] []) (sym h.0) (refl, refl, refl, refl, refl, ready.none_due);
-        does = does-none g a.store disk ready.up.healthy ready.up.stands_on (lasts disk);
+        does = does-none g a.store disk ready.up (lasts disk);
       })
 
   -- this packet is whole
@@ -441,7 +441,7 @@ module _ {D : Type 0} (g : Ghosts D) (lasts : (disk : D) → g.lasts disk disk) 
 
     module _ (now : Working) (disk_n : D) (replies : List ℕ) where
       abbrev Takes : Result ⊤ Halt → Type 0
-      Takes result = TakesPacket g (packet_of a.caller moment item) (with_disk before disk) (with_disk now disk_n) replies result
+      Takes result = TakesPacket g (packet_of a.caller moment item) (at before disk) (at now disk_n) replies result
 
       -- the server behind it
       abbrev server_n : CallSign → Bool → ServerState
@@ -461,12 +461,12 @@ module _ {D : Type 0} (g : Ghosts D) (lasts : (disk : D) → g.lasts disk disk) 
         answered =
             subst (λ (es : List Event). IsAnswered a now.store now.lists now.state es (row takes.fails).replies (row takes.fails).commands) (sym only.0)
             (ready.silent, answer-first a.caller (session_in a) event takes.fails now.lists now.state takes.answers.1 takes.answers.2);
-        does = taken-among g on a.caller moment item before now disk disk_n replies ready.up.healthy ready.up.stands_on tt takes;
+        does = taken-among g on a.caller moment item before now disk disk_n replies ready.up tt takes;
       })
 
       -- the session stopped at it
       halting : (caller : CallSign) (why : Halt) (fails : Bool) (cut : List Command) → LastOf why a.state (met_with event (with_part fails 0 [])) (row fails) replies cut
-          → CutsOffAmongReads g (why ≡ halt.Disk) (failed_reads_told (row fails).replies) a.store now.store disk disk_n [] cut → Owes g (at self disk) inputs (Some why) [] (at (server_n caller true) disk_n)
+          → CutsOffAmongReads g (why ≡ halt.Disk) (failed_reads_told (row fails).replies) (at a.store disk) (at now.store disk_n) [] cut → Owes g (at self disk) inputs (Some why) [] (at (server_n caller true) disk_n)
       halting caller why fails cut last cuts = of_self (Some why) _ (record {
         are_octets = inputs-octets;
         halted = refl;
@@ -484,11 +484,11 @@ module _ {D : Type 0} (g : Ghosts D) (lasts : (disk : D) → g.lasts disk disk) 
       pub owes-last : (caller : CallSign) (stop : Halt) → Takes (Err stop) → Owes g (at self disk) inputs (Some stop) [] (at (server_n caller true) disk_n)
       owes-last caller halt.Disk takes =
           halting caller halt.Disk takes.fails (row takes.fails).commands (takes.answers.2, refl)
-          (cuts-among-same g ⊤ (halt.Disk ≡ halt.Disk) (failed_reads_told (row takes.fails).replies) (failed_reads_told (row takes.fails).replies) a.store now.store disk disk_n [] (row takes.fails).commands
-          (λ _. refl) (λ _. tt) refl (taken-cut g on a.caller moment item before now disk disk_n replies ready.up.healthy ready.up.stands_on takes))
+          (cuts-among-same g ⊤ (halt.Disk ≡ halt.Disk) (failed_reads_told (row takes.fails).replies) (failed_reads_told (row takes.fails).replies) (at a.store disk) (at now.store disk_n) [] (row takes.fails).commands
+          (λ _. refl) (λ _. tt) refl (taken-cut g on a.caller moment item before now disk disk_n replies ready.up takes))
       owes-last caller halt.OutOfMemory takes =
-          let none = taken-none g on a.caller moment item before now disk disk_n replies ready.up.healthy ready.up.stands_on takes in
+          let none = taken-none g on a.caller moment item before now disk disk_n replies ready.up takes in
           let missed : ℕ = failed_reads_told (row takes.fails).replies in
           halting caller halt.OutOfMemory takes.fails [] (takes.answers.0, takes.answers.2, refl)
-          (cuts-among-none g (halt.OutOfMemory ≡ halt.Disk) missed a.store now.store disk disk_n [] (λ e. cc e) (lasts disk_n)
+          (cuts-among-none g (halt.OutOfMemory ≡ halt.Disk) missed (at a.store disk) (at now.store disk_n) [] (λ e. cc e) (lasts disk_n)
           (subst (λ (s : StoreState). DoesAmongReads g ⊥ missed a.store s disk disk_n []) (sym none.0) none.1))

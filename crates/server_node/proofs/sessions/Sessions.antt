@@ -141,7 +141,7 @@ module _ {A C D : Type 0} (seen : Seen D A C) (terms : SessionTerms) (first : �
 
       did : (result : Result Served NodeStop) (done cut : List Command) (missed : ℕ) → TurnsBy result terms.polls took.all.turns → HasAirCause seen.air.read_faults seen.air.write_faults air new.air result
           → IsOctets (octets_in took.all.events) → IsUngreeted first (run done cut missed) result ⊎ IsGreeted terms (store_in start) (run done cut missed) events result
-          → CutsOffAmongReads g (IsErrOf result stop.Disk) missed start new.party.store mid new.disk done cut → DidSo result
+          → CutsOffAmongReads g (IsErrOf result stop.Disk) missed (at start mid) (at new.party.store new.disk) done cut → DidSo result
       did result done cut missed ends counts are said cuts = record {
         run = run done cut missed;
         turns_heard = took.turns_heard;
@@ -181,7 +181,7 @@ module _ {A C D : Type 0} (seen : Seen D A C) (terms : SessionTerms) (first : �
             brought = init.2;
             ends_over = over init.0 (made goes.replies runs.done runs.missed) (_, runs.goes, refl);
           }))
-          (cuts-among-none g (IsErrOf result stop.Disk) runs.missed start new.party.store mid new.disk runs.done fine (lasts new.disk) runs.does)
+          (cuts-among-none g (IsErrOf result stop.Disk) runs.missed (at start mid) (at new.party.store new.disk) runs.done fine (lasts new.disk) runs.does)
 
       stopped : Stopped AreHandedOver (session_course g) (λ p. refl) seen.air air new.air (at server mid) (party_at new) took.all took.text took.unsaid terms.polls steps from events DidSo
       stopped why ends counts over h = elim h.ends [
@@ -207,7 +207,7 @@ module _ {A C D : Type 0} (seen : Seen D A C) (terms : SessionTerms) (first : �
                       none_cut = refl;
                       none_missed = refl;
                     }))
-                    (cuts-among-none g (IsErrOf {T = Served} (Err why) stop.Disk) 0 start new.party.store mid new.disk [] (λ failed. absurd (let e = sym is_air ∙ failed in cc e)) (lasts new.disk) unsaid.does)
+                    (cuts-among-none g (IsErrOf {T = Served} (Err why) stop.Disk) 0 (at start mid) (at new.party.store new.disk) [] (λ failed. absurd (let e = sym is_air ∙ failed in cc e)) (lasts new.disk) unsaid.does)
                     )
                 | inr stopped ↦ absurd (let e = (append-none stopped.stops.stops.before _ (sym stopped.stops.stops.events_are ∙ ap (events_to server) no_more)).1 in cc e)
               ]
@@ -238,7 +238,7 @@ module _ {A C D : Type 0} (seen : Seen D A C) (terms : SessionTerms) (first : �
                   brought = brings-at h.earlier h.before h.behind h.least h.split h.one_each h.brought goes.hears.are_octets;
                   ends_over = over least all stops.cut (subst (λ (es : List Event). StopsBehind least steps from es why took.unsaid all stops.cut) (sym (ap (events_to server) h.events_are ∙ events-then server then_is.it h.least goes.hears h.more)) behind);
                 }))
-                (disk-stop g why all.missed start new.party.store mid new.disk all.done stops.cut
+                (disk-stop g why all.missed (at start mid) (at new.party.store new.disk) all.done stops.cut
                 (cuts-all steps (are_steps terms.caller) why took.unsaid g on (session_at (at server mid)) (session_at then_is) there least (events_to then_is.it h.more) goes.replies stopped.replies runs stops))
                 )
           ]

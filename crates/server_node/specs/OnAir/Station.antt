@@ -4,15 +4,15 @@ use Rattle.std.specs.Prelude.{◌≡◌, ◌≢◌, ℕ, List, [], ◌++◌, Boo
 use Rattle.px_base.specs.Octets.{IsFront}
 use Rattle.disk_model.specs.declared.disk.Disk.{Ghosts}
 use Rattle.ax25_frames.specs.FrameText.{FrameValue}
-use Rattle.file_store.specs.State.{StandsOn}
 use Rattle.node.specs.Course.{AtDisk, Course, at, stop_at_put, stop_of}
 use Rattle.node.specs.Events.{NodeEvent}
 use Rattle.disk_model.specs.declared.halt.Halt.{Halt}
 use Rattle.disk_model.specs.declared.halt.Halt.TheVariants as halt
 use Rattle.node.specs.declared.stop.NodeStop.{NodeStop}
 use Rattle.node.specs.declared.stop.NodeStop.TheVariants as stop
+use Rattle.ftl0_server.specs.Calls.{AwaitsEvent}
 use Rattle.ftl0_server.specs.Server.{IsSilent, Server, settled}
-use Rattle.ftl0_server.specs.ServerState.{IsServer, SendsFor, ServerState, server_most, server_pending}
+use Rattle.ftl0_server.specs.ServerState.{IsServer, SendsFor, ServerState, server_most}
 use Rattle.ftl0_server.specs.ServerStep.{Empties}
 use Rattle.server_node.specs.Steps.{RunsOn, StopsOn, WithStore, with_store}
 use Rattle.server_node.specs.OnAir.Serving.{server_steps, text_of}
@@ -23,11 +23,9 @@ pub record IsServing (self : ServerState) (server : Server) : Type 0 where
   pub is : IsServer self server
   pub silent : IsSilent server
 
--- The server stands on its disk, it stands for one of the definitions, and nothing is to be sent.
+-- The server may take an event, and it stands for one of the definitions.
 pub record IsUp {D : Type 0} (g : Ghosts D) (a : AtDisk ServerStation D) : Type 0 where
-  pub healthy : a.it.server.store.journal.failed ≡ false
-  pub stands_on : StandsOn g a.it.server.store a.disk
-  pub silent : server_pending a.it.server ≡ false
+  pub awaits : AwaitsEvent g a.it.server a.disk
   pub memory : a.it.is_out_of_memory ≡ false
   pub server : Server
   pub serving : IsServing a.it.server server

@@ -7,7 +7,7 @@ use Rattle.ftl0_packets.specs.Items.{texts}
 use Rattle.ftl0_packets.specs.Layout.{PacketValue}
 use Rattle.ftl0_session.specs.Lists.Lists.{CallerList}
 use Rattle.file_store.specs.Command.{Command}
-use Rattle.file_store.specs.State.{StoreState, store_in}
+use Rattle.file_store.specs.State.{IsReady, StoreState, store_in}
 use Rattle.file_store.specs.Working.{CutsOffAmongReads, DoesAmongReads}
 use Rattle.ftl0_session.specs.Uploads.Events.{Event}
 use Rattle.ftl0_session.specs.Run.{Event as MetEvent, Session, event_row}
@@ -23,15 +23,15 @@ use Rattle.node.specs.declared.stop.NodeStop.TheVariants as stop
 use Rattle.server_node.specs.Sessions.Packets.{Hears, events_to}
 use Rattle.server_node.specs.Sessions.Running.{session_steps}
 use Rattle.server_node.specs.Steps.{RunsOn, StopsOn, WithStore, with_store}
-use Rattle.server_node.specs.Sessions.ServerState.{IsUp, ServerState}
+use Rattle.server_node.specs.Sessions.ServerState.{ServerState}
 
 -- the server, with how much it has still to say: of the replies, and of what is due behind them
 abbrev pub most_left : ServerState → ℕ
 most_left server = length server.replies + octets_left (store_in server.store) (download_part server.state)
 
--- Its store is up, it goes on, and it has nothing to say.
-pub record IsReady {D : Type 0} (g : Ghosts D) (now : AtDisk ServerState D) : Type 0 where
-  pub up : IsUp g now.it.store now.disk
+-- Its store is ready, it goes on, and it has nothing to say.
+pub record AwaitsInput {D : Type 0} (g : Ghosts D) (now : AtDisk ServerState D) : Type 0 where
+  pub up : IsReady g now.it.store now.disk
   pub goes_on : now.it.halted ≡ false
   pub silent : now.it.replies ≡ []
   pub none_due : (fails : Bool) → next_due (store_in now.it.store) now.it.state fails ≡ None
@@ -103,8 +103,8 @@ pub record IsHalting {D : Type 0} (g : Ghosts D) (old : AtDisk ServerState D) (i
   pub cut : List Command
   pub last : LastOf why old.it.state (met_with event parts) row text cut
   pub cuts :
-      CutsOffAmongReads g (why ≡ halt.Disk) (failed_reads_told row.replies) old.it.store new.it.store old.disk new.disk
-      [] cut
+      CutsOffAmongReads g (why ≡ halt.Disk) (failed_reads_told row.replies) (at old.it.store old.disk)
+      (at new.it.store new.disk) [] cut
 
 -- the server at its disk, with nothing to say but what is due
 abbrev pub silenced : {D : Type 0} → AtDisk ServerState D → AtDisk ServerState D
@@ -150,7 +150,7 @@ HaltsOver g old inputs why unsaid text new =
 abbrev pub session_course : {D : Type 0} → Ghosts D → Course ServerState D Input
 session_course g =
     record {
-      is_fit = λ now. IsReady g now;
+      is_fit = λ now. AwaitsInput g now;
       goes = λ old inputs text new. GoesOver g old inputs text new;
       owes = λ old inputs why text new. Owes g old inputs why text new;
       halts = λ old inputs why unsaid text new. HaltsOver g old inputs why unsaid text new;

@@ -1,9 +1,8 @@
 -- What a session's server is between two packets.
-use Rattle.std.specs.Prelude.{◌≡◌, ℕ, List, [], Bool, false}
+use Rattle.std.specs.Prelude.{ℕ, List, [], Bool, false}
 use Rattle.px_base.specs.CallSign.{CallSign}
-use Rattle.disk_model.specs.declared.disk.Disk.{Ghosts}
 use Rattle.ftl0_session.specs.Lists.Lists.{CallerList}
-use Rattle.file_store.specs.State.{StandsOn, StoreState}
+use Rattle.file_store.specs.State.{StoreState}
 use Rattle.ftl0_session.specs.Table.{State, command}
 
 -- whose session it is, the store, the lists of all callers, the session's state, the octets that were heard and of
@@ -29,8 +28,3 @@ new_server caller store text =
       replies = text;
       halted = false;
     }
-
--- The store hasn't failed, and stands on the disk.
-pub record IsUp {D : Type 0} (g : Ghosts D) (store : StoreState) (disk : D) : Type 0 where
-  pub healthy : store.journal.failed ≡ false
-  pub stands_on : StandsOn g store disk

@@ -2,14 +2,14 @@ use Rattle.std.proofs.Common.{◌≡◌, ℕ, ◌/◌, ◌++◌, true, false, Li
 use Rattle.std.specs.Option.{option_map}
 use Rattle.file_journal.specs.Position.{Position}
 use Rattle.file_entries.specs.Command.{Command, grows, unfilled_block, whole_grows}
-use Rattle.file_entries.specs.Files.{KeepsRests, octets_or_none}
+use Rattle.file_entries.specs.Files.{octets_or_none}
 use Rattle.file_entries.specs.Records.{store_magic}
 use Rattle.file_store.specs.OnDisk.{Does}
 use Rattle.file_store.specs.State.{StoreState, rest_in, store_in}
 use Rattle.file_store.specs.Upload.{Holds, Upload, appended, appending, with_bytes}
 use Rattle.file_store.proofs.DoesLemmas.{Does-moved}
 use Rattle.file_store.proofs.TokenLemmas.{holds-each}
-use Rattle.file_store.proofs.UploadLemmas.{appended-holds, appending-of, brought-fits, brought-waits, does-complete, does-uploads}
+use Rattle.file_store.proofs.UploadLemmas.{appended-holds, appending-of, brought-fits, brought-waits, does-keeps}
 use Rattle.file_store.proofs.file_store.FileStore.append.Goals as goal
 
 pub hold_blocks-requires-clause-fits : goal.hold_blocks-requires-clause-fits
@@ -33,26 +33,15 @@ returns-in-Ok-clause-holds g c =
     subst (λ (u : Upload). Holds new u) (sym next)
     (appended-holds self new up bytes c.requires.holds (omega (arith, c.missing.ensures.missing, c.if-bytes-missing.false)) (does.done (λ e. cc e)).0 rest)
 
-pub returns-in-Ok-clause-uploads : goal.returns-in-Ok-clause-uploads
-returns-in-Ok-clause-uploads g c =
+pub returns-in-Ok-clause-keeps : goal.returns-in-Ok-clause-keeps
+returns-in-Ok-clause-keeps g c =
     let D = g.D.Disk in
     let self = c.args.self.now in
     let new = c.hold_blocks.new.self in
     let up = c.args.up in
     let bytes = c.args.bytes.now in
     let does : Does D (false ≡ true) self new c.args.disk.now c.hold_blocks.new.disk (appending self up bytes) = search rules in
-    let rests : KeepsRests self.files new.files up.number = search rules in
-    does-uploads D false self new c.args.disk.now c.hold_blocks.new.disk (appending self up bytes) up.number (appending-of self up bytes) does rests
-
-pub returns-in-Ok-clause-kept : goal.returns-in-Ok-clause-kept
-returns-in-Ok-clause-kept g c =
-    let D = g.D.Disk in
-    let self = c.args.self.now in
-    let new = c.hold_blocks.new.self in
-    let up = c.args.up in
-    let bytes = c.args.bytes.now in
-    let does : Does D (false ≡ true) self new c.args.disk.now c.hold_blocks.new.disk (appending self up bytes) = search rules in
-    does-complete D false self new c.args.disk.now c.hold_blocks.new.disk (appending self up bytes) up.number (appending-of self up bytes) does up refl c.requires.holds
+    does-keeps D false self new c.args.disk.now c.hold_blocks.new.disk (appending self up bytes) up c.requires.holds (appending-of self up bytes) does (search rules)
 
 pub returns-in-Err-hold_blocks-clause-does : goal.returns-in-Err-hold_blocks-clause-does
 returns-in-Err-hold_blocks-clause-does g c reaches =
@@ -75,26 +64,16 @@ returns-in-Err-hold_blocks-clause-does g c reaches =
     subst (λ (cs : List Command). Does D (true ≡ true) self new c.args.disk.now c.hold_blocks.new.disk cs) commands
     (Does-moved D (true ≡ true) brought held self new c.args.disk.now c.hold_blocks.new.disk (grows number (length c.waiting.result.now / 512) (octets_or_none (rest_in brought number)))
     (sym first) (sym (ap (λ (s : StoreState). s.journal) c.self.view_is)) (c.park-in-Err-hold_blocks.ensures.store ∙ ap store_in c.self-2.view_is) (ap (λ (s : StoreState). s.journal) c.self-2.view_is)
-    c.in-Err-hold_blocks.ensures.does)
+    c.in-Err-hold_blocks.ensures.does.does)
 
-pub returns-in-Err-hold_blocks-clause-uploads : goal.returns-in-Err-hold_blocks-clause-uploads
-returns-in-Err-hold_blocks-clause-uploads g c =
+pub returns-in-Err-hold_blocks-clause-keeps : goal.returns-in-Err-hold_blocks-clause-keeps
+returns-in-Err-hold_blocks-clause-keeps g c =
     let D = g.D.Disk in
     let self = c.args.self.now in
     let new : StoreState = record { files = c.park-in-Err-hold_blocks.new.self.files; journal = c.self-2.inside.kept.journal } in
     let up = c.args.up in
     let bytes = c.args.bytes.now in
-    let rests : KeepsRests self.files new.files up.number = search rules in
-    does-uploads D true self new c.args.disk.now c.hold_blocks.new.disk (appending self up bytes) up.number (appending-of self up bytes) (returns-in-Err-hold_blocks-clause-does g c refl) rests
-
-pub returns-in-Err-hold_blocks-clause-kept : goal.returns-in-Err-hold_blocks-clause-kept
-returns-in-Err-hold_blocks-clause-kept g c =
-    let D = g.D.Disk in
-    let self = c.args.self.now in
-    let new : StoreState = record { files = c.park-in-Err-hold_blocks.new.self.files; journal = c.self-2.inside.kept.journal } in
-    let up = c.args.up in
-    let bytes = c.args.bytes.now in
-    does-complete D true self new c.args.disk.now c.hold_blocks.new.disk (appending self up bytes) up.number (appending-of self up bytes) (returns-in-Err-hold_blocks-clause-does g c refl) up refl c.requires.holds
+    does-keeps D true self new c.args.disk.now c.hold_blocks.new.disk (appending self up bytes) up c.requires.holds (appending-of self up bytes) (returns-in-Err-hold_blocks-clause-does g c refl) (search rules)
 
 pub returns-in-Ok-clause-every_image : goal.returns-in-Ok-clause-every_image
 returns-in-Ok-clause-every_image g c =

@@ -9,37 +9,39 @@ use Rattle.file_store.proofs.DoesLemmas.{Does-longer, Does-moved, Does-same, Doe
 use Rattle.file_store.proofs.EndLemmas.{held-whole, sealing-allowed, whole-fault}
 use Rattle.file_store.proofs.file_store.FileStore.end_file.Goals as goal
 
-pub returns-in_err-hold_rest-clause-does : goal.returns-in_err-hold_rest-clause-does
-returns-in_err-hold_rest-clause-does g c =
+pub returns-in_err-hold_rest-clause-ends : goal.returns-in_err-hold_rest-clause-ends
+returns-in_err-hold_rest-clause-ends g c =
     let D = g.D.Disk in
     let self = c.args.self.now in
     let first = last_grow c.args.number (octets_or_none (rest_in self c.args.number)) in
     let last = ending c.args.number c.args.moment (fault_code (come_of self c.args.number)) ∷ [] in
-    Does-longer D (IsErr c.from_residual.result) self c.hold_rest.new.self c.args.disk.now c.hold_rest.new.disk first last (search rules) (sealing-allowed self c.args.number c.requires.whole c.args.moment)
-    (Does-same D (true ≡ true) (IsErr c.from_residual.result) self c.hold_rest.new.self c.args.disk.now c.hold_rest.new.disk first (λ is. search rules) (λ is. refl) c.in_err-hold_rest.ensures.does)
+    let does = Does-longer D (IsErr c.from_residual.result) self c.hold_rest.new.self c.args.disk.now c.hold_rest.new.disk first last (search rules) (sealing-allowed self c.args.number c.requires.whole c.args.moment)
+    (Does-same D (true ≡ true) (IsErr c.from_residual.result) self c.hold_rest.new.self c.args.disk.now c.hold_rest.new.disk first (λ is. search rules) (λ is. refl) c.in_err-hold_rest.ensures.does.does) in
+    record { does_to = record { does = does; rests = search rules }; rest = search rules }
 
 pub seal_or_drop-requires-clause-held : goal.seal_or_drop-requires-clause-held
 seal_or_drop-requires-clause-held g c =
     let mid : StoreState = record { files = c.park.new.self.files; journal = c.self.inside.kept.journal } in
-    held-whole c.args.self.now c.args.number c.requires.whole mid (c.park.ensures.store ∙ ap store_in c.self.view_is ∙ (c.in_ok-hold_rest.ensures.does.done (λ e. cc e)).0)
+    held-whole c.args.self.now c.args.number c.requires.whole mid (c.park.ensures.store ∙ ap store_in c.self.view_is ∙ (c.in_ok-hold_rest.ensures.does.does.done (λ e. cc e)).0)
 
-pub returns-clause-does : goal.returns-clause-does
-returns-clause-does g c =
+pub returns-clause-ends : goal.returns-clause-ends
+returns-clause-ends g c =
     let D = g.D.Disk in
     let self = c.args.self.now in
     let number = c.args.number in
     let mid : StoreState = record { files = c.park.new.self.files; journal = c.self.inside.kept.journal } in
     let store : store_in mid ≡ store_in c.hold_rest.new.self = c.park.ensures.store ∙ ap store_in c.self.view_is in
-    let does = c.in_ok-hold_rest.ensures.does in
+    let does = c.in_ok-hold_rest.ensures.does.does in
     let first = last_grow number (octets_or_none (rest_in self number)) in
     let fault = whole-fault self number c.requires.whole (store_in mid) (store ∙ (does.done (λ e. cc e)).0) in
-    subst (λ (o : Option ℕ). Does D (IsErr c.seal_or_drop.result) self c.seal_or_drop.new.self c.args.disk.now c.seal_or_drop.new.disk (first ++ ending number c.args.moment o ∷ [])) fault
+    let all = subst (λ (o : Option ℕ). Does D (IsErr c.seal_or_drop.result) self c.seal_or_drop.new.self c.args.disk.now c.seal_or_drop.new.disk (first ++ ending number c.args.moment o ∷ [])) fault
     (Does-then D g.met.D.Disk.lasts_on (false ≡ true) (IsErr c.seal_or_drop.result) self mid c.seal_or_drop.new.self c.args.disk.now c.hold_rest.new.disk c.seal_or_drop.new.disk first (ending number c.args.moment (fault_at (store_in mid) number) ∷ [])
-    (λ e. cc e) (Does-moved D (false ≡ true) self c.hold_rest.new.self self mid c.args.disk.now c.hold_rest.new.disk first refl refl store (ap (λ (s : StoreState). s.journal) c.self.view_is) does) c.seal_or_drop.ensures.does)
+    (λ e. cc e) (Does-moved D (false ≡ true) self c.hold_rest.new.self self mid c.args.disk.now c.hold_rest.new.disk first refl refl store (ap (λ (s : StoreState). s.journal) c.self.view_is) does) c.seal_or_drop.ensures.ends.does_to.does) in
+    record { does_to = record { does = all; rests = search rules }; rest = c.seal_or_drop.ensures.ends.rest }
 
 pub returns-clause-fault : goal.returns-clause-fault
 returns-clause-fault g c =
     let mid : StoreState = record { files = c.park.new.self.files; journal = c.self.inside.kept.journal } in
     let store : store_in mid ≡ store_in c.hold_rest.new.self = c.park.ensures.store ∙ ap store_in c.self.view_is in
-    let fault = whole-fault c.args.self.now c.args.number c.requires.whole (store_in mid) (store ∙ (c.in_ok-hold_rest.ensures.does.done (λ e. cc e)).0) in
+    let fault = whole-fault c.args.self.now c.args.number c.requires.whole (store_in mid) (store ∙ (c.in_ok-hold_rest.ensures.does.does.done (λ e. cc e)).0) in
     subst (λ (o : Option ℕ). IfOk c.seal_or_drop.result (λ found. found ≡ o)) fault c.seal_or_drop.ensures.fault

@@ -1,14 +1,13 @@
-use Rattle.std.proofs.Common.{◌≡◌, true, false, None, refl, sym, ◌∙◌, ap, arith, rules}
+use Rattle.std.proofs.Common.{◌≡◌, true, false, None, sym, ◌∙◌, ap, arith, rules}
 use Rattle.file_journal.specs.Position.{Position}
 use Rattle.file_entries.specs.Faults.{fault_code}
-use Rattle.file_entries.specs.Files.{KeepsRests}
 use Rattle.file_entries.specs.Records.{store_magic}
 use Rattle.file_store.specs.OnDisk.{Does}
 use Rattle.file_store.specs.State.{StoreState, store_in}
 use Rattle.file_store.specs.Upload.{kept_file, octets_come, sealing}
 use Rattle.file_store.proofs.SealedLemmas.{sealed-entry, sealed-holding}
 use Rattle.file_store.proofs.TokenLemmas.{kept-each}
-use Rattle.file_store.proofs.UploadLemmas.{does-complete, does-uploads, sealing-of, whole-waiting}
+use Rattle.file_store.proofs.UploadLemmas.{does-keeps, sealing-of, whole-waiting}
 use Rattle.file_store.proofs.file_store.FileStore.seal.Goals as goal
 
 pub end_file-requires-clause-whole : goal.end_file-requires-clause-whole
@@ -39,65 +38,32 @@ returns-in-Ok-None-clause-every_image g c =
     kept-each D new c.end_file.new.disk magic made.1 does.stands_on up c.requires.holds.begun moment (kept_file self up moment)
     (sealed-entry self up moment c.requires.holds (omega (arith, c.missing.ensures.missing, c.if-missing-gt0.false)) (store_in new) made.0 good)
 
-pub returns-in-Ok-None-clause-uploads : goal.returns-in-Ok-None-clause-uploads
-returns-in-Ok-None-clause-uploads g c =
+pub returns-in-Ok-None-clause-keeps : goal.returns-in-Ok-None-clause-keeps
+returns-in-Ok-None-clause-keeps g c =
     let D = g.D.Disk in
     let self = c.args.self.now in
     let new = c.end_file.new.self in
     let up = c.args.up in
     let moment = c.args.moment in
     let does : Does D (false ≡ true) self new c.args.disk.now c.end_file.new.disk (sealing self up moment) = search rules in
-    let rests : KeepsRests self.files new.files up.number = search rules in
-    does-uploads D false self new c.args.disk.now c.end_file.new.disk (sealing self up moment) up.number (sealing-of self up.number moment) does rests
+    does-keeps D false self new c.args.disk.now c.end_file.new.disk (sealing self up moment) up c.requires.holds (sealing-of self up.number moment) does (search rules)
 
-pub returns-in-Ok-None-clause-kept : goal.returns-in-Ok-None-clause-kept
-returns-in-Ok-None-clause-kept g c =
+pub returns-in-Ok-Some-clause-keeps : goal.returns-in-Ok-Some-clause-keeps
+returns-in-Ok-Some-clause-keeps g c =
     let D = g.D.Disk in
     let self = c.args.self.now in
     let new = c.end_file.new.self in
     let up = c.args.up in
     let moment = c.args.moment in
     let does : Does D (false ≡ true) self new c.args.disk.now c.end_file.new.disk (sealing self up moment) = search rules in
-    does-complete D false self new c.args.disk.now c.end_file.new.disk (sealing self up moment) up.number (sealing-of self up.number moment) does up refl c.requires.holds
+    does-keeps D false self new c.args.disk.now c.end_file.new.disk (sealing self up moment) up c.requires.holds (sealing-of self up.number moment) does (search rules)
 
-pub returns-in-Ok-Some-clause-uploads : goal.returns-in-Ok-Some-clause-uploads
-returns-in-Ok-Some-clause-uploads g c =
-    let D = g.D.Disk in
-    let self = c.args.self.now in
-    let new = c.end_file.new.self in
-    let up = c.args.up in
-    let moment = c.args.moment in
-    let does : Does D (false ≡ true) self new c.args.disk.now c.end_file.new.disk (sealing self up moment) = search rules in
-    let rests : KeepsRests self.files new.files up.number = search rules in
-    does-uploads D false self new c.args.disk.now c.end_file.new.disk (sealing self up moment) up.number (sealing-of self up.number moment) does rests
-
-pub returns-in-Ok-Some-clause-kept : goal.returns-in-Ok-Some-clause-kept
-returns-in-Ok-Some-clause-kept g c =
-    let D = g.D.Disk in
-    let self = c.args.self.now in
-    let new = c.end_file.new.self in
-    let up = c.args.up in
-    let moment = c.args.moment in
-    let does : Does D (false ≡ true) self new c.args.disk.now c.end_file.new.disk (sealing self up moment) = search rules in
-    does-complete D false self new c.args.disk.now c.end_file.new.disk (sealing self up moment) up.number (sealing-of self up.number moment) does up refl c.requires.holds
-
-pub returns-in-Err-clause-uploads : goal.returns-in-Err-clause-uploads
-returns-in-Err-clause-uploads g c =
+pub returns-in-Err-clause-keeps : goal.returns-in-Err-clause-keeps
+returns-in-Err-clause-keeps g c =
     let D = g.D.Disk in
     let self = c.args.self.now in
     let new : StoreState = record { files = c.park-in-Err.new.self.files; journal = c.self-2.inside.kept.journal } in
     let up = c.args.up in
     let moment = c.args.moment in
     let does : Does D (true ≡ true) self new c.args.disk.now c.end_file.new.disk (sealing self up moment) = search rules in
-    let rests : KeepsRests self.files new.files up.number = search rules in
-    does-uploads D true self new c.args.disk.now c.end_file.new.disk (sealing self up moment) up.number (sealing-of self up.number moment) does rests
-
-pub returns-in-Err-clause-kept : goal.returns-in-Err-clause-kept
-returns-in-Err-clause-kept g c =
-    let D = g.D.Disk in
-    let self = c.args.self.now in
-    let new : StoreState = record { files = c.park-in-Err.new.self.files; journal = c.self-2.inside.kept.journal } in
-    let up = c.args.up in
-    let moment = c.args.moment in
-    let does : Does D (true ≡ true) self new c.args.disk.now c.end_file.new.disk (sealing self up moment) = search rules in
-    does-complete D true self new c.args.disk.now c.end_file.new.disk (sealing self up moment) up.number (sealing-of self up.number moment) does up refl c.requires.holds
+    does-keeps D true self new c.args.disk.now c.end_file.new.disk (sealing self up moment) up c.requires.holds (sealing-of self up.number moment) does (search rules)

@@ -16,9 +16,9 @@ use Rattle.ftl0_server.proofs.server.Server.hear_at.Goals as goal
 pub hear-requires-clause-may : goal.hear-requires-clause-may
 hear-requires-clause-may g c =
     let found = rw (sym c.self.view_is) at c.requires.place in
-    let none = (none_first (is_there c.self.inside.stray) (any_pending c.self.inside.places) (rw (sym c.self.view_is) at c.requires.silent)).1 in
+    let none = (none_first (is_there c.self.inside.stray) (any_pending c.self.inside.places) (rw (sym c.self.view_is) at c.requires.awaits.awaits.silent)).1 in
     may-hear c.self.inside.me c.self.inside.k c.self.inside.store c.self.inside.places c.args.place c.index-places-place.result (value_of c.args.frame.now) found c.self.invariant.settled none
-    (record { dest = c.requires.frame.dest ∙ sym (ap (λ (s : ServerState). s.me) c.self.view_is); via = c.requires.frame.via }) c.requires.numbers
+    (record { dest = c.requires.awaits.is_for.dest ∙ sym (ap (λ (s : ServerState). s.me) c.self.view_is); via = c.requires.awaits.is_for.via }) c.requires.awaits.numbers
 
 pub invariant_of-self : goal.invariant_of-self
 invariant_of-self g c =
@@ -26,15 +26,19 @@ invariant_of-self g c =
     let within = found-within (has_caller (value_of c.args.frame.now).src) c.self.inside.places c.args.place found in
     let at = slice_get-get_or c.self.inside.places c.args.place c.index-places-place.result within in search (rules, arith, settled-works)
 
-pub returns-clause-hears : goal.returns-clause-hears
-returns-clause-hears g c = λ server is.
-    let new : ServerState = record (server_state c.self.inside) { places = set c.self.inside.places c.args.place c.hear.new.self; store = c.hear.new.store; lists = c.hear.new.lists } in
-    let was = rw (sym c.self.view_is) at is in
-    let frame = value_of c.args.frame.now in
-    let found = rw (sym c.self.view_is) at c.requires.place in
-    let talks = found-talks frame.src c.self.inside.places c.args.place c.index-places-place.result found in
-    let at = found-at frame.src c.self.inside.places c.args.place c.index-places-place.result talks.0 found talks.1 in
-    rw (sym c.self.view_is)
-    (server-hears g.D.Disk (server_state c.self.inside) new server was c.self.invariant.settled frame c.args.moment c.args.disk.now c.hear.new.disk c.args.place found talks.0 at c.hear.new.self
-    (rw talks.1 at c.hear.ensures.works) refl refl refl refl c.hear.result
-    (λ w d at_d. c.hear.ensures.hears w d (subst (λ (p : Place). IsPlace w c.self.inside.store p (connected d)) (sym talks.1) at_d)))
+pub returns : goal.returns
+returns g c = record {
+  hears = λ server is.
+      let new : ServerState = record (server_state c.self.inside) { places = set c.self.inside.places c.args.place c.hear.new.self; store = c.hear.new.store; lists = c.hear.new.lists } in
+      let was = rw (sym c.self.view_is) at is in
+      let frame = value_of c.args.frame.now in
+      let found = rw (sym c.self.view_is) at c.requires.place in
+      let talks = found-talks frame.src c.self.inside.places c.args.place c.index-places-place.result found in
+      let at = found-at frame.src c.self.inside.places c.args.place c.index-places-place.result talks.0 found talks.1 in
+      rw (sym c.self.view_is)
+      (server-hears g.D.Disk (server_state c.self.inside) new server was c.self.invariant.settled frame c.args.moment c.args.disk.now c.hear.new.disk c.args.place found talks.0 at c.hear.new.self
+      (rw talks.1 at c.hear.ensures.works) refl refl refl refl c.hear.result
+      (λ w d at_d. c.hear.ensures.hears w d (subst (λ (p : Place). IsPlace w c.self.inside.store p (connected d)) (sym talks.1) at_d)));
+  keeps = rw (sym c.self.view_is) c.hear.ensures.keeps;
+  me = ap (λ (s : ServerState). s.me) c.self.view_is;
+}

@@ -1,11 +1,12 @@
 -- A tick came at each place, and the disk stays.
 use Rattle.std.proofs.lemmas.Grind.{common_steps}
-use Rattle.std.proofs.Common.{refl, subst, sym, [], arith}
+use Rattle.std.proofs.Common.{refl, subst, sym, [], arith, ap}
 use Rattle.file_store.specs.Store.{Store}
 use Rattle.file_store.specs.Working.{DoesAmongReads}
 use Rattle.ftl0_session.proofs.uploads.DoesLemmas.{does-none}
 use Rattle.ftl0_session.specs.Downloads.Needs.{AreComplete}
 use Rattle.ftl0_server.specs.Kept.{server_state}
+use Rattle.ftl0_server.specs.ServerState.{ServerState}
 use Rattle.ftl0_server.proofs.HearLemmas.{all-are}
 use Rattle.ftl0_server.proofs.StepLemmas.{server-ticked}
 use Rattle.ftl0_server.proofs.server.Server.tick.Goals as goal
@@ -21,16 +22,16 @@ returns-clause-ticks g c = λ server is.
     let was = rw (sym c.self.view_is) at is in
     let all = all-are (server_state c.self.inside) server was in grind (arith, common_steps, server-ticked)
 
-pub returns-clause-happens : goal.returns-clause-happens
-returns-clause-happens g c = λ server is.
-    let was = rw (sym c.self.view_is) at is in
-    let ticked = returns-clause-ticks g c server is in
-    let healthy = rw (sym c.self.view_is) at c.requires.healthy in
-    let stands = rw (sym c.self.view_is) at c.requires.stands_on in
-    let lasts = g.met.D.Disk.lasts_same c.args._disk.now in
-    let does : DoesAmongReads g.D.Disk ⊥ 0 c.self.inside.store c.tick_all.new.store c.args._disk.now c.args._disk.now [] = grind (arith, common_steps, does-none) in
-    rw (sym c.self.view_is)
-    (record { parts = []; by = (refl, ticked, does); since = does.since })
-
-pub returns-clause-puts : goal.returns-clause-puts
-returns-clause-puts g c = grind (arith, common_steps)
+pub returns-clause-takes : goal.returns-clause-takes
+returns-clause-takes g c = record {
+  hears = λ server is.
+      let was = rw (sym c.self.view_is) at is in
+      let ticked = returns-clause-ticks g c server is in
+      let ready = rw (sym c.self.view_is) at c.requires.ready in
+      let lasts = g.met.D.Disk.lasts_same c.args._disk.now in
+      let does : DoesAmongReads g.D.Disk ⊥ 0 c.self.inside.store c.tick_all.new.store c.args._disk.now c.args._disk.now [] = grind (arith, common_steps, does-none) in
+      rw (sym c.self.view_is)
+      (record { parts = []; by = (refl, ticked, does); since = does.since });
+  keeps = record { puts = grind (arith, common_steps); kept = grind (arith, common_steps); healthy = grind (arith, common_steps); stands_on = grind (arith, common_steps) };
+  me = ap (λ (s : ServerState). s.me) c.self.view_is;
+}

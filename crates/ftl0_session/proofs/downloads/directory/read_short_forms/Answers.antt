@@ -1,15 +1,20 @@
 use Rattle.std.proofs.Common.{◌≡◌, ◌++◌, get_or, length, sym, ◌∙◌, ap, subst, arith, rules, length-append}
 use Rattle.file_store.specs.Info.{IsCompleteIn}
-use Rattle.file_store.specs.State.{StandsOn, StoreState, store_in}
+use Rattle.file_store.specs.State.{StoreState, store_in}
 use Rattle.ftl0_session.specs.Downloads.Table.{octets_in, short_octets}
 use Rattle.ftl0_session.proofs.downloads.DueLemmas.{flat-more}
 use Rattle.ftl0_session.proofs.downloads.ReadsLemmas.{one-more}
 use Rattle.ftl0_session.proofs.downloads.directory.read_short_forms.Goals as goal
 
-pub read_short_form-requires-clause-complete : goal.read_short_form-requires-clause-complete
-read_short_form-requires-clause-complete g c =
-    subst (λ (s : StoreState). IsCompleteIn (store_in s) (get_or c.args.numbers.now c.loop-number.number-index 0)) (sym c.loop-number.invariant.store)
-    (c.requires.complete c.loop-number.number-index 0 c.loop-number-test.true)
+pub read_short_form-requires : goal.read_short_form-requires
+read_short_form-requires g c =
+    let stays = c.loop-number.invariant.reads.stays in
+    record {
+      ready = stays.ready;
+      complete =
+          subst (λ (s : StoreState). IsCompleteIn (store_in s) (get_or c.args.numbers.now c.loop-number.number-index 0)) (sym stays.same)
+          (c.requires.complete c.loop-number.number-index 0 c.loop-number-test.true);
+    }
 
 pub loop-number-preserved : goal.loop-number-preserved
 loop-number-preserved g c =
@@ -18,7 +23,7 @@ loop-number-preserved g c =
     let numbers = c.args.numbers.now in
     let forms = c.loop-number.forms.items in
     let form = c.in_ok-form.form in
-    let same = inv.store in
+    let same = inv.reads.stays.same in
     let ext : c.try_extend_from_slice.new.self.items ≡ forms ++ form = search rules in
     let here : form ≡ short_octets (octets_in (store_in c.args.store.now) (get_or numbers i 0)) =
     c.in_ok-form.ensures.form ∙ ap (λ (s : StoreState). short_octets (octets_in (store_in s) (get_or numbers i 0))) same in
@@ -26,7 +31,5 @@ loop-number-preserved g c =
     record {
       forms = ext ∙ flat-more (λ number. short_octets (octets_in (store_in c.args.store.now) number)) numbers i forms form c.loop-number-test.true inv.forms here;
       count = omega (arith, inv.count, long, ap (λ l. length l) ext, length-append forms form);
-      reads = one-more g.D.Disk g.met.D.Disk.lasts_on c.args.disk.now c.loop-number.disk c.read_short_form.new.disk inv.reads c.in_ok-form.ensures.reads;
-      store = c.in_ok-form.ensures.store ∙ same;
-      stands_on = subst (λ (s : StoreState). StandsOn g.D.Disk s c.read_short_form.new.disk) (c.in_ok-form.ensures.store ∙ same) c.in_ok-form.ensures.stands_on;
+      reads = one-more g.D.Disk g.met.D.Disk.lasts_on _ _ _ _ _ _ inv.reads c.in_ok-form.ensures.reads;
     }

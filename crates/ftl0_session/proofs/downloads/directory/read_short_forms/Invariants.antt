@@ -1,6 +1,6 @@
 use Rattle.std.proofs.Common.{◌≡◌, ◌*◌, length, take, flat_map}
-use Rattle.file_store.specs.Calls.{Reads}
-use Rattle.file_store.specs.State.{StandsOn, store_in}
+use Rattle.file_store.specs.Reads.{OnlyReads}
+use Rattle.file_store.specs.State.{store_in}
 use Rattle.ftl0_session.specs.Downloads.Table.{octets_in, short_octets}
 use Rattle.ftl0_session.proofs.downloads.directory.read_short_forms.Given as goal
 
@@ -10,7 +10,5 @@ invariant-loop-number g l = record {
       l.forms.items
       ≡ flat_map (λ number. short_octets (octets_in (store_in l.fn.store) number)) (take l.number-index l.numbers);
   count : length l.forms.items ≡ 73 * l.number-index;
-  reads : Reads g.D.Disk ⊥ l.fn.disk l.disk;
-  store : l.store ≡ l.fn.store;
-  stands_on : StandsOn g.D.Disk l.fn.store l.disk;
+  reads : OnlyReads g.D.Disk ⊥ l.fn.store l.store l.fn.disk l.disk;
 }

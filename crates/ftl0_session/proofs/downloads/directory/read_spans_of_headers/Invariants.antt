@@ -1,6 +1,6 @@
 use Rattle.std.proofs.Common.{◌≡◌, length, map, take}
-use Rattle.file_store.specs.Calls.{Reads}
-use Rattle.file_store.specs.State.{StandsOn, store_in}
+use Rattle.file_store.specs.Reads.{OnlyReads}
+use Rattle.file_store.specs.State.{store_in}
 use Rattle.ftl0_session.specs.Downloads.Needs.{AreStored}
 use Rattle.ftl0_session.specs.Downloads.Spans.{due_of}
 use Rattle.ftl0_session.specs.Downloads.Table.{long_due}
@@ -11,7 +11,5 @@ invariant-loop-number g l = record {
   spans : map due_of l.spans.items ≡ long_due (store_in l.fn.store) (take l.number-index l.numbers);
   within : AreStored (store_in l.fn.store) (long_due (store_in l.fn.store) (take l.number-index l.numbers));
   count : length l.spans.items ≡ l.number-index;
-  reads : Reads g.D.Disk ⊥ l.fn.disk l.disk;
-  store : l.store ≡ l.fn.store;
-  stands_on : StandsOn g.D.Disk l.fn.store l.disk;
+  reads : OnlyReads g.D.Disk ⊥ l.fn.store l.store l.fn.disk l.disk;
 }

@@ -1,7 +1,7 @@
 use Rattle.std.proofs.Common.{◌≡◌, ◌-◌, ◌++◌}
-use Rattle.file_store.specs.Calls.{Reads}
 use Rattle.file_store.specs.IsStore.{IsStore}
-use Rattle.file_store.specs.State.{StandsOn, store_in}
+use Rattle.file_store.specs.Reads.{OnlyReads}
+use Rattle.file_store.specs.State.{store_in}
 use Rattle.selection.specs.Values.{tree_of}
 use Rattle.ftl0_session.specs.Downloads.Table.{chosen}
 use Rattle.ftl0_session.proofs.downloads.ChosenLemmas.{above_of}
@@ -13,10 +13,8 @@ invariant-loop-numbers g l = record {
       l.numbers.items ++ chosen (tree_of l.selection) (above_of l.above (store_in l.fn.store).entries)
       ≡ chosen (tree_of l.selection) (store_in l.fn.store).entries;
   rules : IsStore (store_in l.fn.store);
-  reads : Reads g.D.Disk ⊥ l.fn.disk l.disk;
-  store : l.store ≡ l.fn.store;
+  reads : OnlyReads g.D.Disk ⊥ l.fn.store l.store l.fn.disk l.disk;
   selection : l.selection ≡ l.fn.selection;
-  stands_on : StandsOn g.D.Disk l.fn.store l.disk;
 }
 
 abbrev pub decreases-loop-numbers : goal.decreases-loop-numbers

@@ -1,6 +1,6 @@
 use Rattle.std.proofs.Common.{◌≡◌, ◌++◌, ◌∷◌, [], ◌-◌, ◌+◌, get_or, length, min, take, sym, ◌∙◌, ap, subst, arith}
 use Rattle.std.proofs.Common.{length-append}
-use Rattle.file_store.specs.State.{StandsOn, StoreState, store_in}
+use Rattle.file_store.specs.State.{StoreState, store_in}
 use Rattle.ftl0_session.specs.Downloads.Needs.{IsStored, LiesIn}
 use Rattle.ftl0_session.specs.Downloads.Sending.{after_octets, due_octets}
 use Rattle.ftl0_session.specs.Downloads.Spans.{due_of}
@@ -18,7 +18,7 @@ read-requires-clause-within g c =
     let spans = c.args.spans.now in
     let i = c.loop-span.span-index in
     let lies = at-map (IsStored (store_in c.args.store.now)) due_of spans i none c.loop-span-test.true c.requires.within in
-    subst (λ (s : StoreState). LiesIn (store_in s) (get_or spans i none).number (get_or spans i none).place (get_or spans i none).last) (sym c.loop-span.invariant.store) lies
+    subst (λ (s : StoreState). LiesIn (store_in s) (get_or spans i none).number (get_or spans i none).place (get_or spans i none).last) (sym c.loop-span.invariant.reads.stays.same) lies
 
 pub returns-in_err-read-clause-some : goal.returns-in_err-read-clause-some
 unfolding none
@@ -40,7 +40,7 @@ loop-span-preserved g c =
     let octets = c.read.new.part.items in
     let lies = at-map (IsStored store) due_of spans i none lt c.requires.within in
     let is : octets ≡ part ++ take (254 - length part) (due_octets store (due_of (get_or spans i none))) =
-    c.in_ok-read.ensures.octets ∙ ap (λ (s : StoreState). part ++ take (254 - length part) (due_octets (store_in s) (due_of (get_or spans i none)))) inv.store in
+    c.in_ok-read.ensures.octets ∙ ap (λ (s : StoreState). part ++ take (254 - length part) (due_octets (store_in s) (due_of (get_or spans i none)))) inv.reads.stays.same in
     record {
       octets = step-octets store due_of spans i none lt part octets inv.few is _ inv.octets;
       left =
@@ -48,7 +48,5 @@ loop-span-preserved g c =
           ∙ step-left store due_of spans i none lt part octets inv.few is lies c.loop-span.left.items c.read.new.self _ c.in_ok-read.ensures.moved inv.left;
       few = step-few store due_of spans i none lt part octets inv.few is;
       count = omega (arith, inv.count, ap (λ l. length l) c.push.ensures.items, length-append c.loop-span.left.items (c.read.new.self ∷ []));
-      reads = one-more g.D.Disk g.met.D.Disk.lasts_on c.args.disk.now c.loop-span.disk c.read.new.disk inv.reads c.in_ok-read.ensures.reads;
-      store = c.in_ok-read.ensures.store ∙ inv.store;
-      stands_on = subst (λ (s : StoreState). StandsOn g.D.Disk s c.read.new.disk) (c.in_ok-read.ensures.store ∙ inv.store) c.in_ok-read.ensures.stands_on;
+      reads = one-more g.D.Disk g.met.D.Disk.lasts_on _ _ _ _ _ _ inv.reads c.in_ok-read.ensures.reads;
     }

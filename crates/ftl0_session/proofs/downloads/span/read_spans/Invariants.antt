@@ -1,6 +1,6 @@
 use Rattle.std.proofs.Common.{◌≡◌, ◌-◌, ◌≤◌, ◌++◌, length, map, take, drop}
-use Rattle.file_store.specs.Calls.{Reads}
-use Rattle.file_store.specs.State.{StandsOn, store_in}
+use Rattle.file_store.specs.Reads.{OnlyReads}
+use Rattle.file_store.specs.State.{store_in}
 use Rattle.ftl0_session.specs.Downloads.Sending.{after_octets, joined}
 use Rattle.ftl0_session.specs.Downloads.Spans.{due_of}
 use Rattle.ftl0_session.proofs.downloads.span.read_spans.Given as goal
@@ -17,7 +17,5 @@ invariant-loop-span g l = record {
       ≡ after_octets 254 (map due_of l.spans);
   few : length l.part.items ≤ 254;
   count : length l.left.items ≡ l.span-index;
-  reads : Reads g.D.Disk ⊥ l.fn.disk l.disk;
-  store : l.store ≡ l.fn.store;
-  stands_on : StandsOn g.D.Disk l.fn.store l.disk;
+  reads : OnlyReads g.D.Disk ⊥ l.fn.store l.store l.fn.disk l.disk;
 }

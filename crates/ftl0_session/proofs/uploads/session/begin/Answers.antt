@@ -34,13 +34,13 @@ returns-in-Ok g c =
       held = (c.in-Ok.ensures.holds.0, ap (λ (u : Upload). u.caller) c.in-Ok.ensures.upload);
       only =
           subst (λ (n : ℕ). NoOtherOut c.begin.new.self c.args.caller (Some n)) (sym number)
-          (begun-only c.args.caller c.args.moment c.args.length c.args.store.now c.begin.new.self c.state_law.ensures.rules c.in-Ok.ensures.rests made c.requires.ready.only);
+          (begun-only c.args.caller c.args.moment c.args.length c.args.store.now c.begin.new.self c.state_law.ensures.rules c.in-Ok.ensures.rests made c.requires.only);
       others = begun-others c.args.caller c.args.moment c.args.length c.args.store.now c.begin.new.self c.state_law.ensures.rules c.in-Ok.ensures.rests made c.in-Ok.ensures.uploads;
       kept = c.in-Ok.ensures.kept;
     }
 
 pub returns-in-Err : goal.returns-in-Err
 returns-in-Err g c =
-    begin-refused g.D.Disk c.args.caller c.args.moment c.args.length c.args.store.now c.begin.new.self c.args.disk.now c.begin.new.disk c.state_law.ensures.rules c.requires.ready
+    begin-refused g.D.Disk c.args.caller c.args.moment c.args.length c.args.store.now c.begin.new.self c.args.disk.now c.begin.new.disk c.state_law.ensures.rules c.requires
     (g.met.D.Disk.lasts_same c.args.disk.now) c.in-Err.refusal _ _ c.in-Err.ensures.refused c.in-Err.ensures.untouched c.in-Err.ensures.does c.in-Err.ensures.uploads
     c.in-Err.ensures.rests c.in-Err.ensures.kept c.refuse_begin.ensures

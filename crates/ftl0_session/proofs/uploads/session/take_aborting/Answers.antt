@@ -11,13 +11,15 @@ pub returns-in-Part : goal.returns-in-Part
 returns-in-Part c = λ caller moment store item only is.
     let same = rw c.in-Part.is at is in
     let row = row-at caller moment (store_in store) aborting item _ _ same (row-aborting_data caller moment (store_in store) _) in
-    alone-row caller moment aborting item store phase.Aborting (silent_row aborting) _ row refl (silent_row aborting, row, ((tt, refl), refl, c.requires)) tt only
+    rw c.reply_nothing.ensures.taken
+    (alone-row caller moment aborting item store phase.Aborting (silent_row aborting) _ row refl (silent_row aborting, row, ((tt, refl), refl, c.reply_nothing.ensures.text)) tt only)
 
 pub returns-in-End : goal.returns-in-End
 returns-in-End c = λ caller moment store item only is.
     let same = rw c.in-End.is at is in
     let row = row-at caller moment (store_in store) aborting item _ _ same (row-aborting_end caller moment (store_in store)) in
-    alone-row caller moment aborting item store phase.Command (silent_row command) _ row refl (silent_row command, row, ((tt, refl), refl, c.requires)) tt only
+    rw c.reply_nothing-in-End.ensures.taken
+    (alone-row caller moment aborting item store phase.Command (silent_row command) _ row refl (silent_row command, row, ((tt, refl), refl, c.reply_nothing-in-End.ensures.text)) tt only)
 
 pub returns-in_default : goal.returns-in_default
 returns-in_default c = λ caller moment store item only is.

@@ -14,11 +14,11 @@ returns-in-Upload g c = λ item is.
     let same = rw c.in-Upload.is at is in
     rw same
     (answered-alone g.D.Disk c.args.caller c.args.moment command (Ok (upload_cmd c.in-Upload.number c.in-Upload.length)) c.args.store.now c.resume.new.store c.args.disk.now _ _
-    c.requires.ready.healthy c.requires.ready.stands_on (g.met.D.Disk.lasts_same c.args.disk.now) (c.resume.ensures c.args.moment))
+    c.requires.ready (g.met.D.Disk.lasts_same c.args.disk.now) (c.resume.ensures c.args.moment))
 
 pub returns-in_default : goal.returns-in_default
 returns-in_default g c = λ item is.
     let row = error-command c.args.caller c.args.moment (store_in c.args.store.now) item _ c.in_default.not-Upload is in
-    answered-alone g.D.Disk c.args.caller c.args.moment command item c.args.store.now c.args.store.now c.args.disk.now _ _ c.requires.ready.healthy c.requires.ready.stands_on
+    answered-alone g.D.Disk c.args.caller c.args.moment command item c.args.store.now c.args.store.now c.args.disk.now _ _ c.requires.ready
     (g.met.D.Disk.lasts_same c.args.disk.now)
-    (alone-refused c.args.caller c.args.moment command item c.args.store.now phase.Command 1 _ _ row refl c.refuse.ensures.taken c.refuse.ensures.text tt c.requires.ready.only)
+    (alone-refused c.args.caller c.args.moment command item c.args.store.now phase.Command 1 _ _ row refl c.refuse.ensures.taken c.refuse.ensures.text tt c.requires.only)

@@ -17,14 +17,15 @@ use Rattle.ftl0_session.proofs.uploads.session.take_data.Goals as goal
 
 pub returns-in-Ok : goal.returns-in-Ok
 returns-in-Ok g c = λ moment.
-    let holds = c.requires.ready.held.0 in
+    let holds = c.requires.held.0 in
     let does = c.in-Ok.ensures.does refl in
     let made = (does.done (λ e. absurd (true≢false (sym e)))).0 in
     let row = taken c.args.caller c.args.store.now c.args.up holds moment c.args.octets.now c.in-Ok.ensures.can.0 in
     let number : c.in-Ok.up.number ≡ c.args.up.number = ap (λ (u : Upload). u.number) c.in-Ok.ensures.upload in
     let touches = touches-done c.args.up.number (store_in c.args.store.now) (store_in c.append.new.self) (appending c.args.store.now c.args.up c.args.octets.now)
     (are-grows c.args.up.number _ (with_bytes c.args.store.now c.args.up c.args.octets.now)) made in
-    record {
+    rw c.reply_nothing.ensures.taken
+    (record {
       answers = (
         taken_row c.args.up.number (with_bytes c.args.store.now c.args.up c.args.octets.now),
         row,
@@ -32,20 +33,20 @@ returns-in-Ok g c = λ moment.
           (does.allowed, made),
           receiving-at c.append.new.self c.in-Ok.up c.args.up.number (unfilled_block (with_bytes c.args.store.now c.args.up c.args.octets.now)) number
               (ap (λ (n : ℕ). rest_in c.append.new.self n) number ∙ c.in-Ok.ensures.rest),
-          c.requires.empty,
+          c.reply_nothing.ensures.text,
         ),
       );
       on_disk = does-row g.D.Disk _ _ _ _ _ _ ⊥ _ row (λ e. absurd (true≢false (sym e))) (λ never. absurd never) does;
       untouched = as-it-was _ _ _ _ row does.none;
-      held = (c.in-Ok.ensures.holds, ap (λ (u : Upload). u.caller) c.in-Ok.ensures.upload ∙ c.requires.ready.held.1);
+      held = (c.in-Ok.ensures.holds, ap (λ (u : Upload). u.caller) c.in-Ok.ensures.upload ∙ c.requires.held.1);
       only =
           subst (λ (n : ℕ). NoOtherOut c.append.new.self c.args.caller (Some n)) (sym number)
-          (only-own c.args.store.now c.append.new.self c.args.up.number c.args.caller touches c.in-Ok.ensures.rests c.requires.ready.only);
+          (only-own c.args.store.now c.append.new.self c.args.up.number c.args.caller touches c.in-Ok.ensures.keeps.rests c.requires.only);
       others =
-          others-kept c.args.store.now c.append.new.self c.args.up.number c.args.caller touches c.in-Ok.ensures.rests
-          (own-entry c.args.caller c.args.store.now c.args.up holds c.requires.ready.held.1) c.in-Ok.ensures.uploads;
-      kept = c.in-Ok.ensures.kept;
-    }
+          others-kept c.args.store.now c.append.new.self c.args.up.number c.args.caller touches c.in-Ok.ensures.keeps.rests
+          (own-entry c.args.caller c.args.store.now c.args.up holds c.requires.held.1) c.in-Ok.ensures.keeps.uploads;
+      kept = c.in-Ok.ensures.keeps.kept;
+    })
 
 untouched : {P : Type 0} → (false ≡ true) ⊎ P → P
 untouched (inl never) = absurd (true≢false (sym never))
@@ -53,7 +54,7 @@ untouched (inr p) = p
 
 pub returns-in-Err-TooMuch : goal.returns-in-Err-TooMuch
 returns-in-Err-TooMuch g c = λ moment.
-    let holds = c.requires.ready.held.0 in
+    let holds = c.requires.held.0 in
     let refused = rw c.in-Err-TooMuch.field-0-is at c.in-Err-TooMuch.ensures.refused in
     let same = rw c.in-Err-TooMuch.field-0-is at c.in-Err-TooMuch.ensures.back in
     let still : c.append.new.disk ≡ c.args.disk.now = untouched (rw c.in-Err-TooMuch.field-0-is at c.in-Err-TooMuch.ensures.untouched) in
@@ -63,13 +64,13 @@ returns-in-Err-TooMuch g c = λ moment.
     let row = too_much c.args.caller c.args.store.now c.args.up holds moment c.args.octets.now refused.0 in
     rw still
     (answered-alone g.D.Disk c.args.caller moment (receiving_of c.args.store.now c.args.up) (Ok (data_part c.args.octets.now)) c.args.store.now c.park.new.self c.args.disk.now _ (phase.Aborting, Ok tt)
-    c.requires.ready.healthy c.requires.ready.stands_on (g.met.D.Disk.lasts_same c.args.disk.now)
+    c.requires.ready (g.met.D.Disk.lasts_same c.args.disk.now)
     (parked c.args.caller c.args.store.now c.args.up holds moment (Ok (data_part c.args.octets.now)) c.park.new.self phase.Aborting
-    (record { state = aborting; commands = []; replies = ul_nak_resp 1 ∷ [] }) _ row refl refl c.write_packet.ensures.text refl tt c.requires.ready.held.1 changes journal uploads c.requires.ready.only))
+    (record { state = aborting; commands = []; replies = ul_nak_resp 1 ∷ [] }) _ row refl refl c.write_packet.ensures.text refl tt c.requires.held.1 changes journal uploads c.requires.only))
 
 pub returns-in-Err-Disk : goal.returns-in-Err-Disk
 returns-in-Err-Disk g c = λ moment.
-    let holds = c.requires.ready.held.0 in
+    let holds = c.requires.held.0 in
     let refused = rw c.in-Err-Disk.field-0-is at c.in-Err-Disk.ensures.refused in
     let reached = rw c.in-Err-Disk.field-0-is at c.in-Err-Disk.ensures.does in
     let does = reached refl in
@@ -83,27 +84,27 @@ returns-in-Err-Disk g c = λ moment.
       on_disk = does-row g.D.Disk _ _ _ _ _ _ ⊤ _ row (λ failed. tt) (λ failed. refl) does;
       untouched = as-it-was _ _ _ _ row does.none;
       held = tt;
-      only = only-none c.args.store.now c.append.new.self c.args.up.number c.args.caller touches c.in-Err-Disk.ensures.rests c.requires.ready.only (spent refl);
+      only = only-none c.args.store.now c.append.new.self c.args.up.number c.args.caller touches c.in-Err-Disk.ensures.keeps.rests c.requires.only (spent refl);
       others =
-          others-kept c.args.store.now c.append.new.self c.args.up.number c.args.caller touches c.in-Err-Disk.ensures.rests
-          (own-entry c.args.caller c.args.store.now c.args.up holds c.requires.ready.held.1) c.in-Err-Disk.ensures.uploads;
-      kept = c.in-Err-Disk.ensures.kept;
+          others-kept c.args.store.now c.append.new.self c.args.up.number c.args.caller touches c.in-Err-Disk.ensures.keeps.rests
+          (own-entry c.args.caller c.args.store.now c.args.up holds c.requires.held.1) c.in-Err-Disk.ensures.keeps.uploads;
+      kept = c.in-Err-Disk.ensures.keeps.kept;
     }
 
 pub returns-in-Err-OutOfMemory : goal.returns-in-Err-OutOfMemory
 returns-in-Err-OutOfMemory g c = λ moment.
-    let holds = c.requires.ready.held.0 in
+    let holds = c.requires.held.0 in
     let refused = rw c.in-Err-OutOfMemory.field-0-is at c.in-Err-OutOfMemory.ensures.refused in
     let same = rw c.in-Err-OutOfMemory.field-0-is at c.in-Err-OutOfMemory.ensures.back in
     let still : c.append.new.disk ≡ c.args.disk.now = untouched (rw c.in-Err-OutOfMemory.field-0-is at c.in-Err-OutOfMemory.ensures.untouched) in
     let row = taken c.args.caller c.args.store.now c.args.up holds moment c.args.octets.now refused.0 in
     rw (still, same, refused.2)
     (record {
-      answers = (taken_row c.args.up.number (with_bytes c.args.store.now c.args.up c.args.octets.now), row, refl, (refl, refl, c.requires.empty));
+      answers = (taken_row c.args.up.number (with_bytes c.args.store.now c.args.up c.args.octets.now), row, refl, (refl, refl, c.clear.ensures));
       on_disk = refl;
       untouched = as-it-was _ _ _ _ row (λ none. refl);
-      held = c.requires.ready.held;
-      only = c.requires.ready.only;
+      held = c.requires.held;
+      only = c.requires.only;
       others = others-same c.args.store.now c.args.caller;
       kept = λ number entry found whole. found;
     })

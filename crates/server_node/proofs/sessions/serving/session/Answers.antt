@@ -39,7 +39,7 @@ take_turns-ended-requires g c =
     let server = new_server c.args.terms.now.caller store (login_text c.moment_of-first.result) in
     subst (λ (s : ServerState). Owes g.D.Disk (at s disk) [] None [] (at s disk)) (sym c.new-server.ensures)
     (owes-first g.D.Disk g.met.D.Disk.lasts_same g.met.D.Disk.lasts_on (at server disk)
-    (record { healthy = c.in_ok-store.ensures.recovered.healthy; stands_on = c.in_ok-store.ensures.recovered.stands_on }) refl (λ fails. refl))
+    c.in_ok-store.ensures.recovered.ready refl (λ fails. refl))
 
 pub answer_of-requires : goal.answer_of-requires
 answer_of-requires g c =

@@ -1,7 +1,6 @@
 -- What is due is queued, packet by packet, up to where nothing is, or fewer octets are free.
 use Rattle.std.proofs.lemmas.Grind.{common_steps}
-use Rattle.std.proofs.Common.{arith, ap, ◌∙◌, sym}
-use Rattle.file_store.specs.State.{StoreState}
+use Rattle.std.proofs.Common.{arith, sym}
 use Rattle.ftl0_server.proofs.connection.DueLemmas.{keeps-then, queues-none, queues-then}
 use Rattle.ftl0_server.proofs.connection.FeedLemmas.{keeps-none}
 use Rattle.ftl0_server.proofs.connection.connection.Connection.queue_due.Goals as goal
@@ -25,5 +24,5 @@ returns-clause-queues g c =
     let next = c.loop-test.ensures.next in
     let rest =
     queues-none g.D.Disk g.met.D.Disk.lasts_same g.met.D.Disk.lasts_on _ _ c.queue_next.new.disk c.loop.self c.queue_next.new.self
-    (ap (λ (s : StoreState). s.journal.failed) keeps.same ∙ c.requires.healthy) (rw (sym keeps.same) at keeps.stands_on) next.0 next.1 next.2 next.3 in
+    (rw (sym keeps.same) at keeps.ready) next.0 next.1 next.2 next.3 in
     c.loop.invariant.rest c.queue_next.new.disk c.queue_next.new.self (rw keeps.same at rest)

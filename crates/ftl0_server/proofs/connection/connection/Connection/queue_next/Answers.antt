@@ -20,7 +20,7 @@ returns-then-not-fill-clause-next g c = grind (arith, common_steps, due-none)
 pub returns-clause-next : goal.returns-clause-next
 returns-clause-next g c =
     let a = c.self.inside in
-    let sent = due-among g.D.Disk c.args.store.now _ _ _ _ _ _ c.if-not-fill.ensures.puts c.requires.healthy c.requires.stands_on in
+    let sent = due-among g.D.Disk c.args.store.now _ _ _ _ _ _ c.if-not-fill.ensures.puts c.requires.may.ready in
     let room : enough_free ≤ room_of a.link.link.queue = c.has_room.ensures.enough c.if-not-has_room.false in
     let enough : AreFree a.link.link (λ free. enough_free ≤ free) = λ w end stands. subst (λ (n : ℕ). enough_free ≤ n) (ap (λ (k : Kept). room_of k.queue) stands.kept) room in
     let text : c.deref.result.now ≡ packet_text sent.next.packet = c.deref.ensures.0 ∙ sent.text_is in

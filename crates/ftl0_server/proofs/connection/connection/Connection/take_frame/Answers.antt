@@ -2,7 +2,7 @@
 use Rattle.std.proofs.lemmas.Grind.{common_steps}
 use Rattle.std.proofs.Common.{arith, [], ap, sym, ◌∙◌, refl}
 use Rattle.ax25_frames.specs.Values.{value_of}
-use Rattle.ax25_link.specs.declared.state.Heard.TheVariants.{Nothing, Reopened, Bytes, Closed}
+use Rattle.ax25_link.specs.declared.state.Heard.TheVariants.{Reopened, Bytes, Closed}
 use Rattle.ax25_link.specs.Kept.{Kept}
 use Rattle.ax25_link.specs.Rows.{after_frame}
 use Rattle.ftl0_packets.specs.Reading.{under_way}
@@ -24,7 +24,7 @@ returns-in-Nothing-clause-hears g c =
     rw (sym c.self.view_is) (λ w d is.
     parts-told g.D.Disk w _ _ _ _ _ _ _ c.take.result c.take.ensures.heard d is
     (parts-quiet g.D.Disk w _ (value_of c.args.frame.now) _ _ _ _ c.take.result d _ _ c.in-Nothing.is
-    (parts-on g.D.Disk g.met.D.Disk.lasts_same w d.rest _ d.state _ _ _ c.requires.may.healthy c.requires.may.stands_on refl refl
+    (parts-on g.D.Disk g.met.D.Disk.lasts_same w d.rest _ d.state _ _ _ c.requires.may.ready refl refl
     (record { link = c.take.ensures.after w d.end is.link; rest = ap under_way c.take.ensures.keeps.reader ∙ is.rest; state = is.state }))))
 
 pub returns-in-Nothing-clause-fit : goal.returns-in-Nothing-clause-fit
@@ -38,7 +38,7 @@ returns-in-Reopened-clause-hears g c =
     let end = after_frame w d.end (value_of c.args.frame.now) in
     parts-told g.D.Disk w _ _ _ _ _ _ _ Reopened c.in-Reopened.ensures.heard d is
     (parts-on g.D.Disk g.met.D.Disk.lasts_same w [] (greeted end c.args.moment (has_left c.args.lists.now d.end.peer)) command _ _ _
-    c.requires.may.healthy c.requires.may.stands_on parked.0 parked.1
+    c.requires.may.ready parked.0 parked.1
     (anew-at w c.begin_anew.new.store c.begin_anew.new.self end c.args.moment c.args.lists.now (caller_of a.session) d.end.peer
     (sym c.self.invariant.peer ∙ ap (λ (k : Kept). k.peer) is.link.kept) (c.begin_anew.ensures.begins w end (c.in-Reopened.ensures.after w d.end is.link)))))
 
@@ -71,7 +71,7 @@ pub returns-in-Closed-clause-hears : goal.returns-in-Closed-clause-hears
 returns-in-Closed-clause-hears g c =
     rw (sym c.self.view_is) (λ w d is.
     parts-told g.D.Disk w _ _ _ _ _ _ _ (Closed c.in-Closed._why) c.in-Closed.ensures.heard d is
-    (parts-over g.D.Disk g.met.D.Disk.lasts_same w d.rest _ d.state _ _ _ c.requires.may.healthy c.requires.may.stands_on refl refl (c.in-Closed.ensures.after w d.end is.link)))
+    (parts-over g.D.Disk g.met.D.Disk.lasts_same w d.rest _ d.state _ _ _ c.requires.may.ready refl refl (c.in-Closed.ensures.after w d.end is.link)))
 
 pub returns-in-Closed-clause-fit : goal.returns-in-Closed-clause-fit
 returns-in-Closed-clause-fit g c = grind (arith, common_steps, fit-heard)

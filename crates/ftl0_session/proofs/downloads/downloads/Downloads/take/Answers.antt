@@ -17,7 +17,7 @@ returns-in-Sending-clause-takes g c =
     let state : c.args.self.now ≡ sending span.number span.place span.last =
     sym c.self.view_is ∙ ap (λ (f : Phase). state_of f inside.short_forms.items inside.sent inside.headers.items) c.in-Sending.is in
     ended_by g.D.Disk _ c.args.lists.now c.args.self.now c.args.disk.now (g.met.D.Disk.lasts_same c.args.disk.now) c.reply_in_sending.result c.end_by.new.self c.args.replies.now.items c.end_by.new.replies.items
-    c.end_by.result (row_in_sending _ _ _ _ _ _ _ _ state ∙ ap (option_map (ended_row c.args.lists.now)) (sym c.reply_in_sending.ensures.reply)) c.requires.empty c.end_by.ensures.none c.end_by.ensures.some
+    c.end_by.result (row_in_sending _ _ _ _ _ _ _ _ state ∙ ap (option_map (ended_row c.args.lists.now)) (sym c.reply_in_sending.ensures.reply)) c.end_by.ensures.none c.end_by.ensures.some
 
 pub returns-in-Waiting-clause-takes : goal.returns-in-Waiting-clause-takes
 returns-in-Waiting-clause-takes g c =
@@ -26,7 +26,7 @@ returns-in-Waiting-clause-takes g c =
     let state : c.args.self.now ≡ waiting =
     sym c.self.view_is ∙ ap (λ (f : Phase). state_of f inside.short_forms.items inside.sent inside.headers.items) c.in-Waiting.is in
     ended_by g.D.Disk _ c.args.lists.now c.args.self.now c.args.disk.now (g.met.D.Disk.lasts_same c.args.disk.now) c.reply_in_waiting.result ends.new.self c.args.replies.now.items ends.new.replies.items
-    ends.result (row_in_waiting _ _ _ _ _ state ∙ ap (option_map (ended_row c.args.lists.now)) (sym c.reply_in_waiting.ensures.reply)) c.requires.empty ends.ensures.none ends.ensures.some
+    ends.result (row_in_waiting _ _ _ _ _ state ∙ ap (option_map (ended_row c.args.lists.now)) (sym c.reply_in_waiting.ensures.reply)) ends.ensures.none ends.ensures.some
 
 pub returns-in-ListingShort-clause-takes : goal.returns-in-ListingShort-clause-takes
 returns-in-ListingShort-clause-takes g c =
@@ -40,4 +40,4 @@ returns-in-ListingShort-clause-takes g c =
           row_in_listing _ _ _ _ (map due_of inside.headers.items) _
           (sym c.self.view_is ∙ ap (λ (f : Phase). state_of f inside.short_forms.items inside.sent inside.headers.items) is)
     ] in
-    rw c.requires.empty (not_taken g.D.Disk _ _ c.args.disk.now (g.met.D.Disk.lasts_same c.args.disk.now) row)
+    not_taken g.D.Disk _ _ c.args.disk.now (g.met.D.Disk.lasts_same c.args.disk.now) row

@@ -10,27 +10,23 @@ use Rattle.ftl0_session.proofs.downloads.downloads.Downloads.take_command.Goals 
 pub returns-in_default : goal.returns-in_default
 returns-in_default g c = record {
   takes =
-      rw c.requires.empty
-      (not_taken g.D.Disk _ _ c.args.disk.now (g.met.D.Disk.lasts_same c.args.disk.now)
-      (row_in_ready _ _ _ _ _ false c.requires.ready
-      ∙ no_row _ _ _ c.args.packet.now false c.in_default.not-DownloadCmd c.in_default.not-DirShortCmd c.in_default.not-DirLongCmd c.in_default.not-SelectCmd));
-  store = refl;
-  stands_on = c.requires.stands_on;
-  due = rw c.requires.ready tt;
-  complete = c.requires.complete;
+      not_taken g.D.Disk _ _ c.args.disk.now (g.met.D.Disk.lasts_same c.args.disk.now)
+      (row_in_ready _ _ _ _ _ false c.requires.waits
+      ∙ no_row _ _ _ c.args.packet.now false c.in_default.not-DownloadCmd c.in_default.not-DirShortCmd c.in_default.not-DirLongCmd c.in_default.not-SelectCmd);
+  keeps = record { stays = record { same = refl; ready = c.requires.ready }; due = rw c.requires.waits tt; complete = c.requires.complete };
 }
 
 pub returns-in-DownloadCmd-clause-takes : goal.returns-in-DownloadCmd-clause-takes
 returns-in-DownloadCmd-clause-takes g c =
     taken_alone g.D.Disk _ _ c.args.disk.now (g.met.D.Disk.lasts_same c.args.disk.now) (made c.download.new.self c.download.new.lists c.download.new.replies.items) _
-    (row_in_ready _ _ _ _ _ false c.requires.ready ∙ ap (λ v. command_row c.args.caller (store_in c.args.store.now) c.args.lists.now (value_of v) false) c.in-DownloadCmd.is ∙ download-is _ _ _ _ _ _ false)
+    (row_in_ready _ _ _ _ _ false c.requires.waits ∙ ap (λ v. command_row c.args.caller (store_in c.args.store.now) c.args.lists.now (value_of v) false) c.in-DownloadCmd.is ∙ download-is _ _ _ _ _ _ false)
     c.download.ensures.row
 
 pub returns-in-DirShortCmd-clause-takes : goal.returns-in-DirShortCmd-clause-takes
 returns-in-DirShortCmd-clause-takes g c =
     taken_reading g.D.Disk _ _ c.args.disk.now (g.met.D.Disk.lasts_same c.args.disk.now) c.list.new.disk (made c.list.new.self c.list.new.lists c.list.new.replies.items)
     (directory_row c.args.caller (store_in c.args.store.now) c.args.lists.now c.in-DirShortCmd.number short_due)
-    (λ fails. row_in_ready _ _ _ _ _ fails c.requires.ready ∙ ap (λ v. command_row c.args.caller (store_in c.args.store.now) c.args.lists.now (value_of v) fails) c.in-DirShortCmd.is
+    (λ fails. row_in_ready _ _ _ _ _ fails c.requires.waits ∙ ap (λ v. command_row c.args.caller (store_in c.args.store.now) c.args.lists.now (value_of v) fails) c.in-DirShortCmd.is
     ∙ short-is _ _ _ _ fails) c.list.ensures.row
 
 pub returns-in-DirLongCmd-clause-takes : goal.returns-in-DirLongCmd-clause-takes
@@ -38,12 +34,12 @@ returns-in-DirLongCmd-clause-takes g c =
     let list = c.list-in-DirLongCmd in
     taken_reading g.D.Disk _ _ c.args.disk.now (g.met.D.Disk.lasts_same c.args.disk.now) list.new.disk (made list.new.self list.new.lists list.new.replies.items)
     (directory_row c.args.caller (store_in c.args.store.now) c.args.lists.now c.in-DirLongCmd.number long_due)
-    (λ fails. row_in_ready _ _ _ _ _ fails c.requires.ready ∙ ap (λ v. command_row c.args.caller (store_in c.args.store.now) c.args.lists.now (value_of v) fails) c.in-DirLongCmd.is
+    (λ fails. row_in_ready _ _ _ _ _ fails c.requires.waits ∙ ap (λ v. command_row c.args.caller (store_in c.args.store.now) c.args.lists.now (value_of v) fails) c.in-DirLongCmd.is
     ∙ long-is _ _ _ _ fails) list.ensures.row
 
 pub returns-in-SelectCmd-clause-takes : goal.returns-in-SelectCmd-clause-takes
 returns-in-SelectCmd-clause-takes g c =
-    rw c.requires.ready
+    rw c.requires.waits
     (taken_reading g.D.Disk _ _ c.args.disk.now (g.met.D.Disk.lasts_same c.args.disk.now) c.select.new.disk (made ready c.select.new.lists c.select.new.replies.items)
     (select_row c.args.caller (store_in c.args.store.now) c.args.lists.now c.in-SelectCmd.tokens.now)
     (λ fails. row_in_ready _ _ _ _ _ fails refl ∙ ap (λ v. command_row c.args.caller (store_in c.args.store.now) c.args.lists.now (value_of v) fails) c.in-SelectCmd.is

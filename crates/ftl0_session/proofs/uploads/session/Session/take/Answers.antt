@@ -3,7 +3,8 @@ use Rattle.std.proofs.Common.{◌≡◌, ap, ap₂, sym, ◌∙◌, subst}
 use Rattle.px_base.specs.CallSign.{CallSign}
 use Rattle.ftl0_packets.specs.Values.{item_of}
 use Rattle.ftl0_session.specs.declared.uploads.phase.Phase.{Phase}
-use Rattle.ftl0_session.specs.Uploads.SessionState.{IsHeld, IsOnlyOut, SessionState, state_of, with_disk}
+use Rattle.disk_model.specs.AtDisk.{at}
+use Rattle.ftl0_session.specs.Uploads.SessionState.{IsHeld, IsOnlyOut, SessionState, state_of}
 use Rattle.ftl0_session.specs.Uploads.Taking.{TakesPacket}
 use Rattle.ftl0_session.specs.Uploads.Events.{packet_of}
 use Rattle.ftl0_session.proofs.uploads.DoesLemmas.{after-packet}
@@ -17,13 +18,12 @@ pub returns : goal.returns
 returns g c =
     let phase : c.replace-phase.result ≡ c.args.self.now.phase = c.replace-phase.ensures.value ∙ ap (λ (s : SessionState). s.phase) c.self.view_is in
     let by : c.self.inside.caller ≡ c.args.self.now.caller = ap (λ (s : SessionState). s.caller) c.self.view_is in
-    let here = c.take_asked-phase.ensures.answered (item_of c.args.packet) c.of-asked.ensures in
+    let here = c.take_asked-phase.ensures (item_of c.args.packet) c.of-asked.ensures in
     let all = rw (by, phase) at here in
-    let caller : c.self-2.inside.caller ≡ c.args.self.now.caller = ap (λ (s : SessionState). s.caller) c.self-2.view_is ∙ (ap (λ (s : SessionState). s.caller) c.take_asked-phase.ensures.session ∙ by) in
-    let same = ap₂ session_of caller c.replace.ensures.after in
+    let same = ap₂ session_of by c.replace.ensures.after in
     let after = after-packet g.D.Disk (packet_of c.args.self.now.caller c.args.moment (item_of c.args.packet)) (state_of c.args.store.now c.args.self.now.phase)
-    (state_of c.take_asked-phase.new.store c.take_asked-phase.result.0) (with_disk c.args.store.now c.args.disk.now) (with_disk c.take_asked-phase.new.store c.take_asked-phase.new.disk)
-    c.take_asked-phase.new.replies.items c.take_asked-phase.result.1 (g.met.D.Disk.lasts_same c.args.disk.now) c.requires.healthy c.requires.stands_on all.answers all.on_disk in
+    (state_of c.take_asked-phase.new.store c.take_asked-phase.result.0) (at c.args.store.now c.args.disk.now) (at c.take_asked-phase.new.store c.take_asked-phase.new.disk)
+    c.take_asked-phase.new.replies.items c.take_asked-phase.result.1 (g.met.D.Disk.lasts_same c.args.disk.now) c.requires.may.ready all.answers all.on_disk in
     record {
       takes =
           subst
@@ -35,7 +35,7 @@ returns g c =
       failed = after.1;
       kept = all.kept;
       others = all.others;
-      caller = caller;
+      caller = by;
       healthy = after.2;
       stands_on = after.3;
       held = subst (λ (s : SessionState). IsHeld c.take_asked-phase.new.store s) (sym same) all.held;

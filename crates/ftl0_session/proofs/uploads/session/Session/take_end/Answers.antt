@@ -14,9 +14,9 @@ use Rattle.ftl0_session.proofs.uploads.HoldLemmas.{whole, whole-sealing, whole-s
 use Rattle.ftl0_session.proofs.uploads.OtherLemmas.{only-none, others-kept}
 use Rattle.ftl0_session.proofs.uploads.session.Session.take_end.Goals as goal
 
-pub returns-in-Ok-clause-answered : goal.returns-in-Ok-clause-answered
-returns-in-Ok-clause-answered g c =
-    let holds = c.requires.ready.held.0 in
+pub returns-in-Ok : goal.returns-in-Ok
+returns-in-Ok g c =
+    let holds = c.requires.held.0 in
     let commands = whole-sealing c.args.store.now c.args.up c.args.moment None c.in-Ok.ensures.good in
     let does = does-at g.D.Disk _ _ _ _ _ _ _ commands (c.in-Ok.ensures.does refl) in
     let made = (does.done (λ e. cc e)).0 in
@@ -24,24 +24,24 @@ returns-in-Ok-clause-answered g c =
     let touches = touches-done c.args.up.number (store_in c.args.store.now) (store_in c.seal.new.self) _
     (are-whole c.args.up.number c.args.moment (waiting c.args.store.now c.args.up) None) made in
     record {
-      answers = (whole_row c.args.moment c.args.up.number (waiting c.args.store.now c.args.up) None, row, ((does.allowed, made), refl, c.ack.ensures.text));
+      answers = (whole_row c.args.moment c.args.up.number (waiting c.args.store.now c.args.up) None, row, ((does.allowed, made), refl, c.ack.ensures));
       on_disk = does-row g.D.Disk _ _ _ _ _ _ ⊥ _ row (λ e. cc e) (λ never. absurd never) does;
       untouched = touched _ _ _ _ row (whole-some c.args.moment c.args.up.number (waiting c.args.store.now c.args.up) None);
       held = tt;
-      only = only-none c.args.store.now c.seal.new.self c.args.up.number c.args.self.now.caller touches c.in-Ok.ensures.rests c.requires.ready.only c.in-Ok.ensures.ended;
+      only = only-none c.args.store.now c.seal.new.self c.args.up.number c.args.self.now.caller touches c.in-Ok.ensures.keeps.rests c.requires.only c.in-Ok.ensures.ended;
       others =
-          others-kept c.args.store.now c.seal.new.self c.args.up.number c.args.self.now.caller touches c.in-Ok.ensures.rests
-          (own-entry c.args.self.now.caller c.args.store.now c.args.up holds c.requires.ready.held.1) c.in-Ok.ensures.uploads;
-      kept = c.in-Ok.ensures.kept;
+          others-kept c.args.store.now c.seal.new.self c.args.up.number c.args.self.now.caller touches c.in-Ok.ensures.keeps.rests
+          (own-entry c.args.self.now.caller c.args.store.now c.args.up holds c.requires.held.1) c.in-Ok.ensures.keeps.uploads;
+      kept = c.in-Ok.ensures.keeps.kept;
     }
 
 untouched : {P : Type 0} → (false ≡ true) ⊎ P → P
 untouched (inl never) = absurd (true≢false (sym never))
 untouched (inr p) = p
 
-pub returns-in-Err-Short-clause-answered : goal.returns-in-Err-Short-clause-answered
-returns-in-Err-Short-clause-answered g c =
-    let holds = c.requires.ready.held.0 in
+pub returns-in-Err-Short : goal.returns-in-Err-Short
+returns-in-Err-Short g c =
+    let holds = c.requires.held.0 in
     let refused = rw c.in-Err-Short.field-0-is at c.in-Err-Short.ensures.refused in
     let same = rw c.in-Err-Short.field-0-is at c.in-Err-Short.ensures.back in
     let still : c.seal.new.disk ≡ c.args.disk.now = untouched (rw c.in-Err-Short.field-0-is at c.in-Err-Short.ensures.untouched) in
@@ -51,13 +51,13 @@ returns-in-Err-Short-clause-answered g c =
     let row = short c.args.self.now.caller c.args.store.now c.args.up holds c.args.moment refused.0 in
     rw still
     (answered-alone g.D.Disk c.args.self.now.caller c.args.moment (receiving_of c.args.store.now c.args.up) (Ok data_end) c.args.store.now c.park.new.self c.args.disk.now _ (phase.Command, Ok tt)
-    c.requires.ready.healthy c.requires.ready.stands_on (g.met.D.Disk.lasts_same c.args.disk.now)
+    c.requires.ready (g.met.D.Disk.lasts_same c.args.disk.now)
     (parked c.args.self.now.caller c.args.store.now c.args.up holds c.args.moment (Ok data_end) c.park.new.self phase.Command
-    (record { state = command; commands = []; replies = ul_nak_resp 16 ∷ [] }) _ row refl refl c.write_packet.ensures.text refl tt c.requires.ready.held.1 changes journal uploads c.requires.ready.only))
+    (record { state = command; commands = []; replies = ul_nak_resp 16 ∷ [] }) _ row refl refl c.write_packet.ensures.text refl tt c.requires.held.1 changes journal uploads c.requires.only))
 
-pub returns-in-Err-Header-clause-answered : goal.returns-in-Err-Header-clause-answered
-returns-in-Err-Header-clause-answered g c =
-    let holds = c.requires.ready.held.0 in
+pub returns-in-Err-Header : goal.returns-in-Err-Header
+returns-in-Err-Header g c =
+    let holds = c.requires.held.0 in
     let fault : Option ℕ = Some c.in-Err-Header.code in
     let refused = rw c.in-Err-Header.field-0-is at c.in-Err-Header.ensures.refused in
     let reached = rw c.in-Err-Header.field-0-is at c.in-Err-Header.ensures.does in
@@ -77,16 +77,16 @@ returns-in-Err-Header-clause-answered g c =
       on_disk = does-row g.D.Disk _ _ _ _ _ _ ⊥ _ row (λ e. cc e) (λ never. absurd never) does;
       untouched = touched _ _ _ _ row (whole-some c.args.moment c.args.up.number (waiting c.args.store.now c.args.up) (Some c.in-Err-Header.code));
       held = tt;
-      only = only-none c.args.store.now c.seal.new.self c.args.up.number c.args.self.now.caller touches c.in-Err-Header.ensures.rests c.requires.ready.only (spent refl);
+      only = only-none c.args.store.now c.seal.new.self c.args.up.number c.args.self.now.caller touches c.in-Err-Header.ensures.keeps.rests c.requires.only (spent refl);
       others =
-          others-kept c.args.store.now c.seal.new.self c.args.up.number c.args.self.now.caller touches c.in-Err-Header.ensures.rests
-          (own-entry c.args.self.now.caller c.args.store.now c.args.up holds c.requires.ready.held.1) c.in-Err-Header.ensures.uploads;
-      kept = c.in-Err-Header.ensures.kept;
+          others-kept c.args.store.now c.seal.new.self c.args.up.number c.args.self.now.caller touches c.in-Err-Header.ensures.keeps.rests
+          (own-entry c.args.self.now.caller c.args.store.now c.args.up holds c.requires.held.1) c.in-Err-Header.ensures.keeps.uploads;
+      kept = c.in-Err-Header.ensures.keeps.kept;
     }
 
-pub returns-in-Err-Disk-clause-answered : goal.returns-in-Err-Disk-clause-answered
-returns-in-Err-Disk-clause-answered g c =
-    let holds = c.requires.ready.held.0 in
+pub returns-in-Err-Disk : goal.returns-in-Err-Disk
+returns-in-Err-Disk g c =
+    let holds = c.requires.held.0 in
     let refused = rw c.in-Err-Disk.field-0-is at c.in-Err-Disk.ensures.refused in
     let reached = rw c.in-Err-Disk.field-0-is at c.in-Err-Disk.ensures.does in
     let spent = rw c.in-Err-Disk.field-0-is at c.in-Err-Disk.ensures.spent in
@@ -106,9 +106,9 @@ returns-in-Err-Disk-clause-answered g c =
       on_disk = does-row g.D.Disk _ _ _ _ _ _ ⊤ _ row (λ failed. tt) (λ failed. refl) does;
       untouched = touched _ _ _ _ row (whole-some c.args.moment c.args.up.number (waiting c.args.store.now c.args.up) (fault_code (octets_come c.args.store.now c.args.up)));
       held = tt;
-      only = only-none c.args.store.now c.seal.new.self c.args.up.number c.args.self.now.caller touches c.in-Err-Disk.ensures.rests c.requires.ready.only (spent refl);
+      only = only-none c.args.store.now c.seal.new.self c.args.up.number c.args.self.now.caller touches c.in-Err-Disk.ensures.keeps.rests c.requires.only (spent refl);
       others =
-          others-kept c.args.store.now c.seal.new.self c.args.up.number c.args.self.now.caller touches c.in-Err-Disk.ensures.rests
-          (own-entry c.args.self.now.caller c.args.store.now c.args.up holds c.requires.ready.held.1) c.in-Err-Disk.ensures.uploads;
-      kept = c.in-Err-Disk.ensures.kept;
+          others-kept c.args.store.now c.seal.new.self c.args.up.number c.args.self.now.caller touches c.in-Err-Disk.ensures.keeps.rests
+          (own-entry c.args.self.now.caller c.args.store.now c.args.up holds c.requires.held.1) c.in-Err-Disk.ensures.keeps.uploads;
+      kept = c.in-Err-Disk.ensures.keeps.kept;
     }

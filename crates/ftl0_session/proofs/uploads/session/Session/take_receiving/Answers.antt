@@ -8,15 +8,15 @@ use Rattle.ftl0_session.proofs.uploads.DoesLemmas.{answered-alone}
 use Rattle.ftl0_session.proofs.uploads.Rows.{alone-refused, error-receiving}
 use Rattle.ftl0_session.proofs.uploads.session.Session.take_receiving.Goals as goal
 
-pub returns-in-Part-clause-answered : goal.returns-in-Part-clause-answered
-returns-in-Part-clause-answered g c = λ item is.
+pub returns-in-Part : goal.returns-in-Part
+returns-in-Part g c = λ item is.
     let same = rw c.in-Part.is at is in
     rw (same, sym (ap (λ (s : SessionState). s.caller) c.self.view_is)) (c.take_data.ensures c.args.moment)
 
-pub returns-in_default-clause-answered : goal.returns-in_default-clause-answered
-returns-in_default-clause-answered g c = λ item is.
+pub returns-in_default : goal.returns-in_default
+returns-in_default g c = λ item is.
     let row = error-receiving c.args.self.now.caller c.args.moment (store_in c.args.store.now) c.args.up.number (waiting c.args.store.now c.args.up) item _ c.in_default.not-Part c.in_default.not-End is in
     answered-alone g.D.Disk c.args.self.now.caller c.args.moment (receiving_of c.args.store.now c.args.up) item c.args.store.now c.args.store.now c.args.disk.now _ _
-    c.requires.ready.healthy c.requires.ready.stands_on (g.met.D.Disk.lasts_same c.args.disk.now)
+    c.requires.ready (g.met.D.Disk.lasts_same c.args.disk.now)
     (alone-refused c.args.self.now.caller c.args.moment (receiving_of c.args.store.now c.args.up) item c.args.store.now (phase.Receiving c.args.up) 1 _ _ row refl c.refuse.ensures.taken
-    c.refuse.ensures.text c.requires.ready.held c.requires.ready.only)
+    c.refuse.ensures.text c.requires.held c.requires.only)
