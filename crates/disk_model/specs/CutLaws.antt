@@ -1,5 +1,5 @@
 -- What lasts, lasts where nothing is called, and from one call to the next.
-use Rattle.std.specs.Prelude.{◌≡◌, ◌⊎◌, ℕ, ◌≤◌, Bool, true, false, refl}
+use Rattle.std.specs.Prelude.{◌≡◌, ◌⊎◌, ℕ, ◌<◌, ◌≤◌, Bool, true, false, refl}
 use Rattle.std.proofs.Common.{inl, inr, sym, ◌∙◌, subst, arith}
 use Rattle.std.proofs.lemmas.Bool.{cases_Bool}
 use Rattle.disk_model.specs.Cuts.{Arming, CutState, Failed, FailsSo, LastsSo, Passes, PassesOn, SameFaults, Unarmed}
@@ -95,3 +95,31 @@ lasts_longer first second third early late = record {
       (early.uses plain (memory_before second.starved third.starved late.starved memory))
       (late.uses (early.plain.1 plain) memory);
 }
+
+stays_by :
+    (arming : Arming) (old new : Use)
+    → UsesUp arming old new
+    → (arming ≡ Failed → ⊥)
+    → old.write_faults < 18446744073709551615
+    → new.write_faults ≡ old.write_faults
+    → new.read_faults ≡ old.read_faults
+stays_by Unarmed old new used not_failed below same = used.1.reads
+stays_by (Passes calls) old new used not_failed below same = elim used [
+  | inl on ↦ on.faults.reads
+  | inr fails ↦ absurd (let rose = fails.rose below in omega (arith, rose, same))
+]
+stays_by Failed old new used not_failed below same = absurd (not_failed refl)
+
+-- Where the count of failed writes and syncs stayed, and isn't at its last number, that of failed reads stayed too: of a
+-- plain disk that has memory, of which no call had failed by the arming.
+pub reads_stay :
+    (old new : CutState)
+    → LastsSo old new
+    → old.plain
+    → new.starved ≡ false
+    → (old.use_of.arming ≡ Failed → ⊥)
+    → old.use_of.write_faults < 18446744073709551615
+    → new.use_of.write_faults ≡ old.use_of.write_faults
+    → new.use_of.read_faults ≡ old.use_of.read_faults
+reads_stay old new lasts plain memory not_failed below same =
+    stays_by old.use_of.arming old.use_of new.use_of (lasts.uses plain memory) not_failed below same

@@ -64,7 +64,7 @@ impl FuseDisk {
     }
 
     /// The octets that a read gives.
-    pub(crate) fn bytes(&self) -> &[u8]
+    pub fn bytes(&self) -> &[u8]
         ensures { result.now ≡ content_of (fuse self.now).disk }
     {
         self.disk.bytes()

@@ -32,6 +32,13 @@ impl Contents {
         }
     }
 
+    /// All of them.
+    fn as_slice(&self) -> &[FileBytes]
+        ensures { result.now ≡ self.now }
+    {
+        self.all.as_slice()
+    }
+
     /// Keeps a copy of one more, or changes nothing where there is no memory. Takes memory.
     fn keep(&mut self, alloc: Global, content: &[u8]) -> Result<(), OutOfMemory>
         ensures ok { OnOk result (self.new ≡ self.old ++ content.now ∷ []) }
@@ -65,6 +72,13 @@ impl LogDisk {
             disk,
             restarts: Contents::new(alloc),
         }
+    }
+
+    /// The contents that the power cuts left, in order.
+    pub fn restarts(&self) -> &[FileBytes]
+        ensures { result.now ≡ (log self.now).restarts }
+    {
+        self.restarts.as_slice()
     }
 
     /// The disk in it, with its content and images. Takes no memory.

@@ -137,7 +137,7 @@ impl MemoryDisk {
     /// Loses power: what is left is picked by this number, as `crash` does, and stands on the disk then, which is up.
     /// It isn't a call that is numbered. It costs the octets in the open ranges, and those behind what was synced.
     /// Where it finds no memory, a read gives what it gave, and the disk may be down.
-    pub(crate) fn power_cut(&mut self, pick: u64)
+    pub fn power_cut(&mut self, pick: u64)
         ensures { IsPowerCut (state self.old) (state self.new) pick }
     {
         if self.history.lose_power(pick).is_err() {

@@ -6,7 +6,7 @@
 //! octets then, with `starved` where a call found no memory, and what a crash leaves of it by each pick; all parted
 //! by ` | `.
 
-mod calls;
+pub mod calls;
 
 use crate::disk::calls::Calls;
 use anyhow::{Context, Result};

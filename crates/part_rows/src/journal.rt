@@ -12,7 +12,7 @@ mod put;
 use crate::journal::labelled::Labelled;
 use crate::journal::put::{Seen, put_under_label};
 use anyhow::{Context, Result, ensure};
-use disk_model::{FuseDisk, MemoryDisk};
+use disk_model::{CutDisk, FuseDisk, MemoryDisk};
 use px_base::FileBytes;
 use row_words::{Player, read_numbers, read_octets};
 use std::alloc::Global;

@@ -8,6 +8,7 @@
 #![tactic(auto)]
 
 mod base;
+mod cuts;
 mod disk;
 mod frames;
 mod header;
@@ -43,6 +44,7 @@ fn main(rt: HostRuntime) -> Result<()> {
 fn play<R: AllocGlobal + Files + Print>(rt: &R, family: &str) -> Result<()> {
     match family {
         "base" => play_family(rt, family, &mut base::BaseRows),
+        "cuts" => play_family(rt, family, &mut cuts::CutRows),
         "disk" => play_family(rt, family, &mut disk::DiskRows),
         "frames" => play_family(rt, family, &mut frames::FrameRows),
         "header" => play_family(rt, family, &mut header::HeaderRows),

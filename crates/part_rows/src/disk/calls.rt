@@ -28,7 +28,7 @@ impl OverDisk for Calls<'_> {
 }
 
 /// Makes a call, and shows what it answers.
-fn make_call<D: Disk>(alloc: Global, disk: &mut D, call: &str) -> Result<String> {
+pub fn make_call<D: Disk>(alloc: Global, disk: &mut D, call: &str) -> Result<String> {
     let (name, words) = call.split_once(' ').unwrap_or((call, ""));
     match name {
         "len" => shown_len(alloc, disk.len()),
