@@ -1,7 +1,7 @@
 -- The code's changes of the entries as commands of the store.
 use Rattle.std.specs.Prelude.{◌≡◌, ℕ, ◌≤◌, List, Option, None, IsTrue, ⊤}
-use Rattle.file_entries.specs.Command.{Command, MayBegin, begin, drop_entry, is_allowed, seal}
-use Rattle.file_entries.specs.Files.{EntriesState, Files, Waits, grow_waiting, rest_of, rest_without, store_of}
+use Rattle.file_entries.specs.Command.{Command, MayBegin, after, begin, drop_entry, is_allowed, seal}
+use Rattle.file_entries.specs.Files.{Becomes, EntriesState, Files, Waits, grow_waiting, rest_of, rest_without, store_of}
 use Rattle.file_store.specs.declared.change.EntriesChange.{EntriesChange}
 use Rattle.file_store.specs.declared.change.EntriesChange.TheVariants as change
 
@@ -25,6 +25,12 @@ rest_by (change.Begin caller file_length moment) files = None
 rest_by (change.Hold number count) files = rest_without files number count
 rest_by (change.Seal number moment) files = None
 rest_by (change.Drop number) files = None
+
+-- what it makes of these files
+abbrev pub MakesOf : EntriesChange → Files → Files → Type 0
+MakesOf change files files_now =
+    Becomes files files_now (after (store_of files) (command_by change files)) (number_by change files)
+    (rest_by change files)
 
 -- what it needs beside its command's condition
 abbrev pub HasFor : EntriesChange → EntriesState → Type 0

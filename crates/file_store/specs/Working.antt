@@ -20,8 +20,8 @@ DoesAmongReads g failed missed old new disk disk_now commands =
 
 -- The store did the first of these commands on its disk, and then the others, or the disk failed in one of these. Reads
 -- came among the first, of which so many failed at least, or none did.
-pub record CutsOffAmongReads {D : Type 0} (g : Ghosts D) (failed : Type 0) (missed : ℕ) (before now : AtDisk StoreState D)
-    (done cut : List Command) : Type 0 where
+pub record CutsOffAmongReads {D : Type 0} (g : Ghosts D) (failed : Type 0) (missed : ℕ)
+    (before now : AtDisk StoreState D) (done cut : List Command) : Type 0 where
   pub then_is : AtDisk StoreState D
   pub first : DoesAmongReads g ⊥ missed before.it then_is.it before.disk then_is.disk done
   pub second : Does g failed then_is.it now.it then_is.disk now.disk cut

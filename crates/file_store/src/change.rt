@@ -2,12 +2,12 @@
 
 ghost use Rattle.std.specs.Prelude.{◌≡◌, ◌≤◌, length};
 ghost use Rattle.file_journal.specs.Form.{same_form};
-ghost use Rattle.file_entries.specs.Command.{Command as StoreCommand, after, grow};
+ghost use Rattle.file_entries.specs.Command.{Command as StoreCommand, grow};
 ghost use Rattle.file_entries.specs.Commands.{command_value};
-ghost use Rattle.file_entries.specs.Files.{Becomes, store_of};
+ghost use Rattle.file_entries.specs.Files.{store_of};
 ghost use Rattle.file_entries.specs.Records.{IsWritable, store_form};
 ghost use Rattle.file_entries.specs.Store.{Store};
-ghost use Rattle.file_store.specs.Changes.{MayMake, command_by, number_by, rest_by};
+ghost use Rattle.file_store.specs.Changes.{MakesOf, MayMake, command_by};
 
 use arrayvec::ArrayVec;
 use file_entries::{Command, Entries};
@@ -89,9 +89,7 @@ impl Change<Entries> for EntriesChange {
 
     ghost may = { MayMake };
 
-    ghost makes = { λ change old new. Becomes old.files new.files
-        (after (store_of old.files) (command_by change old.files)) (number_by change old.files)
-        (rest_by change old.files) };
+    ghost makes = { λ change old new. MakesOf change old.files new.files };
 
     fn write(&self, entries: &Entries, room: &mut ArrayVec<u8, 600>) -> u8 {
         self.command(entries).write(room)

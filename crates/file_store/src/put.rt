@@ -1,9 +1,7 @@
 //! A change of the entries, put on the disk.
 
 ghost use Rattle.std.specs.Prelude.{◌≡◌, ◌∷◌, [], IsErr, OnErr, OnOk};
-ghost use Rattle.file_entries.specs.Command.{after};
-ghost use Rattle.file_entries.specs.Files.{Becomes, store_of};
-ghost use Rattle.file_store.specs.Changes.{MayMake, command_by, number_by, rest_by};
+ghost use Rattle.file_store.specs.Changes.{MakesOf, MayMake, command_by};
 ghost use Rattle.file_store.specs.OnDisk.{Does};
 ghost use Rattle.file_store.specs.State.{IsRead, IsReady, state_from};
 
@@ -26,9 +24,7 @@ pub(crate) fn put_change<D: Disk>(
         (state_from kept.new.ledger.files kept.new.journal) disk.old disk.new
         (command_by change.now kept.old.ledger.files ∷ []) }
     ensures read { IsRead kept.new.journal }
-    ensures makes { OnOk result (Becomes kept.old.ledger.files kept.new.ledger.files
-        (after (store_of kept.old.ledger.files) (command_by change.now kept.old.ledger.files))
-        (number_by change.now kept.old.ledger.files) (rest_by change.now kept.old.ledger.files)) }
+    ensures makes { OnOk result (MakesOf change.now kept.old.ledger.files kept.new.ledger.files) }
     ensures err { OnErr result (kept.new.ledger ≡ kept.old.ledger) }
 {
     kept.put(disk, change)

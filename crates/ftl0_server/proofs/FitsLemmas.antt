@@ -1,6 +1,5 @@
 -- Each event of a server has a step: the ends of its links stay such as frames and ticks bring about.
-use Rattle.std.proofs.Common.{◌≡◌, ℕ, zero, suc, List, [], ◌∷◌, set, map, Bool, Option, None, Some, rules}
-use Rattle.std.proofs.Common.{refl, sym, ap₂, subst, arith}
+use Rattle.std.proofs.Common.{◌≡◌, ℕ, zero, suc, List, [], ◌∷◌, set, map, Bool, Option, None, Some, rules, refl, sym, ap₂, subst, arith}
 use Rattle.std.proofs.lemmas.Grind.{common_steps}
 use Rattle.std.specs.Prelude.{slice_get}
 use Rattle.std.specs.Option.{option_map}
@@ -27,16 +26,13 @@ use Rattle.ftl0_server.specs.Connection.Hearing.{parts_as, ticking, with_end}
 use Rattle.ftl0_server.specs.Connection.Laws.{QueuedLaw}
 use Rattle.ftl0_server.specs.Connection.Taking.{Progress, queued, queuing, taking}
 use Rattle.ftl0_server.specs.Laws.{AreQueued, SlotFits, SlotsFit, SomeStepLaw}
-use Rattle.ftl0_server.specs.Server.{IsSilent, Refused, Server, ServerHappened, ServerSends, hearing_at}
-use Rattle.ftl0_server.specs.Server.{hearing_by, hearing_stranger, sends_by, settled}
+use Rattle.ftl0_server.specs.Server.{IsSilent, Refused, Server, ServerHappened, ServerSends, hearing_at, hearing_by, hearing_stranger, sends_by, settled}
 use Rattle.ftl0_server.specs.ServerStep.{Empties, happening, stepped}
-use Rattle.ftl0_server.specs.Slots.{PlacesSend, Slot, SlotSends, all_freed, connected, first_of, free, freed, leaving}
-use Rattle.ftl0_server.specs.Slots.{left_by, places_next, slot_next, slot_sends, slot_ticking}
+use Rattle.ftl0_server.specs.Slots.{PlacesSend, Slot, SlotSends, all_freed, connected, first_of, free, freed, leaving, left_by, places_next, slot_next, slot_sends, slot_ticking}
 use Rattle.ftl0_server.proofs.AllPlaces.{never}
 use Rattle.ftl0_server.proofs.connection.QueuingLemmas.{queuing-holds}
 use Rattle.ftl0_server.proofs.EmptiesLemmas.{by_stray, emptied, server_left}
-use Rattle.ftl0_server.proofs.QueuedLemmas.{all-stay, freed-queued, heard-queued, left-queued, places-sent, queued-set}
-use Rattle.ftl0_server.proofs.QueuedLemmas.{ticked-queued}
+use Rattle.ftl0_server.proofs.QueuedLemmas.{all-stay, freed-queued, heard-queued, left-queued, places-sent, queued-set, ticked-queued}
 
 -- ---- what has nothing to send has nothing to send once its places are settled
 

@@ -1,7 +1,6 @@
 -- What a frame makes of a server, by what it makes of one place.
 use Rattle.std.proofs.lemmas.Grind.{common_steps}
-use Rattle.std.proofs.Common.{◌≡◌, ℕ, zero, suc, ◌<◌, List, [], ◌∷◌, length, get_or, set, Bool, true, false, Option, rules}
-use Rattle.std.proofs.Common.{None, Some, sym, ◌∙◌, ap, subst, inr, arith}
+use Rattle.std.proofs.Common.{◌≡◌, ℕ, zero, suc, ◌<◌, List, [], ◌∷◌, length, get_or, set, Bool, true, false, Option, rules, None, Some, sym, ◌∙◌, ap, subst, inr, arith}
 use Rattle.std.specs.Prelude.{slice_get, ⊤, Result, Ok, Err, IsErrOf}
 use Rattle.std.specs.List.{position}
 use Rattle.std.proofs.lemmas.List.Quantifiers.{position-Some}
@@ -32,10 +31,8 @@ use Rattle.ftl0_server.specs.Calls.{Hears, HearsBy, HearsEvent, HearsStranger, S
 use Rattle.ftl0_server.specs.declared.place.Place.{Place}
 use Rattle.ftl0_server.specs.declared.place.Place.TheVariants.{Free, Talking}
 use Rattle.ftl0_server.specs.Kept.{IsAt, IsSettled}
-use Rattle.ftl0_server.specs.Server.{Server, becoming, heard_at, hearing_at, hearing_by, hearing_stranger}
-use Rattle.ftl0_server.specs.Server.{server_hearing}
-use Rattle.ftl0_server.specs.ServerState.{AllPlaces, IsServer, SaysAs, SendsAs, SendsFor, ServerState, any_pending}
-use Rattle.ftl0_server.specs.ServerState.{has_caller, is_empty_place, place_pending}
+use Rattle.ftl0_server.specs.Server.{Server, becoming, heard_at, hearing_at, hearing_by, hearing_stranger, server_hearing}
+use Rattle.ftl0_server.specs.ServerState.{AllPlaces, IsServer, SaysAs, SendsAs, SendsFor, ServerState, any_pending, has_caller, is_empty_place, place_pending}
 use Rattle.ftl0_server.specs.Slots.{Slot, connected, first_empty, is_callers, place_of}
 use Rattle.ftl0_server.proofs.AllPlaces.{all-both, all-get, all-set, all-to, never, same-position}
 use Rattle.ftl0_server.proofs.NextLemmas.{none_first}

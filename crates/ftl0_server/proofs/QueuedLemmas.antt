@@ -1,14 +1,12 @@
 -- Between the events of a server all that is due was queued, as far as there was room.
 use Rattle.std.proofs.lemmas.Grind.{common_steps}
-use Rattle.std.proofs.Common.{◌≡◌, ℕ, zero, suc, ◌-◌, List, [], ◌∷◌, ◌++◌, length, set, drop, map, Bool, true, false}
-use Rattle.std.proofs.Common.{Option, None, Some, refl, ap, subst, take-append-drop, arith}
+use Rattle.std.proofs.Common.{◌≡◌, ℕ, zero, suc, ◌-◌, List, [], ◌∷◌, ◌++◌, length, set, drop, map, Bool, true, false, Option, None, Some, refl, ap, subst, take-append-drop, arith}
 use Rattle.std.specs.Prelude.{if◌then◌else◌}
 use Rattle.std.specs.Option.{option_map}
 use Rattle.std.proofs.lemmas.List.{drop-append-le}
 use Rattle.std.proofs.lemmas.Option.{same_Some}
 use Rattle.ax25_link.specs.Ends.{Farewell, IsEnd, LinkEnd, Reply, free_octets, held, most_held}
-use Rattle.ax25_link.specs.Sending.{Sending, after_new, last_sending, later_sending, most_information}
-use Rattle.ax25_link.specs.Sending.{next_piece, next_sending, sending_after, sends_again, sends_new, sends_reply}
+use Rattle.ax25_link.specs.Sending.{Sending, after_new, last_sending, later_sending, most_information, next_piece, next_sending, sending_after, sends_again, sends_new, sends_reply}
 use Rattle.ax25_link.specs.Window.{Window}
 use Rattle.ax25_link.proofs.Offered.{after_new-HasPiece, concat-append_one}
 use Rattle.file_store.specs.Command.{after_all}
@@ -21,8 +19,7 @@ use Rattle.ftl0_server.specs.Connection.Laws.{IsQueued, QueuedLaw}
 use Rattle.ftl0_server.specs.Connection.Taking.{Progress, queued}
 use Rattle.ftl0_server.proofs.connection.QueuingLemmas.{KeepsRest, queued-keeps}
 use Rattle.ftl0_server.specs.Laws.{AreQueued, SlotFits, SlotIsQueued, SlotsFit}
-use Rattle.ftl0_server.specs.Slots.{PlacesSend, Slot, SlotSends, all_freed, connected, first_of, free, leaving, left_by}
-use Rattle.ftl0_server.specs.Slots.{places_next, slot_next, slot_sends, slot_ticking}
+use Rattle.ftl0_server.specs.Slots.{PlacesSend, Slot, SlotSends, all_freed, connected, first_of, free, leaving, left_by, places_next, slot_next, slot_sends, slot_ticking}
 use Rattle.ftl0_server.proofs.AllPlaces.{never}
 
 -- ---- whether anything is due is the state's to tell

@@ -19,12 +19,13 @@ use Rattle.ftl0_session.specs.SessionState.{WorkingOn, caller_of}
 use Rattle.disk_model.specs.declared.halt.Halt.{Halt as Stop}
 use Rattle.disk_model.specs.declared.halt.Halt.TheVariants as stop
 use Rattle.ftl0_server.specs.Connection.ConnectionState.{ConnectionState, with_reads}
-use Rattle.ftl0_server.specs.Connection.Hearing.{Happened}
+use Rattle.ftl0_server.specs.Connection.Connected.{Connected}
+use Rattle.ftl0_server.specs.Connection.Hearing.{Happened, hearing}
 use Rattle.ftl0_server.specs.Connection.Taking.{fails, goes_on}
 use Rattle.ftl0_server.specs.declared.place.Place.{Place}
 use Rattle.ftl0_server.specs.declared.place.Place.TheVariants.{Free, Talking, Leaving}
 use Rattle.ftl0_server.specs.ServerState.{SaysAs, SendsAs}
-use Rattle.ftl0_server.specs.Slots.{Slot, slot_after}
+use Rattle.ftl0_server.specs.Slots.{Slot, connected, slot_after}
 
 -- What any event leaves of a store and its disk: no write and no sync came behind one that failed, each complete entry
 -- is kept, and the store stands on the disk, and has failed only where this holds.
@@ -116,6 +117,14 @@ pub record PlaceHears {D : Type 0} (g : Ghosts D) (w : Window) (event : List Fai
   pub by : PlaceHearsBy g w (with_reads event parts) before now place result
   pub since :
       Leaves g before.disk now.disk (λ _. MakesFirst (store_in before.it) (with_reads event parts []).done)
+
+-- A frame was heard at this moment, of whichever connection the place stood for: of that it is what the frame makes.
+abbrev pub PlaceHearsFrame :
+    {D : Type 0} → Ghosts D → ℕ → FrameValue → WorkingOn D → WorkingOn D → Place → Place → Result ⊤ Stop → Type 0
+PlaceHearsFrame g moment frame before now old new result =
+    (w : Window) (c : Connected) → IsPlace w before.store old (connected c)
+    → PlaceHears g w (hearing w moment (store_in before.store) before.lists c frame) (at before.store before.disk) now
+    new result
 
 -- whatever end the place's link stands for, it is one that frames can bring about
 abbrev pub PlaceFits : Place → Type 0

@@ -7,11 +7,9 @@ ghost use Rattle.file_store.specs.State.{IsReady, store_in};
 ghost use Rattle.ftl0_session.specs.Downloads.Needs.{AreComplete};
 ghost use Rattle.disk_model.specs.AtDisk.{at};
 ghost use Rattle.ftl0_session.specs.SessionState.{working_on};
-ghost use Rattle.ftl0_server.specs.Connection.Connected.{Connected};
-ghost use Rattle.ftl0_server.specs.Connection.Hearing.{hearing};
 ghost use Rattle.ftl0_server.specs.AtPlace.{HasEnded, HasLeft, IsPlace, KeepsStore, MayEnd, MayHear, MayLeave, MayTick};
-ghost use Rattle.ftl0_server.specs.AtPlace.{PlaceFits, PlaceHears, Works};
-ghost use Rattle.ftl0_server.specs.Slots.{Slot, connected, slot_ticking};
+ghost use Rattle.ftl0_server.specs.AtPlace.{PlaceFits, PlaceHearsFrame, Works};
+ghost use Rattle.ftl0_server.specs.Slots.{Slot, slot_ticking};
 ghost use Rattle.ftl0_server.specs.Places.{PlaceGives, SamePlace};
 ghost use Rattle.ftl0_server.specs.ServerState.{has_caller, is_empty_place, place_most, place_pending};
 
@@ -110,9 +108,9 @@ impl Place {
         requires may { MayHear store.old (value_of frame.now) self.old }
         requires ready { IsReady D.Disk store.old disk.old }
         requires complete { AreComplete (store_in store.old) lists.old }
-        ensures hears { (w : Window) (c : Connected) → IsPlace w store.old self.old (connected c) →
-            PlaceHears D.Disk w (hearing w moment (store_in store.old) lists.old c (value_of frame.now))
-            (at store.old disk.old) (working_on store.new lists.new disk.new) self.new result }
+        ensures hears { PlaceHearsFrame D.Disk moment (value_of frame.now)
+            (working_on store.old lists.old disk.old) (working_on store.new lists.new disk.new)
+            self.old self.new result }
         ensures keeps { KeepsStore D.Disk (IsErrOf result Halt.Disk) store.old store.new disk.old disk.new }
         ensures works { Works store.old store.new self.old self.new }
         ensures complete { AreComplete (store_in store.new) lists.new }

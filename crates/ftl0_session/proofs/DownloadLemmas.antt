@@ -1,6 +1,5 @@
 -- Laws of downloads and directories over the whole table and over an event, by those of downloading.
-use Rattle.std.proofs.Common.{◌≡◌, ℕ, suc, ◌-◌, ◌==◌, ◌≤◌, List, [], ◌∷◌, ◌++◌, length, map, take, drop, Bool, true}
-use Rattle.std.proofs.Common.{false, not, Option, None, Some, refl, ap, sym, ◌∙◌, subst, arith, length-drop, append-nil}
+use Rattle.std.proofs.Common.{◌≡◌, ℕ, suc, ◌-◌, ◌==◌, ◌≤◌, List, [], ◌∷◌, ◌++◌, length, map, take, drop, Bool, true, false, not, Option, None, Some, refl, ap, sym, ◌∙◌, subst, arith, length-drop, append-nil}
 use Rattle.std.specs.Prelude.{Ok, if◌then◌else◌, is_some, nat_lt}
 use Rattle.std.specs.List.{flat_map, list_all}
 use Rattle.std.specs.Option.{option_map}
@@ -9,8 +8,7 @@ use Rattle.std.proofs.lemmas.List.Elements.{All-weaker}
 use Rattle.std.proofs.lemmas.List.Sums.{list_all-from_AllPass}
 use Rattle.std.proofs.lemmas.Option.{none-some}
 use Rattle.px_base.specs.CallSign.{CallSign}
-use Rattle.ftl0_packets.specs.Layout.{Item, PacketValue, data_end, data_part, dir_long_cmd, dir_short_cmd, download_cmd}
-use Rattle.ftl0_packets.specs.Layout.{kind_of, upload_cmd}
+use Rattle.ftl0_packets.specs.Layout.{Item, PacketValue, data_end, data_part, dir_long_cmd, dir_short_cmd, download_cmd, kind_of, upload_cmd}
 use Rattle.ftl0_session.specs.Lists.Lists.{CallerList}
 use Rattle.file_store.specs.Headers.{header_octets}
 use Rattle.file_store.specs.Info.{IsCompleteIn}
@@ -22,14 +20,11 @@ use Rattle.ftl0_session.specs.Downloads.Needs.{AreFiles, LiesIn}
 use Rattle.ftl0_session.specs.Downloads.Sending as due
 use Rattle.ftl0_session.specs.Downloads.Sending.{due_octets, octets_due, state_at_end}
 use Rattle.ftl0_session.specs.Downloads.Table as download
-use Rattle.ftl0_session.specs.Downloads.Table.{DownloadRow, DownloadState, Due, asked_file, asked_row, directory_row}
-use Rattle.ftl0_session.specs.Downloads.Table.{file_of, file_row, files_row, has_file, listed_files, lists_after}
-use Rattle.ftl0_session.specs.Downloads.Table.{long_due, octets_in, refused_row, short_due, short_octets, stored}
+use Rattle.ftl0_session.specs.Downloads.Table.{DownloadRow, DownloadState, Due, asked_file, asked_row, directory_row, file_of, file_row, files_row, has_file, listed_files, lists_after, long_due, octets_in, refused_row, short_due, short_octets, stored}
 use Rattle.ftl0_session.proofs.downloads.DueLemmas.{take-all}
 use Rattle.ftl0_session.proofs.downloads.FileLemmas.{complete-file, file-complete}
 use Rattle.ftl0_session.proofs.downloads.SentLemmas.{long-listed, sent-all, short-listed}
-use Rattle.ftl0_session.specs.DownloadLaws.{DownloadedLaw, DownloadsLaw, LongListedLaw, SaysAll, SentLaw}
-use Rattle.ftl0_session.specs.DownloadLaws.{ShortListedLaw}
+use Rattle.ftl0_session.specs.DownloadLaws.{DownloadedLaw, DownloadsLaw, LongListedLaw, SaysAll, SentLaw, ShortListedLaw}
 use Rattle.ftl0_session.specs.Run.{Event, Sends, event_row}
 use Rattle.ftl0_session.specs.Table.{by_download, command, downloading, due_at, in_session, next_due, session_row}
 use Rattle.ftl0_session.proofs.RowLemmas.{download-free, download_part-is, none-in, row-download}

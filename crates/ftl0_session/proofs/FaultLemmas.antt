@@ -1,14 +1,12 @@
 -- Which code 3 a row of the whole table has, and what is sent next.
-use Rattle.std.proofs.Common.{◌≡◌, ℕ, List, [], ◌∷◌, ◌++◌, length, refl, ap, sym, ◌∙◌, subst, arith, take, true≢false}
-use Rattle.std.proofs.Common.{Bool, true, false, not, ◌&&◌, Option, None, Some}
+use Rattle.std.proofs.Common.{◌≡◌, ℕ, List, [], ◌∷◌, ◌++◌, length, refl, ap, sym, ◌∙◌, subst, arith, take, true≢false, Bool, true, false, not, ◌&&◌, Option, None, Some}
 use Rattle.std.specs.Prelude.{Ok, Err, IfSome, if◌then◌else◌, ◌==◌}
 use Rattle.std.specs.List.{AllByRecursion}
 use Rattle.std.specs.Option.{option_map}
 use Rattle.px_base.specs.CallSign.{CallSign}
 use Rattle.pfh_items.specs.Faults.{fault_code}
 use Rattle.ftl0_packets.specs.Items.{kind_of_item}
-use Rattle.ftl0_packets.specs.Layout.{Item, PacketValue, data_end, data_part, dl_aborted_resp, dl_completed_resp}
-use Rattle.ftl0_packets.specs.Layout.{dl_error_resp, upload_cmd, select_resp}
+use Rattle.ftl0_packets.specs.Layout.{Item, PacketValue, data_end, data_part, dl_aborted_resp, dl_completed_resp, dl_error_resp, upload_cmd, select_resp}
 use Rattle.ftl0_session.specs.Lists.Lists.{CallerList}
 use Rattle.file_store.specs.Command.{can_begin, has_room, passes}
 use Rattle.file_store.specs.Info.{is_complete}
@@ -23,9 +21,7 @@ use Rattle.ftl0_session.specs.Downloads.Table as download
 use Rattle.ftl0_session.specs.Downloads.Table.{DownloadRow, DownloadState}
 use Rattle.ftl0_session.proofs.downloads.ReplyLemmas.{row_replies}
 use Rattle.ftl0_session.specs.Laws.{DueFaultLaw, FaultCodeLaw}
-use Rattle.ftl0_session.specs.Table.{State, aborting, command, download_part, download_row, error_by, in_session}
-use Rattle.ftl0_session.specs.Table.{next_due, listing, receiving, row_among, sending, session_row, failed_reads_told}
-use Rattle.ftl0_session.specs.Table.{tells_failed_read, upload_row, waiting}
+use Rattle.ftl0_session.specs.Table.{State, aborting, command, download_part, download_row, error_by, in_session, next_due, listing, receiving, row_among, sending, session_row, failed_reads_told, tells_failed_read, upload_row, waiting}
 use Rattle.ftl0_session.proofs.RowLemmas.{download-malformed}
 
 -- ---- rows of uploading

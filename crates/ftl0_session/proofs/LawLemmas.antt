@@ -8,8 +8,7 @@ use Rattle.ftl0_session.proofs.uploads.AckLemmas.{acknowledged_stands as upload_
 use Rattle.ftl0_session.proofs.uploads.UploadRows.{row-granted as upload_granted}
 use Rattle.ftl0_session.proofs.uploads.Uploads.{acknowledged as upload_acknowledged, resumed as upload_resumed}
 use Rattle.ftl0_session.specs.Downloads.Table.{ready}
-use Rattle.ftl0_session.specs.Laws.{Acknowledges, AcknowledgedLaw, AcknowledgedStandsLaw, GrantedLaw, ResumedLaw}
-use Rattle.ftl0_session.specs.Laws.{StandsAcknowledged, UploadsLaw}
+use Rattle.ftl0_session.specs.Laws.{Acknowledges, AcknowledgedLaw, AcknowledgedStandsLaw, GrantedLaw, ResumedLaw, StandsAcknowledged, UploadsLaw}
 use Rattle.ftl0_session.specs.Table.{Row, state_by}
 use Rattle.ftl0_session.proofs.RowLemmas.{row-upload, upload-free}
 

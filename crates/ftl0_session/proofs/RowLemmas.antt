@@ -17,9 +17,7 @@ use Rattle.ftl0_session.proofs.uploads.Rows.{row-none as upload_none}
 use Rattle.ftl0_session.specs.Downloads.Table as download
 use Rattle.ftl0_session.specs.Downloads.Table.{DownloadRow, DownloadState, ready}
 use Rattle.ftl0_session.specs.SessionState.{DoesOne}
-use Rattle.ftl0_session.specs.Table.{State, aborting, by_download, by_upload, command, download_part, download_row}
-use Rattle.ftl0_session.specs.Table.{downloading, error_row, listing, receiving, row_among, sending, session_row}
-use Rattle.ftl0_session.specs.Table.{state_by, upload_part, upload_row, waiting}
+use Rattle.ftl0_session.specs.Table.{State, aborting, by_download, by_upload, command, download_part, download_row, downloading, error_row, listing, receiving, row_among, sending, session_row, state_by, upload_part, upload_row, waiting}
 
 -- ---- the parts of a state
 

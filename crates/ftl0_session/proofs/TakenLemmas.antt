@@ -1,6 +1,5 @@
 -- What a packet does whose row has no command of the store: one of downloading, or error 1.
-use Rattle.std.proofs.Common.{◌≡◌, ℕ, List, [], ◌∷◌, refl, ap, sym, ◌∙◌, subst, append-nil, Bool, true, false, Option}
-use Rattle.std.proofs.Common.{None, Some}
+use Rattle.std.proofs.Common.{◌≡◌, ℕ, List, [], ◌∷◌, refl, ap, sym, ◌∙◌, subst, append-nil, Bool, true, false, Option, None, Some}
 use Rattle.std.specs.Prelude.{⊤, Result, Ok, IsErrOf, IsSomeAnd, IsTrue}
 use Rattle.px_base.specs.CallSign.{CallSign}
 use Rattle.disk_model.specs.declared.disk.Disk.{Ghosts}
@@ -23,8 +22,7 @@ use Rattle.ftl0_session.specs.Downloads.Taking.{IsRow, Made, TakesByRow, made, m
 use Rattle.disk_model.specs.declared.halt.Halt.{Halt}
 use Rattle.disk_model.specs.declared.halt.Halt.TheVariants as stop
 use Rattle.ftl0_session.specs.SessionState.{DoesOne, MayTake, SessionState, caller_of, session_of, state_in, working_on}
-use Rattle.ftl0_session.specs.Table.{Row, by_download, download_row, downloading, error_by, error_row, state_by}
-use Rattle.ftl0_session.specs.Table.{upload_row}
+use Rattle.ftl0_session.specs.Table.{Row, by_download, download_row, downloading, error_by, error_row, state_by, upload_row}
 use Rattle.ftl0_session.specs.Taking.{Taken, download_row_of, row_over, working}
 use Rattle.ftl0_session.specs.Uploads.Events.{packet_of}
 use Rattle.ftl0_session.proofs.RowLemmas.{download-command, row-download, row-error}

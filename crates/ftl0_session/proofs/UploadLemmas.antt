@@ -1,6 +1,5 @@
 -- What a packet of uploading does, while the session does nothing of downloading.
-use Rattle.std.proofs.Common.{◌≡◌, ℕ, List, [], ◌∷◌, refl, ap, ap₂, sym, ◌∙◌, subst, true≢false, Bool, true, false}
-use Rattle.std.proofs.Common.{Some}
+use Rattle.std.proofs.Common.{◌≡◌, ℕ, List, [], ◌∷◌, refl, ap, ap₂, sym, ◌∙◌, subst, true≢false, Bool, true, false, Some}
 use Rattle.std.specs.Prelude.{⊤, Result, Ok, Err, IsErrOf, IsTrue}
 use Rattle.disk_model.specs.declared.disk.Disk.{Ghosts}
 use Rattle.ftl0_packets.specs.Items.{kind_of_item, texts}

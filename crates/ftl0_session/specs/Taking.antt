@@ -11,14 +11,15 @@ use Rattle.file_store.specs.Calls.{ChangesReads, Puts, Reads}
 use Rattle.file_store.specs.OnDisk.{Does}
 use Rattle.file_store.specs.State.{StandsOn, StoreState, store_in}
 use Rattle.disk_model.specs.declared.halt.Halt.{Halt}
-use Rattle.ftl0_session.specs.Uploads.Events.{CallerPacket}
+use Rattle.ftl0_session.specs.Uploads.Events.{CallerPacket, packet_of}
 use Rattle.ftl0_session.specs.Uploads.Others.{KeepsOtherCallers}
 use Rattle.disk_model.specs.AtDisk.{AtDisk, at}
-use Rattle.ftl0_session.specs.Uploads.SessionState.{IsHeld, IsOnlyOut}
+use Rattle.ftl0_session.specs.Uploads.SessionState.{IsHeld, IsOnlyOut, SessionState as Uploading}
 use Rattle.ftl0_session.specs.Downloads.Needs.{AreComplete, IsDueIn}
-use Rattle.ftl0_session.specs.Downloads.Table.{DownloadRow}
+use Rattle.ftl0_session.specs.Downloads.Table.{DownloadRow, DownloadState}
+use Rattle.ftl0_session.specs.Downloads.Taking.{Made, TakesByRow}
 use Rattle.disk_model.specs.declared.halt.Halt.TheVariants as stop
-use Rattle.ftl0_session.specs.SessionState.{SessionState, WorkingOn, caller_of, state_in}
+use Rattle.ftl0_session.specs.SessionState.{SessionState, WorkingOn, caller_of, session_of, state_in, working_on}
 use Rattle.ftl0_session.specs.Table.{Row, State, command, download_row, fault_reply, session_row, takes_memory}
 
 -- what a session takes a packet over, and what it leaves for the next one: the store, the lists of all callers, its
@@ -103,7 +104,35 @@ pub record Taken {D : Type 0} (g : Ghosts D) (packet : CallerPacket) (old new : 
   pub due : IsDueIn (store_in now.store) new.downloads
   pub complete : AreComplete (store_in now.store) now.lists
 
+-- what a session's calls are lent: its parts, and what all sessions work on
+pub record Lent (D : Type 0) : Type 0 where
+  pub uploads : Uploading
+  pub downloads : DownloadState
+  pub store : StoreState
+  pub lists : List CallerList
+  pub disk : D
+
+-- by its parts
+abbrev pub lent : {D : Type 0} → Uploading → DownloadState → StoreState → List CallerList → D → Lent D
+lent uploads downloads store lists disk =
+    record { uploads = uploads; downloads = downloads; store = store; lists = lists; disk = disk }
+
+-- so a packet at this moment does it
+abbrev pub TakenOver :
+    {D : Type 0} → Ghosts D → ℕ → Item → Lent D → Lent D → List ℕ → Result ⊤ Halt → Type 0
+TakenOver g moment item before now replies result =
+    Taken g (packet_of before.uploads.caller moment item) (session_of before.uploads before.downloads)
+    (session_of now.uploads now.downloads) (working_on before.store before.lists before.disk)
+    (working_on now.store now.lists now.disk) replies result
+
 -- the packet's row of downloading, if it has one: not while a file is received, and not where it is malformed
 abbrev pub download_row_of : SessionState → StoreState → List CallerList → Item → Bool → Option DownloadRow
 download_row_of session store lists item fails =
     download_row (caller_of session) (store_in store) lists (state_in store session) item fails
+
+-- So a packet of a session with these uploads is taken, over this store.
+abbrev pub TakesDownload :
+    {D : Type 0} → Ghosts D → Uploading → StoreState → Item → AtDisk Made D → AtDisk Made D → Bool → Type 0
+TakesDownload g uploads store item before now taken =
+    TakesByRow g (download_row_of (session_of uploads before.it.state) store before.it.lists item) before.disk now.disk
+    before.it now.it taken

@@ -1,6 +1,7 @@
 //! The session of one caller: what each packet gives, and what is sent next (FTL0 1990).
 
 ghost use Rattle.std.specs.Prelude.{◌≡◌, ◌≢◌, ℕ, [], false, true, IsErrOf, None};
+ghost use Rattle.disk_model.specs.AtDisk.{at};
 ghost use Rattle.ftl0_packets.specs.Items.{kind_of_item};
 ghost use Rattle.ftl0_packets.specs.Layout.{packet_text};
 ghost use Rattle.ftl0_packets.specs.Values.{item_of};
@@ -15,10 +16,10 @@ ghost use Rattle.ftl0_session.specs.Filling.{PutsDue};
 ghost use Rattle.ftl0_session.specs.SessionState.{DoesOne, MayTake, caller_of, new_session, session_of, state_in};
 ghost use Rattle.ftl0_session.specs.SessionState.{working_on};
 ghost use Rattle.ftl0_session.specs.Table.{error_by, flags, greeting};
-ghost use Rattle.ftl0_session.specs.Taking.{Taken, download_row_of};
+ghost use Rattle.ftl0_session.specs.Taking.{Taken, TakenOver, TakesDownload, lent};
 ghost use Rattle.ftl0_session.specs.Downloads.Filling.{filled};
 ghost use Rattle.ftl0_session.specs.Uploads.Events.{packet_of};
-ghost use Rattle.ftl0_session.specs.Downloads.Taking.{TakesByRow, made};
+ghost use Rattle.ftl0_session.specs.Downloads.Taking.{made};
 
 use crate::downloads::Downloads;
 use crate::downloads::laws::stays_law;
@@ -175,9 +176,9 @@ fn take_packet<D: Disk>(
 ) -> Result<(), Halt>
     requires may { MayTake D.Disk store.old disk.old lists.old (session_of uploads.old downloads.old) }
     requires one { DoesOne uploads.old.phase downloads.old }
-    ensures taken { Taken D.Disk (packet_of uploads.old.caller moment (item_of packet.entry))
-        (session_of uploads.old downloads.old) (session_of uploads.new downloads.new)
-        (working_on store.old lists.old disk.old) (working_on store.new lists.new disk.new) replies.new.items result }
+    ensures taken { TakenOver D.Disk moment (item_of packet.entry)
+        (lent uploads.old downloads.old store.old lists.old disk.old)
+        (lent uploads.new downloads.new store.new lists.new disk.new) replies.new.items result }
     ensures one { DoesOne uploads.new.phase downloads.new }
 {
     let of_uploading = is_of_uploading(&packet);
@@ -209,9 +210,8 @@ fn take_upload<D: Disk>(
 ) -> Result<(), Halt>
     requires may { MayTake D.Disk store.old disk.old lists.now (session_of uploads.old ready) }
     requires kind { is_upload_kind (kind_of_item (item_of packet)) ≡ true }
-    ensures { Taken D.Disk (packet_of uploads.old.caller moment (item_of packet.entry)) (session_of uploads.old ready)
-        (session_of uploads.new ready) (working_on store.old lists.now disk.old)
-        (working_on store.new lists.now disk.new) replies.new.items result }
+    ensures { TakenOver D.Disk moment (item_of packet.entry) (lent uploads.old ready store.old lists.now disk.old)
+        (lent uploads.new ready store.new lists.now disk.new) replies.new.items result }
 {
     // While the store keeps its complete files, so do the lists.
     stays_law();
@@ -233,9 +233,9 @@ fn take_other<D: Disk>(
     requires one { DoesOne uploads.now.phase downloads.old }
     requires kind { of_uploading ≡ is_upload_kind (kind_of_item (item_of packet)) }
     requires other { of_uploading ≡ true → downloads.old ≢ ready }
-    ensures taken { (moment : ℕ) → Taken D.Disk (packet_of uploads.now.caller moment (item_of packet.entry))
-        (session_of uploads.now downloads.old) (session_of uploads.now downloads.new)
-        (working_on store.old lists.old disk.old) (working_on store.new lists.new disk.new) replies.new.items (Ok tt) }
+    ensures taken { (moment : ℕ) → TakenOver D.Disk moment (item_of packet.entry)
+        (lent uploads.now downloads.old store.old lists.old disk.old)
+        (lent uploads.now downloads.new store.new lists.new disk.new) replies.new.items (Ok tt) }
     ensures one { DoesOne uploads.now.phase downloads.new }
 {
     if take_download(uploads, downloads, disk, packet, store, lists, replies) {
@@ -255,9 +255,9 @@ fn take_download<D: Disk>(
     replies: &mut Replies,
 ) -> bool
     requires { MayTake D.Disk store.old disk.old lists.old (session_of uploads.now downloads.old) }
-    ensures takes { TakesByRow D.Disk (download_row_of (session_of uploads.now downloads.old) store.old lists.old
-        (item_of packet.entry)) disk.old disk.new (made downloads.old lists.old replies.old.items)
-        (made downloads.new lists.new replies.new.items) result }
+    ensures takes { TakesDownload D.Disk uploads.now store.old (item_of packet.entry)
+        (at (made downloads.old lists.old replies.old.items) disk.old)
+        (at (made downloads.new lists.new replies.new.items) disk.new) result }
     ensures keeps { KeepsFiles D.Disk store.old store.new disk.new lists.new downloads.new }
 {
     let Ok(packet) = packet else {

@@ -71,7 +71,7 @@ EndsOver (Err stop.Disk) least steps start events unsaid all cut =
 EndsOver (Err stop.OutOfMemory) least steps start events unsaid all cut =
     StopsBehind least steps start events stop.OutOfMemory unsaid all cut
 EndsOver (Err (stop.NotAStore found)) least steps start events unsaid all cut = ⊥
-EndsOver (Err (stop.Damaged at)) least steps start events unsaid all cut = ⊥
+EndsOver (Err (stop.Damaged place)) least steps start events unsaid all cut = ⊥
 
 -- ---- on the disk
 

@@ -19,8 +19,7 @@ use Rattle.ftl0_session.specs.Uploads.SessionState.{NoOtherOut, SessionState as 
 use Rattle.ftl0_session.specs.Downloads.Needs.{AreComplete}
 use Rattle.disk_model.specs.declared.halt.Halt.{Halt as Stop}
 use Rattle.disk_model.specs.declared.halt.Halt.TheVariants as stop
-use Rattle.ftl0_session.specs.SessionState.{MayTake as SessionMayTake, SessionState, caller_of, new_session}
-use Rattle.ftl0_session.specs.SessionState.{WorkingOn, working_on}
+use Rattle.ftl0_session.specs.SessionState.{MayTake as SessionMayTake, SessionState, caller_of, new_session, WorkingOn, working_on}
 use Rattle.ftl0_server.specs.declared.connection.fate.Fate.{Fate}
 use Rattle.ftl0_server.specs.declared.connection.fate.Fate.TheVariants.{Stays}
 use Rattle.ftl0_server.specs.Connection.ConnectionState.{ConnectionState}

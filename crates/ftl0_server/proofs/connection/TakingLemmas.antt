@@ -1,8 +1,6 @@
 -- How taking packets goes on, and how it stops.
-use Rattle.std.proofs.Common.{rules}
+use Rattle.std.proofs.Common.{rules, ◌≡◌, ℕ, suc, ◌+◌, ◌≤◌, Bool, true, false, not, ◌&&◌, List, [], ◌∷◌, ◌++◌, length, refl, ap, sym, ◌∙◌, append_assoc, append-nil, arith}
 use Rattle.std.proofs.lemmas.Grind.{common_steps}
-use Rattle.std.proofs.Common.{◌≡◌, ℕ, suc, ◌+◌, ◌≤◌, Bool, true, false, not, ◌&&◌, List, [], ◌∷◌, ◌++◌, length, refl}
-use Rattle.std.proofs.Common.{ap, sym, ◌∙◌, append_assoc, append-nil, arith}
 use Rattle.std.specs.Prelude.{if◌then◌else◌}
 use Rattle.std.proofs.Math.Nat.{zero-add}
 use Rattle.px_base.specs.CallSign.{CallSign}
@@ -17,8 +15,7 @@ use Rattle.ftl0_session.specs.Uploads.Failures.{Failure, read_fails, write_fails
 use Rattle.ftl0_session.specs.Table.{Row, row_at}
 use Rattle.ftl0_session.specs.Run.{Session, session_over}
 use Rattle.ftl0_server.specs.Connection.Laws.{TakingLaw}
-use Rattle.ftl0_server.specs.Connection.Taking.{Halt, Progress, after_row, failing_at, fails, fits, giving_up, goes_on}
-use Rattle.ftl0_server.specs.Connection.Taking.{taking, taking_row}
+use Rattle.ftl0_server.specs.Connection.Taking.{Halt, Progress, after_row, failing_at, fails, fits, giving_up, goes_on, taking, taking_row}
 use Rattle.ftl0_server.proofs.connection.FailureLemmas.{AreAlike}
 
 -- whether nothing stopped the taking

@@ -1,6 +1,6 @@
 -- How a connection takes packets, and then queues what is due, part by part; and what each part leaves for the next
 -- one.
-use Rattle.std.specs.Prelude.{◌≡◌, ◌⊎◌, ℕ, ◌+◌, ◌<◌, ◌≤◌, List, [], ◌++◌, length, All, Bool, true, false}
+use Rattle.std.specs.Prelude.{◌≡◌, ◌⊎◌, ℕ, ◌+◌, ◌<◌, ◌≤◌, List, [], ◌∷◌, ◌++◌, length, All, Bool, true, false}
 use Rattle.std.specs.Prelude.{None, Some, Result, Ok, IsErrOf, ⊤}
 use Rattle.disk_model.specs.declared.disk.Disk.{Ghosts}
 use Rattle.ax25_link.specs.declared.state.LinkState.TheVariants.{Up}
@@ -12,7 +12,7 @@ use Rattle.ax25_link.specs.Queue.{room_of}
 use Rattle.ax25_link.specs.Window.{Window}
 use Rattle.ftl0_packets.specs.Layout.{Item, packet_text}
 use Rattle.ftl0_packets.specs.Reading.{packets_of, rest_of}
-use Rattle.packet_link.specs.PacketLink.{HasFront}
+use Rattle.packet_link.specs.PacketLink.{HasFront, PacketLinkState, octets_in}
 use Rattle.packet_link.specs.Queuing.{enough_free}
 use Rattle.file_store.specs.EntriesKept.{KeepsComplete}
 use Rattle.ftl0_session.specs.Lists.Lists.{CallerList}
@@ -30,10 +30,10 @@ use Rattle.ftl0_session.specs.SessionState.{state_in}
 use Rattle.ftl0_session.specs.Table.{DuePacket, next_due, tells_failed_read}
 use Rattle.ftl0_server.specs.declared.connection.fate.Fate.{Fate}
 use Rattle.ftl0_server.specs.declared.connection.fate.Fate.TheVariants.{Stays}
-use Rattle.ftl0_server.specs.Connection.ConnectionState.{ConnectionState, Hears, HearsBy}
-use Rattle.ftl0_server.specs.Connection.ConnectionState.{with_nothing_left}
-use Rattle.ftl0_server.specs.Connection.ConnectionState.{with_reads}
-use Rattle.ftl0_server.specs.Connection.Hearing.{Happened, progressed}
+use Rattle.ftl0_server.specs.Connection.Connected.{Connected}
+use Rattle.ftl0_server.specs.Connection.ConnectionState.{ConnectionState, Hears, HearsBy, IsConnection, with_reads}
+use Rattle.ftl0_server.specs.Connection.ConnectionState.{without_rest}
+use Rattle.ftl0_server.specs.Connection.Hearing.{Happened, hearing, parts_of_frame, progressed, rest_of_frame}
 use Rattle.ftl0_server.specs.Connection.Taking.{Progress, fails, queuing, taking}
 
 -- what a link and a session need to take packets: the link is up, and the session may take one
@@ -106,7 +106,13 @@ abbrev pub TakesSome :
 TakesSome g moment old before items now new told =
     (w : Window) (end : LinkEnd) (first : ℕ) → StandsFor w old.link end
     → TakesPackets g w (taking_some moment old.session before end items first) (IsAmong first (length items))
-    (at before.store before.disk) now (with_nothing_left new.link new.session) told
+    (at before.store before.disk) now (without_rest new.link new.session) told
+
+-- So this one was.
+abbrev pub TakesOne :
+    {D : Type 0} → Ghosts D → ℕ → Item → ConnectionState → ConnectionState → WorkingOn D → WorkingOn D
+    → (Fate × Result ⊤ Stop) → Type 0
+TakesOne g moment item old new before now told = TakesSome g moment old before (item ∷ []) now new told
 
 -- Packets at the front of the octets were taken, up to one that stops the connection, if one does: the rest are those
 -- of the octets that are left now.
@@ -125,6 +131,10 @@ pub record FeedsAll {D : Type 0} (g : Ghosts D) (moment : ℕ) (old new : Connec
   pub none : IsGoing told → packets_of left ≡ []
   pub rest : IsGoing told → rest_of left ≡ new.octets
 
+-- the connection of this link and session, with the octets that the link's reader holds
+abbrev pub carried : PacketLinkState → SessionState → ConnectionState
+carried link session = carrying link.link (octets_in link) session
+
 -- The parts at which reads failed are parts of the event, and whatever reads fail at later parts changes nothing of it.
 pub record IsSettled (event : List Failure → Progress) (parts : List ℕ) : Type 0 where
   pub before : All (λ part. part < (event (failed_reads parts)).part) parts
@@ -140,6 +150,25 @@ pub record HearsParts {D : Type 0} (g : Ghosts D) (w : Window) (left : List ℕ)
   pub hears : Hears g w (λ failures. progressed left (event failures)) before now connection told
   pub over : (failures : List Failure) → (event failures).halt ≡ fails → (event failures).over ≡ true
   pub settled : IsGoing told → IsSettled event hears.parts
+
+-- A frame was heard at this moment, of whichever connection this stood for: of that it is what the frame makes before
+-- what is due is queued.
+abbrev pub HearsFrameParts :
+    {D : Type 0} → Ghosts D → ℕ → FrameValue → WorkingOn D → WorkingOn D → ConnectionState → ConnectionState
+    → Fate × Result ⊤ Stop → Type 0
+HearsFrameParts g moment frame before now old new told =
+    (w : Window) (c : Connected) → IsConnection w before.store old c
+    → HearsParts g w (rest_of_frame w c frame) (parts_of_frame w moment (store_in before.store) before.lists c frame)
+    (at before.store before.disk) now new told
+
+-- So it is of the whole frame.
+abbrev pub HearsFrame :
+    {D : Type 0} → Ghosts D → ℕ → FrameValue → WorkingOn D → WorkingOn D → ConnectionState → ConnectionState
+    → Fate × Result ⊤ Stop → Type 0
+HearsFrame g moment frame before now old new told =
+    (w : Window) (c : Connected) → IsConnection w before.store old c
+    → Hears g w (hearing w moment (store_in before.store) before.lists c frame) (at before.store before.disk) now new
+    told
 
 -- nothing is due, whatever reads fail
 abbrev pub IsNothingDue : StoreState → SessionState → Type 0

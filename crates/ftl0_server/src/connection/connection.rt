@@ -15,13 +15,13 @@ ghost use Rattle.disk_model.specs.AtDisk.{at};
 ghost use Rattle.ftl0_session.specs.Uploads.SessionState.{IsHeld, IsOnlyOut, NoOtherOut, Parks};
 ghost use Rattle.ftl0_session.specs.SessionState.{caller_of, new_session, working_on};
 ghost use Rattle.ftl0_server.specs.Connection.Connected.{Connected, answering, beginning, greeted};
-ghost use Rattle.ftl0_server.specs.Connection.ConnectionState.{ConnectionState as Carried, Hears, IsConnection};
-ghost use Rattle.ftl0_server.specs.Connection.ConnectionState.{StandsAfter, with_nothing_left};
+ghost use Rattle.ftl0_server.specs.Connection.ConnectionState.{ConnectionState as Carried, IsConnection};
+ghost use Rattle.ftl0_server.specs.Connection.ConnectionState.{StandsAfter, without_rest};
 ghost use Rattle.ftl0_server.specs.Connection.ConnectionState.{is_over};
-ghost use Rattle.ftl0_server.specs.Connection.Feeding.{FeedsAll, HearsParts, IsGoing, KeepsFit, LeavesFit, MayHear};
-ghost use Rattle.ftl0_server.specs.Connection.Feeding.{MayQueue, MayTake, QueuesDue, TakesSome};
-ghost use Rattle.ftl0_server.specs.Connection.Feeding.{QueuesNext, carrying};
-ghost use Rattle.ftl0_server.specs.Connection.Hearing.{hearing, parts_of_frame, rest_of_frame, ticking};
+ghost use Rattle.ftl0_server.specs.Connection.Feeding.{FeedsAll, HearsFrame, HearsFrameParts, IsGoing, KeepsFit};
+ghost use Rattle.ftl0_server.specs.Connection.Feeding.{LeavesFit, MayHear, MayQueue, MayTake, QueuesDue, QueuesNext};
+ghost use Rattle.ftl0_server.specs.Connection.Feeding.{TakesOne, carried, carrying};
+ghost use Rattle.ftl0_server.specs.Connection.Hearing.{ticking};
 ghost use Rattle.ftl0_server.specs.Connection.Taking.{replied};
 ghost use Rattle.packet_link.specs.PacketLink.{GivesFrame, KeepsReader, octets_in};
 ghost use Rattle.ftl0_server.specs.Places.{SameTalk};
@@ -108,9 +108,9 @@ impl Connection {
         requires { MayHear D.Disk store.old disk.old lists.old self.old (value_of frame.now) }
 
         // Of whichever connection it stands for, it is what the frame makes of that, or the server stops.
-        ensures hears { (w : Window) (c : Connected) → IsConnection w store.old self.old c →
-            Hears D.Disk w (hearing w moment (store_in store.old) lists.old c (value_of frame.now))
-            (at store.old disk.old) (working_on store.new lists.new disk.new) self.new result }
+        ensures hears { HearsFrame D.Disk moment (value_of frame.now)
+            (working_on store.old lists.old disk.old) (working_on store.new lists.new disk.new)
+            self.old self.new result }
 
         // What the next event needs.
         ensures fit { LeavesFit D.Disk (at store.old disk.old) (working_on store.new lists.new disk.new)
@@ -196,10 +196,9 @@ impl Connection {
         moment: u32,
     ) -> Told
         requires { MayHear D.Disk store.old disk.old lists.old self.old (value_of frame.now) }
-        ensures hears { (w : Window) (c : Connected) → IsConnection w store.old self.old c →
-            HearsParts D.Disk w (rest_of_frame w c (value_of frame.now))
-            (parts_of_frame w moment (store_in store.old) lists.old c (value_of frame.now))
-            (at store.old disk.old) (working_on store.new lists.new disk.new) self.new result }
+        ensures hears { HearsFrameParts D.Disk moment (value_of frame.now)
+            (working_on store.old lists.old disk.old) (working_on store.new lists.new disk.new)
+            self.old self.new result }
         ensures fit { LeavesFit D.Disk (at store.old disk.old) (working_on store.new lists.new disk.new)
             self.old.link self.new.link self.old.session self.new.session result }
     {
@@ -282,7 +281,7 @@ fn take_packets<D: Disk>(
 ) -> Told
     requires { MayTake D.Disk store.old disk.old lists.old link.old.link session.old }
     ensures feeds { FeedsAll D.Disk moment (carrying link.old.link (octets_in link.old ++ octets.now) session.old)
-        (carrying link.new.link (octets_in link.new) session.new) (working_on store.old lists.old disk.old)
+        (carried link.new session.new) (working_on store.old lists.old disk.old)
         (working_on store.new lists.new disk.new) result }
     ensures fit { LeavesFit D.Disk (at store.old disk.old) (working_on store.new lists.new disk.new)
         link.old.link link.new.link session.old session.new result }
@@ -310,9 +309,9 @@ fn answer<D: Disk>(
 ) -> Told
     requires whole { IsTrue (is_whole link.old.reader) }
     requires may { MayTake D.Disk store.old disk.old lists.old link.old.link session.old }
-    ensures takes { TakesSome D.Disk moment (with_nothing_left link.old.link session.old)
-        (working_on store.old lists.old disk.old) (read_item link.old.reader ∷ [])
-        (working_on store.new lists.new disk.new) (with_nothing_left link.new.link session.new) result }
+    ensures takes { TakesOne D.Disk moment (read_item link.old.reader)
+        (without_rest link.old.link session.old) (without_rest link.new.link session.new)
+        (working_on store.old lists.old disk.old) (working_on store.new lists.new disk.new) result }
     ensures fit { LeavesFit D.Disk (at store.old disk.old) (working_on store.new lists.new disk.new)
         link.old.link link.new.link session.old session.new result }
     ensures reader { link.new.reader ≡ link.old.reader }

@@ -1,15 +1,12 @@
 -- The lists of all callers, whose numbers are those of complete files.
-use Rattle.std.proofs.Common.{◌≡◌, ℕ, ◌==◌, ◌≤◌, List, [], ◌∷◌, ◌++◌, length, drop, Bool, true, false, not, cond, Some}
-use Rattle.std.proofs.Common.{arith}
+use Rattle.std.proofs.Common.{◌≡◌, ℕ, ◌==◌, ◌≤◌, List, [], ◌∷◌, ◌++◌, length, drop, Bool, true, false, not, cond, Some, arith}
 use Rattle.std.specs.Prelude.{find}
 use Rattle.std.specs.List.{AllByRecursion}
 use Rattle.std.proofs.lemmas.Bool.Decides.{nat_tests}
 use Rattle.std.proofs.lemmas.List.{length-take}
-use Rattle.std.proofs.lemmas.List.Elements.{All-append, All-cons, All-drop, All-filter, All-map, All-nil, All-weaker}
-use Rattle.std.proofs.lemmas.List.Elements.{recursion_from_All}
+use Rattle.std.proofs.lemmas.List.Elements.{All-append, All-cons, All-drop, All-filter, All-map, All-nil, All-weaker, recursion_from_All}
 use Rattle.px_base.specs.CallSign.{CallSign}
-use Rattle.ftl0_session.specs.Lists.Lists.{CallerList, after_taking, is_of, left_of, lists_of_others, numbers_or_none}
-use Rattle.ftl0_session.specs.Lists.Lists.{selected, shortened}
+use Rattle.ftl0_session.specs.Lists.Lists.{CallerList, after_taking, is_of, left_of, lists_of_others, numbers_or_none, selected, shortened}
 use Rattle.file_store.specs.Info.{IsCompleteIn}
 use Rattle.file_store.specs.EntriesKept.{KeepsComplete}
 use Rattle.file_store.specs.Store.{Store}

@@ -1,7 +1,5 @@
 -- What is sent where no read fails: all that is due, and DATA_END.
-use Rattle.std.proofs.Common.{◌≡◌, ◌≢◌, ℕ, zero, suc, ◌-◌, ◌==◌, ◌≤◌, ◌<◌, List, [], ◌∷◌, ◌++◌, length, map, take, drop}
-use Rattle.std.proofs.Common.{Bool, true, false, None, Some, refl, ap, ◌∙◌, subst, arith, inl, inr, length-append}
-use Rattle.std.proofs.Common.{length-drop}
+use Rattle.std.proofs.Common.{◌≡◌, ◌≢◌, ℕ, zero, suc, ◌-◌, ◌==◌, ◌≤◌, ◌<◌, List, [], ◌∷◌, ◌++◌, length, map, take, drop, Bool, true, false, None, Some, refl, ap, ◌∙◌, subst, arith, inl, inr, length-append, length-drop}
 use Rattle.std.specs.Prelude.{nat_lt}
 use Rattle.std.specs.List.{flat_map}
 use Rattle.std.proofs.Math.Seq.{take-append_seam}
@@ -17,11 +15,8 @@ use Rattle.file_store.specs.Info.{IsCompleteIn}
 use Rattle.file_store.specs.Store.{Store}
 use Rattle.ftl0_session.specs.Downloads.Laws.{BeginWithHeaders, IsSent, Sends, SendsAll}
 use Rattle.ftl0_session.specs.Downloads.Needs.{AreStored, IsDueIn, LiesIn}
-use Rattle.ftl0_session.specs.Downloads.Sending.{due_octets, is_due, joined, most_data, next_due, octets_due}
-use Rattle.ftl0_session.specs.Downloads.Sending.{state_after, state_at_end}
-use Rattle.ftl0_session.specs.Downloads.Table.{DownloadRow, DownloadState, command_row, download_row, file_of}
-use Rattle.ftl0_session.specs.Downloads.Table.{header_due, lists_after, listing, long_due, octets_in, ready, sending}
-use Rattle.ftl0_session.specs.Downloads.Table.{short_due, short_octets, stored, waiting}
+use Rattle.ftl0_session.specs.Downloads.Sending.{due_octets, is_due, joined, most_data, next_due, octets_due, state_after, state_at_end}
+use Rattle.ftl0_session.specs.Downloads.Table.{DownloadRow, DownloadState, command_row, download_row, file_of, header_due, lists_after, listing, long_due, octets_in, ready, sending, short_due, short_octets, stored, waiting}
 use Rattle.ftl0_session.proofs.downloads.DueLemmas.{due-after, octets_due-after, take-all}
 use Rattle.ftl0_session.proofs.downloads.FileLemmas.{file-complete}
 

@@ -12,9 +12,7 @@ use Rattle.ftl0_packets.specs.declared.packet.Packet.TheVariants as packet
 use Rattle.ftl0_session.specs.Lists.Lists.{CallerList}
 use Rattle.file_store.proofs.Offered.{reads_none}
 use Rattle.file_store.specs.Store.{Store}
-use Rattle.ftl0_session.specs.Downloads.Table.{DownloadRow, DownloadState, Due, command_row, directory_row}
-use Rattle.ftl0_session.specs.Downloads.Table.{download_cmd_row, download_row, ended_row, listing, long_due, ready}
-use Rattle.ftl0_session.specs.Downloads.Table.{reply_sending, reply_waiting, select_row, sending, short_due, waiting}
+use Rattle.ftl0_session.specs.Downloads.Table.{DownloadRow, DownloadState, Due, command_row, directory_row, download_cmd_row, download_row, ended_row, listing, long_due, ready, reply_sending, reply_waiting, select_row, sending, short_due, waiting}
 use Rattle.ftl0_session.specs.Downloads.Taking.{Made, MakesRow, TakesByRow, made, made_by}
 
 -- a packet without a row in Ready

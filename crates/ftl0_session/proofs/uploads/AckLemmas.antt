@@ -1,6 +1,5 @@
 -- What was acknowledged stands.
-use Rattle.std.proofs.Common.{◌≡◌, ℕ, ◌+◌, ◌-◌, ◌≤◌, List, [], ◌∷◌, ◌++◌, length, refl, ◌∙◌, ap, subst, arith}
-use Rattle.std.proofs.Common.{length-append, None, Some}
+use Rattle.std.proofs.Common.{◌≡◌, ℕ, ◌+◌, ◌-◌, ◌≤◌, List, [], ◌∷◌, ◌++◌, length, refl, ◌∙◌, ap, subst, arith, length-append, None, Some}
 use Rattle.file_store.specs.Command.{AreAllowed, Command, after, after_all, last_grow, seal}
 use Rattle.file_store.specs.Store.{Store, entry_of}
 use Rattle.file_store.specs.OnDisk.{after_first}

@@ -1,6 +1,5 @@
 -- A new file: what it leaves of other files, and the answer to a refusal.
-use Rattle.std.proofs.Common.{◌≡◌, ◌⊎◌, ℕ, ◌<◌, List, [], ◌∷◌, refl, ap, sym, ◌∙◌, subst, arith, inl, inr, None, Some}
-use Rattle.std.proofs.Common.{true≢false}
+use Rattle.std.proofs.Common.{◌≡◌, ◌⊎◌, ℕ, ◌<◌, List, [], ◌∷◌, refl, ap, sym, ◌∙◌, subst, arith, inl, inr, None, Some, true≢false}
 use Rattle.std.specs.Prelude.{⊤, IsTrue, Result, Ok, Err, IsErr}
 use Rattle.px_base.specs.CallSign.{CallSign}
 use Rattle.disk_model.specs.declared.disk.Disk.{Ghosts}
@@ -27,12 +26,10 @@ use Rattle.disk_model.specs.AtDisk.{at}
 use Rattle.ftl0_session.specs.Uploads.SessionState.{MayTake, NoOtherOut}
 use Rattle.ftl0_session.specs.Uploads.Taking.{Answered, AnswersRefusal}
 use Rattle.ftl0_session.specs.Uploads.Events.{packet_of}
-use Rattle.ftl0_session.proofs.uploads.DoesLemmas.{answered-alone, does-row, some-at_front, touched}
-use Rattle.ftl0_session.proofs.uploads.DoesLemmas.{untouched as as-it-was}
+use Rattle.ftl0_session.proofs.uploads.DoesLemmas.{answered-alone, does-row, some-at_front, touched, untouched as as-it-was}
 use Rattle.ftl0_session.proofs.uploads.OtherLemmas.{never_some}
 use Rattle.ftl0_session.proofs.uploads.Rows.{alone-row, others-same}
-use Rattle.ftl0_session.proofs.uploads.UploadRows.{bars-cannot, begin-can, below-next, may-can, push-back, row-barred}
-use Rattle.ftl0_session.proofs.uploads.UploadRows.{row-granted}
+use Rattle.ftl0_session.proofs.uploads.UploadRows.{bars-cannot, begin-can, below-next, may-can, push-back, row-barred, row-granted}
 use Rattle.file_store.specs.BeginBar.TheVariants as bar
 
 module _ (caller : CallSign) (moment len : ℕ) (before now : StoreState) (is : IsStore (store_in before)) (rests : KeepsRests before.files now.files (store_in before).next) where

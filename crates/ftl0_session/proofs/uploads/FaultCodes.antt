@@ -1,26 +1,19 @@
 -- Code 3 is in no row of the table.
-use Rattle.std.proofs.Common.{◌≡◌, ◌≢◌, ℕ, List, [], ◌∷◌, ◌++◌, length, refl, ap, ◌∙◌, arith, Bool, true, false, not}
-use Rattle.std.proofs.Common.{Option, None, Some}
+use Rattle.std.proofs.Common.{◌≡◌, ◌≢◌, ℕ, List, [], ◌∷◌, ◌++◌, length, refl, ap, ◌∙◌, arith, Bool, true, false, not, Option, None, Some}
 use Rattle.std.specs.Prelude.{Ok, IfSome, if◌then◌else◌, unwrap_or, ◌==◌}
 use Rattle.std.specs.List.{AllByRecursion}
 use Rattle.std.specs.Option.{option_map}
 use Rattle.px_base.specs.CallSign.{CallSign}
 use Rattle.pfh_items.specs.Faults.{code_of, fault_code, first_fault}
 use Rattle.pfh_items.specs.declared.fault.FileFault.{FileFault}
-use Rattle.pfh_items.specs.declared.fault.FileFault.TheVariants.{NoHeader, NoEndItem, MissingItem, BadHeader, HeaderSum}
-use Rattle.pfh_items.specs.declared.fault.FileFault.TheVariants.{BodySum}
-use Rattle.ftl0_packets.specs.Layout.{Item, PacketValue, data_part, data_end, login_resp, upload_cmd, ul_go_resp}
-use Rattle.ftl0_packets.specs.Layout.{ul_error_resp, ul_ack_resp, ul_nak_resp, download_cmd, dl_error_resp}
-use Rattle.ftl0_packets.specs.Layout.{dl_aborted_resp, dl_completed_resp, dl_ack_cmd, dl_nak_cmd, dir_short_cmd}
-use Rattle.ftl0_packets.specs.Layout.{dir_long_cmd, select_cmd, select_resp}
+use Rattle.pfh_items.specs.declared.fault.FileFault.TheVariants.{NoHeader, NoEndItem, MissingItem, BadHeader, HeaderSum, BodySum}
+use Rattle.ftl0_packets.specs.Layout.{Item, PacketValue, data_part, data_end, login_resp, upload_cmd, ul_go_resp, ul_error_resp, ul_ack_resp, ul_nak_resp, download_cmd, dl_error_resp, dl_aborted_resp, dl_completed_resp, dl_ack_cmd, dl_nak_cmd, dir_short_cmd, dir_long_cmd, select_cmd, select_resp}
 use Rattle.file_store.specs.Command.{can_begin, has_room, passes}
 use Rattle.file_store.specs.Info.{is_complete}
 use Rattle.file_store.specs.Store.{Entry, Store, entry_of, octets_at, octets_of}
 use Rattle.ftl0_session.specs.Uploads.Laws.{FaultCodeLaw, IsNoFault}
 use Rattle.ftl0_packets.specs.Items.{kind_of_item}
-use Rattle.ftl0_session.specs.Uploads.Session.{Row, State, aborting, begin_row, command, continue_row, data_row}
-use Rattle.ftl0_session.specs.Uploads.Session.{end_row, error_row, granted_row, is_all, is_theirs, is_upload_kind}
-use Rattle.ftl0_session.specs.Uploads.Session.{receiving, refused_row, resumed_row, session_row, taken_row, whole_row}
+use Rattle.ftl0_session.specs.Uploads.Session.{Row, State, aborting, begin_row, command, continue_row, data_row, end_row, error_row, granted_row, is_all, is_theirs, is_upload_kind, receiving, refused_row, resumed_row, session_row, taken_row, whole_row}
 
 abbrev NoFault : Row → Type 0
 NoFault row = AllByRecursion IsNoFault row.replies

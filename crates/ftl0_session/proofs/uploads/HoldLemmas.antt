@@ -1,6 +1,5 @@
 -- What a session that receives a file gives, over a store that holds its upload.
-use Rattle.std.proofs.Common.{◌≡◌, ℕ, ◌+◌, ◌≤◌, ◌<◌, List, [], ◌∷◌, ◌++◌, length, take, refl, ap, sym, ◌∙◌, subst}
-use Rattle.std.proofs.Common.{arith, inl, inr, Option, None, Some}
+use Rattle.std.proofs.Common.{◌≡◌, ℕ, ◌+◌, ◌≤◌, ◌<◌, List, [], ◌∷◌, ◌++◌, length, take, refl, ap, sym, ◌∙◌, subst, arith, inl, inr, Option, None, Some}
 use Rattle.std.proofs.lemmas.Bool.Decides.{leb_tells}
 use Rattle.std.specs.Prelude.{Ok}
 use Rattle.px_base.specs.CallSign.{CallSign}
@@ -21,8 +20,7 @@ use Rattle.ftl0_session.specs.Uploads.SessionState.{NoOtherOut, PhaseIsHeld, num
 use Rattle.ftl0_session.specs.Uploads.Taking.{AnsweredAlone}
 use Rattle.ftl0_session.specs.Uploads.Events.{packet_of}
 use Rattle.ftl0_session.proofs.uploads.DoesLemmas.{some-at_end}
-use Rattle.ftl0_session.proofs.uploads.OtherLemmas.{AreOf, Touches, are-append, are-last_grow, are-take, only-none}
-use Rattle.ftl0_session.proofs.uploads.OtherLemmas.{others-kept, touches-all, touches-same}
+use Rattle.ftl0_session.proofs.uploads.OtherLemmas.{AreOf, Touches, are-append, are-last_grow, are-take, only-none, others-kept, touches-all, touches-same}
 use Rattle.ftl0_session.proofs.uploads.Rows.{none-at}
 use Rattle.ftl0_session.proofs.uploads.UploadRows.{row-short, row-taken, row-too_much, row-whole}
 

@@ -1,11 +1,9 @@
 -- What the commands of one upload leave of the other entries.
-use Rattle.std.proofs.Common.{◌≡◌, ◌≢◌, ℕ, zero, suc, not, List, [], ◌∷◌, ◌++◌, take, drop, map, filter, refl, ap, sym}
-use Rattle.std.proofs.Common.{◌∙◌, subst, Option, None, Some, inl, inr, ◌==◌}
+use Rattle.std.proofs.Common.{◌≡◌, ◌≢◌, ℕ, zero, suc, not, List, [], ◌∷◌, ◌++◌, take, drop, map, filter, refl, ap, sym, ◌∙◌, subst, Option, None, Some, inl, inr, ◌==◌}
 use Rattle.std.specs.Prelude.{find, ⊤}
 use Rattle.std.proofs.lemmas.Bool.Decides.{eqb_tells}
 use Rattle.px_base.specs.CallSign.{CallSign}
-use Rattle.file_store.specs.Command.{Command, begin, grow, seal, drop_entry, after, after_all, changed, grown, grows}
-use Rattle.file_store.specs.Command.{last_grow, sealed, with_holding}
+use Rattle.file_store.specs.Command.{Command, begin, grow, seal, drop_entry, after, after_all, changed, grown, grows, last_grow, sealed, with_holding}
 use Rattle.file_store.specs.Files.{KeepsRests}
 use Rattle.file_store.specs.Store.{Entry, Holding, Store, entry_of, partial}
 use Rattle.file_store.proofs.Offered.{find-filter_other, find-map-changed, find-map-changed_other, has_number}

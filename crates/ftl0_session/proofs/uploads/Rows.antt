@@ -1,6 +1,5 @@
 -- Which packets have a row, the rows of those that have no row of their own, and of those in Aborting.
-use Rattle.std.proofs.Common.{◌≡◌, ℕ, List, [], ◌∷◌, refl, Bool, true, false, true≢false, sym, ap, ◌∙◌, Bor, subst}
-use Rattle.std.proofs.Common.{Option, None, Some}
+use Rattle.std.proofs.Common.{◌≡◌, ℕ, List, [], ◌∷◌, refl, Bool, true, false, true≢false, sym, ap, ◌∙◌, Bor, subst, Option, None, Some}
 use Rattle.std.specs.Prelude.{⊤, Result, Ok, Err, IfSome, IsErr, if◌then◌else◌, is_some}
 use Rattle.px_base.specs.CallSign.{CallSign}
 use Rattle.ftl0_packets.specs.Layout.{Item, data_part, data_end, upload_cmd, ul_error_resp}
@@ -15,8 +14,7 @@ use Rattle.disk_model.specs.declared.halt.Halt.{Halt}
 use Rattle.ftl0_session.specs.Uploads.Laws.{RowsLaw}
 use Rattle.ftl0_session.specs.Uploads.Others.{KeepsOtherCallers}
 use Rattle.ftl0_packets.specs.Items.{kind_of_item, texts}
-use Rattle.ftl0_session.specs.Uploads.Session.{Row, State, aborting, command, error_row, is_upload_kind, receiving}
-use Rattle.ftl0_session.specs.Uploads.Session.{refused_row, session_row, silent_row}
+use Rattle.ftl0_session.specs.Uploads.Session.{Row, State, aborting, command, error_row, is_upload_kind, receiving, refused_row, session_row, silent_row}
 use Rattle.ftl0_session.specs.Uploads.SessionState.{NoOtherOut, PhaseIsHeld, number_of, state_of}
 use Rattle.ftl0_session.specs.Uploads.Taking.{Answers, AnsweredAlone}
 use Rattle.ftl0_session.specs.Uploads.Events.{packet_of}

@@ -1,7 +1,5 @@
 -- The rows of UPLOAD_CMD, DATA and DATA_END, as the code meets them.
-use Rattle.std.proofs.Common.{◌≡◌, ◌≢◌, ◌⊎◌, ℕ, ◌+◌, ◌-◌, ◌≤◌, ◌<◌, Bool, ◌&&◌, List, [], ◌∷◌, ◌++◌, length, refl, true}
-use Rattle.std.proofs.Common.{false, arith, length-append, sym, ap, ap₂, ◌∙◌, eq-eqb, inl, inr, Option, None, Some}
-use Rattle.std.proofs.Common.{true≢false, ◌==◌}
+use Rattle.std.proofs.Common.{◌≡◌, ◌≢◌, ◌⊎◌, ℕ, ◌+◌, ◌-◌, ◌≤◌, ◌<◌, Bool, ◌&&◌, List, [], ◌∷◌, ◌++◌, length, refl, true, false, arith, length-append, sym, ap, ap₂, ◌∙◌, eq-eqb, inl, inr, Option, None, Some, true≢false, ◌==◌}
 use Rattle.std.proofs.lemmas.Bool.Decides.{Decides-eqb, nat_tests, eqb_tells}
 use Rattle.std.proofs.lemmas.Slice.Eq.{bytes_eq-Decides}
 use Rattle.std.specs.Prelude.{find, Ok, IsTrue, nat_le, nat_lt, nat_eq, bytes_eq}
@@ -19,9 +17,7 @@ use Rattle.file_store.specs.Store.{Entry, Store, blocks_for, blocks_of, entry_of
 use Rattle.file_store.proofs.Offered.{found-fits, has_number}
 use Rattle.file_store.specs.State.{StoreState, rest_in}
 use Rattle.file_store.specs.Upload.{Upload}
-use Rattle.ftl0_session.specs.Uploads.Session.{aborting, command, continue_row, granted_row, is_all, is_same_call}
-use Rattle.ftl0_session.specs.Uploads.Session.{is_theirs, receiving, refused_row, resumed_row, session_row, taken_row}
-use Rattle.ftl0_session.specs.Uploads.Session.{whole_row}
+use Rattle.ftl0_session.specs.Uploads.Session.{aborting, command, continue_row, granted_row, is_all, is_same_call, is_theirs, receiving, refused_row, resumed_row, session_row, taken_row, whole_row}
 use Rattle.ftl0_session.specs.Uploads.SessionState.{receiving_of}
 
 -- ---- a new file

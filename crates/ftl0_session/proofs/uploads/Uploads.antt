@@ -1,14 +1,12 @@
 -- The upload of a whole file, packet by packet.
-use Rattle.std.proofs.Common.{◌≡◌, ℕ, ◌+◌, ◌*◌, ◌/◌, ◌≤◌, List, [], ◌∷◌, ◌++◌, length, take, refl, ap, sym, ◌∙◌, arith}
-use Rattle.std.proofs.Common.{length-append, append_assoc, append-nil, None, Some, Option, eq-eqb}
+use Rattle.std.proofs.Common.{◌≡◌, ℕ, ◌+◌, ◌*◌, ◌/◌, ◌≤◌, List, [], ◌∷◌, ◌++◌, length, take, refl, ap, sym, ◌∙◌, arith, length-append, append_assoc, append-nil, None, Some, Option, eq-eqb}
 use Rattle.std.specs.Prelude.{Ok}
 use Rattle.std.proofs.lemmas.List.{take-append-drop}
 use Rattle.px_base.specs.CallSign.{CallSign}
 use Rattle.ftl0_packets.specs.Layout.{Item, PacketValue, data_end, ul_ack_resp, ul_go_resp}
 use Rattle.pfh_items.specs.Faults.{fault_code}
 use Rattle.pfh_writer.proofs.ClientLemmas.{kept_file}
-use Rattle.file_store.specs.Command.{after, after_all, begin, grown, last_grow, seal, sealed, stamp_of}
-use Rattle.file_store.specs.Command.{unfilled_block, whole_grows}
+use Rattle.file_store.specs.Command.{after, after_all, begin, grown, last_grow, seal, sealed, stamp_of, unfilled_block, whole_grows}
 use Rattle.file_store.specs.IsStore.{IsStore}
 use Rattle.file_store.specs.Store.{Entry, Holding, Store, entry_of, new_entry, octets_at, partial}
 use Rattle.file_store.proofs.Offered.{after_all-append, find-map-changed, find-push, find_past, grows-after, has_number, last_grow-after}

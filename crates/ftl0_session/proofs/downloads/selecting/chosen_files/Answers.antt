@@ -1,5 +1,4 @@
-use Rattle.std.proofs.Common.{◌≡◌, ◌++◌, ◌<◌, List, ℕ, true, false, None, Some, Option, refl, sym, ◌∙◌, ap, subst}
-use Rattle.std.proofs.Common.{arith, lit≤}
+use Rattle.std.proofs.Common.{◌≡◌, ◌++◌, ◌<◌, List, ℕ, true, false, None, Some, Option, refl, sym, ◌∙◌, ap, subst, arith, lit≤}
 use Rattle.std.proofs.lemmas.List.{append-nil}
 use Rattle.file_store.specs.Headers.{header_items}
 use Rattle.file_store.specs.Info.{IsNextComplete}
@@ -8,8 +7,7 @@ use Rattle.selection.specs.Meaning.{holds}
 use Rattle.selection.specs.Values.{tree_of}
 use Rattle.ftl0_session.specs.Downloads.Needs.{AreFiles}
 use Rattle.ftl0_session.specs.Downloads.Table.{chosen, octets_in}
-use Rattle.ftl0_session.proofs.downloads.ChosenLemmas.{above_of, chosen-complete, chosen-end, chosen-room, chosen-start}
-use Rattle.ftl0_session.proofs.downloads.ChosenLemmas.{chosen-step, next-below}
+use Rattle.ftl0_session.proofs.downloads.ChosenLemmas.{above_of, chosen-complete, chosen-end, chosen-room, chosen-start, chosen-step, next-below}
 use Rattle.ftl0_session.proofs.downloads.ReadsLemmas.{none-yet, one-more}
 use Rattle.ftl0_session.proofs.downloads.selecting.chosen_files.Goals as goal
 

@@ -1,5 +1,4 @@
-use Rattle.std.proofs.Common.{◌≡◌, ◌++◌, ◌∷◌, [], ◌-◌, ◌+◌, get_or, length, min, take, sym, ◌∙◌, ap, subst, arith}
-use Rattle.std.proofs.Common.{length-append}
+use Rattle.std.proofs.Common.{◌≡◌, ◌++◌, ◌∷◌, [], ◌-◌, ◌+◌, get_or, length, min, take, sym, ◌∙◌, ap, subst, arith, length-append}
 use Rattle.file_store.specs.State.{StoreState, store_in}
 use Rattle.ftl0_session.specs.Downloads.Needs.{IsStored, LiesIn}
 use Rattle.ftl0_session.specs.Downloads.Sending.{after_octets, due_octets}

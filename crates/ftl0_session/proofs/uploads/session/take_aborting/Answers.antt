@@ -3,8 +3,7 @@ use Rattle.std.proofs.Common.{refl}
 use Rattle.file_store.specs.State.{store_in}
 use Rattle.ftl0_session.specs.declared.uploads.phase.Phase.TheVariants as phase
 use Rattle.ftl0_session.specs.Uploads.Session.{aborting, command, silent_row}
-use Rattle.ftl0_session.proofs.uploads.Rows.{alone-refused, alone-row, error-aborting, row-aborting_data}
-use Rattle.ftl0_session.proofs.uploads.Rows.{row-aborting_end, row-at}
+use Rattle.ftl0_session.proofs.uploads.Rows.{alone-refused, alone-row, error-aborting, row-aborting_data, row-aborting_end, row-at}
 use Rattle.ftl0_session.proofs.uploads.session.take_aborting.Goals as goal
 
 pub returns-in-Part : goal.returns-in-Part

@@ -13,8 +13,7 @@ use Rattle.ftl0_server.specs.Connection.Connected.{greeted}
 use Rattle.ftl0_server.specs.Connection.Hearing.{with_end}
 use Rattle.ftl0_server.specs.Connection.Inside.{connection_state}
 use Rattle.ftl0_server.proofs.connection.FeedLemmas.{fit-anew, fit-heard}
-use Rattle.ftl0_server.proofs.connection.HearLemmas.{anew-at, parks-same, parts-bytes, parts-on, parts-over}
-use Rattle.ftl0_server.proofs.connection.HearLemmas.{parts-quiet, parts-told, same-peer}
+use Rattle.ftl0_server.proofs.connection.HearLemmas.{anew-at, parks-same, parts-bytes, parts-on, parts-over, parts-quiet, parts-told, same-peer}
 use Rattle.packet_link.proofs.Fronts.{stations-then}
 use Rattle.ftl0_server.proofs.connection.OctetsLemmas.{hears-all}
 use Rattle.ftl0_server.proofs.connection.connection.Connection.take_frame.Goals as goal

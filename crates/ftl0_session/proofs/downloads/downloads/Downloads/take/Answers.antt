@@ -6,8 +6,7 @@ use Rattle.ftl0_session.specs.Downloads.Spans.{due_of}
 use Rattle.ftl0_session.specs.Downloads.Table.{download_row, ended_row, kept, sending, waiting}
 use Rattle.ftl0_session.specs.Downloads.View.{state_of}
 use Rattle.ftl0_session.specs.declared.downloads.downloads.Phase.{Phase}
-use Rattle.ftl0_session.proofs.downloads.TakeLemmas.{ended_by, not_taken, row_in_listing, row_in_sending}
-use Rattle.ftl0_session.proofs.downloads.TakeLemmas.{row_in_waiting}
+use Rattle.ftl0_session.proofs.downloads.TakeLemmas.{ended_by, not_taken, row_in_listing, row_in_sending, row_in_waiting}
 use Rattle.ftl0_session.proofs.downloads.downloads.Downloads.take.Goals as goal
 
 pub returns-in-Sending-clause-takes : goal.returns-in-Sending-clause-takes

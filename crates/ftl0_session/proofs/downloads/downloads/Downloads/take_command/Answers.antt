@@ -3,8 +3,7 @@ use Rattle.ftl0_packets.specs.Values.{value_of}
 use Rattle.file_store.specs.State.{store_in}
 use Rattle.ftl0_session.specs.Downloads.Table.{command_row, directory_row, long_due, ready, select_row, short_due}
 use Rattle.ftl0_session.specs.Downloads.Taking.{made}
-use Rattle.ftl0_session.proofs.downloads.TakeLemmas.{download-is, long-is, no_row, not_taken, row_in_ready, select-is}
-use Rattle.ftl0_session.proofs.downloads.TakeLemmas.{short-is, taken_alone, taken_reading}
+use Rattle.ftl0_session.proofs.downloads.TakeLemmas.{download-is, long-is, no_row, not_taken, row_in_ready, select-is, short-is, taken_alone, taken_reading}
 use Rattle.ftl0_session.proofs.downloads.downloads.Downloads.take_command.Goals as goal
 
 pub returns-in_default : goal.returns-in_default

@@ -9,8 +9,7 @@ use Rattle.ftl0_session.specs.declared.uploads.phase.Phase.TheVariants as phase
 use Rattle.ftl0_session.specs.Uploads.Session.{command, whole_row}
 use Rattle.ftl0_session.specs.Uploads.SessionState.{receiving_of}
 use Rattle.ftl0_session.proofs.uploads.DoesLemmas.{answered-alone, does-at, does-row, touched}
-use Rattle.ftl0_session.proofs.uploads.HoldLemmas.{are-whole, own-entry, parked, short, touches-cut, touches-done}
-use Rattle.ftl0_session.proofs.uploads.HoldLemmas.{whole, whole-sealing, whole-some}
+use Rattle.ftl0_session.proofs.uploads.HoldLemmas.{are-whole, own-entry, parked, short, touches-cut, touches-done, whole, whole-sealing, whole-some}
 use Rattle.ftl0_session.proofs.uploads.OtherLemmas.{only-none, others-kept}
 use Rattle.ftl0_session.proofs.uploads.session.Session.take_end.Goals as goal
 
