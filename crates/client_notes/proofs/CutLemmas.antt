@@ -3,10 +3,9 @@ use Rattle.std.proofs.Common.{◌≡◌, List, [], ◌++◌, sym, subst}
 use Rattle.std.specs.Prelude.{false}
 use Rattle.disk_model.specs.declared.disk.Disk.{Ghosts}
 use Rattle.client_notes.specs.Command.{NotesCommand}
-use Rattle.client_notes.specs.Several.{DoesSeveral}
+use Rattle.client_notes.specs.Several.{CutsOff, DoesSeveral}
 use Rattle.client_notes.specs.State.{NotesState, StandsOn}
 use Rattle.client_notes.proofs.SeveralLemmas.{Several-none, Several-then}
-use Rattle.client_notes.specs.Through.{CutsOff}
 
 module _ {D : Type 0} (g : Ghosts D) (lasts : (disk : D) → g.lasts disk disk) where
   -- nothing is noted where the notes are as they were

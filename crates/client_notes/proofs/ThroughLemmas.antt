@@ -1,25 +1,21 @@
 -- What stands on the disk through a command: from the recovery on, and at its end.
-use Rattle.std.proofs.Common.{◌≡◌, inl, inr, ⊎_elim, ℕ, List, [], ◌++◌, refl, ap, ◌∙◌, subst, arith, IfSome}
-use Rattle.std.specs.Prelude.{Err, IsErrOf, Option}
+use Rattle.std.proofs.Common.{◌≡◌, inr, ℕ, List, [], ◌++◌, ◌∙◌, subst, arith, IfSome}
 use Rattle.px_base.specs.Outside.{Rose}
 use Rattle.disk_model.specs.declared.disk.Disk.{Ghosts}
 use Rattle.file_journal.specs.Calls.{CountsFault, Leaves, Runs, TellsAlike}
 use Rattle.file_journal.specs.Kept.{alone}
-use Rattle.file_journal.specs.Recovery.{IsFailedSync, IsSyncedFirst}
+use Rattle.file_journal.specs.Recovery.{IsSyncedFirst}
 use Rattle.file_journal.specs.Through.{CountsWrites, StandsThrough}
 use Rattle.file_journal.specs.Walk.{state}
-use Rattle.file_journal.proofs.Offered.{alike_on, at_told, if_told, joined, runs_same, stops_on, told_before, told_weaker, weaker}
+use Rattle.file_journal.proofs.Offered.{alike_on, stops_on}
 use Rattle.file_journal.proofs.Offered as kept
 use Rattle.client_notes.proofs.PutLemmas.{own-number}
 use Rattle.client_notes.proofs.SeveralLemmas.{Several-then}
 use Rattle.client_notes.specs.Command.{NotesCommand}
 use Rattle.client_notes.specs.Records.{notes_form, notes_magic}
-use Rattle.client_notes.specs.Recovery.{LeavesAlikeSinceSync, RefusesRecovery, StandsAlike}
-use Rattle.client_notes.specs.declared.refusals.StoreFault.{StoreFault}
-use Rattle.client_notes.specs.declared.refusals.StoreFault.TheVariants as fault
-use Rattle.client_notes.specs.Several.{DoesSeveral, notes_on}
+use Rattle.client_notes.specs.Recovery.{StandsAlike}
+use Rattle.client_notes.specs.Several.{CutsOff, DoesSeveral, notes_on}
 use Rattle.client_notes.specs.State.{NotesState, standing_of}
-use Rattle.client_notes.specs.Through.{CutsOff, IsOfStanding, LeavesStanding}
 
 module _ {D : Type 0} (g : Ghosts D) (on : (first second third : D) → g.lasts first second → g.lasts second third → g.lasts first third) (failed : Type 0) (old mid now : D) (start new : NotesState)
     (done cut : List NotesCommand) (alike : TellsAlike (g.content old) (g.content mid)) (stood : IfSome (g.content old) (λ before. standing_of before ≡ state start.lists))
@@ -63,36 +59,3 @@ module _ {D : Type 0} (g : Ghosts D) (on : (first second third : D) → g.lasts 
         stops = stops_on g on old mid now first.lasts same.0 same.1 second.stops;
         lasts = on old mid now first.lasts second.lasts;
       }
-
--- ---- a recovery that is refused
-
-module _ (T : Type 0) where
-  -- the fault is the fault
-  fault_is : (why other : StoreFault) → IsErrOf {T = T} (Err why) other → why ≡ other
-  fault_is why other is = cc is
-
-  -- what the content stands for where it is refused
-  refused_cause : (why : StoreFault) (content : Option (List ℕ)) → RefusesRecovery {T = T} content (Err why)
-      → IfSome content (λ before. IsOfStanding (standing_of before) why)
-  refused_cause (fault.NotAStore found) content refuses =
-      told_weaker content _ _ (λ before told exact. (exact.not_a_store found).0 refl) (refuses (λ is. cc is) (λ is. cc is))
-  refused_cause (fault.Damaged at) content refuses =
-      told_weaker content _ _ (λ before told exact. (exact.damaged at).0 refl) (refuses (λ is. cc is) (λ is. cc is))
-  refused_cause fault.Disk content refuses = if_told content _ (λ before told. tt)
-  refused_cause fault.OutOfMemory content refuses = if_told content _ (λ before told. tt)
-
-  -- what a refused recovery leaves
-  pub refused_leaves : {D : Type 0} (g : Ghosts D) (old now : D) (why : StoreFault) → RefusesRecovery {T = T} (g.content old) (Err why)
-      → ((found : List ℕ) → IsErrOf {T = T} (Err why) (fault.NotAStore found) → g.content now ≡ g.content old)
-      → ((at : ℕ) → IsErrOf {T = T} (Err why) (fault.Damaged at) → g.content now ≡ g.content old)
-      → Runs g (IsErrOf {T = T} (Err why) fault.Disk) old now → Leaves g old now StandsAlike → LeavesAlikeSinceSync {T = T} g (Err why) old now → LeavesStanding g why old now
-  refused_leaves g old now why refuses no_store damaged runs since_start since_sync = record {
-    cause = refused_cause why (g.content old) refuses;
-    since_sync = told_weaker (g.content old) _ _ (λ before told. ⊎_elim
-        (λ (synced : IsSyncedFirst g old now (StandsAlike before)). inl synced)
-        (λ (failed : IsErrOf {T = T} (Err why) fault.Disk × IsFailedSync g old now). inr (ap Err (fault_is why fault.Disk failed.0), failed.1))) since_sync;
-    since_start = since_start;
-    not_a_store = λ found is. no_store found (ap Err is);
-    damaged = λ at is. damaged at (ap Err is);
-    runs = runs_same g _ _ old now (fault_is why fault.Disk) (λ is. ap Err is) runs;
-  }

@@ -1,10 +1,9 @@
 //! Laws of a client's notes.
 
-ghost use Rattle.std.specs.Prelude.{◌≡◌, false};
 ghost use Rattle.client_notes.specs.Laws.{AckedLaw, ForgotLaw, GotLaw, RecordsLaw, StandingLaw};
 ghost use Rattle.client_notes.specs.OnDisk.{EachImage};
 ghost use Rattle.client_notes.specs.Several.{OneLaw, SeveralLaw};
-ghost use Rattle.client_notes.specs.State.{IsRead, StandsFor, StandsOn};
+ghost use Rattle.client_notes.specs.State.{IsRead, IsReady, StandsFor};
 
 use crate::Notes;
 use disk_model::Disk;
@@ -29,8 +28,7 @@ pub fn state_law(notes: &Notes)
 
 /// What stands on a disk on which notes that haven't failed stand: in every image these notes. Takes no memory.
 pub fn images_law<D: Disk>(notes: &Notes, disk: &D)
-    requires healthy { notes.now.journal.failed ≡ false }
-    requires stands_on { StandsOn D.Disk notes.now disk.now }
+    requires { IsReady D.Disk notes.now disk.now }
     ensures { EachImage D.Disk disk.now (λ image. StandsFor image notes.now.lists) }
 {
     notes.read_law();
