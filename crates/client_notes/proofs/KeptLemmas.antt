@@ -19,8 +19,8 @@ use Rattle.client_notes.specs.Notes.{Lists}
 use Rattle.client_notes.specs.Noting.{lists_of, without}
 use Rattle.client_notes.specs.OnDisk.{Answers, Does, EachImage, IsBeforeOrAfter}
 use Rattle.client_notes.specs.Records.{IsWritable, command_of, notes_after, notes_form, notes_magic, notes_step, record_of_command}
-use Rattle.client_notes.specs.Recovery.{AnswersRecovery, StandsAlike}
-use Rattle.client_notes.specs.State.{NotesState, StandsFor}
+use Rattle.client_notes.specs.Recovery.{AnswersRecovery, IsRecovered, Recovers, StandsAlike}
+use Rattle.client_notes.specs.State.{IsReady, NotesState, StandsFor}
 use Rattle.client_notes.specs.declared.noted_lists.Coming.{Coming}
 use Rattle.client_notes.specs.declared.noted_lists.Coming.TheVariants as coming
 use Rattle.client_notes.specs.declared.noted_lists.NotedLists.{NotedLists}
@@ -147,6 +147,21 @@ module _ {D T U : Type 0} (g : Ghosts D) (before brought after : NotedLists) (jo
       (subst (λ (l : Lists). kept.AnswersPut {T = T} g notes_form command (kept_on l journal disk) (kept_on (lists_of after) journal_now disk_now) (Err e)) noted put))
 
 -- ---- a recovery
+
+-- what a recovery gave is ready
+pub recovered-ready : {D : Type 0} (g : Ghosts D) (disk disk_now : D) (self : NotesState) → IsRecovered g disk disk_now self → IsReady g self disk_now
+recovered-ready g disk disk_now self is = record { healthy = is.healthy; stands_on = is.stands_at.keeps }
+
+-- and what it answers is what it did to the disk
+pub recovers-as : {D T : Type 0} (g : Ghosts D) (disk disk_now : D) (self : NotesState) (x : T) → IsRecovered g disk disk_now self → AnswersRecovery {T = T} g (Ok x) disk disk_now → Recovers g disk disk_now self
+recovers-as {T} g disk disk_now self x is answers = record {
+  recovered = is;
+  since_start = answers.since_start;
+  since_sync = told_weaker (g.content disk) _ _ (λ before told. ⊎_elim
+      (λ (synced : IsSyncedFirst g disk disk_now (StandsAlike before)). synced)
+      (λ (failed : IsErrOf {T = T} (Ok x) fault.Disk × IsFailedSync g disk disk_now). absurd (cc failed.0))) answers.since_sync;
+  runs = runs_same g _ ⊥ disk disk_now (λ failed. cc failed) (λ never. absurd never) answers.runs;
+}
 
 -- what a recovery answers, it answers as well where the same is refused
 pub answers-as : {D T U : Type 0} (g : Ghosts D) (old now : D) (one : Result T StoreFault) (other : Result U StoreFault) → ((fault : StoreFault) → IsErrOf one fault ↔ IsErrOf other fault)

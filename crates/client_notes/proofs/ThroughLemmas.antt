@@ -1,61 +1,52 @@
--- What stands on the disk through a command: from the recovery on, and at its end.
-use Rattle.std.proofs.Common.{◌≡◌, inr, ℕ, List, [], ◌++◌, ◌∙◌, subst, arith, IfSome}
+-- What a command does to the disk of the notes, from their recovery on.
+use Rattle.std.proofs.Common.{◌≡◌, inr, ℕ, List, [], ◌++◌, ◌∙◌, subst, arith}
 use Rattle.px_base.specs.Outside.{Rose}
 use Rattle.disk_model.specs.declared.disk.Disk.{Ghosts}
-use Rattle.file_journal.specs.Calls.{CountsFault, Leaves, Runs, TellsAlike}
+use Rattle.file_journal.specs.Calls.{CountsFault, Runs}
 use Rattle.file_journal.specs.Kept.{alone}
-use Rattle.file_journal.specs.Recovery.{IsSyncedFirst}
 use Rattle.file_journal.specs.Through.{CountsWrites, StandsThrough}
-use Rattle.file_journal.specs.Walk.{state}
 use Rattle.file_journal.proofs.Offered.{alike_on, stops_on}
 use Rattle.file_journal.proofs.Offered as kept
 use Rattle.client_notes.proofs.PutLemmas.{own-number}
 use Rattle.client_notes.proofs.SeveralLemmas.{Several-then}
 use Rattle.client_notes.specs.Command.{NotesCommand}
-use Rattle.client_notes.specs.Records.{notes_form, notes_magic}
-use Rattle.client_notes.specs.Recovery.{StandsAlike}
+use Rattle.client_notes.specs.Records.{notes_form}
+use Rattle.client_notes.specs.Recovery.{Recovers}
 use Rattle.client_notes.specs.Several.{CutsOff, DoesSeveral, notes_on}
-use Rattle.client_notes.specs.State.{NotesState, standing_of}
+use Rattle.client_notes.specs.State.{NotesState}
+
+-- What stands on the disk at each moment, what is counted, that without commands the disk is as the recovery left it, and
+-- that all is a run of calls.
+pub record GoesThrough {D : Type 0} (g : Ghosts D) (failed : Type 0) (old mid now : D) (start : NotesState) (done cut : List NotesCommand) : Type 0 where
+  pub stands : StandsThrough g notes_form failed start.lists done cut old now
+  pub ready : stands.ready ≡ g.moment mid
+  pub counts : CountsWrites g failed old now
+  pub none : done ++ cut ≡ [] → now ≡ mid
+  pub runs : Runs g failed old now
 
 module _ {D : Type 0} (g : Ghosts D) (on : (first second third : D) → g.lasts first second → g.lasts second third → g.lasts first third) (failed : Type 0) (old mid now : D) (start new : NotesState)
-    (done cut : List NotesCommand) (alike : TellsAlike (g.content old) (g.content mid)) (stood : IfSome (g.content old) (λ before. standing_of before ≡ state start.lists))
-    (since_start : Leaves g old mid StandsAlike) (since_sync : IfSome (g.content old) (λ before. IsSyncedFirst g old mid (StandsAlike before)))
-    (cuts : CutsOff g failed start new mid now done cut) where
-  all_does : DoesSeveral g failed start new mid now (done ++ cut)
-  all_does = Several-then g on ⊥ failed start cuts.notes_then new mid cuts.disk_then now done cut (λ never. never) cuts.first cuts.second
-
-  -- what stands through the command, from the moment on at which the recovery was done
-  pub stands_through : start.journal.magic ≡ notes_magic → (stands : StandsThrough g notes_form failed start.lists done cut old now) × (stands.ready ≡ g.moment mid)
-  stands_through magic =
-      kept.stands_through g notes_form own-number 1 failed old (notes_on start mid) (notes_on cuts.notes_then cuts.disk_then) (notes_on new now) done cut alike stood since_start since_sync magic (alone g failed) (alone g ⊥)
-      (alone g failed) all_does.does cuts.first.does cuts.second.does cuts.first.does.puts.told
-
-  -- and what it counts
-  pub counts_writes : Runs g ⊥ old mid → CountsWrites g failed old now
-  counts_writes first =
-      let same = first.faults.same (λ never. never) in
+    (done cut : List NotesCommand) where
+  pub goes_through : Recovers g old mid start → CutsOff g failed start new mid now done cut → GoesThrough g failed old mid now start done cut
+  goes_through r cuts =
+      let all : DoesSeveral g failed start new mid now (done ++ cut) = Several-then g on ⊥ failed start cuts.notes_then new mid cuts.disk_then now done cut (λ never. never) cuts.first cuts.second in
+      let same = r.runs.faults.same (λ never. never) in
+      let puts = all.does.puts in
+      let stands = kept.stands_through g notes_form own-number 1 failed old (notes_on start mid) (notes_on cuts.notes_then cuts.disk_then) (notes_on new now) done cut r.runs.told r.recovered.content r.since_start
+      r.since_sync r.recovered.stands_at.magic_is (alone g failed) (alone g ⊥) (alone g failed) all.does cuts.first.does cuts.second.does cuts.first.does.puts.told in
       record {
-        reads = all_does.does.puts.reads ∙ same.0;
-        writes = subst (λ (n : ℕ). CountsFault n (g.write_faults now) failed) same.1 all_does.does.puts.faults;
-      }
-
-  -- without commands the disk is as the recovery left it
-  pub none_moves : done ++ cut ≡ [] → now ≡ mid
-  none_moves none = all_does.does.none none
-
-  -- and all that the command does to it is a run of calls
-  pub command_runs : (P : Type 0) → ¬ P → Runs g P old mid → Runs g failed old now
-  command_runs P never first =
-      let same = first.faults.same never in
-      let second = all_does.does.puts in
-      record {
-        told = alike_on _ _ _ first.told second.told;
-        faults = record {
-          reads = omega (arith, same.0, second.reads);
-          writes = omega (arith, same.1, second.faults.no_less);
-          rose = λ stopped. inr (subst (λ (n : ℕ). Rose n (g.write_faults now)) same.1 (second.faults.rose stopped));
-          same = λ fine. (second.reads ∙ same.0, second.faults.same fine ∙ same.1);
+        stands = stands.0;
+        ready = stands.1;
+        counts = record { reads = puts.reads ∙ same.0; writes = subst (λ (n : ℕ). CountsFault n (g.write_faults now) failed) same.1 puts.faults };
+        none = λ none. all.does.none none;
+        runs = record {
+          told = alike_on _ _ _ r.runs.told puts.told;
+          faults = record {
+            reads = omega (arith, same.0, puts.reads);
+            writes = omega (arith, same.1, puts.faults.no_less);
+            rose = λ stopped. inr (subst (λ (n : ℕ). Rose n (g.write_faults now)) same.1 (puts.faults.rose stopped));
+            same = λ fine. (puts.reads ∙ same.0, puts.faults.same fine ∙ same.1);
+          };
+          stops = stops_on g on old mid now r.runs.lasts same.0 same.1 puts.stops;
+          lasts = on old mid now r.runs.lasts puts.lasts;
         };
-        stops = stops_on g on old mid now first.lasts same.0 same.1 second.stops;
-        lasts = on old mid now first.lasts second.lasts;
       }

@@ -1,7 +1,9 @@
 -- What a recovery of the notes makes of a disk, what it answers, and what a crash in it leaves: what file_journal says of
 -- the form of the notes, whose disk is formatted with one block.
-use Rattle.std.specs.Prelude.{ℕ, List, Result}
+use Rattle.std.specs.Prelude.{ℕ, List, IfSome, Result}
 use Rattle.disk_model.specs.declared.disk.Disk.{Ghosts}
+use Rattle.file_journal.specs.Calls.{Leaves, Runs}
+use Rattle.file_journal.specs.Recovery.{IsSyncedFirst}
 use Rattle.file_journal.specs.Restoring as kept
 use Rattle.file_journal.specs.declared.faults.StoreFault.{StoreFault}
 use Rattle.client_notes.specs.Records.{notes_form}
@@ -24,3 +26,11 @@ StandsAlike = kept.StandsAlike notes_form 1
 -- since the end of the first sync the latter, but where that sync failed.
 abbrev pub AnswersRecovery : {D T : Type 0} → Ghosts D → Result T StoreFault → D → D → Type 0
 AnswersRecovery g result disk disk_now = kept.AnswersRecovery g notes_form 1 result disk disk_now
+
+-- A recovery gave these notes. A crash since its start leaves what it might have left before, or what stands for the
+-- same as the content; since the end of the first sync the latter. No call of the disk failed.
+pub record Recovers {D : Type 0} (g : Ghosts D) (disk disk_now : D) (self : NotesState) : Type 0 where
+  pub recovered : IsRecovered g disk disk_now self
+  pub since_start : Leaves g disk disk_now StandsAlike
+  pub since_sync : IfSome (g.content disk) (λ before. IsSyncedFirst g disk disk_now (StandsAlike before))
+  pub runs : Runs g ⊥ disk disk_now

@@ -3,7 +3,7 @@
 ghost use Rattle.client_notes.specs.Laws.{AckedLaw, ForgotLaw, GotLaw, RecordsLaw, StandingLaw};
 ghost use Rattle.client_notes.specs.OnDisk.{EachImage};
 ghost use Rattle.client_notes.specs.Several.{OneLaw, SeveralLaw};
-ghost use Rattle.client_notes.specs.State.{IsRead, IsReady, StandsFor};
+ghost use Rattle.client_notes.specs.State.{IsReady, StandsFor};
 
 use crate::Notes;
 use disk_model::Disk;
@@ -18,13 +18,6 @@ pub fn records_law()
 pub fn standing_law()
     ensures { StandingLaw }
 {}
-
-/// What notes are: their journal was read to its end. Takes no memory.
-pub fn state_law(notes: &Notes)
-    ensures { IsRead notes.now.journal }
-{
-    notes.read_law();
-}
 
 /// What stands on a disk on which notes that haven't failed stand: in every image these notes. Takes no memory.
 pub fn images_law<D: Disk>(notes: &Notes, disk: &D)

@@ -1,6 +1,6 @@
 //! The files of a selection are listed.
 
-ghost use Rattle.std.specs.Prelude.{◌≡◌, ◌≤◌, length, IsErrOf, OnErr, OnOk};
+ghost use Rattle.std.specs.Prelude.{◌≤◌, length, IsErrOf, OnErr, OnOk};
 ghost use Rattle.px_base.specs.Outside.{Gains, GainsPrefix, HasCause};
 ghost use Rattle.ftl0_client.specs.Window.{IsGoodK};
 ghost use Rattle.client_notes.specs.Calls.{CountsFault};

@@ -6,7 +6,7 @@ use Rattle.px_base.proofs.Told.{Gains-none, Grows-none}
 use Rattle.disk_model.specs.declared.disk.Disk.{Ghosts}
 use Rattle.client_notes.specs.Command.{NotesCommand}
 use Rattle.client_notes.specs.Notes.{Lists}
-use Rattle.client_notes.specs.State.{NotesState, StandsOn}
+use Rattle.client_notes.specs.State.{IsReady, NotesState}
 use Rattle.node.specs.Course.{AtDisk, at}
 use Rattle.node.specs.Events.{NodeEvent, NodeEvents}
 use Rattle.node.specs.Laws.{OneRunLaw}
@@ -29,7 +29,7 @@ use Rattle.ftl0_client.specs.declared.outcome.Outcome.TheVariants as outcome
 use Rattle.uploader.specs.declared.stop.SendStop.{SendStop}
 use Rattle.uploader.specs.declared.stop.SendStop.TheVariants as send_stop
 use Rattle.uploader.specs.Stops.{answer_of}
-use Rattle.client_notes.specs.Through.{CutsOff}
+use Rattle.client_notes.specs.Several.{CutsOff}
 use Rattle.uploader.specs.Turns.Carried.{CarriesOut, ClientRan, CountsWhere, EndsOver, IsOpenBeforeEach, MayCarryOut, Run, asked_first, before_last}
 use Rattle.uploader.specs.Turns.Carrying.{StopsBehind, StopsOver, TakesAll}
 use Rattle.uploader.specs.Turns.Course.{CameOf, CameToSome, Past, StoppedAt, client_course, further}
@@ -328,8 +328,7 @@ module _ {A C D : Type 0} (see : Seen D A C) (lasts : (disk : D) → see.disk.la
     -- a client that was asked may hear a frame
     pub may-asked : MayHear see.disk asked disk
     may-asked = record {
-      healthy = ap (λ (n : NotesState). n.journal.failed) has.notes ∙ may.healthy;
-      stands_on = subst (λ (n : NotesState). StandsOn see.disk n disk) (sym has.notes) may.stands_on;
+      ready = subst (λ (n : NotesState). IsReady see.disk n disk) (sym has.notes) may.ready;
       notes_are = has.go_with;
     }
 
@@ -345,7 +344,7 @@ module _ {A C D : Type 0} (see : Seen D A C) (lasts : (disk : D) → see.disk.la
       owes = owes-more [] base [] [] [] base (asks job) [] refl (refl, refl, refl) silent;
       text_is = refl;
       is = becomes;
-      does = does-nothing see.disk lasts old.notes asked.notes disk has.notes may.stands_on may.healthy;
+      does = does-nothing see.disk lasts old.notes asked.notes disk has.notes may.ready;
     }
 
   -- there was no memory for the attempt
@@ -397,6 +396,6 @@ module _ {A C D : Type 0} (see : Seen D A C) (lasts : (disk : D) → see.disk.la
             };
         cuts =
             cuts-none see.disk lasts (IsErrOf {T = Finished} (Err stop.OutOfMemory) stop.Disk) old.notes new.notes disk disk [] (λ e. cc e)
-            (does-nothing see.disk lasts old.notes new.notes disk (ap (λ (s : ClientState). s.notes) same) may.stands_on may.healthy);
+            (does-nothing see.disk lasts old.notes new.notes disk (ap (λ (s : ClientState). s.notes) same) may.ready);
         became = record { over = λ e. cc e; came = λ some. absurd (some refl); promises = λ some. absurd (some refl) };
       }

@@ -5,7 +5,7 @@ use Rattle.disk_model.specs.declared.disk.Disk.{Ghosts}
 use Rattle.ax25_frames.specs.FrameText.{FrameValue}
 use Rattle.client_notes.specs.Command.{NotesCommand}
 use Rattle.client_notes.specs.Notes.{Lists}
-use Rattle.client_notes.specs.Several.{DoesSeveral}
+use Rattle.client_notes.specs.Several.{CutsOff, DoesSeveral}
 use Rattle.client_notes.specs.State.{NotesState}
 use Rattle.node.specs.declared.finished.Finished.{Finished}
 use Rattle.node.specs.Course.{AtDisk, stop_of}
@@ -26,7 +26,6 @@ use Rattle.ftl0_client.specs.ClientState.{outcome_in}
 use Rattle.ftl0_client.specs.Going.{GoesLaw}
 use Rattle.ftl0_client.specs.Laws.{IsToldDownOf}
 use Rattle.ftl0_client.specs.declared.outcome.Outcome.TheVariants as outcome
-use Rattle.client_notes.specs.Through.{CutsOff}
 use Rattle.uploader.specs.Turns.Carrying.{StopsAt}
 use Rattle.uploader.specs.Turns.Course.{CameOf, IsFit, Past, StoppedAt, all_events, further}
 use Rattle.uploader.specs.declared.turns.station.ClientStation.{ClientStation}
