@@ -1,6 +1,5 @@
 -- Commands that are done, and those in which the disk failed.
 use Rattle.std.proofs.Common.{◌≡◌, List, [], ◌++◌, sym, subst}
-use Rattle.std.specs.Prelude.{false}
 use Rattle.disk_model.specs.declared.disk.Disk.{Ghosts}
 use Rattle.client_notes.specs.Command.{NotesCommand}
 use Rattle.client_notes.specs.Several.{CutsOff, DoesSeveral}

@@ -1,17 +1,18 @@
 -- The notes as a state that is kept.
-use Rattle.std.proofs.Common.{◌≡◌, ◌↔◌, inl, inr, ⊎_elim, ℕ, zero, suc, ◌+◌, ◌<◌, ◌≤◌, Bool, false, List, [], ◌∷◌, Option, None, Some, Result, Ok, Err, IsErr, IsErrOf, OnErr, OnOk, refl, sym, ◌∙◌, ap, subst, arith}
+use Rattle.std.proofs.Common.{◌≡◌, ◌↔◌, inl, inr, ⊎_elim, ℕ, zero, suc, ◌+◌, ◌<◌, ◌≤◌, Bool, List, [], ◌∷◌, Option, None, Some, Result, Ok, Err, IsErr, IsErrOf, OnErr, OnOk, refl, sym, ◌∙◌, ap, subst, arith}
 use Rattle.std.specs.Prelude.{IsTrue, if◌then◌else◌}
 use Rattle.std.specs.Option.{option_and_then}
 use Rattle.disk_model.specs.declared.disk.Disk.{Ghosts}
 use Rattle.file_journal.specs.Commands.{MakesBetween, after_first}
 use Rattle.file_journal.specs.Kept as kept
-use Rattle.file_journal.specs.Kept.{KeptOn, kept_on}
+use Rattle.file_journal.specs.Kept.{kept_on}
 use Rattle.file_journal.specs.Position.{Position}
 use Rattle.file_journal.specs.Recovery.{IsFailedSync, IsSyncedFirst}
 use Rattle.file_journal.specs.declared.faults.StoreFault.{StoreFault}
 use Rattle.file_journal.specs.declared.faults.StoreFault.TheVariants as fault
 use Rattle.file_journal.specs.Records.{Record}
 use Rattle.file_journal.specs.declared.faults.JournalFault.{JournalFault}
+use Rattle.file_journal.specs.declared.faults.JournalFault.TheVariants as journal_fault
 use Rattle.file_journal.proofs.Offered.{does_same, images_here, runs_same, told_weaker, weaker}
 use Rattle.client_notes.specs.Answers.{Noting}
 use Rattle.client_notes.specs.Command.{NotesCommand, after, is_allowed}
@@ -76,34 +77,33 @@ module _ {D : Type 0} (g : Ghosts D) where
         none-done zero few is = is
         none-done (suc more) few is = absurd (omega (arith, few))
 
-    pub answers-of : {T : Type 0} (result : Result T JournalFault) → kept.AnswersPut g notes_form command (kept_on old.lists old.journal disk) (kept_on new.lists new.journal disk_now) result
-        → Answers g old new disk disk_now command result
-    answers-of result put = record {
-      failed = put.failed;
-      untouched = λ was.
-          let same = put.untouched was in
-          record { same = ap (λ (k : KeptOn D Lists). let state : NotesState = record { lists = k.now; journal = k.journal } in state) same; same_disk = ap (λ (k : KeptOn D Lists). k.disk) same };
-      does = λ fine. does-of (IsErr result) put.stands_at.magic_is (put.does fine);
+    -- what a call answers by a put that failed exactly where it does
+    answers-of : {T U E : Type 0} (came : Result U E) (result : Result T JournalFault) → (IsErr came → IsErr result) → (IsErr result → IsErr came) → ¬ IsErrOf result journal_fault.Failed
+        → kept.AnswersPut g notes_form command (kept_on old.lists old.journal disk) (kept_on new.lists new.journal disk_now) came → Answers g old new disk disk_now command result
+    answers-of came result there back fine put = record {
+      failed = (λ was. absurd (fine was), λ before. absurd (cc (sym put.does.healthy ∙ before)));
+      untouched = λ was. absurd (fine was);
+      does = λ _. does-of (IsErr result) put.stands_at.magic_is (does_same g notes_form _ _ (command ∷ []) _ _ there back put.does);
       stands_on = put.stands_at.keeps;
     }
 
-    pub noting-done : {T U : Type 0} (x : T) (y : U) → old.journal.failed ≡ false
-        → kept.AnswersPut {T = T} g notes_form command (kept_on old.lists old.journal disk) (kept_on new.lists new.journal disk_now) (Ok x) → Noting {T = U} g old new disk disk_now command (Ok y)
-    noting-done x y healthy put = record {
+    pub noting-done : {T U E : Type 0} (x : T) (y : U) → kept.AnswersPut {T = T} {E = E} g notes_form command (kept_on old.lists old.journal disk) (kept_on new.lists new.journal disk_now) (Ok x)
+        → Noting {T = U} g old new disk disk_now command (Ok y)
+    noting-done x y put = record {
       refused = tt;
-      can = λ was. cc (sym healthy ∙ was);
+      can = λ was. cc (sym put.does.healthy ∙ was);
       untouched = inl refl;
-      does = λ reaches. does-of _ put.stands_at.magic_is (does_same g notes_form _ _ (command ∷ []) _ _ (λ is. is) (λ is. is) (put.does (λ is. cc is)));
+      does = λ reaches. does-of _ put.stands_at.magic_is (does_same g notes_form _ _ (command ∷ []) _ _ (λ is. is) (λ is. is) put.does);
       stands_on = put.stands_at.keeps;
     }
 
-    pub noting-cut : {T U : Type 0} (e : JournalFault) → old.journal.failed ≡ false
-        → kept.AnswersPut {T = T} g notes_form command (kept_on old.lists old.journal disk) (kept_on new.lists new.journal disk_now) (Err e) → Noting {T = U} g old new disk disk_now command (Err refusal.Disk)
-    noting-cut e healthy put = record {
-      refused = λ was. cc (sym healthy ∙ was);
+    pub noting-cut : {T U E : Type 0} (e : E) → kept.AnswersPut {T = T} g notes_form command (kept_on old.lists old.journal disk) (kept_on new.lists new.journal disk_now) (Err e)
+        → Noting {T = U} g old new disk disk_now command (Err refusal.Disk)
+    noting-cut e put = record {
+      refused = λ was. cc (sym put.does.healthy ∙ was);
       can = tt;
       untouched = inl refl;
-      does = λ reaches. does-of _ put.stands_at.magic_is (does_same g notes_form _ _ (command ∷ []) _ _ (λ is. refl) (λ is. refl) (put.does (λ is. cc (sym healthy ∙ put.failed.0 is))));
+      does = λ reaches. does-of _ put.stands_at.magic_is (does_same g notes_form _ _ (command ∷ []) _ _ (λ is. refl) (λ is. refl) put.does);
       stands_on = put.stands_at.keeps;
     }
 
@@ -116,33 +116,32 @@ nothing-comes (Err e) old new made same nothing = ap (λ (l : NotedLists). l.com
 pub all-noted : (noted : NotedLists) → noted.coming ≡ coming.Nothing → lists_of noted ≡ noted.lists
 all-noted noted nothing = ap (λ (k : Coming). without k noted.lists) nothing
 
-module _ {D T : Type 0} (g : Ghosts D) (before after : NotedLists) (journal journal_now : Position) (disk disk_now : D) (command : NotesCommand) (result : Result T JournalFault) where
+module _ {D T U E : Type 0} (g : Ghosts D) (before after : NotedLists) (journal journal_now : Position) (disk disk_now : D) (command : NotesCommand) (came : Result U E) (result : Result T JournalFault) where
   -- a command that takes no memory
-  pub put-answers : before.coming ≡ coming.Nothing → OnOk result (after.coming ≡ coming.Nothing) → OnErr result (after ≡ before)
-      → kept.AnswersPut g notes_form command (kept_on (lists_of before) journal disk) (kept_on (lists_of after) journal_now disk_now) result
+  pub put-answers : (IsErr came → IsErr result) → (IsErr result → IsErr came) → ¬ IsErrOf result journal_fault.Failed → before.coming ≡ coming.Nothing → OnOk came (after.coming ≡ coming.Nothing) → OnErr came (after ≡ before)
+      → kept.AnswersPut g notes_form command (kept_on (lists_of before) journal disk) (kept_on (lists_of after) journal_now disk_now) came
       → Answers g (record { lists = before.lists; journal = journal }) (record { lists = after.lists; journal = journal_now }) disk disk_now command result
-  put-answers nothing made same put =
-      answers-of g (record { lists = before.lists; journal = journal }) (record { lists = after.lists; journal = journal_now }) disk disk_now command result
-      (subst (λ (l : Lists). kept.AnswersPut g notes_form command (kept_on before.lists journal disk) (kept_on l journal_now disk_now) result)
-      (all-noted after (nothing-comes result before after made same nothing))
-      (subst (λ (l : Lists). kept.AnswersPut g notes_form command (kept_on l journal disk) (kept_on (lists_of after) journal_now disk_now) result) (all-noted before nothing) put))
+  put-answers there back fine nothing made same put =
+      answers-of g (record { lists = before.lists; journal = journal }) (record { lists = after.lists; journal = journal_now }) disk disk_now command came result there back fine
+      (subst (λ (l : Lists). kept.AnswersPut g notes_form command (kept_on before.lists journal disk) (kept_on l journal_now disk_now) came)
+      (all-noted after (nothing-comes came before after made same nothing))
+      (subst (λ (l : Lists). kept.AnswersPut g notes_form command (kept_on l journal disk) (kept_on (lists_of after) journal_now disk_now) came) (all-noted before nothing) put))
 
 -- a command whose octets or task were brought first
-module _ {D T U : Type 0} (g : Ghosts D) (before brought after : NotedLists) (journal journal_now : Position) (disk disk_now : D) (command : NotesCommand) (noted : lists_of brought ≡ before.lists)
-    (healthy : journal.failed ≡ false) where
+module _ {D T U E : Type 0} (g : Ghosts D) (before brought after : NotedLists) (journal journal_now : Position) (disk disk_now : D) (command : NotesCommand) (noted : lists_of brought ≡ before.lists) where
   pub brought-done : (x : T) (y : U) → after.coming ≡ coming.Nothing
-      → kept.AnswersPut {T = T} g notes_form command (kept_on (lists_of brought) journal disk) (kept_on (lists_of after) journal_now disk_now) (Ok x)
+      → kept.AnswersPut {T = T} {E = E} g notes_form command (kept_on (lists_of brought) journal disk) (kept_on (lists_of after) journal_now disk_now) (Ok x)
       → Noting {T = U} g (record { lists = before.lists; journal = journal }) (record { lists = after.lists; journal = journal_now }) disk disk_now command (Ok y)
   brought-done x y made put =
-      noting-done g (record { lists = before.lists; journal = journal }) (record { lists = after.lists; journal = journal_now }) disk disk_now command x y healthy
-      (subst (λ (l : Lists). kept.AnswersPut {T = T} g notes_form command (kept_on before.lists journal disk) (kept_on l journal_now disk_now) (Ok x)) (all-noted after made)
-      (subst (λ (l : Lists). kept.AnswersPut {T = T} g notes_form command (kept_on l journal disk) (kept_on (lists_of after) journal_now disk_now) (Ok x)) noted put))
+      noting-done g (record { lists = before.lists; journal = journal }) (record { lists = after.lists; journal = journal_now }) disk disk_now command x y
+      (subst (λ (l : Lists). kept.AnswersPut {T = T} {E = E} g notes_form command (kept_on before.lists journal disk) (kept_on l journal_now disk_now) (Ok x)) (all-noted after made)
+      (subst (λ (l : Lists). kept.AnswersPut {T = T} {E = E} g notes_form command (kept_on l journal disk) (kept_on (lists_of after) journal_now disk_now) (Ok x)) noted put))
 
-  pub brought-cut : (e : JournalFault) (taken : NotedLists) → taken.lists ≡ lists_of after
+  pub brought-cut : (e : E) (taken : NotedLists) → taken.lists ≡ lists_of after
       → kept.AnswersPut {T = T} g notes_form command (kept_on (lists_of brought) journal disk) (kept_on (lists_of after) journal_now disk_now) (Err e)
       → Noting {T = U} g (record { lists = before.lists; journal = journal }) (record { lists = taken.lists; journal = journal_now }) disk disk_now command (Err refusal.Disk)
   brought-cut e taken back put =
-      noting-cut g (record { lists = before.lists; journal = journal }) (record { lists = taken.lists; journal = journal_now }) disk disk_now command e healthy
+      noting-cut g (record { lists = before.lists; journal = journal }) (record { lists = taken.lists; journal = journal_now }) disk disk_now command e
       (subst (λ (l : Lists). kept.AnswersPut {T = T} g notes_form command (kept_on before.lists journal disk) (kept_on l journal_now disk_now) (Err e)) (sym back)
       (subst (λ (l : Lists). kept.AnswersPut {T = T} g notes_form command (kept_on l journal disk) (kept_on (lists_of after) journal_now disk_now) (Err e)) noted put))
 

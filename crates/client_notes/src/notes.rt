@@ -1,12 +1,15 @@
 //! The notes of a client.
 
-ghost use Rattle.std.specs.Prelude.{◌≡◌, ◌⊎◌, ◌+◌, ◌≤◌, ◌<◌, length, IsTrue, IsErr, IfOk};
+ghost use Rattle.std.specs.Prelude.{◌≡◌, ◌⊎◌, ◌+◌, ◌≤◌, ◌<◌, length, true, IsTrue, IsErr, IfOk};
 ghost use Rattle.disk_model.specs.Disk.{FillsRoom};
 ghost use Rattle.client_notes.specs.Answers.{Noting, StartsBy, answer_of, fresh_task, noted_of, start_reaches};
 ghost use Rattle.client_notes.specs.Command.{acked, forgot, got, is_allowed, numbered, refused};
+ghost use Rattle.client_notes.specs.Commands.{command_value};
 ghost use Rattle.client_notes.specs.Limits.{longest_file, most_tasks};
 ghost use Rattle.client_notes.specs.Notes.{got_of, task_count};
 ghost use Rattle.client_notes.specs.OnDisk.{Answers, Does, Untouched};
+ghost use Rattle.client_notes.specs.Noting.{takes_none};
+ghost use Rattle.client_notes.specs.Records.{IsWritable};
 ghost use Rattle.client_notes.specs.Recovery.{AnswersRecovery, IsRecovered};
 ghost use Rattle.client_notes.specs.State.{IsRead, StandsOn};
 
@@ -164,7 +167,7 @@ impl Notes {
     {
         // A crash before the record's gate is synced leaves the task without a number: it is asked for again.
         let command = Command::Numbered { task, number };
-        self.kept.put(disk, &Direct { command })
+        self.note(disk, &Direct { command })
     }
 
     /// Notes that the server acknowledged the file of a task, which is unfinished and has a number. Takes no memory.
@@ -176,7 +179,7 @@ impl Notes {
         // A crash before the record's gate is synced leaves the task unfinished: the server acknowledges the file
         // again.
         let command = Command::Acked { task };
-        self.kept.put(disk, &Direct { command })
+        self.note(disk, &Direct { command })
     }
 
     /// Notes that the server refused the file of a task, which is unfinished, with this code. Takes no memory.
@@ -192,7 +195,7 @@ impl Notes {
     {
         // A crash before the record's gate is synced leaves the task unfinished: the server refuses the file again.
         let command = Command::Refused { task, code };
-        self.kept.put(disk, &Direct { command })
+        self.note(disk, &Direct { command })
     }
 
     /// Notes 1 to 512 further octets of the file of this number, which isn't 0, of this server. The file doesn't pass
@@ -241,7 +244,22 @@ impl Notes {
     {
         // A crash before the record's gate is synced leaves what was got of the file: it is given up again.
         let command = Command::Forgot { server, number };
-        self.kept.put(disk, &Direct { command })
+        self.note(disk, &Direct { command })
+    }
+
+    /// Notes a command that takes no memory.
+    fn note<D: Disk>(&mut self, disk: &mut D, change: &Direct<'_>) -> Result<(), JournalFault>
+        requires stands_on { StandsOn D.Disk self.old disk.old }
+        requires allowed { IsTrue (is_allowed self.old.lists (command_value change.now.command)) }
+        requires writable { IsWritable (command_value change.now.command) }
+        requires direct { takes_none (command_value change.now.command) ≡ true }
+        ensures { Answers D.Disk self.old self.new disk.old disk.new (command_value change.now.command) result }
+    {
+        if self.kept.failed() {
+            return Err(JournalFault::Failed);
+        }
+        self.kept.put(disk, change)?;
+        Ok(())
     }
 
     /// The lists that are noted.

@@ -1,3 +1,4 @@
+pub mod AtDisk
 pub mod Calls
 pub mod Crash
 pub mod Disk

@@ -1,6 +1,6 @@
 -- What a state that a journal keeps stands for, and what putting one record does to it.
 use Rattle.std.proofs.lemmas.Grind.{common_steps}
-use Rattle.std.proofs.Common.{◌≡◌, ◌⊎◌, ◌↔◌, ℕ, ◌+◌, ◌*◌, ◌≤◌, true, false, List, [], ◌∷◌, Some, IfSome, Ok, Err, IsErr, IsErrOf, refl, sym, ◌∙◌, ap, subst, arith}
+use Rattle.std.proofs.Common.{◌≡◌, ◌⊎◌, ℕ, ◌+◌, ◌*◌, ◌≤◌, true, false, List, [], ◌∷◌, Some, IfSome, Result, IsErr, refl, ◌∙◌, ap, subst, arith}
 use Rattle.disk_model.specs.declared.disk.Disk.{Ghosts}
 use Rattle.file_journal.specs.Appending.{Appends, LeavesAppending, LeavesBeforeOrAfter}
 use Rattle.file_journal.specs.Calls.{EachImage, Leaves, Puts, TakesStep, TellsAlike, images_now}
@@ -11,9 +11,6 @@ use Rattle.file_journal.specs.Kept.{AnswersPut, Does, IsCut, IsKept, KeptOn, Sta
 use Rattle.file_journal.specs.Position.{Position, StandsOn}
 use Rattle.file_journal.specs.Records.{Record}
 use Rattle.file_journal.specs.Walk.{state}
-use Rattle.file_journal.specs.declared.faults.JournalFault.{JournalFault}
-use Rattle.file_journal.specs.declared.faults.JournalFault.TheVariants as fault
-use Rattle.file_journal.proofs.CallLemmas.{puts_same}
 use Rattle.file_journal.proofs.CommandLemmas.{makes_one, stay_none}
 use Rattle.file_journal.proofs.MomentLemmas.{weaker}
 use Rattle.file_journal.proofs.ToldLemmas.{at_told, if_told, told_before, told_weaker}
@@ -66,17 +63,15 @@ module _ {S C : Type 0} (form : Form S C) where
       }
 
       -- it is done
-      pub answers_done : {T : Type 0} (x : T) (P : Type 0) → ¬ P → Puts g P old new → IfSome (g.content old) (λ _. g.moment new ≡ g.moment old + 4) → after.failed ≡ false → StandsOn g after new
-          → TakesStep g old new (Appends journal entry) → AnswersPut g form command (kept_on now journal old) (kept_on next after new) (Ok x)
-      answers_done {T} x P good puts calls fine stands_on ok =
+      pub answers_done : {T E : Type 0} (result : Result T E) → ¬ IsErr result → Puts g (IsErr result) old new → IfSome (g.content old) (λ _. g.moment new ≡ g.moment old + 4) → after.failed ≡ false
+          → StandsOn g after new → TakesStep g old new (Appends journal entry) → AnswersPut g form command (kept_on now journal old) (kept_on next after new) result
+      answers_done result good puts calls fine stands_on ok =
           let stands_now : StandsAt g form (kept_on next after new) = record {
             magic_is = ap (λ (p : Position). p.magic) moved ∙ stands.magic_is;
             keeps = append_keeps g form.fresh form.step old new journal after now next entry stands.keeps steps healthy stands_on moved ok told;
           } in
           record {
-            failed = (λ was. absurd (cc was), λ before. absurd (cc (sym healthy ∙ before)));
-            untouched = λ was. absurd (cc was);
-            does = λ _. does_put (IsErr {E = JournalFault} (Ok x)) next stands_now.keeps (puts_same g old new _ _ (λ bad. absurd (good bad)) (λ bad. absurd (cc bad)) puts)
+            does = does_put (IsErr result) next stands_now.keeps puts
                 (λ still. (
                   calls,
                   if_told (g.content old) _ (λ before told_old count some most image left.
@@ -88,21 +83,17 @@ module _ {S C : Type 0} (form : Form S C) where
                   refl,
                   fine,
                 ))
-                (λ bad. absurd (cc bad));
+                (λ bad. absurd (good bad));
             stands_at = stands_now;
           }
 
       -- or the disk failed in it
       pub answers_cut : ((disk : D) (t u : ℕ) (image : List ℕ) → t ≤ u → g.images_since disk u image → g.images_since disk t image) → LeavesBeforeOrAfter g journal entry old new → after.failed ≡ true → StandsOn g after new
-          → {T : Type 0} (e : JournalFault) → IsErrOf {T = T} (Err e) fault.Failed ↔ (journal.failed ≡ true) → Puts g (IsErrOf {T = T} (Err e) fault.Disk) old new
-          → AnswersPut {T = T} g form command (kept_on now journal old) (kept_on now after new) (Err e)
-      answers_cut earlier any_moment failed stands_on fault.Failed is puts = absurd (cc (sym healthy ∙ is.0 refl))
-      answers_cut earlier any_moment failed stands_on {T} fault.Disk is puts =
+          → {T E : Type 0} (result : Result T E) → IsErr result → Puts g (IsErr result) old new → AnswersPut g form command (kept_on now journal old) (kept_on now after new) result
+      answers_cut earlier any_moment failed stands_on result bad puts =
           let stands_cut : StandsAt g form (kept_on now after new) = record { magic_is = ap (λ (p : Position). p.magic) moved ∙ stands.magic_is; keeps = failed_keeps g form.fresh form.step after now new failed stands_on } in
           record {
-            failed = (λ was. absurd (cc was), λ before. absurd (cc (sym healthy ∙ before)));
-            untouched = λ was. absurd (cc was);
-            does = λ _. does_put (IsErr {T = T} (Err fault.Disk)) now stands_cut.keeps (puts_same g old new _ _ (λ _. refl) (λ _. refl) puts) (λ still. absurd (still refl)) (λ again. record {
+            does = does_put (IsErr result) now stands_cut.keeps puts (λ still. absurd (still bad)) (λ again. record {
               count = 0;
               fewer = omega arith;
               state = refl;

@@ -1,5 +1,5 @@
 -- What an append does to the octets of a disk, and what a crash in it leaves.
-use Rattle.std.specs.Prelude.{◌≡◌, ◌⊎◌, ℕ, ◌+◌, List, [], ◌∷◌, ◌++◌, length, take, drop, false, IfSome}
+use Rattle.std.specs.Prelude.{◌≡◌, ◌⊎◌, ℕ, ◌+◌, ◌≤◌, List, [], ◌∷◌, ◌++◌, length, take, drop, false, IfSome, OnOk, Result}
 use Rattle.disk_model.specs.Disk.{Torn}
 use Rattle.disk_model.specs.Moments.{LeavesSince}
 use Rattle.disk_model.specs.declared.disk.Disk.{Ghosts}
@@ -40,6 +40,11 @@ LeavesBeforeOrAfter g journal entry old new =
     journal.failed ≡ false
     → IfSome (g.content old) (λ before. LeavesSince (g.moment old) (g.images_since new)
     (λ image. IsBeforeOrAfter (journal_of journal.magic before) entry (journal_of journal.magic image)))
+
+-- An append takes four calls of the disk, where the content is told and none of them failed; and at most four.
+pub record TakesFour {D T E : Type 0} (g : Ghosts D) (old new : D) (result : Result T E) : Type 0 where
+  pub each : OnOk result (IfSome (g.content old) (λ _. g.moment new ≡ g.moment old + 4))
+  pub at_most : g.moment new ≤ g.moment old + 4
 
 -- these octets are put behind the gate at this place, and it is opened
 abbrev pub OpensGate : ℕ → List ℕ → List ℕ → List ℕ → Type 0

@@ -1,5 +1,5 @@
 -- What a call does to a state that is kept in a journal, and to its disk, at every moment of it.
-use Rattle.std.specs.Prelude.{◌≡◌, ◌↔◌, ℕ, ◌+◌, ◌*◌, ◌<◌, ◌≤◌, List, [], ◌∷◌, length, false, true, IfSome, Result, IsErr, IsErrOf, ⊤}
+use Rattle.std.specs.Prelude.{◌≡◌, ℕ, ◌+◌, ◌*◌, ◌<◌, ◌≤◌, List, [], ◌∷◌, length, false, true, IfSome, Result, IsErr, ⊤}
 use Rattle.disk_model.specs.declared.disk.Disk.{Ghosts}
 use Rattle.file_journal.specs.Calls.{EachImage, Leaves, Puts}
 use Rattle.file_journal.specs.Commands.{AreAllowed, MakesBetween, MakesFirst, StayDone, after_all, after_first}
@@ -7,8 +7,6 @@ use Rattle.file_journal.specs.Form.{Form}
 use Rattle.file_journal.specs.Position.{Position}
 use Rattle.file_journal.specs.Walk.{KeepsState}
 use Rattle.file_journal.specs.declared.kept.Kept.{Kept}
-use Rattle.file_journal.specs.declared.faults.JournalFault.{JournalFault}
-use Rattle.file_journal.specs.declared.faults.JournalFault.TheVariants as fault
 
 -- A state, the journal of its records, and the disk on which that stands: what a call is lent, and what it leaves.
 pub record KeptOn (D S : Type 0) : Type 0 where
@@ -95,11 +93,8 @@ alone g failed = record { idle = λ old new. new ≡ old; puts = Puts g failed; 
 abbrev pub Does : {D S C : Type 0} → Ghosts D → Form S C → Type 0 → List C → KeptOn D S → KeptOn D S → Type 0
 Does g form failed commands old new = DoesByFours g form (alone g failed) failed commands old new
 
--- What a call answers that does one command: `Failed` exactly where the journal had failed, and then nothing is
--- touched; else the command is done, or the disk failed in it.
-pub record AnswersPut {D S C T : Type 0} (g : Ghosts D) (form : Form S C) (command : C) (old new : KeptOn D S)
-    (result : Result T JournalFault) : Type 0 where
-  pub failed : IsErrOf result fault.Failed ↔ (old.journal.failed ≡ true)
-  pub untouched : IsErrOf result fault.Failed → new ≡ old
-  pub does : ¬ IsErrOf result fault.Failed → Does g form (IsErr result) (command ∷ []) old new
+-- What a put of one command comes to: the command is done, or the disk failed in it.
+pub record AnswersPut {D S C T E : Type 0} (g : Ghosts D) (form : Form S C) (command : C) (old new : KeptOn D S)
+    (result : Result T E) : Type 0 where
+  pub does : Does g form (IsErr result) (command ∷ []) old new
   pub stands_at : StandsAt g form new

@@ -2,6 +2,7 @@
 
 ghost use Rattle.std.specs.Prelude.{◌≡◌};
 ghost use Rattle.file_journal.specs.Refusals.{fault_of_read, fault_of_recovery};
+ghost use Rattle.file_journal.specs.declared.faults.JournalFault.TheVariants.{Disk as append_disk};
 ghost use Rattle.file_journal.specs.declared.faults.RecoverFault.TheVariants.{Disk};
 ghost use Rattle.file_journal.specs.declared.faults.ReadFault.TheVariants.{OutOfMemory as NoMemory};
 
@@ -122,4 +123,12 @@ pub enum JournalFault {
     /// An earlier append failed; a new recovery is needed.
     #[error("the journal failed before")]
     Failed,
+}
+
+impl From<DiskFault> for JournalFault {
+    ghost from_gives = { λ _ fault. fault ≡ append_disk };
+
+    fn from(_fault: DiskFault) -> JournalFault {
+        JournalFault::Disk
+    }
 }

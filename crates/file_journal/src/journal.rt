@@ -1,11 +1,11 @@
 //! The journal: recovery, reading, appending.
 
-ghost use Rattle.std.specs.Prelude.{◌≡◌, ◌↔◌, ℕ, ◌+◌, ◌^◌, ◌<◌, ◌≤◌, List, length, true, false, IfOk, IfSome, IsErrOf, None, OnErr, OnOk, OnSome};
-ghost use Rattle.file_journal.specs.Appending.{Appends, LeavesAppending, LeavesBeforeOrAfter};
+ghost use Rattle.std.specs.Prelude.{◌≡◌, ◌↔◌, ℕ, ◌+◌, ◌^◌, ◌<◌, ◌≤◌, List, length, true, false, IfOk, IfSome, IsErr, IsErrOf, None, OnErr, OnOk, OnSome};
+ghost use Rattle.file_journal.specs.Appending.{Appends, LeavesAppending, LeavesBeforeOrAfter, TakesFour};
 ghost use Rattle.file_journal.specs.Calls.{IsQuietNow, Leaves, Puts, Reads, Runs, TakesStep};
 ghost use Rattle.file_journal.specs.Next.{AnswersNext};
 ghost use Rattle.file_journal.specs.Position.{StandsOn};
-ghost use Rattle.file_journal.specs.Records.{record_of};
+ghost use Rattle.file_journal.specs.Records.{IsRecord, record_of};
 ghost use Rattle.file_journal.specs.Recovery.{IsRecovered, IsRecovering, LeavesSinceSync, Refuses};
 
 use crate::format::{FIRST_GATE, finish_format, format_new};
@@ -13,7 +13,7 @@ use crate::header::read_header;
 use crate::record::{encode_record, put_record, read_record};
 use crate::{JournalFault, RecoverFault};
 use arrayvec::ArrayVec;
-use disk_model::Disk;
+use disk_model::{Disk, DiskFault};
 use std::marker::Model;
 
 /// A journal, which holds where it is on its disk, and not the disk. Contracts see it as a `Position`.
@@ -190,21 +190,47 @@ impl Journal {
         // the record and the gates before and behind it, the octets of an image from before.
         ensures any_moment { LeavesBeforeOrAfter D.Disk self.old (record_of kind content.now) disk.old disk.new }
         ensures since { LeavesAppending D.Disk self.old (record_of kind content.now) disk.old disk.new }
-        ensures calls { OnOk result (IfSome (D.content disk.old) (λ _. D.moment disk.new ≡ D.moment disk.old + 4)) }
-        ensures at_most { D.moment disk.new ≤ D.moment disk.old + 4 }
+        ensures calls { TakesFour D.Disk disk.old disk.new result }
     {
         if self.failed {
             return Err(JournalFault::Failed);
         }
+        self.put(disk, kind, content)?;
+        Ok(())
+    }
+
+    /// Puts a record at the end, as [`append`](Journal::append) does, of a journal of which no append failed before.
+    /// Takes no memory.
+    pub(crate) fn put<D: Disk>(
+        &mut self,
+        disk: &mut D,
+        kind: u8,
+        content: &[u8],
+    ) -> Result<(), DiskFault>
+        requires stands_on { StandsOn D.Disk self.old disk.old }
+        requires healthy { self.old.failed ≡ false }
+        requires ended { self.old.ended ≡ true }
+        requires fits { IsRecord (record_of kind content.now) }
+        ensures stands_on { StandsOn D.Disk self.new disk.new }
+        ensures journal { self.new ≡ record self.old { place = self.new.place; failed = self.new.failed } }
+        ensures ok { OnOk result (TakesStep D.Disk disk.old disk.new (Appends self.old (record_of kind content.now))) }
+        ensures quiet { OnOk result (IsQuietNow D.Disk disk.new) }
+        ensures fails { OnErr result (self.new ≡ record self.old { failed = true }) }
+        ensures goes_on { OnOk result (self.new.failed ≡ false) }
+        ensures puts { Puts D.Disk (IsErr result) disk.old disk.new }
+        ensures any_moment { LeavesBeforeOrAfter D.Disk self.old (record_of kind content.now) disk.old disk.new }
+        ensures since { LeavesAppending D.Disk self.old (record_of kind content.now) disk.old disk.new }
+        ensures calls { TakesFour D.Disk disk.old disk.new result }
+    {
         let text = encode_record(kind, content);
         match put_record(disk, self.place, text.as_slice()) {
             Ok(()) => {
                 self.place += text.len() as u64;
                 Ok(())
             }
-            Err(_) => {
+            Err(fault) => {
                 self.failed = true;
-                Err(JournalFault::Disk)
+                Err(fault)
             }
         }
     }

@@ -1,12 +1,12 @@
 //! A state that is kept in a journal.
 
-ghost use Rattle.std.specs.Prelude.{◌≡◌, ◌≤◌, true, IfOk, OnErr, OnOk};
+ghost use Rattle.std.specs.Prelude.{◌≡◌, ◌≤◌, false, IfOk, OnErr, OnOk};
 ghost use Rattle.file_journal.specs.Kept.{AnswersPut, StandsAt, kept_at};
 ghost use Rattle.file_journal.specs.Restoring.{AnswersRecovery, IsRestored};
 
-use crate::{Change, Journal, JournalFault, Ledger, StoreFault};
+use crate::{Change, Journal, Ledger, StoreFault};
 use arrayvec::ArrayVec;
-use disk_model::Disk;
+use disk_model::{Disk, DiskFault};
 use std::alloc::Global;
 
 /// A ledger, and the journal of the records that made its state, which stands on a disk that it doesn't hold. What the
@@ -42,30 +42,25 @@ impl<L: Ledger> Kept<L> {
 
     /// Makes a change of the ledger that may be made. Its record is put at the end of the journal and synced, by two
     /// writes and two syncs, before memory changes: after `Ok` a crash leaves the state after it; before, the one
-    /// before it or the one after it. Takes no memory.
+    /// before it or the one after it. No put failed before. Takes no memory.
     ///
-    /// `Disk`: the record may stand or not; the ledger is as it was, and each put answers `Failed` from then on, where
-    /// nothing is touched. A new recovery is needed.
-    pub fn put<D: Disk, C: Change<L>>(
-        &mut self,
-        disk: &mut D,
-        change: &C,
-    ) -> Result<(), JournalFault>
+    /// An error: the record may stand or not; the ledger is as it was, and has failed from then on. A new recovery is
+    /// needed.
+    pub fn put<D: Disk, C: Change<L>>(&mut self, disk: &mut D, change: &C) -> Result<(), DiskFault>
         requires stands_at { StandsAt D.Disk C.form (kept_at C.state self.old disk.old) }
+        requires healthy { self.old.journal.failed ≡ false }
         requires may { C.may change.now self.old.ledger }
         ensures answers { AnswersPut D.Disk C.form (C.command change.now self.old.ledger)
             (kept_at C.state self.old disk.old) (kept_at C.state self.new disk.new) result }
         ensures makes { OnOk result (C.makes change.now self.old.ledger self.new.ledger) }
         ensures err { OnErr result (self.new.ledger ≡ self.old.ledger) }
     {
-        if self.journal.failed() {
-            return Err(JournalFault::Failed);
-        }
         let mut room = ArrayVec::new();
         let kind = change.write(&self.ledger, &mut room);
         // A crash before the record's gate is synced leaves the state before the change, or the one after it: it is
         // told of only after that. A crash behind it leaves the one after it.
-        match self.journal.append(disk, kind, room.as_slice()) {
+        let content = room.as_slice();
+        match self.journal.put(disk, kind, content) {
             Ok(()) => {
                 change.make(&mut self.ledger);
                 Ok(())
@@ -74,7 +69,7 @@ impl<L: Ledger> Kept<L> {
         }
     }
 
-    /// Whether a put answered `Disk`: then the state is to be recovered anew. Takes no memory.
+    /// Whether a put failed: then the state is to be recovered anew. Takes no memory.
     pub fn failed(&self) -> bool
         ensures { result ≡ self.now.journal.failed }
     {

@@ -32,8 +32,5 @@ pub(crate) fn put_change<D: Disk>(
         (number_by change.now kept.old.ledger.files) (rest_by change.now kept.old.ledger.files)) }
     ensures err { OnErr result (kept.new.ledger ≡ kept.old.ledger) }
 {
-    match kept.put(disk, change) {
-        Ok(()) => Ok(()),
-        Err(_) => Err(DiskFault),
-    }
+    kept.put(disk, change)
 }

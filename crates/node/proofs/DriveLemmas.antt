@@ -112,6 +112,8 @@ module _ {S D : Type 0} (me : S → CallSign) (course : Course S D NodeEvent) (s
   ran all (Err stop.AirWrite) text unsaid now is same h = stopped-in-last all stop.AirWrite text unsaid now is same h
   ran all (Err stop.Disk) text unsaid now is same h = stopped-in-last all stop.Disk text unsaid now is same h
   ran all (Err stop.OutOfMemory) text unsaid now is same h = stopped-in-last all stop.OutOfMemory text unsaid now is same h
+  ran all (Err (stop.NotAStore found)) text unsaid now is same h = absurd h
+  ran all (Err (stop.Damaged at)) text unsaid now is same h = absurd h
 
 module _ {S D A C : Type 0} (me : S → CallSign) (course : Course S D NodeEvent) (air : AirGhosts A) (given : C → Option (List ℕ)) (terms : TurnTerms) (call : CallSign) where
   -- the turns of the station

@@ -39,6 +39,8 @@ module _ {P D A : Type 0} (course : Course P D Input) (air : AirGhosts A) (befor
   stops-by next stop.Disk Taken by is_open taken = (is_open, taken)
   stops-by next stop.OutOfMemory Taken by is_open taken = (is_open, taken)
   stops-by next stop.Spent Taken by is_open taken = absurd by
+  stops-by next (stop.NotAStore found) Taken by is_open taken = absurd by
+  stops-by next (stop.Damaged at) Taken by is_open taken = absurd by
 
   pub turn-stopped : (now : A) (new : AtDisk P D) (next : Turn) (why : NodeStop) → Hears (air.heard before) (air.heard polled) next → IsOpen next
       → Takes course air polled now old new (turn_inputs next last moment) (Err why) → TookTurn course air before now old new (λ next. turn_inputs next last moment) (Err why)

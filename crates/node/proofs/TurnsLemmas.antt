@@ -375,3 +375,5 @@ module _ {P D A C : Type 0} (course : Course P D Input) (air : AirGhosts A) (giv
           within (Err stop.OutOfMemory) turned (Err stop.OutOfMemory) (Err stop.OutOfMemory) takes (open-append h.turns turned.next h.all_open turned.ends.0)
           (counts-from {T = Finished} (Err stop.OutOfMemory) _ _ _ _ _ _ h.reads h.writes turned.counts) (stopped (Err stop.OutOfMemory) turned stop.OutOfMemory takes)
       turns-stopped stop.Spent turned = absurd turned.ends
+      turns-stopped (stop.NotAStore found) turned = absurd turned.ends
+      turns-stopped (stop.Damaged at) turned = absurd turned.ends

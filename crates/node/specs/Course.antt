@@ -2,18 +2,11 @@
 use Rattle.std.specs.Prelude.{ℕ, List, [], ◌++◌, take, Bool, true, false, Option, None, Some, Result, Ok, Err, ⊤}
 use Rattle.std.specs.List.{AllByRecursion}
 use Rattle.px_base.specs.Octets.{IsFront}
+pub use Rattle.disk_model.specs.AtDisk.{AtDisk, at}
 use Rattle.disk_model.specs.declared.halt.Halt.{Halt}
 use Rattle.disk_model.specs.declared.halt.Halt.TheVariants as halt
 use Rattle.node.specs.declared.stop.NodeStop.{NodeStop}
 use Rattle.node.specs.declared.stop.NodeStop.TheVariants as stop
-
--- something at its disk
-pub record AtDisk (S D : Type 0) : Type 0 where
-  pub it : S
-  pub disk : D
-
-abbrev pub at : {S D : Type 0} → S → D → AtDisk S D
-at it disk = record { it = it; disk = disk }
 
 -- how a halt stops a node
 abbrev pub stop_of : Halt → NodeStop

@@ -6,4 +6,6 @@ pub mod Station
 pub mod Reading
 pub mod Laws
 pub mod OnAir
+pub mod Said
+pub mod Stops
 pub mod Turns

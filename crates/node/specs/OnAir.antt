@@ -3,7 +3,8 @@ use Rattle.std.specs.Prelude.{◌≡◌, ℕ, List, [], ◌∷◌, ◌++◌}
 use Rattle.px_base.specs.CallSign.{CallSign}
 use Rattle.px_base.specs.Octets.{IsOctets}
 use Rattle.ax25_frames.specs.FrameText.{FrameValue}
-use Rattle.node.specs.Course.{AtDisk, Course, at}
+use Rattle.disk_model.specs.AtDisk.{AtDisk, at}
+use Rattle.node.specs.Course.{Course}
 use Rattle.node.specs.Events.{Finishes, NodeEvent, heard_at, ticks}
 use Rattle.node.specs.Inputs.{Input, octet, octets_in, tick}
 use Rattle.node.specs.Reading.{HasHeard}

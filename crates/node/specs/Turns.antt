@@ -5,12 +5,13 @@ use Rattle.std.specs.Prelude.{IfErr, MatchResult, Result, Ok, Err, ⊤}
 use Rattle.std.specs.List.{AllByRecursion}
 use Rattle.px_base.specs.Moments.{MomentsOf}
 use Rattle.px_base.specs.Outside.{Gains, HasCause, Rose}
-use Rattle.px_base.specs.Polling.{EndsWith, Hears, HearsAll, IsOpen}
+use Rattle.px_base.specs.Polling.{EndsWith, Hears, HearsAll, IsButLast, IsOpen}
 use Rattle.px_base.specs.declared.air.Air.{Ghosts as AirGhosts}
 use Rattle.px_base.specs.declared.air.AirDown.{AirDown}
 use Rattle.px_base.specs.declared.air.Turn.{Turn}
 use Rattle.px_base.specs.declared.air.Turn.TheVariants as turn
-use Rattle.node.specs.Course.{AtDisk, Course, Settles, at, stop_at_put}
+use Rattle.disk_model.specs.AtDisk.{AtDisk, at}
+use Rattle.node.specs.Course.{Course, Settles, stop_at_put}
 use Rattle.disk_model.specs.declared.halt.Halt.{Halt}
 use Rattle.node.specs.Inputs.{Input, inputs_of}
 use Rattle.node.specs.declared.stop.NodeStop.{NodeStop}
@@ -33,6 +34,8 @@ CountsBy (Err stop.AirWrite) reads reads_now writes writes_now = (reads_now ≡ 
 CountsBy (Err stop.Disk) reads reads_now writes writes_now = (reads_now ≡ reads) × (writes ≤ writes_now)
 CountsBy (Err stop.OutOfMemory) reads reads_now writes writes_now = (reads_now ≡ reads) × (writes ≤ writes_now)
 CountsBy (Err stop.Spent) reads reads_now writes writes_now = (reads_now ≡ reads) × (writes_now ≡ writes)
+CountsBy (Err (stop.NotAStore found)) reads reads_now writes writes_now = (reads_now ≡ reads) × (writes_now ≡ writes)
+CountsBy (Err (stop.Damaged place)) reads reads_now writes writes_now = (reads_now ≡ reads) × (writes_now ≡ writes)
 
 -- the same of an air, before the call and now
 abbrev pub HasAirCause : {A T : Type 0} → AirGhosts A → A → A → Result T NodeStop → Type 0
@@ -46,6 +49,8 @@ IsByParty stop.AirWrite = ⊤
 IsByParty stop.Disk = ⊤
 IsByParty stop.OutOfMemory = ⊤
 IsByParty stop.Spent = ⊥
+IsByParty (stop.NotAStore found) = ⊥
+IsByParty (stop.Damaged place) = ⊥
 
 -- what a node is lent, with its party
 pub record Lent (P D A C : Type 0) : Type 0 where
@@ -81,11 +86,7 @@ NextMoment (suc turn) first given before now moment = MomentsOf given before now
 abbrev pub IsMomentOf : ℕ → TurnTerms → Option (List ℕ) → Option (List ℕ) → ℕ → Type 0
 IsMomentOf turn terms before now moment = NextMoment turn terms.first terms.given before now moment
 
--- all turns but the last, if there is one
-abbrev pub IsButLast : List Turn → List Turn → Type 0
-IsButLast turns earlier = ((turns ≡ []) × (earlier ≡ [])) ⊎ ((last : Turn) × (turns ≡ earlier ++ last ∷ []))
-
--- The turns, of which there are at most so many, by how they ended.
+-- The turns, of which there are at most so many, by how they ended. No recovery that is refused comes of turns.
 abbrev pub TurnsBy : Result Finished NodeStop → ℕ → List Turn → Type 0
 TurnsBy (Ok finished.Over) polls turns = AllByRecursion IsOpen turns
 TurnsBy (Ok (finished.Closed count)) polls turns = EndsWith turns turn.End × (count ≡ length turns)
@@ -94,6 +95,8 @@ TurnsBy (Err stop.AirWrite) polls turns = AllByRecursion IsOpen turns
 TurnsBy (Err stop.Disk) polls turns = AllByRecursion IsOpen turns
 TurnsBy (Err stop.OutOfMemory) polls turns = AllByRecursion IsOpen turns
 TurnsBy (Err stop.Spent) polls turns = (length turns ≡ polls) × AllByRecursion IsOpen turns
+TurnsBy (Err (stop.NotAStore found)) polls turns = ⊥
+TurnsBy (Err (stop.Damaged place)) polls turns = ⊥
 
 -- turns at moments, one each, and what they bring
 pub record Brought (E : Type 0) : Type 0 where
@@ -157,6 +160,8 @@ RanBy Brings course start all (Err stop.Disk) text unsaid now =
     StoppedInLast Brings course start all stop.Disk text unsaid now
 RanBy Brings course start all (Err stop.OutOfMemory) text unsaid now =
     StoppedInLast Brings course start all stop.OutOfMemory text unsaid now
+RanBy Brings course start all (Err (stop.NotAStore found)) text unsaid now = ⊥
+RanBy Brings course start all (Err (stop.Damaged place)) text unsaid now = ⊥
 
 -- The turns of a node: what was heard, given and said, how they ended, and what came of what they bring.
 pub record TookTurns {S D A C E : Type 0} (Brings : List Turn → List ℕ → List E → Type 0) (course : Course S D E)
@@ -223,6 +228,8 @@ TurnEnds next (Err stop.AirWrite) Taken = IsOpen next × Taken (Err stop.AirWrit
 TurnEnds next (Err stop.Disk) Taken = IsOpen next × Taken (Err stop.Disk)
 TurnEnds next (Err stop.OutOfMemory) Taken = IsOpen next × Taken (Err stop.OutOfMemory)
 TurnEnds next (Err stop.Spent) Taken = ⊥
+TurnEnds next (Err (stop.NotAStore found)) Taken = ⊥
+TurnEnds next (Err (stop.Damaged place)) Taken = ⊥
 
 -- One turn: a poll, and what the party made of what the turn handed over; a turn that closed the air, or whose poll
 -- failed, left it as it was.

@@ -1,7 +1,7 @@
 //! What drives a station over an air.
 
 ghost use Rattle.std.specs.Prelude.{◌≡◌, [], None};
-ghost use Rattle.node.specs.Course.{at};
+ghost use Rattle.disk_model.specs.AtDisk.{at};
 ghost use Rattle.node.specs.Events.{NodeEvents};
 ghost use Rattle.node.specs.Turns.{TookTurns, lent};
 

@@ -1,7 +1,8 @@
 //! What a node drives.
 
 ghost use Rattle.std.specs.Prelude.{◌≡◌, ℕ, ◌<◌, ◌≤◌, [], ◌∷◌, length, take, false, true, None, IfErr, IfOk};
-ghost use Rattle.node.specs.Course.{Course, GaveAll, GivesNext, HaltsWithin, IsLawful, OwesSome, at};
+ghost use Rattle.disk_model.specs.AtDisk.{at};
+ghost use Rattle.node.specs.Course.{Course, GaveAll, GivesNext, HaltsWithin, IsLawful, OwesSome};
 ghost use Rattle.node.specs.Inputs.{Input, IsInput, octets_at, tick};
 
 use crate::Halt;

@@ -5,7 +5,8 @@ ghost use Rattle.px_base.specs.CallSign.{CallSign};
 ghost use Rattle.ax25_frames.specs.Kinds.{FitsControl};
 ghost use Rattle.ax25_frames.specs.Values.{value_of};
 ghost use Rattle.kiss.specs.KissText.{kiss_text};
-ghost use Rattle.node.specs.Course.{Course, GaveAll, GivesNext, IsLawful, at, halt_in};
+ghost use Rattle.disk_model.specs.AtDisk.{at};
+ghost use Rattle.node.specs.Course.{Course, GaveAll, GivesNext, IsLawful, halt_in};
 ghost use Rattle.node.specs.Events.{IsFor, NodeEvent, hears, ticks};
 
 use crate::Halt;

@@ -2,7 +2,8 @@
 
 ghost use Rattle.std.specs.Prelude.{◌≡◌, ◌<◌, ◌≤◌, [], ◌∷◌, length, IsSome, None, OnErr, OnOk};
 ghost use Rattle.px_base.specs.Moments.{MomentsOf};
-ghost use Rattle.node.specs.Course.{OwesSome, at};
+ghost use Rattle.disk_model.specs.AtDisk.{at};
+ghost use Rattle.node.specs.Course.{OwesSome};
 ghost use Rattle.node.specs.Inputs.{octets_at, tick_after, turn_inputs};
 ghost use Rattle.node.specs.Turns.{AreHandedOver, IsMomentOf, SaysAll, Takes, TakesPiece, TookTurn, TookTurns, lent};
 

@@ -63,28 +63,16 @@ same-stops : (polls : ℕ) (turns : List Turn) (a b : Result Finished NodeStop) 
 same-stops polls turns (Ok (finished.Closed count)) (Ok (finished.Closed other)) of too h k = refl
 same-stops polls turns (Ok (finished.Closed count)) (Err node.AirRead) of too h k = fail-or-end turns k h.0
 same-stops polls turns (Ok (finished.Closed count)) (Err node.Spent) of too h k = absurd (ends_with-not_open turns turn.End h.0 k.1)
-same-stops polls turns (Ok (finished.Closed count)) (Ok finished.Over) of too h k = absurd (cc too)
-same-stops polls turns (Ok (finished.Closed count)) (Err node.AirWrite) of too h k = absurd (cc too)
-same-stops polls turns (Ok (finished.Closed count)) (Err node.Disk) of too h k = absurd (cc too)
-same-stops polls turns (Ok (finished.Closed count)) (Err node.OutOfMemory) of too h k = absurd (cc too)
+same-stops polls turns (Ok (finished.Closed count)) b of too h k = absurd (cc too)
 same-stops polls turns (Err node.AirRead) (Ok (finished.Closed other)) of too h k = fail-or-end turns h k.0
 same-stops polls turns (Err node.AirRead) (Err node.AirRead) of too h k = refl
 same-stops polls turns (Err node.AirRead) (Err node.Spent) of too h k = absurd (ends_with-not_open turns turn.Fail h k.1)
-same-stops polls turns (Err node.AirRead) (Ok finished.Over) of too h k = absurd (cc too)
-same-stops polls turns (Err node.AirRead) (Err node.AirWrite) of too h k = absurd (cc too)
-same-stops polls turns (Err node.AirRead) (Err node.Disk) of too h k = absurd (cc too)
-same-stops polls turns (Err node.AirRead) (Err node.OutOfMemory) of too h k = absurd (cc too)
+same-stops polls turns (Err node.AirRead) b of too h k = absurd (cc too)
 same-stops polls turns (Err node.Spent) (Ok (finished.Closed other)) of too h k = absurd (ends_with-not_open turns turn.End k.0 h.1)
 same-stops polls turns (Err node.Spent) (Err node.AirRead) of too h k = absurd (ends_with-not_open turns turn.Fail k h.1)
 same-stops polls turns (Err node.Spent) (Err node.Spent) of too h k = refl
-same-stops polls turns (Err node.Spent) (Ok finished.Over) of too h k = absurd (cc too)
-same-stops polls turns (Err node.Spent) (Err node.AirWrite) of too h k = absurd (cc too)
-same-stops polls turns (Err node.Spent) (Err node.Disk) of too h k = absurd (cc too)
-same-stops polls turns (Err node.Spent) (Err node.OutOfMemory) of too h k = absurd (cc too)
-same-stops polls turns (Ok finished.Over) b of too h k = absurd (cc of)
-same-stops polls turns (Err node.AirWrite) b of too h k = absurd (cc of)
-same-stops polls turns (Err node.Disk) b of too h k = absurd (cc of)
-same-stops polls turns (Err node.OutOfMemory) b of too h k = absurd (cc of)
+same-stops polls turns (Err node.Spent) b of too h k = absurd (cc too)
+same-stops polls turns a b of too h k = absurd (cc of)
 
 -- ---- outcomes
 

@@ -15,9 +15,10 @@ use Rattle.file_store.specs.StoreFault.{StoreFault}
 use Rattle.file_store.specs.StoreFault.TheVariants as fault
 use Rattle.node.specs.Lent.{lent, seen}
 use Rattle.server_node.specs.Sessions.SessionRan.{SessionEnds, SessionRan}
-use Rattle.server_node.specs.Stops.{HasAirCause, EndsExactly, RefusesSession, stop_of_fault}
-use Rattle.server_node.specs.declared.stop.NodeStop.{NodeStop}
-use Rattle.server_node.specs.declared.stop.NodeStop.TheVariants as stop
+use Rattle.node.specs.Stops.{stop_of_fault}
+use Rattle.server_node.specs.Stops.{HasAirCause, EndsExactly, RefusesSession}
+use Rattle.node.specs.declared.stop.NodeStop.{NodeStop}
+use Rattle.node.specs.declared.stop.NodeStop.TheVariants as stop
 use Rattle.server_node.specs.declared.terms.Served.{Served}
 use Rattle.server_node.specs.declared.terms.SessionTerms.{SessionTerms}
 use Rattle.pacsat_cli.specs.Sessions.{OverMemory}

@@ -12,9 +12,10 @@ use Rattle.file_store.specs.StoreFault.{StoreFault}
 use Rattle.file_store.specs.StoreFault.TheVariants as fault
 use Rattle.server_node.specs.OnDisk.{NodeRuns}
 use Rattle.server_node.specs.Served.{TurnsBy}
-use Rattle.server_node.specs.Stops.{CountsBy, EndsExactly, RefusesSession, stop_of_fault}
-use Rattle.server_node.specs.declared.stop.NodeStop.{NodeStop}
-use Rattle.server_node.specs.declared.stop.NodeStop.TheVariants as stop
+use Rattle.node.specs.Stops.{stop_of_fault}
+use Rattle.server_node.specs.Stops.{CountsBy, EndsExactly, RefusesSession}
+use Rattle.node.specs.declared.stop.NodeStop.{NodeStop}
+use Rattle.node.specs.declared.stop.NodeStop.TheVariants as stop
 use Rattle.server_node.specs.declared.terms.Served.{Served}
 use Rattle.command_words.specs.Words.{AsksClient}
 use Rattle.pacsat_cli.specs.declared.status.Status.{Status}

@@ -4,8 +4,8 @@ use Rattle.px_base.specs.declared.air.Turn.{Turn}
 use Rattle.node.specs.Lent.{Lent, Seen}
 use Rattle.server_node.specs.OnDisk.{NodeRuns}
 use Rattle.server_node.specs.Stops.{HasAirCause, RefusesSession}
-use Rattle.server_node.specs.declared.stop.NodeStop.{NodeStop}
-use Rattle.server_node.specs.declared.stop.NodeStop.TheVariants as stop
+use Rattle.node.specs.declared.stop.NodeStop.{NodeStop}
+use Rattle.node.specs.declared.stop.NodeStop.TheVariants as stop
 use Rattle.server_node.specs.declared.terms.Served.{Served}
 use Rattle.server_node.specs.OnAir.Served.{ServerEnds}
 use Rattle.server_node.specs.declared.terms.ServerTerms.{ServerTerms}

@@ -21,8 +21,8 @@ use Rattle.node.specs.Turns.{IsUnsaid}
 use Rattle.server_node.specs.Served.{Run}
 use Rattle.server_node.specs.Sessions.SessionRan.{SessionEnds, SessionRan}
 use Rattle.server_node.specs.Stops.{HasAirCause, RefusesSession}
-use Rattle.server_node.specs.declared.stop.NodeStop.{NodeStop}
-use Rattle.server_node.specs.declared.stop.NodeStop.TheVariants as stop
+use Rattle.node.specs.declared.stop.NodeStop.{NodeStop}
+use Rattle.node.specs.declared.stop.NodeStop.TheVariants as stop
 use Rattle.server_node.specs.declared.terms.Served.{Served}
 use Rattle.server_node.specs.declared.terms.SessionTerms.{SessionTerms}
 use Rattle.command_words.specs.declared.disk.DiskWord.{DiskWord}

@@ -11,8 +11,9 @@ use crate::{BadStore, Status};
 use command_words::{DiskWord, ServeRequest, SessionRequest};
 use disk_model::{Disk, MemoryDisk};
 use file_store::Limits;
+use node::NodeStop;
 use px_base::{Air, Clock};
-use server_node::{NodeStop, Served, ServerTerms, SessionTerms, serve, session};
+use server_node::{Served, ServerTerms, SessionTerms, serve, session};
 use std::alloc::Global;
 
 /// Serves the session that is asked for, over this disk, or over a fresh one in memory, which leaves this one alone. Takes

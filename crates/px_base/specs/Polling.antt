@@ -1,5 +1,5 @@
 -- The answers of an air's polls.
-use Rattle.std.specs.Prelude.{◌≡◌, ℕ, ◌≤◌, List, [], ◌∷◌, ◌++◌, length, take, Option, Result, Ok, Err, ⊤}
+use Rattle.std.specs.Prelude.{◌≡◌, ◌⊎◌, ℕ, ◌≤◌, List, [], ◌∷◌, ◌++◌, length, take, Option, Result, Ok, Err, ⊤}
 use Rattle.std.specs.List.{AllByRecursion}
 use Rattle.px_base.specs.Outside.{Grows}
 use Rattle.px_base.specs.declared.air.Polled.{Polled}
@@ -58,6 +58,10 @@ IsOpen turn.End = ⊥
 -- the turns are open ones, and then this last one
 abbrev pub EndsWith : List Turn → Turn → Type 0
 EndsWith turns last = (earlier : List Turn) × (turns ≡ earlier ++ last ∷ []) × AllByRecursion IsOpen earlier
+
+-- The others are all of the list but its last one; of none, none.
+abbrev pub IsButLast : {X : Type 0} → List X → List X → Type 0
+IsButLast {X} all others = ((all ≡ []) × (others ≡ [])) ⊎ ((last : X) × (all ≡ others ++ last ∷ []))
 
 -- the end of the air is among the turns
 abbrev pub HasEnd : List Turn → Type 0

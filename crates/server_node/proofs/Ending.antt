@@ -1,7 +1,6 @@
 -- A session or a server from the recovery of its store, which is refused or gives one, to its end by the turns of its
 -- node; what it does to its disk, and what stands there.
-use Rattle.std.proofs.Common.{◌≡◌, inl, inr, ⊎_elim, ◌⊎◌, ℕ, ◌+◌, ◌≤◌, List, ◌++◌, length, refl, ◌∙◌, ap, subst, arith, IfSome, length-append, append_assoc, [], ◌∷◌, Bool, true, false, sym, Result, Ok, Err, Option}
-use Rattle.std.specs.Prelude.{Result, Ok, Err, IsErrOf, ◌≢◌, IfSome, Option, IsErrAnd}
+use Rattle.std.proofs.Common.{◌≡◌, inl, inr, ⊎_elim, ◌⊎◌, ℕ, ◌+◌, ◌≤◌, List, ◌++◌, length, refl, ◌∙◌, ap, subst, arith, IfSome, length-append, append_assoc, [], ◌∷◌, Bool, true, false, sym, ◌≢◌, Result, Ok, Err, IsErrAnd, IsErrOf, Option}
 use Rattle.disk_model.specs.declared.disk.Disk.{Ghosts}
 use Rattle.file_journal.specs.Through.{StandsThrough}
 use Rattle.file_store.specs.Calls.{Runs, ChangesReads, Becomes, Leaves, TakesStep}
@@ -16,11 +15,11 @@ use Rattle.ftl0_session.specs.Laws.{AcknowledgedStandsLaw}
 use Rattle.ftl0_session.specs.Table.{Row, receiving, session_row}
 use Rattle.server_node.specs.OnDisk.{NodeRuns}
 use Rattle.server_node.specs.Sessions.Laws.{AcknowledgedSinceLaw}
-use Rattle.server_node.specs.declared.stop.NodeStop.{NodeStop}
+use Rattle.node.specs.declared.stop.NodeStop.{NodeStop}
 use Rattle.server_node.specs.declared.terms.Served.{Served}
 use Rattle.px_base.specs.Moments.{MomentsOf}
 use Rattle.px_base.specs.Outside.{Gains}
-use Rattle.px_base.specs.Polling.{HearsAll}
+use Rattle.px_base.specs.Polling.{HearsAll, IsButLast}
 use Rattle.px_base.specs.declared.air.Air.{Ghosts as AirGhosts}
 use Rattle.px_base.specs.declared.air.Turn.{Turn}
 use Rattle.file_store.specs.JournalRecovery.{IsFailedSync, IsSyncedFirst}
@@ -28,23 +27,22 @@ use Rattle.file_store.specs.Recovery.{StandsAlike, IsRecovered, LeavesAlikeSince
 use Rattle.file_store.specs.State.{StoreState, store_in}
 use Rattle.node.specs.Course.{AtDisk, Course}
 use Rattle.node.specs.Lent.{Lent, Seen, lent}
-use Rattle.node.specs.Turns.{HasAirCause as NodeHasCause, IsButLast, IsUnsaid, RanBy, StoppedInLast, TookAll, TurnsBy as NodeTurnsBy, Brought}
+use Rattle.node.specs.Turns.{HasAirCause as NodeHasCause, IsUnsaid, RanBy, StoppedInLast, TookAll, TurnsBy as NodeTurnsBy, Brought}
 use Rattle.node.specs.declared.finished.Finished.{Finished}
-use Rattle.node.specs.declared.stop.NodeStop.{NodeStop as Stop}
 use Rattle.file_journal.specs.AmongReads.{among_reads}
 use Rattle.file_journal.specs.Kept.{alone}
 use Rattle.file_journal.proofs.Offered.{runs_among, runs_missed, stands_through, runs_same}
 use Rattle.server_node.specs.Served.{Run, TurnsBy, Ends}
 use Rattle.server_node.specs.Steps.{EndsOver, Made, Steps, StopsBehind, TakesAll}
-use Rattle.server_node.specs.Stops.{HasAirCause, served_by, stop_of_node, RefusesSession, stop_of_fault}
+use Rattle.node.specs.Stops.{stop_of_fault}
+use Rattle.server_node.specs.Stops.{HasAirCause, served_by, RefusesSession}
 use Rattle.std.proofs.lemmas.Result.{err_from_is_err_and}
 use Rattle.file_store.specs.IsStore.{IsStore}
 use Rattle.file_store.specs.Journal.{after_recovery}
 use Rattle.file_store.specs.StoreFault.{StoreFault}
-use Rattle.server_node.specs.declared.stop.NodeStop.TheVariants as stop
+use Rattle.node.specs.declared.stop.NodeStop.TheVariants as stop
 use Rattle.file_store.specs.StoreFault.TheVariants as fault
 use Rattle.node.specs.declared.finished.Finished.TheVariants as finished
-use Rattle.node.specs.declared.stop.NodeStop.TheVariants as node_stop
 
 -- what a session does to its disk, by its writes and syncs
 pub node_runs : {D : Type 0} (g : Ghosts D) (failed : Type 0) (old now : D) → PutsAmongReads g failed old now → NodeRuns g failed old now
@@ -246,17 +244,10 @@ but_last (next ∷ turns) = by (but_last turns).0 (but_last turns).1
     by earlier (inr some) = (next ∷ earlier, inr (some.0, ap (λ (ts : List Turn). next ∷ ts) some.1))
 
 -- the disk is why it stopped
-by-disk : (why : Stop) → stop_of_node why ≡ stop.Disk → why ≡ node_stop.Disk
-by-disk node_stop.Disk is = refl
-by-disk node_stop.AirRead is = absurd (cc is)
-by-disk node_stop.AirWrite is = absurd (cc is)
-by-disk node_stop.Spent is = absurd (cc is)
-by-disk node_stop.OutOfMemory is = absurd (cc is)
-
-pub disk-stop : {D : Type 0} (g : Ghosts D) (why : Stop) (missed : ℕ) (old new : StoreState) (disk disk_n : D) (done cut : List Command) → CutsOffAmongReads g (why ≡ node_stop.Disk) missed old new disk disk_n done cut
-    → CutsOffAmongReads g (IsErrOf {T = Served} (Err (stop_of_node why)) stop.Disk) missed old new disk disk_n done cut
+pub disk-stop : {D : Type 0} (g : Ghosts D) (why : NodeStop) (missed : ℕ) (old new : StoreState) (disk disk_n : D) (done cut : List Command) → CutsOffAmongReads g (why ≡ stop.Disk) missed old new disk disk_n done cut
+    → CutsOffAmongReads g (IsErrOf {T = Served} (Err why) stop.Disk) missed old new disk disk_n done cut
 disk-stop g why missed old new disk disk_n done cut cuts =
-    cuts-among-same g (why ≡ node_stop.Disk) _ missed missed old new disk disk_n done cut (λ is. ap (λ (w : Stop). Err (stop_of_node w)) is) (λ is. by-disk why (error_of {T = Served} (stop_of_node why) stop.Disk is)) refl cuts
+    cuts-among-same g (why ≡ stop.Disk) _ missed missed old new disk disk_n done cut (ap Err) (error_of why stop.Disk) refl cuts
 
 -- ---- by how the turns ended: all that they bring was taken, or it stopped at an event of the last one
 
@@ -273,23 +264,25 @@ module _ {P D A E S F : Type 0} (Brings : List Turn → List ℕ → List E → 
 
   abbrev pub Stopped : Type 0
   Stopped =
-      (why : Stop) → TurnsBy (Err (stop_of_node why)) polls all.turns → ((why ≡ node_stop.OutOfMemory → air.write_faults now ≡ air.write_faults before) → Causes (Err (stop_of_node why)))
-      → ((least : List F) (made : Made) (cut : List Command) → StopsBehind least steps from events why unsaid made cut → EndsOver (Err (stop_of_node why)) least steps from events unsaid made cut)
-      → StoppedInLast Brings course start all why text unsaid then_is → Did (Err (stop_of_node why))
+      (why : NodeStop) → TurnsBy (Err why) polls all.turns → ((why ≡ stop.OutOfMemory → air.write_faults now ≡ air.write_faults before) → Causes (Err why))
+      → ((least : List F) (made : Made) (cut : List Command) → StopsBehind least steps from events why unsaid made cut → EndsOver (Err why) least steps from events unsaid made cut)
+      → StoppedInLast Brings course start all why text unsaid then_is → Did (Err why)
 
-  pub never-over : (ended : Result Finished Stop) → RanBy Brings course start all ended text unsaid then_is → ended ≢ Ok finished.Over
+  pub never-over : (ended : Result Finished NodeStop) → RanBy Brings course start all ended text unsaid then_is → ended ≢ Ok finished.Over
   never-over (Ok finished.Over) ran is = let e : true ≡ false = sym ran.2 ∙ is_over then_is.it in absurd (cc e)
   never-over (Ok (finished.Closed count)) ran is = absurd (cc is)
   never-over (Err why) ran is = absurd (cc is)
 
-  pub did-by : Taken → Stopped → (ended : Result Finished Stop) → NodeTurnsBy ended polls all.turns → NodeHasCause air before now ended → RanBy Brings course start all ended text unsaid then_is → Did (served_by ended)
+  pub did-by : Taken → Stopped → (ended : Result Finished NodeStop) → NodeTurnsBy ended polls all.turns → NodeHasCause air before now ended → RanBy Brings course start all ended text unsaid then_is → Did (served_by ended)
   did-by taken stopped (Ok finished.Over) ends counts ran = absurd (never-over (Ok finished.Over) ran refl)
   did-by taken stopped (Ok (finished.Closed n)) ends counts ran = taken (Ok (record { turns = n })) ends counts (λ e. cc e) (λ l m h. h) ran
-  did-by taken stopped (Err node_stop.AirRead) ends counts ran = taken (Err stop.AirRead) ends counts (λ e. cc e) (λ l m h. h) ran
-  did-by taken stopped (Err node_stop.Spent) ends counts ran = taken (Err stop.Spent) ends counts (λ e. cc e) (λ l m h. h) ran
-  did-by taken stopped (Err node_stop.AirWrite) ends counts ran = stopped node_stop.AirWrite ends (λ kept. counts) (λ l m c h. h) ran
-  did-by taken stopped (Err node_stop.Disk) ends counts ran = stopped node_stop.Disk ends (λ kept. counts) (λ l m c h. h) ran
-  did-by taken stopped (Err node_stop.OutOfMemory) ends counts ran = stopped node_stop.OutOfMemory ends (λ kept. (counts.0, kept refl)) (λ l m c h. h) ran
+  did-by taken stopped (Err stop.AirRead) ends counts ran = taken (Err stop.AirRead) ends counts (λ e. cc e) (λ l m h. h) ran
+  did-by taken stopped (Err stop.Spent) ends counts ran = taken (Err stop.Spent) ends counts (λ e. cc e) (λ l m h. h) ran
+  did-by taken stopped (Err stop.AirWrite) ends counts ran = stopped stop.AirWrite ends (λ kept. counts) (λ l m c h. h) ran
+  did-by taken stopped (Err stop.Disk) ends counts ran = stopped stop.Disk ends (λ kept. counts) (λ l m c h. h) ran
+  did-by taken stopped (Err (stop.NotAStore found)) ends counts ran = absurd ends
+  did-by taken stopped (Err (stop.Damaged at)) ends counts ran = absurd ends
+  did-by taken stopped (Err stop.OutOfMemory) ends counts ran = stopped stop.OutOfMemory ends (λ kept. (counts.0, kept refl)) (λ l m c h. h) ran
 
 -- ---- what that says of the disk
 

@@ -7,8 +7,8 @@ use Rattle.file_store.specs.State.{StandsOn, StoreState}
 use Rattle.file_store.specs.Working.{CutsOffAmongReads, DoesAmongReads}
 use Rattle.file_store.proofs.Offered.{Does-none, among-then, cuts-among-then, does-among}
 use Rattle.node.specs.Course.{AtDisk}
-use Rattle.node.specs.declared.stop.NodeStop.{NodeStop as Stop}
-use Rattle.node.specs.declared.stop.NodeStop.TheVariants as node_stop
+use Rattle.node.specs.declared.stop.NodeStop.{NodeStop}
+use Rattle.node.specs.declared.stop.NodeStop.TheVariants as stop
 use Rattle.server_node.specs.Steps.{Made, RunsOn, Steps, StopsBehind, StopsOn, StopsOver, WithStore, both, made, with_store}
 
 -- no events make nothing, and events and others behind them what both make
@@ -26,7 +26,7 @@ both-assoc a b c =
 pub does-none : {D : Type 0} (g : Ghosts D) (store : StoreState) (disk : D) → store.journal.failed ≡ false → StandsOn g store disk → g.lasts disk disk → DoesAmongReads g ⊥ 0 store store disk disk []
 does-none g store disk healthy stands lasts = does-among g ⊥ store store disk disk [] (Does-none g ⊥ store disk (λ never. never) stands healthy lasts)
 
-module _ {S E : Type 0} (steps : Steps S E) (laws : AreSteps steps) (why : Stop) (unsaid : Bool) where
+module _ {S E : Type 0} (steps : Steps S E) (laws : AreSteps steps) (why : NodeStop) (unsaid : Bool) where
   -- a stop at the one event
   pub stop-one : (s : S) (event : E) (all : Made) (cut : List Command) → steps.stops why unsaid s event all cut → StopsOver steps s (event ∷ []) why unsaid all cut
   stop-one s event all cut h = record {
@@ -94,8 +94,8 @@ module _ {S E : Type 0} (steps : Steps S E) (laws : AreSteps steps) (why : Stop)
       pub behind-all : StopsBehind xs steps a.it (xs ++ ys) why unsaid (made (text ++ more) (h.done ++ k.done) (h.missed + k.missed)) k.cut
       behind-all = stop-behind a.it b.it xs ys (made text h.done h.missed) (made more k.done k.missed) k.cut h.goes k.stops
 
-      pub cuts-all : CutsOffAmongReads g (why ≡ node_stop.Disk) (h.missed + k.missed) a.store c.it a.disk c.disk (h.done ++ k.done) k.cut
-      cuts-all = cuts-among-then g on (why ≡ node_stop.Disk) h.missed k.missed a.store b.store c.it a.disk b.disk c.disk h.done k.done k.cut h.does k.cuts
+      pub cuts-all : CutsOffAmongReads g (why ≡ stop.Disk) (h.missed + k.missed) a.store c.it a.disk c.disk (h.done ++ k.done) k.cut
+      cuts-all = cuts-among-then g on (why ≡ stop.Disk) h.missed k.missed a.store b.store c.it a.disk b.disk c.disk h.done k.done k.cut h.does k.cuts
 
       pub stops-on : StopsOn g steps a c (xs ++ ys) why unsaid (text ++ more)
       stops-on = record { done = h.done ++ k.done; cut = k.cut; missed = h.missed + k.missed; stops = behind-all.stops; cuts = cuts-all; kept = k.kept }

@@ -20,12 +20,12 @@ use Rattle.file_store.specs.Working.{CountsSome, PutsAmongReads}
 use Rattle.file_store.specs.StoreFault.{StoreFault}
 use Rattle.node.specs.Lent.{Lent, Seen}
 use Rattle.node.specs.Turns.{IsUnsaid}
-use Rattle.server_node.specs.declared.stop.NodeStop.{NodeStop}
-use Rattle.server_node.specs.declared.stop.NodeStop.TheVariants as stop
+use Rattle.node.specs.declared.stop.NodeStop.{NodeStop}
+use Rattle.node.specs.declared.stop.NodeStop.TheVariants as stop
 use Rattle.server_node.specs.declared.terms.Served.{Served}
 use Rattle.server_node.specs.OnDisk.{LeavesStanding}
 use Rattle.server_node.specs.Steps.{Made}
-use Rattle.server_node.specs.Stops.{stop_of_fault}
+use Rattle.node.specs.Stops.{stop_of_fault}
 
 -- The turns, of which there are at most so many, by how the serving ended.
 abbrev pub TurnsBy : Result Served NodeStop → ℕ → List Turn → Type 0

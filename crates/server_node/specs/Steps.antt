@@ -5,10 +5,8 @@ use Rattle.file_store.specs.Command.{Command}
 use Rattle.file_store.specs.State.{StoreState}
 use Rattle.file_store.specs.Working.{CutsOffAmongReads, DoesAmongReads}
 use Rattle.node.specs.Course.{AtDisk}
-use Rattle.node.specs.declared.stop.NodeStop.{NodeStop as Stop}
-use Rattle.node.specs.declared.stop.NodeStop.TheVariants as node_stop
-use Rattle.server_node.specs.declared.stop.NodeStop.{NodeStop}
-use Rattle.server_node.specs.declared.stop.NodeStop.TheVariants as stop
+use Rattle.node.specs.declared.stop.NodeStop.{NodeStop}
+use Rattle.node.specs.declared.stop.NodeStop.TheVariants as stop
 use Rattle.server_node.specs.declared.terms.Served.{Served}
 
 -- what was made of events: the text that was said, the commands that were done, and how many reads that failed are told
@@ -31,11 +29,11 @@ pub record Steps (S E : Type 0) : Type 1 where
   pub goes : S → List E → Made → S → Type 0
   -- It stops at this event, for this reason; a put failed, or none did. The disk failed in one of these commands, where
   -- it is the reason.
-  pub stops : Stop → Bool → S → E → Made → List Command → Type 0
+  pub stops : NodeStop → Bool → S → E → Made → List Command → Type 0
 
 -- It stopped at one of these events. Of those before it all was said, and all their commands are done; of those after
 -- it nothing was taken. Reads may have failed at any of them.
-pub record StopsOver {S E : Type 0} (steps : Steps S E) (start : S) (events : List E) (why : Stop) (unsaid : Bool)
+pub record StopsOver {S E : Type 0} (steps : Steps S E) (start : S) (events : List E) (why : NodeStop) (unsaid : Bool)
     (all : Made) (cut : List Command) : Type 0 where
   pub before : List E
   pub next : E
@@ -49,8 +47,8 @@ pub record StopsOver {S E : Type 0} (steps : Steps S E) (start : S) (events : Li
   pub all_is : all ≡ both earlier last
 
 -- The same, where all of the first events were taken before the stop.
-pub record StopsBehind {S E : Type 0} (least : List E) (steps : Steps S E) (start : S) (events : List E) (why : Stop)
-    (unsaid : Bool) (all : Made) (cut : List Command) : Type 0 where
+pub record StopsBehind {S E : Type 0} (least : List E) (steps : Steps S E) (start : S) (events : List E)
+    (why : NodeStop) (unsaid : Bool) (all : Made) (cut : List Command) : Type 0 where
   pub stops : StopsOver steps start events why unsaid all cut
   pub between : List E
   pub in_order : stops.before ≡ least ++ between
@@ -67,11 +65,11 @@ EndsOver (Ok served) least steps start events unsaid all cut = TakesAll steps st
 EndsOver (Err stop.AirRead) least steps start events unsaid all cut = TakesAll steps start events all cut
 EndsOver (Err stop.Spent) least steps start events unsaid all cut = TakesAll steps start events all cut
 EndsOver (Err stop.AirWrite) least steps start events unsaid all cut =
-    StopsBehind least steps start events node_stop.AirWrite unsaid all cut
+    StopsBehind least steps start events stop.AirWrite unsaid all cut
 EndsOver (Err stop.Disk) least steps start events unsaid all cut =
-    StopsBehind least steps start events node_stop.Disk unsaid all cut
+    StopsBehind least steps start events stop.Disk unsaid all cut
 EndsOver (Err stop.OutOfMemory) least steps start events unsaid all cut =
-    StopsBehind least steps start events node_stop.OutOfMemory unsaid all cut
+    StopsBehind least steps start events stop.OutOfMemory unsaid all cut
 EndsOver (Err (stop.NotAStore found)) least steps start events unsaid all cut = ⊥
 EndsOver (Err (stop.Damaged at)) least steps start events unsaid all cut = ⊥
 
@@ -98,10 +96,10 @@ pub record RunsOn {S E D : Type 0} (g : Ghosts D) (steps : Steps S E) (old new :
 -- It stopped at one of these events, and its commands up to there are done on the disk. After want of memory no put
 -- fails.
 pub record StopsOn {S E D : Type 0} (g : Ghosts D) (steps : Steps S E) (old : WithStore S D) (new : AtDisk StoreState D)
-    (events : List E) (why : Stop) (unsaid : Bool) (text : List ℕ) : Type 0 where
+    (events : List E) (why : NodeStop) (unsaid : Bool) (text : List ℕ) : Type 0 where
   pub done : List Command
   pub cut : List Command
   pub missed : ℕ
   pub stops : StopsOver steps old.it events why unsaid (made text done missed) cut
-  pub cuts : CutsOffAmongReads g (why ≡ node_stop.Disk) missed old.store new.it old.disk new.disk done cut
-  pub kept : why ≡ node_stop.OutOfMemory → unsaid ≡ false
+  pub cuts : CutsOffAmongReads g (why ≡ stop.Disk) missed old.store new.it old.disk new.disk done cut
+  pub kept : why ≡ stop.OutOfMemory → unsaid ≡ false

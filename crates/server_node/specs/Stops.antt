@@ -3,36 +3,17 @@ use Rattle.std.specs.Prelude.{◌≡◌, ◌↔◌, ℕ, ◌≤◌, List, Option
 use Rattle.px_base.specs.Outside.{Rose}
 use Rattle.file_store.specs.Walk.{damaged_at, no_store}
 use Rattle.file_store.specs.State.{standing_of}
-use Rattle.file_store.specs.StoreFault.{StoreFault}
-use Rattle.file_store.specs.StoreFault.TheVariants as fault
 use Rattle.node.specs.declared.finished.Finished.{Finished}
 use Rattle.node.specs.declared.finished.Finished.TheVariants as finished
-use Rattle.node.specs.declared.stop.NodeStop.{NodeStop as Stop}
-use Rattle.node.specs.declared.stop.NodeStop.TheVariants as node_stop
-use Rattle.server_node.specs.declared.stop.NodeStop.{NodeStop}
-use Rattle.server_node.specs.declared.stop.NodeStop.TheVariants as stop
+use Rattle.node.specs.declared.stop.NodeStop.{NodeStop}
+use Rattle.node.specs.declared.stop.NodeStop.TheVariants as stop
 use Rattle.server_node.specs.declared.terms.Served.{Served}
 
--- how a recovery that is refused stops it
-abbrev pub stop_of_fault : StoreFault → NodeStop
-stop_of_fault (fault.NotAStore found) = stop.NotAStore found
-stop_of_fault (fault.Damaged at) = stop.Damaged at
-stop_of_fault fault.Disk = stop.Disk
-stop_of_fault fault.OutOfMemory = stop.OutOfMemory
-
--- how a node's stop stops its session
-abbrev pub stop_of_node : Stop → NodeStop
-stop_of_node node_stop.AirRead = stop.AirRead
-stop_of_node node_stop.AirWrite = stop.AirWrite
-stop_of_node node_stop.Disk = stop.Disk
-stop_of_node node_stop.Spent = stop.Spent
-stop_of_node node_stop.OutOfMemory = stop.OutOfMemory
-
 -- How a node's turns end a session. It is never over before them.
-abbrev pub served_by : Result Finished Stop → Result Served NodeStop
+abbrev pub served_by : Result Finished NodeStop → Result Served NodeStop
 served_by (Ok finished.Over) = Ok (record { turns = 0 })
 served_by (Ok (finished.Closed turns)) = Ok (record { turns = turns })
-served_by (Err why) = Err (stop_of_node why)
+served_by (Err why) = Err why
 
 -- The air's counts of faults by how a call over it ended: where hearing or saying failed that count rose, and each
 -- other is as it was. After a fault of the disk one reply more was to be said, and that may have failed too.

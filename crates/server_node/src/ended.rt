@@ -7,13 +7,13 @@ use crate::{NodeStop, Served};
 use node::Finished;
 
 /// How the serving ended, by how the turns of its node did. It was never over before them.
-pub(crate) fn answer_of(ended: Result<Finished, node::NodeStop>) -> Result<Served, NodeStop>
+pub(crate) fn answer_of(ended: Result<Finished, NodeStop>) -> Result<Served, NodeStop>
     requires { ended ≢ Ok Finished.Over }
     ensures { result ≡ served_by ended }
 {
     match ended {
         Ok(Finished::Closed(turns)) => Ok(Served { turns }),
         Ok(Finished::Over) => unreachable!(),
-        Err(stop) => Err(NodeStop::from(stop)),
+        Err(why) => Err(why),
     }
 }

@@ -6,10 +6,9 @@ mod ended;
 pub mod laws;
 mod on_air;
 mod sessions;
-mod stop;
 mod terms;
 
+pub use node::NodeStop;
 pub use on_air::serve;
 pub use sessions::session;
-pub use stop::NodeStop;
 pub use terms::{Served, ServerTerms, SessionTerms};

@@ -1,6 +1,5 @@
 -- A job is carried out by a client whose notes were recovered.
-use Rattle.std.proofs.Common.{◌≡◌, ℕ, Bool, true, false, List, [], ◌++◌, refl, sym, ◌∙◌, ap, subst, append-nil, Option, None, Some, IfSome}
-use Rattle.std.specs.Prelude.{◌≢◌, Result, Ok, Err, IfErr, IsErrOf}
+use Rattle.std.proofs.Common.{◌≡◌, ℕ, Bool, true, false, List, [], ◌++◌, refl, sym, ◌∙◌, ap, subst, append-nil, Option, None, Some, IfSome, ◌≢◌, Result, Ok, Err, IfErr, IsErrOf}
 use Rattle.file_journal.specs.Position.{Position}
 use Rattle.client_notes.specs.Calls.{Runs}
 use Rattle.client_notes.specs.Walk.{state}
@@ -13,6 +12,7 @@ use Rattle.client_notes.specs.Several.{CutsOff, DoesSeveral}
 use Rattle.client_notes.specs.State.{StandsFor, standing_of}
 use Rattle.node.specs.Lent.{Lent, Seen}
 use Rattle.node.specs.Turns as turns
+use Rattle.px_base.specs.declared.air.Turn.{Turn}
 use Rattle.node.specs.declared.finished.Finished.{Finished}
 use Rattle.node.specs.declared.finished.Finished.TheVariants as finished
 use Rattle.node.specs.declared.stop.NodeStop.{NodeStop}
@@ -68,13 +68,16 @@ recovered_exactly test no_begin no_damage content start result stood pass no_dis
 -- ---- the stops that come of carrying out a job
 
 -- what holds of each stop that turns are
-pub of_turns : (P : SendStop → Type 0) → P stop.LinkDown → P stop.AirRead → P stop.AirWrite → P stop.Disk → P stop.Spent → P stop.OutOfMemory → (ended : Result Finished NodeStop) → P (stop_of_turns ended)
-of_turns P down read write disk spent memory (Ok finished) = down
-of_turns P down read write disk spent memory (Err node.AirRead) = read
-of_turns P down read write disk spent memory (Err node.AirWrite) = write
-of_turns P down read write disk spent memory (Err node.Disk) = disk
-of_turns P down read write disk spent memory (Err node.Spent) = spent
-of_turns P down read write disk spent memory (Err node.OutOfMemory) = memory
+pub of_turns : (P : SendStop → Type 0) → P stop.LinkDown → P stop.AirRead → P stop.AirWrite → P stop.Disk → P stop.Spent → P stop.OutOfMemory → (ended : Result Finished NodeStop) (polls : ℕ) (heard : List Turn)
+    → turns.TurnsBy ended polls heard → P (stop_of_turns ended)
+of_turns P down read write disk spent memory (Ok finished) polls heard ends = down
+of_turns P down read write disk spent memory (Err node.AirRead) polls heard ends = read
+of_turns P down read write disk spent memory (Err node.AirWrite) polls heard ends = write
+of_turns P down read write disk spent memory (Err node.Disk) polls heard ends = disk
+of_turns P down read write disk spent memory (Err node.Spent) polls heard ends = spent
+of_turns P down read write disk spent memory (Err node.OutOfMemory) polls heard ends = memory
+of_turns P down read write disk spent memory (Err (node.NotAStore found)) polls heard ends = absurd ends
+of_turns P down read write disk spent memory (Err (node.Damaged at)) polls heard ends = absurd ends
 
 -- what holds of each stop that an outcome is, and of the one that these turns are
 module _ (P : SendStop → Type 0) (refused : (code : ℕ) → P (stop.Refused code)) (bad : (code : ℕ) → P (stop.BadFile code)) (down : P stop.LinkDown) (strange : (kind : ℕ) → P (stop.Strange kind))
@@ -110,6 +113,8 @@ node_of stop.AirWrite = Some node.AirWrite
 node_of stop.Disk = Some node.Disk
 node_of stop.Spent = Some node.Spent
 node_of stop.OutOfMemory = Some node.OutOfMemory
+node_of (stop.NotAStore found) = Some (node.NotAStore found)
+node_of (stop.Damaged at) = Some (node.Damaged at)
 node_of why = None
 
 node-of : (why : NodeStop) → node_of (stop_of_node why) ≡ Some why
@@ -119,6 +124,8 @@ node-of node.AirWrite = refl
 node-of node.Disk = refl
 node-of node.Spent = refl
 node-of node.OutOfMemory = refl
+node-of (node.NotAStore found) = refl
+node-of (node.Damaged at) = refl
 
 -- it stops by the node exactly where the turns ended by that
 pub turned : (ended : Result Finished NodeStop) (reached : Outcome) (why : NodeStop) → answer_of ended reached ≡ Err (stop_of_node why) → ended ≡ Err why
@@ -144,6 +151,8 @@ module _ (reads reads_n writes writes_n : ℕ) where
   same-turns (Err node.Disk) h k before = (h.same (λ e. cc e), k.same (λ e. cc e))
   same-turns (Err node.Spent) h k before = (h.same (λ e. cc e), k.same (λ e. cc e))
   same-turns (Err node.OutOfMemory) h k before = (h.same (λ e. cc e), k.same (λ e. cc e))
+  same-turns (Err (node.NotAStore found)) h k before = (h.same (λ e. cc e), k.same (λ e. cc e))
+  same-turns (Err (node.Damaged at)) h k before = (h.same (λ e. cc e), k.same (λ e. cc e))
 
   if-err : (result : Result Outcome SendStop) (P : SendStop → Type 0) → ((why : SendStop) → result ≡ Err why → P why) → IfErr result P
   if-err (Ok value) P h = tt
@@ -215,6 +224,8 @@ cut-none (Err node.Spent) least client events reached text done cut fine h = h.4
 cut-none (Err node.AirWrite) least client events reached text done cut fine h = h.stops.stops.5
 cut-none (Err node.Disk) least client events reached text done cut fine h = absurd (fine refl)
 cut-none (Err node.OutOfMemory) least client events reached text done cut fine h = h.stops.stops.4
+cut-none (Err (node.NotAStore found)) least client events reached text done cut fine h = absurd h
+cut-none (Err (node.Damaged at)) least client events reached text done cut fine h = absurd h
 
 -- A client whose notes were recovered did these first commands, was asked for this job, and carried it out.
 pub record HasCarried {A C D : Type 0} (see : Seen D A C) (old new : Lent D A C) (terms : ClientTerms) (first : List NotesCommand) (job : JobState) (result : Result Outcome SendStop) : Type 0 where
@@ -317,4 +328,4 @@ module _ {A C D : Type 0} (see : Seen D A C) (on : (first second third : D) → 
   }
 
   pub carried : (why : SendStop) → result ≡ Err why → is_carried why ≡ true
-  carried why is = of_answer (λ s. is_carried s ≡ true) (λ code. refl) (λ code. refl) refl (λ kind. refl) run.ended (of_turns (λ s. is_carried s ≡ true) refl refl refl refl refl refl run.ended) run.reached why (sym h.out.answer ∙ is)
+  carried why is = of_answer (λ s. is_carried s ≡ true) (λ code. refl) (λ code. refl) refl (λ kind. refl) run.ended (of_turns (λ s. is_carried s ≡ true) refl refl refl refl refl refl run.ended _ _ h.out.ran.ends) run.reached why (sym h.out.answer ∙ is)

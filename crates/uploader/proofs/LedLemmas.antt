@@ -1,8 +1,7 @@
 -- A command that carried out a job comes to what the definition makes of it over all that was heard.
-use Rattle.std.proofs.Common.{◌≡◌, ℕ, List, [], ◌∷◌, ◌++◌, refl, ap, sym, subst, ◌∙◌, inl, inr, Bool, true, false, append_assoc}
+use Rattle.std.proofs.Common.{◌≡◌, ℕ, List, [], ◌∷◌, ◌++◌, refl, ap, sym, subst, ◌∙◌, inl, inr, Bool, true, false, append_assoc, ◌≢◌, Option, Some, Result, Ok, Err, map}
 use Rattle.std.proofs.lemmas.List.{append_cancel_left}
 use Rattle.std.specs.List.{AllByRecursion}
-use Rattle.std.specs.Prelude.{◌≢◌, Option, Some, Result, Ok, Err, map}
 use Rattle.px_base.specs.Outside.{Grows}
 use Rattle.px_base.specs.declared.air.Turn.{Turn}
 use Rattle.ax25_frames.specs.FrameText.{FrameValue}
@@ -179,6 +178,8 @@ module _ (steps : OneStepLaw) (stays : StaysLaw) (client : Client) where
         (λ some. came-to (unsaid-same job least events got reached text done cut frames commands now h goes is some) some)
     comes-by (Err node.Disk) over ends h = cut-short (Err node.Disk) (inr (inl refl)) h.stops.stops.4
     comes-by (Err node.OutOfMemory) over ends h = cut-short (Err node.OutOfMemory) (inr (inr refl)) h.stops.stops.5
+    comes-by (Err (node.NotAStore found)) over ends h = absurd h
+    comes-by (Err (node.Damaged at)) over ends h = absurd h
 
 pub led-law : {A C D : Type 0} (see : Seen D A C) → OneRunLaw → OneStepLaw → StaysLaw → LedLaw see
 led-law see runs steps stays old new asked came turns reached h led =

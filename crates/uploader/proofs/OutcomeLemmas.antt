@@ -1,6 +1,5 @@
 -- What a job that was carried out came to, where that is what a command asks for.
-use Rattle.std.proofs.Common.{◌≡◌, ℕ, true, List, sym, ap, ◌∙◌, subst, None, Some}
-use Rattle.std.specs.Prelude.{◌≢◌, Result, Ok, Err, IfOk}
+use Rattle.std.proofs.Common.{◌≡◌, ℕ, true, List, sym, ap, ◌∙◌, subst, None, Some, ◌≢◌, Result, Ok, Err, IfOk}
 use Rattle.pfh_reader.specs.Faults.{fault_code}
 use Rattle.disk_model.specs.declared.disk.Disk.{Ghosts}
 use Rattle.client_notes.proofs.Offered.{told_weaker}
@@ -9,6 +8,8 @@ use Rattle.client_notes.specs.declared.answers.Noted.TheVariants as noted
 use Rattle.client_notes.specs.Notes.{Lists, got_of}
 use Rattle.client_notes.specs.OnDisk.{EachImage}
 use Rattle.client_notes.specs.State.{StandsFor}
+use Rattle.px_base.specs.declared.air.Turn.{Turn}
+use Rattle.node.specs.Turns.{TurnsBy}
 use Rattle.node.specs.declared.finished.Finished.{Finished}
 use Rattle.node.specs.declared.stop.NodeStop.{NodeStop}
 use Rattle.ftl0_client.specs.Work.{Work}
@@ -86,15 +87,15 @@ acked-alone lists (work.Directory at) listing ended reached answer upload h is =
 acked-alone lists (work.Download at) listing ended reached answer upload h is = absurd upload
 
 -- an upload comes to no bad file
-pub never-bad : (lists : Lists) (at : Upload) (listing : List ℕ) (ended : Result Finished NodeStop) (reached : Outcome) (code : ℕ) → (reached ≢ outcome.Working → Promises lists (work.Upload at) listing reached)
+pub never-bad : (lists : Lists) (at : Upload) (listing : List ℕ) (ended : Result Finished NodeStop) (reached : Outcome) (code : ℕ) (polls : ℕ) (turns : List Turn) → TurnsBy ended polls turns → (reached ≢ outcome.Working → Promises lists (work.Upload at) listing reached)
     → ¬ (answer_of ended reached ≡ Err (stop.BadFile code))
-never-bad lists at listing ended outcome.Idle code h is = cc is
-never-bad lists at listing ended outcome.Working code h is =
-    of_turns (λ s. ¬ (s ≡ stop.BadFile code)) (λ e. cc e) (λ e. cc e) (λ e. cc e) (λ e. cc e) (λ e. cc e) (λ e. cc e) ended (let e : stop_of_turns ended ≡ stop.BadFile code = cc is in e)
-never-bad lists at listing ended (outcome.Acked number) code h is = cc is
-never-bad lists at listing ended (outcome.Refused other) code h is = cc is
-never-bad lists at listing ended (outcome.BadFile other) code h is = h (λ e. cc e)
-never-bad lists at listing ended (outcome.Fetched number) code h is = cc is
-never-bad lists at listing ended outcome.Listed code h is = cc is
-never-bad lists at listing ended (outcome.LinkDown why) code h is = cc is
-never-bad lists at listing ended (outcome.Strange kind) code h is = cc is
+never-bad lists at listing ended outcome.Idle code polls turns ends h is = cc is
+never-bad lists at listing ended outcome.Working code polls turns ends h is =
+    of_turns (λ s. ¬ (s ≡ stop.BadFile code)) (λ e. cc e) (λ e. cc e) (λ e. cc e) (λ e. cc e) (λ e. cc e) (λ e. cc e) ended polls turns ends (let e : stop_of_turns ended ≡ stop.BadFile code = cc is in e)
+never-bad lists at listing ended (outcome.Acked number) code polls turns ends h is = cc is
+never-bad lists at listing ended (outcome.Refused other) code polls turns ends h is = cc is
+never-bad lists at listing ended (outcome.BadFile other) code polls turns ends h is = h (λ e. cc e)
+never-bad lists at listing ended (outcome.Fetched number) code polls turns ends h is = cc is
+never-bad lists at listing ended outcome.Listed code polls turns ends h is = cc is
+never-bad lists at listing ended (outcome.LinkDown why) code polls turns ends h is = cc is
+never-bad lists at listing ended (outcome.Strange kind) code polls turns ends h is = cc is

@@ -1,6 +1,5 @@
 -- How `send` ends.
-use Rattle.std.proofs.Common.{◌≡◌, ◌⊎◌, ⊎_elim, inl, inr, ℕ, Bool, true, false, List, [], ◌∷◌, length, refl, sym, ap, ◌∙◌, subst, arith, Some, Option, IfSome}
-use Rattle.std.specs.Prelude.{Result, Ok, Err, IfErr, IfOk, IsErr, IsErrOf, IsTrue, MatchResult}
+use Rattle.std.proofs.Common.{◌≡◌, ◌⊎◌, ⊎_elim, inl, inr, ℕ, Bool, true, false, List, [], ◌∷◌, length, refl, sym, ap, ◌∙◌, subst, arith, Some, Option, IfSome, Result, Ok, Err, IfErr, IfOk, IsErr, IsErrOf, IsTrue, MatchResult}
 use Rattle.px_base.specs.CallSign.{CallSign}
 use Rattle.px_base.specs.Shelves.{Holding, content_of}
 use Rattle.pfh_reader.specs.Faults.{fault_code}
@@ -341,8 +340,8 @@ module _ {A C D : Type 0} (see : Seen D A C) (lasts : (disk : D) → see.disk.la
     past-of (Ok sent) is = tt
     past-of (Err why) is =
         of_answer (λ s. ((code : ℕ) → ¬ (s ≡ stop.BadFile code)) → is_past s ≡ true) (λ code good. refl) (λ code good. absurd (good code refl)) (λ good. refl) (λ kind good. refl) h.out.run.ended
-        (λ good. of_turns (λ s. is_past s ≡ true) refl refl refl refl refl refl h.out.run.ended) h.out.run.reached why (sym h.out.answer ∙ is)
-        (λ code bad. never-bad end.notes.lists (new_upload task number file) (listing_in end.attempt) h.out.run.ended h.out.run.reached code h.out.became.promises (sym h.out.answer ∙ is ∙ ap Err bad))
+        (λ good. of_turns (λ s. is_past s ≡ true) refl refl refl refl refl refl h.out.run.ended _ _ h.out.ran.ends) h.out.run.reached why (sym h.out.answer ∙ is)
+        (λ code bad. never-bad end.notes.lists (new_upload task number file) (listing_in end.attempt) h.out.run.ended h.out.run.reached code _ _ h.out.ran.ends h.out.became.promises (sym h.out.answer ∙ is ∙ ap Err bad))
 
     pub upload-all : SendsAll see old new held faults faults_n terms name result
     upload-all =

@@ -1,6 +1,5 @@
 -- How a start that gives no task ends a command.
-use Rattle.std.proofs.Common.{◌≡◌, false, List, [], ◌∷◌, refl, sym, ◌∙◌, subst, Option, None, Some}
-use Rattle.std.specs.Prelude.{Result, Ok, Err}
+use Rattle.std.proofs.Common.{◌≡◌, false, List, [], ◌∷◌, refl, sym, ◌∙◌, subst, Option, None, Some, Result, Ok, Err}
 use Rattle.client_notes.specs.Answers.{StartsBy}
 use Rattle.client_notes.specs.Command.{NotesCommand}
 use Rattle.client_notes.specs.State.{NotesState}

@@ -61,6 +61,8 @@ is_of_turns (Err node.Spent) = true
 is_of_turns (Err node.AirWrite) = false
 is_of_turns (Err node.Disk) = false
 is_of_turns (Err node.OutOfMemory) = false
+is_of_turns (Err (node.NotAStore found)) = false
+is_of_turns (Err (node.Damaged at)) = false
 
 -- Nothing became of the job, and the turns, of which there are at most so many, ended so.
 pub record EndsWithTurns (polls : ℕ) (turns : List Turn) (reached : Outcome) (came : Result Outcome SendStop)

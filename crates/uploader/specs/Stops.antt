@@ -43,6 +43,8 @@ abbrev pub stop_of_node : NodeStop → SendStop
 stop_of_node node.AirRead = stop.AirRead
 stop_of_node node.AirWrite = stop.AirWrite
 stop_of_node node.Disk = stop.Disk
+stop_of_node (node.NotAStore found) = stop.NotAStore found
+stop_of_node (node.Damaged at) = stop.Damaged at
 stop_of_node node.Spent = stop.Spent
 stop_of_node node.OutOfMemory = stop.OutOfMemory
 

@@ -119,6 +119,8 @@ impl From<NodeStop> for SendStop {
             NodeStop::AirRead => SendStop::AirRead,
             NodeStop::AirWrite => SendStop::AirWrite,
             NodeStop::Disk => SendStop::Disk,
+            NodeStop::NotAStore { found } => SendStop::NotAStore { found },
+            NodeStop::Damaged { at } => SendStop::Damaged { at },
             NodeStop::Spent => SendStop::Spent,
             NodeStop::OutOfMemory => SendStop::OutOfMemory,
         }

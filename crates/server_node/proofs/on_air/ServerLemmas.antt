@@ -12,7 +12,7 @@ use Rattle.file_store.proofs.Offered.{among-healthy, cuts-among-none, cuts-among
 use Rattle.node.specs.Course.{AtDisk, GaveAll, GivesNext, IsLawful, at, stop_at_put}
 use Rattle.node.specs.Events.{NodeEvent, NodeEvents}
 use Rattle.disk_model.specs.declared.halt.Halt.{Halt}
-use Rattle.node.specs.declared.stop.NodeStop.{NodeStop as Stop}
+use Rattle.node.specs.declared.stop.NodeStop.{NodeStop}
 use Rattle.ftl0_server.specs.Failures.{failed_reads, failed_write}
 use Rattle.ftl0_server.specs.Connection.Taking.{fails}
 use Rattle.ftl0_server.specs.Connection.ConnectionState.{with_reads}
@@ -33,21 +33,20 @@ use Rattle.std.proofs.lemmas.List.{length-take-le, take-append-drop}
 use Rattle.px_base.specs.declared.air.Turn.{Turn}
 use Rattle.file_store.specs.Store.{Store}
 use Rattle.node.specs.Lent.{Seen, lent}
-use Rattle.node.specs.Turns.{IsButLast, IsUnsaid, Lent as Driven, StoppedInLast, TookTurns, party_at}
+use Rattle.px_base.specs.Polling.{IsButLast}
+use Rattle.node.specs.Turns.{IsUnsaid, Lent as Driven, StoppedInLast, TookTurns, party_at}
 use Rattle.node.specs.declared.finished.Finished.{Finished}
 use Rattle.node.specs.declared.terms.TurnTerms.{TurnTerms}
 use Rattle.file_store.specs.Recovery.{IsRecovered}
-use Rattle.server_node.specs.declared.stop.NodeStop.{NodeStop}
 use Rattle.server_node.specs.declared.terms.Served.{Served}
 use Rattle.server_node.specs.declared.terms.ServerTerms.{ServerTerms}
 use Rattle.server_node.specs.Served.{Run, TurnsBy}
-use Rattle.server_node.specs.Stops.{HasAirCause, served_by, stop_of_node}
+use Rattle.server_node.specs.Stops.{HasAirCause, served_by}
 use Rattle.server_node.specs.OnAir.Served.{ServerRan, server_from}
 use Rattle.server_node.proofs.Ending.{Did, Stopped, Taken, but_last, did-by, disk-stop, never-over}
 use Rattle.disk_model.specs.declared.halt.Halt.TheVariants as halt
-use Rattle.node.specs.declared.stop.NodeStop.TheVariants as node_stop
+use Rattle.node.specs.declared.stop.NodeStop.TheVariants as stop
 use Rattle.node.specs.declared.finished.Finished.TheVariants as finished
-use Rattle.server_node.specs.declared.stop.NodeStop.TheVariants as stop
 
 -- a server goes over its events one after another
 pub are_steps : AreSteps server_steps
@@ -87,15 +86,15 @@ module _ {D : Type 0} (g : Ghosts D) (lasts : (disk : D) → g.lasts disk disk) 
     moved missed done does = subst (λ (store : StoreState). DoesAmongReads g ⊥ missed old.it.server.store store old.disk new.disk done) (sym same) does
 
     -- It stopped at the event.
-    stopped : (why : Stop) (unsaid : Bool) (text : List ℕ) (done cut : List Command) (missed : ℕ) → StopsAt why unsaid server event (made text done missed) cut
-        → CutsOffAmongReads g (why ≡ node_stop.Disk) missed old.it.server.store new.it.server.store old.disk new.disk done cut → (why ≡ node_stop.OutOfMemory → unsaid ≡ false)
+    stopped : (why : NodeStop) (unsaid : Bool) (text : List ℕ) (done cut : List Command) (missed : ℕ) → StopsAt why unsaid server event (made text done missed) cut
+        → CutsOffAmongReads g (why ≡ stop.Disk) missed old.it.server.store new.it.server.store old.disk new.disk done cut → (why ≡ stop.OutOfMemory → unsaid ≡ false)
         → HaltsOn g server old (event ∷ []) why unsaid text new
     stopped why unsaid text done cut missed at_event cuts kept =
         record { done = done; cut = cut; missed = missed; stops = stop-one server_steps are_steps why unsaid server event (made text done missed) cut at_event; cuts = cuts; kept = kept }
 
     -- Not by the disk.
-    none-cut : (why : Stop) → ¬ (why ≡ node_stop.Disk) → (done : List Command) (missed : ℕ) → DoesAmongReads g ⊥ missed old.it.server.store made_so.store old.disk new.disk done
-        → CutsOffAmongReads g (why ≡ node_stop.Disk) missed old.it.server.store new.it.server.store old.disk new.disk done []
+    none-cut : (why : NodeStop) → ¬ (why ≡ stop.Disk) → (done : List Command) (missed : ℕ) → DoesAmongReads g ⊥ missed old.it.server.store made_so.store old.disk new.disk done
+        → CutsOffAmongReads g (why ≡ stop.Disk) missed old.it.server.store new.it.server.store old.disk new.disk done []
     none-cut why fine done missed does = cuts-among-none g _ missed old.it.server.store new.it.server.store old.disk new.disk done fine (lasts new.disk) (moved missed done does)
 
     module _ (by : Heard (Ok tt)) (frames : List FrameValue) (last : Server) (sent : Empties taken.after frames last) where
@@ -114,29 +113,29 @@ module _ {D : Type 0} (g : Ghosts D) (lasts : (disk : D) → g.lasts disk disk) 
       }
 
       -- All of it was taken, and saying its frames failed.
-      event-unsaid : (text : List ℕ) → frames ≢ [] → IsFront text (text_of frames) → HaltsOn g server old (event ∷ []) node_stop.AirWrite true text new
+      event-unsaid : (text : List ℕ) → frames ≢ [] → IsFront text (text_of frames) → HaltsOn g server old (event ∷ []) stop.AirWrite true text new
       event-unsaid text some is_front =
-          stopped node_stop.AirWrite true text taken.done [] taken.missed (frames, settled last, takes-event, some, is_front, refl)
-          (none-cut node_stop.AirWrite (λ e. cc e) taken.done taken.missed by.2) (λ is. cc is)
+          stopped stop.AirWrite true text taken.done [] taken.missed (frames, settled last, takes-event, some, is_front, refl)
+          (none-cut stop.AirWrite (λ e. cc e) taken.done taken.missed by.2) (λ is. cc is)
 
     -- The disk failed in it, and the frames of that step were said, or a front of them.
     event-failed : (by : Heard (Err halt.Disk)) (frames : List FrameValue) (last : Server) → Empties (failing server event by.0 parts).after frames last → (text : List ℕ) (unsaid : Bool)
-        → IsSaid unsaid (text_of frames) text → HaltsOn g server old (event ∷ []) node_stop.Disk unsaid text new
+        → IsSaid unsaid (text_of frames) text → HaltsOn g server old (event ∷ []) stop.Disk unsaid text new
     event-failed by frames last sent text unsaid said =
         let failed : ServerHappened = failing server event by.0 parts in
         let step : ServerStep server event (failed_write by.0 ++ failed_reads parts) (stepped failed.done failed.cut failed.missed fails frames (settled last)) =
         record { silent = serving.silent; done_is = refl; cut_is = refl; missed_is = refl; halt_is = sym by.1; last = last; sent = sent; new_is = refl } in
-        stopped node_stop.Disk unsaid text failed.done failed.cut failed.missed (by.0, parts, frames, settled last, step, said)
-        (cuts-among-same g ⊤ (node_stop.Disk ≡ node_stop.Disk) failed.missed failed.missed old.it.server.store new.it.server.store old.disk new.disk failed.done failed.cut (λ _. refl) (λ _. tt) refl
+        stopped stop.Disk unsaid text failed.done failed.cut failed.missed (by.0, parts, frames, settled last, step, said)
+        (cuts-among-same g ⊤ (stop.Disk ≡ stop.Disk) failed.missed failed.missed old.it.server.store new.it.server.store old.disk new.disk failed.done failed.cut (λ _. refl) (λ _. tt) refl
         (subst (λ (store : StoreState). CutsOffAmongReads g ⊤ failed.missed old.it.server.store store old.disk new.disk failed.done failed.cut) (sym same) by.3)) (λ is. cc is)
 
     -- There was no memory for it.
-    event-unmade : Heard (Err halt.OutOfMemory) → HaltsOn g server old (event ∷ []) node_stop.OutOfMemory false [] new
-    event-unmade (inl does) = stopped node_stop.OutOfMemory false [] [] [] 0 (inl (refl, refl), refl, refl) (none-cut node_stop.OutOfMemory (λ e. cc e) [] 0 does) (λ is. refl)
+    event-unmade : Heard (Err halt.OutOfMemory) → HaltsOn g server old (event ∷ []) stop.OutOfMemory false [] new
+    event-unmade (inl does) = stopped stop.OutOfMemory false [] [] [] 0 (inl (refl, refl), refl, refl) (none-cut stop.OutOfMemory (λ e. cc e) [] 0 does) (λ is. refl)
     event-unmade (inr by) =
         let failed : ServerHappened = failing server event by.0 parts in
-        stopped node_stop.OutOfMemory false [] failed.done [] failed.missed (inr (by.0, parts, by.1, refl, refl), refl, refl)
-        (none-cut node_stop.OutOfMemory (λ e. cc e) failed.done failed.missed by.2) (λ is. refl)
+        stopped stop.OutOfMemory false [] failed.done [] failed.missed (inr (by.0, parts, by.1, refl, refl), refl, refl)
+        (none-cut stop.OutOfMemory (λ e. cc e) failed.done failed.missed by.2) (λ is. refl)
 
   -- It came, and its frames are to be said.
   module _ (old : AtDisk ServerStation D) (made : ServerState) (disk : D) (event : NodeEvent) (up : IsUp g old) where
@@ -356,7 +355,7 @@ started g terms blocks old mid station server same memory recovered is silent =
     let there = subst (λ (s : ServerState). IsRecovered g blocks old mid s.store) (sym same) recovered in
     (record { healthy = there.healthy; stands_on = there.stands_on; silent = ap server_pending same ∙ silent; memory = memory; server = server_from terms (store_in station.server.store); serving = serving }, serving)
 
-module _ {A C D : Type 0} (seen : Seen D A C) (terms : ServerTerms) (old new : Driven ServerStation D A C) (ended : Result Finished Stop)
+module _ {A C D : Type 0} (seen : Seen D A C) (terms : ServerTerms) (old new : Driven ServerStation D A C) (ended : Result Finished NodeStop)
     (took : TookTurns (NodeEvents terms.me) (server_course seen.disk) seen.air seen.given old new (turn_terms terms) ended) where
   -- a server is never over
   pub not-over : ended ≢ Ok finished.Over
@@ -434,10 +433,10 @@ module _ {A C D : Type 0} (seen : Seen D A C) (terms : ServerTerms) (old new : D
         (cuts-among-none g _ runs.missed old.party.server.store new.party.server.store old.disk new.disk runs.done fine (lasts new.disk) runs.does)
 
     -- it stopped at an event of the last turn, and went on to somewhere first
-    abbrev Began : (why : Stop) → StoppedInLast (NodeEvents terms.me) (server_course g) (party_at old) took.all why took.text took.unsaid (party_at new) → Type 0
+    abbrev Began : (why : NodeStop) → StoppedInLast (NodeEvents terms.me) (server_course g) (party_at old) took.all why took.text took.unsaid (party_at new) → Type 0
     Began why h = (then_is : AtDisk ServerStation D) × (server_course g).goes (party_at old) h.least h.first then_is × (server_course g).halts then_is h.more why took.unsaid h.last (party_at new)
 
-    began : (why : Stop) (h : StoppedInLast (NodeEvents terms.me) (server_course g) (party_at old) took.all why took.text took.unsaid (party_at new))
+    began : (why : NodeStop) (h : StoppedInLast (NodeEvents terms.me) (server_course g) (party_at old) took.all why took.text took.unsaid (party_at new))
         → ((took.all.turns ≡ []) × (h.least ≡ []) × (h.first ≡ []) × (server_course g).halts (party_at old) h.more why took.unsaid h.last (party_at new)) ⊎ Began why h → Began why h
     began why h (inl none) = (party_at old, rw (none.1, none.2) (goes-none g lasts (party_at old) up), none.3)
     began why h (inr from) = from
@@ -451,9 +450,9 @@ module _ {A C D : Type 0} (seen : Seen D A C) (terms : ServerTerms) (old new : D
         let then_is = serving_at comes.next from.0 in
         let end = at new.party.server.store new.disk in
         let behind = behind-all server_steps are_steps why took.unsaid g on (serving_at server (party_at old)) then_is end h.least h.more h.first h.last comes.runs halts in
-        did (Err (stop_of_node why)) all.done halts.cut all.missed ends (counts (λ is. subst (λ b. IsUnsaid b (seen.air.write_faults old.air) (seen.air.write_faults new.air)) (halts.kept is) took.is_unsaid))
+        did (Err why) all.done halts.cut all.missed ends (counts (λ is. subst (λ b. IsUnsaid b (seen.air.write_faults old.air) (seen.air.write_faults new.air)) (halts.kept is) took.is_unsaid))
         (record { earlier = h.earlier; but_last = h.but_last; before = h.before; behind = h.behind; split = h.split; least = h.least; brought = h.brought })
-        (subst (λ (t : List ℕ). EndsOver (Err (stop_of_node why)) h.least server_steps server took.all.events took.unsaid (made t all.done all.missed) halts.cut) (sym h.text_is)
+        (subst (λ (t : List ℕ). EndsOver (Err why) h.least server_steps server took.all.events took.unsaid (made t all.done all.missed) halts.cut) (sym h.text_is)
         (over h.least all halts.cut (subst (λ (es : List NodeEvent). StopsBehind h.least server_steps server es why took.unsaid all halts.cut) (sym h.events_are) behind)))
         (disk-stop g why all.missed old.party.server.store new.party.server.store old.disk new.disk all.done halts.cut
         (cuts-all server_steps are_steps why took.unsaid g on (serving_at server (party_at old)) then_is end h.least h.more h.first h.last comes.runs halts))

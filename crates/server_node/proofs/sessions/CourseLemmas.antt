@@ -10,7 +10,7 @@ use Rattle.ftl0_session.specs.Run.{Event as MetEvent, RunsOver, heard_of, sessio
 use Rattle.ftl0_session.specs.Table.{next_due, Row, State, failed_reads_told, tells_failed_read}
 use Rattle.node.specs.Course.{AtDisk, IsLawful, GaveAll, GivesNext, OwesSome, at, stop_at_put, stop_of}
 use Rattle.node.specs.Inputs.{Input, IsInput, octets_at, octets_in}
-use Rattle.node.specs.declared.stop.NodeStop.{NodeStop as Stop}
+use Rattle.node.specs.declared.stop.NodeStop.{NodeStop}
 use Rattle.node.proofs.InputLemmas.{are-octets, octets_in-at}
 use Rattle.server_node.specs.Sessions.Course.{GoesOver, HaltsOver, IsReady, session_course, IsUnderWay, IsAnswered, IsHalting, IsRowOf, IsStopped, IsUnsaidFirst, LastOf, Owes, OwesAll, most_left, session_at, session_in}
 use Rattle.server_node.specs.Sessions.Packets.{events_behind, events_to, waiting_behind}
@@ -46,7 +46,7 @@ use Rattle.ftl0_packets.specs.Reading.{is_whole, under_way}
 use Rattle.ftl0_packets.specs.Stream.{IsPartial, Stream}
 use Rattle.ftl0_packets.proofs.OctetLemmas.{IsOctets-take, IsOctets-nil}
 use Rattle.disk_model.specs.declared.halt.Halt.TheVariants as halt
-use Rattle.node.specs.declared.stop.NodeStop.TheVariants as node_stop
+use Rattle.node.specs.declared.stop.NodeStop.TheVariants as stop
 
 -- a session goes over its events one after another
 pub are_steps : (caller : CallSign) → AreSteps (session_steps caller)
@@ -123,7 +123,7 @@ module _ {D : Type 0} (g : Ghosts D) (lasts : (disk : D) → g.lasts disk disk) 
           (rw h.hears.caller at k.runs));
     }
 
-    halts-behind : (why : Stop) (unsaid : Bool) → HaltsOver g b ys why unsaid more c → HaltsOver g a (xs ++ ys) why unsaid (text ++ more) c
+    halts-behind : (why : NodeStop) (unsaid : Bool) → HaltsOver g b ys why unsaid more c → HaltsOver g a (xs ++ ys) why unsaid (text ++ more) c
     halts-behind why unsaid k = (
       both-octets xs ys h.hears.are_octets k.0,
       elim k.1 [
@@ -139,7 +139,7 @@ module _ {D : Type 0} (g : Ghosts D) (lasts : (disk : D) → g.lasts disk disk) 
       ],
     )
 
-  halts-before : (a c : AtDisk ServerState D) (xs ys : List Input) (text : List ℕ) (why : Stop) (unsaid : Bool) → AllByRecursion IsInput ys → HaltsOver g a xs why unsaid text c
+  halts-before : (a c : AtDisk ServerState D) (xs ys : List Input) (text : List ℕ) (why : NodeStop) (unsaid : Bool) → AllByRecursion IsInput ys → HaltsOver g a xs why unsaid text c
       → HaltsOver g a (xs ++ ys) why unsaid text c
   halts-before a c xs ys text why unsaid inputs h = (
     both-octets xs ys h.0 (are-octets ys inputs),
@@ -185,9 +185,9 @@ server-filled a store session h k due is = record {
 -- ---- a stop at the one packet that was taken
 
 module _ {D : Type 0} (g : Ghosts D) (old : AtDisk ServerState D) (new : AtDisk StoreState D) (events : List Event) (event : Event) (only : events ≡ event ∷ []) (parts : List ℕ) (row : Row)
-    (is_row : IsRowOf old.it (met_with event parts) row) (why : Stop) (unsaid : Bool) (text : List ℕ) where
+    (is_row : IsRowOf old.it (met_with event parts) row) (why : NodeStop) (unsaid : Bool) (text : List ℕ) where
   stop-at : (done cut : List Command) (missed : ℕ) → StopsAt why unsaid (session_in old.it) (met_with event parts) row (made text done missed) cut
-      → CutsOffAmongReads g (why ≡ node_stop.Disk) missed old.it.store new.it old.disk new.disk done cut → (why ≡ node_stop.OutOfMemory → unsaid ≡ false)
+      → CutsOffAmongReads g (why ≡ stop.Disk) missed old.it.store new.it old.disk new.disk done cut → (why ≡ stop.OutOfMemory → unsaid ≡ false)
       → StopsOn g (session_steps old.it.caller) (session_at old) new events why unsaid text
   stop-at done cut missed stops cuts kept = record {
     done = done;
@@ -204,7 +204,7 @@ module _ {D : Type 0} (g : Ghosts D) (old : AtDisk ServerState D) (new : AtDisk 
 module _ {D : Type 0} (g : Ghosts D) (lasts : (disk : D) → g.lasts disk disk) (start : AtDisk ServerState D) (inputs : List Input) (now : AtDisk ServerState D) where
   -- ---- it halts, and its last reply was said whole, or a put of it failed
 
-  stops-so : (why : Halt) (text : List ℕ) (h : IsHalting g start inputs why text now) (unsaid : Bool) (said : List ℕ) → (stop_of why ≡ node_stop.OutOfMemory → unsaid ≡ false)
+  stops-so : (why : Halt) (text : List ℕ) (h : IsHalting g start inputs why text now) (unsaid : Bool) (said : List ℕ) → (stop_of why ≡ stop.OutOfMemory → unsaid ≡ false)
       → StopsAt (stop_of why) unsaid (session_in start.it) (met_with h.event h.parts) h.row (made said [] (failed_reads_told h.row.replies)) h.cut → HaltsOver g start inputs (stop_of why) unsaid said now
   stops-so why text h unsaid said kept stops = (
     h.are_octets,
@@ -214,11 +214,11 @@ module _ {D : Type 0} (g : Ghosts D) (lasts : (disk : D) → g.lasts disk disk) 
       stops =
           let missed : ℕ = failed_reads_told h.row.replies in
           stop-at g start (at now.it.store now.disk) (events_to start.it inputs) h.event h.only h.parts h.row h.is_row (stop_of why) unsaid said [] h.cut missed stops
-          (cuts-among-same g (why ≡ halt.Disk) (stop_of why ≡ node_stop.Disk) missed missed start.it.store now.it.store start.disk now.disk [] h.cut (ap stop_of) (by-disk why) refl h.cuts) kept;
+          (cuts-among-same g (why ≡ halt.Disk) (stop_of why ≡ stop.Disk) missed missed start.it.store now.it.store start.disk now.disk [] h.cut (ap stop_of) (by-disk why) refl h.cuts) kept;
     }),
   )
     where
-      by-disk : (why : Halt) → stop_of why ≡ node_stop.Disk → why ≡ halt.Disk
+      by-disk : (why : Halt) → stop_of why ≡ stop.Disk → why ≡ halt.Disk
       by-disk halt.Disk is = refl
       by-disk halt.OutOfMemory is = absurd (cc is)
 
@@ -241,7 +241,7 @@ module _ {D : Type 0} (g : Ghosts D) (lasts : (disk : D) → g.lasts disk disk) 
             (among-same g ⊥ ⊥ (failed_reads_told h.said) missed start.it.store now.it.store start.disk now.disk h.commands (λ p. p) (λ p. p) same h.does)
 
         by : (events : List Event) → events_to start.it inputs ≡ events → IsAnswered start.it now.it.store now.it.lists now.it.state events h.said h.commands
-            → IsUnsaidFirst g start node_stop.AirWrite (said ++ front) now ⊎ IsStopped g start inputs node_stop.AirWrite true (said ++ front) now
+            → IsUnsaidFirst g start stop.AirWrite (said ++ front) now ⊎ IsStopped g start inputs stop.AirWrite true (said ++ front) now
         by [] is none =
             let first : said ++ text ≡ start.it.replies = h.text_is ∙ ap (λ (ps : List PacketValue). start.it.replies ++ texts ps) none.0 ∙ append-nil start.it.replies in
             inl (record {
@@ -258,7 +258,7 @@ module _ {D : Type 0} (g : Ghosts D) (lasts : (disk : D) → g.lasts disk disk) 
               replies = said ++ front;
               text_is = ap (λ (t : List ℕ). t ++ (said ++ front)) (sym an.0);
               stops =
-                  stop-at g start (at now.it.store now.disk) (events_to start.it inputs) event is an.1.parts row an.1.is_row node_stop.AirWrite true (said ++ front) row.commands [] (failed_reads_told answer) (
+                  stop-at g start (at now.it.store now.disk) (events_to start.it inputs) event is an.1.parts row an.1.is_row stop.AirWrite true (said ++ front) row.commands [] (failed_reads_told answer) (
                     an.1.sent,
                     answer-some start.it.caller (session_in start.it) event h.said h.commands now.it.lists now.it.state an.1,
                     (λ none. some (append-none said text (whole ∙ none)).1),
@@ -267,7 +267,7 @@ module _ {D : Type 0} (g : Ghosts D) (lasts : (disk : D) → g.lasts disk disk) 
                     refl,
                     refl,
                   )
-                  (cuts-among-none g (node_stop.AirWrite ≡ node_stop.Disk) (failed_reads_told answer) start.it.store now.it.store start.disk now.disk row.commands (λ e. cc e) (lasts now.disk)
+                  (cuts-among-none g (stop.AirWrite ≡ stop.Disk) (failed_reads_told answer) start.it.store now.it.store start.disk now.disk row.commands (λ e. cc e) (lasts now.disk)
                   (does (failed_reads_told answer) row.commands (ap failed_reads_told an.1.said_is) an.1.commands_are)) (λ memory. absurd (cc memory));
             })
         by (event ∷ next ∷ events) is never = absurd never

@@ -1,6 +1,5 @@
 -- A session by the turns of its node.
-use Rattle.std.proofs.Common.{◌≡◌, ap, sym, ◌∙◌, subst, ◌⊎◌, inl, inr, ℕ, max, List, [], ◌∷◌, ◌++◌, length, Option, Some, Result, Ok, Err, refl, ap₂, ◌+◌, append_assoc, append-nil, arith, None}
-use Rattle.std.specs.Prelude.{◌≢◌, IsErrOf}
+use Rattle.std.proofs.Common.{◌≡◌, ap, sym, ◌∙◌, subst, ◌⊎◌, inl, inr, ℕ, max, List, [], ◌∷◌, ◌++◌, length, Option, Some, Result, Ok, Err, refl, ap₂, ◌+◌, append_assoc, append-nil, arith, None, ◌≢◌, IsErrOf}
 use Rattle.px_base.specs.CallSign.{CallSign}
 use Rattle.px_base.specs.Moments.{MomentsOf}
 use Rattle.px_base.specs.Octets.{IsFront, IsOctets}
@@ -17,18 +16,18 @@ use Rattle.ftl0_session.specs.Run.{Session}
 use Rattle.node.specs.Course.{AtDisk, at}
 use Rattle.node.specs.Inputs.{Input, inputs_of, octets_in}
 use Rattle.node.specs.Lent.{Seen, lent}
-use Rattle.node.specs.Turns.{AreHandedOver, IsButLast, IsUnsaid, Lent as Driven, MomentsFrom, TookTurns, party_at}
+use Rattle.px_base.specs.Polling.{IsButLast}
+use Rattle.node.specs.Turns.{AreHandedOver, IsUnsaid, Lent as Driven, MomentsFrom, TookTurns, party_at}
 use Rattle.node.specs.declared.finished.Finished.{Finished}
 use Rattle.node.specs.declared.finished.Finished.TheVariants as finished
-use Rattle.node.specs.declared.stop.NodeStop.{NodeStop as Stop}
+use Rattle.node.specs.declared.stop.NodeStop.{NodeStop}
 use Rattle.node.specs.declared.terms.TurnTerms.{TurnTerms}
-use Rattle.server_node.specs.declared.stop.NodeStop.{NodeStop}
-use Rattle.server_node.specs.declared.stop.NodeStop.TheVariants as stop
+use Rattle.node.specs.declared.stop.NodeStop.TheVariants as stop
 use Rattle.server_node.specs.declared.terms.Served.{Served}
 use Rattle.server_node.specs.declared.terms.SessionTerms.{SessionTerms}
 use Rattle.server_node.specs.Served.{Run, TurnsBy}
 use Rattle.server_node.specs.Steps.{Made, StopsBehind, StopsOn, Steps, made}
-use Rattle.server_node.specs.Stops.{HasAirCause, served_by, stop_of_node}
+use Rattle.server_node.specs.Stops.{HasAirCause, served_by}
 use Rattle.server_node.specs.Sessions.Course.{GoesOver, HaltsOver, session_at, session_course}
 use Rattle.server_node.specs.Sessions.Packets.{events_to, waiting_behind}
 use Rattle.server_node.specs.Sessions.Running.{first_session, session_steps}
@@ -84,7 +83,7 @@ Ran terms result start run = SessionRan terms start run result
 
 -- the session was served over the store that was recovered, from the moment of LOGIN_RESP on
 module _ {A C D : Type 0} (seen : Seen D A C) (terms : SessionTerms) (first : ℕ) (start : StoreState) (made_so : ServerState) (is : made_so ≡ new_server terms.caller start (login_text first)) (mid : D) (air : A) (clock : C)
-    (new : Driven ServerState D A C) (ended : Result Finished Stop) where
+    (new : Driven ServerState D A C) (ended : Result Finished NodeStop) where
   abbrev g : Ghosts D
   g = seen.disk
 
@@ -191,15 +190,15 @@ module _ {A C D : Type 0} (seen : Seen D A C) (terms : SessionTerms) (first : �
       ]
         where
           -- before the first turn LOGIN_RESP was cut off
-          at-first : took.all.turns ≡ [] → h.first ≡ [] → HaltsOver g (at server mid) h.more why took.unsaid h.last (party_at new) → DidSo (Err (stop_of_node why))
+          at-first : took.all.turns ≡ [] → h.first ≡ [] → HaltsOver g (at server mid) h.more why took.unsaid h.last (party_at new) → DidSo (Err why)
           at-first no_turn none_first halts =
               let no_moments : took.all.moments ≡ [] = nil_from_length took.all.moments (took.one_each ∙ ap (λ (ts : List Turn). length ts) no_turn) in
               let no_inputs : took.all.events ≡ [] = took.brings ∙ ap (λ (ms : List ℕ). inputs_of took.all.turns ms) no_moments in
               let no_more : h.more ≡ [] = (append-none h.least h.more (sym h.events_are ∙ no_inputs)).1 in
               elim halts.1 [
                 | inl unsaid ↦ (
-                    let is_air : IsErrOf {T = Served} (Err (stop_of_node why)) stop.AirWrite = ap (λ (w : Stop). Err (stop_of_node w)) unsaid.why_is in
-                    did (Err (stop_of_node why)) [] [] 0 ends (counts (λ memory. absurd (let e = sym memory ∙ unsaid.why_is in cc e))) (subst (λ (is : List Input). IsOctets (octets_in is)) (no_more ∙ sym no_inputs) halts.0)
+                    let is_air : IsErrOf {T = Served} (Err why) stop.AirWrite = ap Err unsaid.why_is in
+                    did (Err why) [] [] 0 ends (counts (λ memory. absurd (let e = sym memory ∙ unsaid.why_is in cc e))) (subst (λ (is : List Input). IsOctets (octets_in is)) (no_more ∙ sym no_inputs) halts.0)
                     (inl (record {
                       why = is_air;
                       no_turn = no_turn;
@@ -208,13 +207,13 @@ module _ {A C D : Type 0} (seen : Seen D A C) (terms : SessionTerms) (first : �
                       none_cut = refl;
                       none_missed = refl;
                     }))
-                    (cuts-among-none g (IsErrOf {T = Served} (Err (stop_of_node why)) stop.Disk) 0 start new.party.store mid new.disk [] (λ failed. absurd (let e = sym is_air ∙ failed in cc e)) (lasts new.disk) unsaid.does)
+                    (cuts-among-none g (IsErrOf {T = Served} (Err why) stop.Disk) 0 start new.party.store mid new.disk [] (λ failed. absurd (let e = sym is_air ∙ failed in cc e)) (lasts new.disk) unsaid.does)
                     )
                 | inr stopped ↦ absurd (let e = (append-none stopped.stops.stops.before _ (sym stopped.stops.stops.events_are ∙ ap (events_to server) no_more)).1 in cc e)
               ]
 
           -- in the last turn
-          later : (then_is : AtDisk ServerState D) → GoesOver g (at server mid) h.least h.first then_is → HaltsOver g then_is h.more why took.unsaid h.last (party_at new) → DidSo (Err (stop_of_node why))
+          later : (then_is : AtDisk ServerState D) → GoesOver g (at server mid) h.least h.first then_is → HaltsOver g then_is h.more why took.unsaid h.last (party_at new) → DidSo (Err why)
           later then_is goes halts = elim halts.1 [
             | inl unsaid ↦ absurd (unsaid.some goes.silent)
             | inr stopped ↦ (
@@ -225,7 +224,7 @@ module _ {A C D : Type 0} (seen : Seen D A C) (terms : SessionTerms) (first : �
                 let all : Made = made (goes.replies ++ stopped.replies) (runs.done ++ stops.done) (runs.missed + stops.missed) in
                 let there = at new.party.store new.disk in
                 let behind = behind-all steps (are_steps terms.caller) why took.unsaid g on (session_at (at server mid)) (session_at then_is) there least (events_to then_is.it h.more) goes.replies stopped.replies runs stops in
-                did (Err (stop_of_node why)) all.done stops.cut all.missed ends (counts (λ is. subst (λ b. IsUnsaid b (seen.air.write_faults air) (seen.air.write_faults new.air)) (stops.kept is) took.is_unsaid))
+                did (Err why) all.done stops.cut all.missed ends (counts (λ is. subst (λ b. IsUnsaid b (seen.air.write_faults air) (seen.air.write_faults new.air)) (stops.kept is) took.is_unsaid))
                 (subst (λ (is : List Input). IsOctets (octets_in is)) (sym h.events_are) (both-octets h.least h.more goes.hears.are_octets halts.0))
                 (inr (record {
                   replies = all.text;

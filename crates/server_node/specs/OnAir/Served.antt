@@ -6,8 +6,8 @@ use Rattle.ftl0_server.specs.Server.{Server, new_server}
 use Rattle.ftl0_server.specs.Window.{window_of}
 use Rattle.node.specs.Events.{NodeEvent, NodeEvents}
 use Rattle.node.specs.Lent.{Lent, Seen}
-use Rattle.node.specs.Turns.{IsButLast}
-use Rattle.server_node.specs.declared.stop.NodeStop.{NodeStop}
+use Rattle.px_base.specs.Polling.{IsButLast}
+use Rattle.node.specs.declared.stop.NodeStop.{NodeStop}
 use Rattle.server_node.specs.declared.terms.Served.{Served}
 use Rattle.server_node.specs.declared.terms.ServerTerms.{ServerTerms}
 use Rattle.server_node.specs.Served.{Ends, Run, TurnsBy}

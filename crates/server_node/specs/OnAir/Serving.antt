@@ -1,13 +1,13 @@
 -- How a server goes on over the events of its node: which frames it says, and which commands of the store it does, up
 -- to a stop.
-use Rattle.std.specs.Prelude.{◌≡◌, ◌≢◌, ◌⊎◌, ℕ, List, [], ◌++◌, flat_map, Bool}
+use Rattle.std.specs.Prelude.{◌≡◌, ◌≢◌, ◌⊎◌, ℕ, List, [], ◌++◌, Bool}
 use Rattle.px_base.specs.Octets.{IsFront}
-use Rattle.kiss.specs.KissText.{kiss_text}
-use Rattle.ax25_frames.specs.FrameText.{FrameValue, canonical}
+use Rattle.ax25_frames.specs.FrameText.{FrameValue}
 use Rattle.file_store.specs.Command.{Command}
 use Rattle.node.specs.Events.{NodeEvent}
-use Rattle.node.specs.declared.stop.NodeStop.{NodeStop as Stop}
-use Rattle.node.specs.declared.stop.NodeStop.TheVariants as node_stop
+pub use Rattle.node.specs.Said.{text_of}
+use Rattle.node.specs.declared.stop.NodeStop.{NodeStop}
+use Rattle.node.specs.declared.stop.NodeStop.TheVariants as stop
 use Rattle.ftl0_server.specs.Failures.{failed_reads, failed_write}
 use Rattle.ftl0_server.specs.Connection.Taking.{fails}
 use Rattle.ftl0_server.specs.Server.{Server, ServerHappened}
@@ -15,10 +15,6 @@ use Rattle.ftl0_server.specs.ServerStep.{ServerStep, happening, stepped}
 use Rattle.ftl0_server.specs.Serving.{ServesOver, TakesEvent}
 use Rattle.server_node.specs.Sessions.Running.{IsSaid}
 use Rattle.server_node.specs.Steps.{Made, Steps}
-
--- the KISS text of frames, one after another
-abbrev pub text_of : List FrameValue → List ℕ
-text_of frames = flat_map (λ frame. kiss_text (canonical frame)) frames
 
 -- Over these events, at none of which it stops, the server comes from one to another, by all that was said and done.
 pub record ServesAs (server : Server) (events : List NodeEvent) (all : Made) (now : Server) : Type 0 where
@@ -35,22 +31,24 @@ failing server event part parts = happening server event (failed_write part ++ f
 -- Where the disk failed, at a write or a sync of one of its packets and nowhere else, the frames of that step were
 -- said. Where there is no memory none was, and no command is done, as for a new session, or those before one of its
 -- packets.
-abbrev pub StopsAt : Stop → Bool → Server → NodeEvent → Made → List Command → Type 0
-StopsAt node_stop.AirWrite unsaid server event all cut =
+abbrev pub StopsAt : NodeStop → Bool → Server → NodeEvent → Made → List Command → Type 0
+StopsAt stop.AirWrite unsaid server event all cut =
     (frames : List FrameValue) × (next : Server) × TakesEvent server event frames all.done all.missed next
     × (frames ≢ []) × IsFront all.text (text_of frames) × (cut ≡ [])
-StopsAt node_stop.Disk unsaid server event all cut =
+StopsAt stop.Disk unsaid server event all cut =
     (part : ℕ) × (parts : List ℕ) × (frames : List FrameValue) × (next : Server)
     × ServerStep server event (failed_write part ++ failed_reads parts)
     (stepped all.done cut all.missed fails frames next)
     × IsSaid unsaid (text_of frames) all.text
-StopsAt node_stop.OutOfMemory unsaid server event all cut =
+StopsAt stop.OutOfMemory unsaid server event all cut =
     (((all.done ≡ []) × (all.missed ≡ 0)) ⊎ ((part : ℕ) × (parts : List ℕ)
     × ((failing server event part parts).halt ≡ fails) × (all.done ≡ (failing server event part parts).done)
     × (all.missed ≡ (failing server event part parts).missed)))
     × (all.text ≡ []) × (cut ≡ [])
-StopsAt node_stop.AirRead unsaid server event all cut = ⊥
-StopsAt node_stop.Spent unsaid server event all cut = ⊥
+StopsAt stop.AirRead unsaid server event all cut = ⊥
+StopsAt stop.Spent unsaid server event all cut = ⊥
+StopsAt (stop.NotAStore found) unsaid server event all cut = ⊥
+StopsAt (stop.Damaged at) unsaid server event all cut = ⊥
 
 -- a server over the events of its node
 abbrev pub server_steps : Steps Server NodeEvent

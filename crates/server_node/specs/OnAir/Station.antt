@@ -9,8 +9,8 @@ use Rattle.node.specs.Course.{AtDisk, Course, at, stop_at_put, stop_of}
 use Rattle.node.specs.Events.{NodeEvent}
 use Rattle.disk_model.specs.declared.halt.Halt.{Halt}
 use Rattle.disk_model.specs.declared.halt.Halt.TheVariants as halt
-use Rattle.node.specs.declared.stop.NodeStop.{NodeStop as Stop}
-use Rattle.node.specs.declared.stop.NodeStop.TheVariants as node_stop
+use Rattle.node.specs.declared.stop.NodeStop.{NodeStop}
+use Rattle.node.specs.declared.stop.NodeStop.TheVariants as stop
 use Rattle.ftl0_server.specs.Server.{IsSilent, Server, settled}
 use Rattle.ftl0_server.specs.ServerState.{IsServer, SendsFor, ServerState, server_most, server_pending}
 use Rattle.ftl0_server.specs.ServerStep.{Empties}
@@ -45,7 +45,7 @@ pub record ComesOn {D : Type 0} (g : Ghosts D) (server : Server) (old : AtDisk S
 
 -- It stopped at one of these events, and said this.
 abbrev pub HaltsOn :
-    {D : Type 0} → Ghosts D → Server → AtDisk ServerStation D → List NodeEvent → Stop → Bool → List ℕ
+    {D : Type 0} → Ghosts D → Server → AtDisk ServerStation D → List NodeEvent → NodeStop → Bool → List ℕ
     → AtDisk ServerStation D → Type 0
 HaltsOn g server old events why unsaid text new =
     StopsOn g server_steps (serving_at server old) (at new.it.server.store new.disk) events why unsaid text
@@ -89,7 +89,7 @@ abbrev pub OwesOver : {D : Type 0} → Ghosts D → Server → AtDisk ServerStat
 OwesOver g server old events None said now = OwesRest g server old events None said now
 OwesOver g server old events (Some halt.Disk) said now = OwesRest g server old events (Some halt.Disk) said now
 OwesOver g server old events (Some halt.OutOfMemory) said now =
-    (now.it.is_out_of_memory ≡ true) × HaltsOn g server old events node_stop.OutOfMemory false said now
+    (now.it.is_out_of_memory ≡ true) × HaltsOn g server old events stop.OutOfMemory false said now
 
 -- the course of a server, whichever one of the definitions it stands for
 abbrev pub server_course : {D : Type 0} → Ghosts D → Course ServerStation D NodeEvent

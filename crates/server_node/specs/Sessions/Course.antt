@@ -18,8 +18,8 @@ use Rattle.node.specs.Course.{AtDisk, Course, at}
 use Rattle.node.specs.Inputs.{Input, octets_in}
 use Rattle.disk_model.specs.declared.halt.Halt.{Halt}
 use Rattle.disk_model.specs.declared.halt.Halt.TheVariants as halt
-use Rattle.node.specs.declared.stop.NodeStop.{NodeStop as Stop}
-use Rattle.node.specs.declared.stop.NodeStop.TheVariants as node_stop
+use Rattle.node.specs.declared.stop.NodeStop.{NodeStop}
+use Rattle.node.specs.declared.stop.NodeStop.TheVariants as stop
 use Rattle.server_node.specs.Sessions.Packets.{Hears, events_to}
 use Rattle.server_node.specs.Sessions.Running.{session_steps}
 use Rattle.server_node.specs.Steps.{RunsOn, StopsOn, WithStore, with_store}
@@ -124,15 +124,15 @@ Owes g old inputs why text new = OwesAll g old inputs why (text ++ new.it.replie
 -- ---- how it stops
 
 -- What it had to say at the start couldn't be said whole, and no packet was taken.
-pub record IsUnsaidFirst {D : Type 0} (g : Ghosts D) (old : AtDisk ServerState D) (why : Stop) (text : List ℕ)
+pub record IsUnsaidFirst {D : Type 0} (g : Ghosts D) (old : AtDisk ServerState D) (why : NodeStop) (text : List ℕ)
     (new : AtDisk ServerState D) : Type 0 where
   pub some : old.it.replies ≢ []
   pub front : IsFront text old.it.replies
-  pub why_is : why ≡ node_stop.AirWrite
+  pub why_is : why ≡ stop.AirWrite
   pub does : DoesAmongReads g ⊥ 0 old.it.store new.it.store old.disk new.disk []
 
 -- It stopped at one of the packets that these inputs bring, behind what it had to say at the start.
-pub record IsStopped {D : Type 0} (g : Ghosts D) (old : AtDisk ServerState D) (inputs : List Input) (why : Stop)
+pub record IsStopped {D : Type 0} (g : Ghosts D) (old : AtDisk ServerState D) (inputs : List Input) (why : NodeStop)
     (unsaid : Bool) (text : List ℕ) (new : AtDisk ServerState D) : Type 0 where
   pub replies : List ℕ
   pub text_is : text ≡ old.it.replies ++ replies
@@ -141,7 +141,8 @@ pub record IsStopped {D : Type 0} (g : Ghosts D) (old : AtDisk ServerState D) (i
       unsaid replies
 
 abbrev pub HaltsOver :
-    {D : Type 0} → Ghosts D → AtDisk ServerState D → List Input → Stop → Bool → List ℕ → AtDisk ServerState D → Type 0
+    {D : Type 0} → Ghosts D → AtDisk ServerState D → List Input → NodeStop → Bool → List ℕ → AtDisk ServerState D
+    → Type 0
 HaltsOver g old inputs why unsaid text new =
     IsOctets (octets_in inputs) × (IsUnsaidFirst g old why text new ⊎ IsStopped g old inputs why unsaid text new)
 

@@ -11,8 +11,8 @@ use Rattle.file_store.specs.Records.{store_form}
 use Rattle.file_store.specs.Store.{Entry, Store}
 use Rattle.ftl0_session.specs.Uploads.Laws.{HasEntry, IsWhole, kept}
 use Rattle.ftl0_session.specs.Table.{Row, receiving, session_row}
-use Rattle.server_node.specs.declared.stop.NodeStop.{NodeStop}
-use Rattle.server_node.specs.declared.stop.NodeStop.TheVariants as stop
+use Rattle.node.specs.declared.stop.NodeStop.{NodeStop}
+use Rattle.node.specs.declared.stop.NodeStop.TheVariants as stop
 use Rattle.server_node.specs.declared.terms.Served.{Served}
 
 -- DATA_END of a file of which all octets came, those that are held and the rest: whose upload it is, which commands

@@ -10,8 +10,8 @@ use Rattle.ftl0_session.specs.Uploads.Events.{Event}
 use Rattle.ftl0_session.specs.Answering.{SendsSome}
 use Rattle.ftl0_session.specs.Run.{Event as MetEvent, RunsOver, Session, event_row, heard_of}
 use Rattle.ftl0_session.specs.Table.{Row, command, failed_reads_told, fault_reply, takes_memory}
-use Rattle.node.specs.declared.stop.NodeStop.{NodeStop as Stop}
-use Rattle.node.specs.declared.stop.NodeStop.TheVariants as node_stop
+use Rattle.node.specs.declared.stop.NodeStop.{NodeStop}
+use Rattle.node.specs.declared.stop.NodeStop.TheVariants as stop
 use Rattle.server_node.specs.Steps.{Made, Steps, made}
 
 -- The text was said whole; or, where a put failed, a front of it was.
@@ -27,18 +27,20 @@ first_session store = record { store = store; lists = []; state = command }
 -- disk failed. Where there is no memory, the packet gave nothing. Where saying failed, the commands are done, and a
 -- front of the replies and of what is due behind them was said, of which there is some. Where the disk failed at a
 -- write or a sync, the one reply with code 3 was said, and nothing is due behind it.
-abbrev pub StopsAt : Stop → Bool → Session → MetEvent → Row → Made → List Command → Type 0
-StopsAt node_stop.OutOfMemory unsaid now event row all cut =
+abbrev pub StopsAt : NodeStop → Bool → Session → MetEvent → Row → Made → List Command → Type 0
+StopsAt stop.OutOfMemory unsaid now event row all cut =
     IsTrue (takes_memory event.packet row.state) × (all ≡ made [] [] (failed_reads_told row.replies)) × (cut ≡ [])
-StopsAt node_stop.AirWrite unsaid now event row all cut =
+StopsAt stop.AirWrite unsaid now event row all cut =
     (sent : List PacketValue) × SendsSome (after_all now.store row.commands) row.state event.failures 1 sent
     × (texts (row.replies ++ sent) ≢ []) × IsFront all.text (texts (row.replies ++ sent)) × (all.done ≡ row.commands)
     × (all.missed ≡ failed_reads_told (row.replies ++ sent)) × (cut ≡ [])
-StopsAt node_stop.Disk unsaid now event row all cut =
+StopsAt stop.Disk unsaid now event row all cut =
     IsSaid unsaid (texts (fault_reply now.state ∷ [])) all.text × (all.done ≡ [])
     × (all.missed ≡ failed_reads_told row.replies) × (cut ≡ row.commands)
-StopsAt node_stop.AirRead unsaid now event row all cut = ⊥
-StopsAt node_stop.Spent unsaid now event row all cut = ⊥
+StopsAt stop.AirRead unsaid now event row all cut = ⊥
+StopsAt stop.Spent unsaid now event row all cut = ⊥
+StopsAt (stop.NotAStore found) unsaid now event row all cut = ⊥
+StopsAt (stop.Damaged at) unsaid now event row all cut = ⊥
 
 -- The session ran over these events, at some of which reads failed, or at none: all that the table gives was said, and
 -- it tells of so many that failed.
@@ -52,7 +54,7 @@ pub record RunsAs (caller : CallSign) (start : Session) (events : List Event) (a
   pub runs : RunsOver caller start met said all.done now
 
 -- The session stopped at this event, at some parts of which reads failed, or at none.
-pub record StopsAs (caller : CallSign) (why : Stop) (unsaid : Bool) (now : Session) (event : Event) (all : Made)
+pub record StopsAs (caller : CallSign) (why : NodeStop) (unsaid : Bool) (now : Session) (event : Event) (all : Made)
     (cut : List Command) : Type 0 where
   pub met : MetEvent
   pub heard : heard_of met ≡ event

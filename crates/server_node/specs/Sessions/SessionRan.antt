@@ -1,7 +1,7 @@
 -- What a session says over its turns, and why it ends.
 use Rattle.std.specs.Prelude.{◌≡◌, ◌⊎◌, ℕ, ◌≤◌, max, List, [], ◌++◌, length, slice_index, false, Result, IsErrOf}
 use Rattle.px_base.specs.Octets.{IsFront}
-use Rattle.px_base.specs.Polling.{octets_heard}
+use Rattle.px_base.specs.Polling.{IsButLast, octets_heard}
 use Rattle.px_base.specs.declared.air.Turn.{Turn}
 use Rattle.ftl0_packets.specs.Layout.{packet_text}
 use Rattle.ftl0_packets.specs.Stream.{Stream}
@@ -9,9 +9,8 @@ use Rattle.ftl0_session.specs.Uploads.Events.{Brings, Event, packets_in}
 use Rattle.ftl0_session.specs.Table.{greeting}
 use Rattle.file_store.specs.Store.{Store}
 use Rattle.node.specs.Lent.{Lent, Seen}
-use Rattle.node.specs.Turns.{IsButLast}
-use Rattle.server_node.specs.declared.stop.NodeStop.{NodeStop}
-use Rattle.server_node.specs.declared.stop.NodeStop.TheVariants as stop
+use Rattle.node.specs.declared.stop.NodeStop.{NodeStop}
+use Rattle.node.specs.declared.stop.NodeStop.TheVariants as stop
 use Rattle.server_node.specs.declared.terms.Served.{Served}
 use Rattle.server_node.specs.declared.terms.SessionTerms.{SessionTerms}
 use Rattle.server_node.specs.Served.{Ends, Run, TurnsBy}

@@ -1,6 +1,5 @@
 -- What is carried out, from the asking to the answer.
-use Rattle.std.proofs.Common.{◌≡◌, ◌⊎◌, ℕ, List, [], ◌∷◌, ◌++◌, length, Bool, false, true, Result, Ok, Err, refl, ap, sym, subst, ◌∙◌, inl, inr, suc, arith, append-nil}
-use Rattle.std.specs.Prelude.{◌≢◌, None, IsErrOf}
+use Rattle.std.proofs.Common.{◌≡◌, ◌⊎◌, ℕ, List, [], ◌∷◌, ◌++◌, length, Bool, false, true, Result, Ok, Err, refl, ap, sym, subst, ◌∙◌, inl, inr, suc, arith, append-nil, ◌≢◌, None, IsErrOf}
 use Rattle.px_base.specs.declared.air.Turn.{Turn}
 use Rattle.px_base.proofs.Told.{Gains-none, Grows-none}
 use Rattle.disk_model.specs.declared.disk.Disk.{Ghosts}
@@ -11,7 +10,8 @@ use Rattle.node.specs.Course.{AtDisk, at}
 use Rattle.node.specs.Events.{NodeEvent, NodeEvents}
 use Rattle.node.specs.Laws.{OneRunLaw}
 use Rattle.node.specs.Lent.{Seen}
-use Rattle.node.specs.Turns.{Brought, HasAirCause, IsButLast, IsUnsaid, Lent, RanBy, StoppedInLast, TookAll, TookTurns, TurnsBy, lent, party_at}
+use Rattle.px_base.specs.Polling.{IsButLast}
+use Rattle.node.specs.Turns.{Brought, HasAirCause, IsUnsaid, Lent, RanBy, StoppedInLast, TookAll, TookTurns, TurnsBy, lent, party_at}
 use Rattle.node.specs.declared.finished.Finished.{Finished}
 use Rattle.node.specs.declared.finished.Finished.TheVariants as finished
 use Rattle.node.specs.declared.stop.NodeStop.{NodeStop}
@@ -291,6 +291,8 @@ module _ {A C D : Type 0} (see : Seen D A C) (lasts : (disk : D) → see.disk.la
     stopped-at stop.AirWrite ran turns (λ least reached done cut over. over),
     (counts-same _ _ _ (λ e. cc e) counts.0, record { rose = λ _. counts.1; same = λ never. absurd (never refl) }),
   )
+  came-by (Err (stop.NotAStore found)) turns counts ran = absurd turns
+  came-by (Err (stop.Damaged at)) turns counts ran = absurd turns
   came-by (Err stop.Disk) turns counts ran = (
     stopped-at stop.Disk ran turns (λ least reached done cut over. over),
     none-rose _ _ _ _ _ (λ e. cc e) (λ e. cc e) counts.0 (still h.unsaid _ _ h.is_unsaid (λ is. cc (unsaid-why stop.Disk ran is))),

@@ -1,6 +1,5 @@
 -- What a client that took events has still to send.
-use Rattle.std.proofs.Common.{◌≡◌, ℕ, List, [], ◌∷◌, ◌++◌, refl, ap, sym, ◌∙◌, subst, append_assoc, append-nil}
-use Rattle.std.specs.Prelude.{Some}
+use Rattle.std.proofs.Common.{◌≡◌, ℕ, List, [], ◌∷◌, ◌++◌, refl, ap, sym, ◌∙◌, subst, append_assoc, append-nil, Some}
 use Rattle.kiss.specs.KissText.{kiss_text}
 use Rattle.ax25_frames.specs.FrameText.{FrameValue, canonical}
 use Rattle.client_notes.specs.Command.{NotesCommand}

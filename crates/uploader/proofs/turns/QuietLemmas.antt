@@ -1,7 +1,6 @@
 -- What a client that has nothing to send is, and what it tells whatever of its frames was given out.
-use Rattle.std.proofs.Common.{◌≡◌, List, [], ◌∷◌, Bool, true, false, not, Option, None, Some, refl, sym, ◌∙◌, ap, subst}
+use Rattle.std.proofs.Common.{◌≡◌, List, [], ◌∷◌, Bool, true, false, not, Option, None, Some, refl, sym, ◌∙◌, ap, subst, ◌||◌, ◌&&◌}
 use Rattle.std.proofs.lemmas.Option.{same_Some}
-use Rattle.std.specs.Prelude.{◌||◌, ◌&&◌}
 use Rattle.disk_model.specs.declared.disk.Disk.{Ghosts}
 use Rattle.ax25_frames.specs.FrameText.{FrameValue}
 use Rattle.ax25_link.specs.Kept.{Kept, is_pending, is_there}
@@ -17,8 +16,7 @@ use Rattle.ftl0_client.specs.Attempt.AttemptState.{AttemptState}
 use Rattle.ax25_link.specs.declared.state.Why.{Why}
 use Rattle.ftl0_client.specs.Calls.{SameAttempt, SameButFrames}
 use Rattle.ftl0_client.specs.Client.{Client, ClientSends, Refused, sends_by, sends_of_attempt, sends_of_link}
-use Rattle.ftl0_client.specs.ClientState.{ClientState, GoWithAttempt, IsAttemptOf, IsClient, MayHear, attempt_closed}
-use Rattle.ftl0_client.specs.ClientState.{attempt_pending, client_closed, client_pending, listing_in, outcome_in}
+use Rattle.ftl0_client.specs.ClientState.{ClientState, GoWithAttempt, IsAttemptOf, IsClient, MayHear, attempt_closed, attempt_pending, client_closed, client_pending, listing_in, outcome_in}
 use Rattle.ftl0_client.specs.ClientStep.{Empties}
 use Rattle.ftl0_client.proofs.KeptLemmas.{may-kept}
 use Rattle.ftl0_client.specs.Outcomes.{outcome_as, outcome_by}

@@ -1,7 +1,7 @@
 -- What a client says over its turns, what it does to its disk, why the turns end, and what the answer is.
 use Rattle.std.specs.Prelude.{◌≡◌, ◌≢◌, ℕ, ◌≤◌, List, [], ◌∷◌, ◌++◌, length, map, true, false, Result, Ok, Err, IsErrOf}
 use Rattle.px_base.specs.Outside.{Gains, Grows, Rose}
-use Rattle.px_base.specs.Polling.{HearsAll}
+use Rattle.px_base.specs.Polling.{HearsAll, IsButLast}
 use Rattle.px_base.specs.declared.air.Turn.{Turn}
 use Rattle.disk_model.specs.declared.disk.Disk.{Ghosts}
 use Rattle.ax25_frames.specs.FrameText.{FrameValue}
@@ -11,7 +11,7 @@ use Rattle.client_notes.specs.State.{IsReady}
 use Rattle.client_notes.specs.Several.{CutsOff}
 use Rattle.node.specs.Events.{NodeEvent, NodeEvents}
 use Rattle.node.specs.Lent.{Seen}
-use Rattle.node.specs.Turns.{IsButLast, Lent, TurnsBy}
+use Rattle.node.specs.Turns.{Lent, TurnsBy}
 use Rattle.node.specs.declared.finished.Finished.{Finished}
 use Rattle.node.specs.declared.finished.Finished.TheVariants as finished
 use Rattle.node.specs.declared.stop.NodeStop.{NodeStop}
@@ -63,6 +63,8 @@ EndsOver (Err stop.Disk) least client events reached text done cut =
     StopsBehind least client events stop.Disk reached text done cut
 EndsOver (Err stop.OutOfMemory) least client events reached text done cut =
     StopsBehind least client events stop.OutOfMemory reached text done cut
+EndsOver (Err (stop.NotAStore found)) least client events reached text done cut = ⊥
+EndsOver (Err (stop.Damaged at)) least client events reached text done cut = ⊥
 
 -- the events of a client's run: what is asked comes first, and then what its turns bring
 abbrev pub asked_first : JobState → List NodeEvent → List ClientEvent

@@ -1,11 +1,11 @@
 -- How a client goes on over the events of its node: which frames it says, and which commands it notes, up to a stop.
-use Rattle.std.specs.Prelude.{◌≡◌, ◌≢◌, ℕ, List, [], ◌∷◌, ◌++◌, Bool, flat_map}
+use Rattle.std.specs.Prelude.{◌≡◌, ◌≢◌, ℕ, List, [], ◌∷◌, ◌++◌, Bool}
 use Rattle.px_base.specs.Octets.{IsFront}
-use Rattle.kiss.specs.KissText.{kiss_text}
-use Rattle.ax25_frames.specs.FrameText.{FrameValue, canonical}
+use Rattle.ax25_frames.specs.FrameText.{FrameValue}
 use Rattle.client_notes.specs.Command.{NotesCommand}
 use Rattle.node.specs.Events as node
 use Rattle.node.specs.Events.{NodeEvent}
+pub use Rattle.node.specs.Said.{text_of}
 use Rattle.node.specs.declared.stop.NodeStop.{NodeStop}
 use Rattle.node.specs.declared.stop.NodeStop.TheVariants as stop
 use Rattle.ftl0_client.specs.Client.{Client, ClientEvent, asks, hears, ticks}
@@ -19,10 +19,6 @@ use Rattle.ftl0_client.specs.Going.{GoesOver, is_over}
 abbrev pub event_of : NodeEvent → ClientEvent
 event_of (node.hears frame moment) = hears frame
 event_of (node.ticks moment) = ticks
-
--- the KISS text of frames, one after another
-abbrev pub text_of : List FrameValue → List ℕ
-text_of frames = flat_map (λ frame. kiss_text (canonical frame)) frames
 
 -- This client may find no memory at this event, these commands of which are noted before: at the asking, before
 -- anything is noted; and at a frame, where nothing had become of the job before it came. A tick takes no memory.
@@ -49,6 +45,8 @@ StopsAt stop.OutOfMemory client event reached text done cut =
     × MayFindNoMemory client event done × (text ≡ []) × (cut ≡ []) × (reached ≡ outcome.Working)
 StopsAt stop.AirRead client event reached text done cut = ⊥
 StopsAt stop.Spent client event reached text done cut = ⊥
+StopsAt (stop.NotAStore found) client event reached text done cut = ⊥
+StopsAt (stop.Damaged at) client event reached text done cut = ⊥
 
 -- The client stopped at one of these events. At none of those before it did it stop: all their frames were said and all
 -- their commands noted; of those after it nothing was taken.

@@ -1,4 +1,4 @@
-use Rattle.std.proofs.Common.{◌≡◌, ℕ, ◌+◌, Err, Ok, sym, ◌∙◌, ap, subst}
+use Rattle.std.proofs.Common.{◌≡◌, ℕ, ◌+◌, Err, Ok, ◌∙◌, ap, subst}
 use Rattle.client_notes.specs.Answers.{Noting, fresh_task}
 use Rattle.client_notes.specs.Command.{NotesCommand, start}
 use Rattle.client_notes.specs.Notes.{task_count}
@@ -17,7 +17,7 @@ returns-in-Ok-clause-noting g c =
     subst (λ (command : NotesCommand). Noting g.D.Disk c.args.self.now new c.args.disk.now c.put.new.disk command (Ok task)) same
     (subst (λ (s : NotesState). Noting g.D.Disk s new c.args.disk.now c.put.new.disk named (Ok task)) c.self.view_is
     (brought-done g.D.Disk c.self.inside.kept.ledger c.bring_task.new.self c.put.new.self.ledger c.self.inside.kept.journal c.put.new.self.journal c.args.disk.now c.put.new.disk named
-    c.in_ok-bring_task.ensures.ok.noted (sym c.failed.ensures ∙ c.if-failed.false) c.in-Ok.field-0 task c.in-Ok.ensures.makes c.in-Ok.ensures.answers))
+    c.in_ok-bring_task.ensures.ok.noted c.in-Ok.field-0 task c.in-Ok.ensures.makes c.in-Ok.ensures.answers))
 
 pub returns-in-Err-clause-noting : goal.returns-in-Err-clause-noting
 returns-in-Err-clause-noting g c =
@@ -29,4 +29,4 @@ returns-in-Err-clause-noting g c =
     subst (λ (command : NotesCommand). Noting {T = ℕ} g.D.Disk c.args.self.now new c.args.disk.now c.put.new.disk command (Err refusal.Disk)) same
     (subst (λ (s : NotesState). Noting {T = ℕ} g.D.Disk s new c.args.disk.now c.put.new.disk named (Err refusal.Disk)) c.self.view_is
     (brought-cut g.D.Disk c.self.inside.kept.ledger c.bring_task.new.self c.put.new.self.ledger c.self.inside.kept.journal c.put.new.self.journal c.args.disk.now c.put.new.disk named
-    c.in_ok-bring_task.ensures.ok.noted (sym c.failed.ensures ∙ c.if-failed.false) c.in-Err.field-0 c.take_back.new.self c.take_back.ensures.lists c.in-Err.ensures.answers))
+    c.in_ok-bring_task.ensures.ok.noted c.in-Err.field-0 c.take_back.new.self c.take_back.ensures.lists c.in-Err.ensures.answers))

@@ -1,4 +1,4 @@
-use Rattle.std.proofs.Common.{Err, Ok, sym, ◌∙◌, subst}
+use Rattle.std.proofs.Common.{Err, Ok, subst}
 use Rattle.client_notes.specs.Answers.{Noting}
 use Rattle.client_notes.specs.Command.{got}
 use Rattle.client_notes.specs.State.{NotesState}
@@ -12,7 +12,7 @@ returns-in-Ok g c =
     let command = got c.args.server c.args.number c.args.bytes.now in
     subst (λ (s : NotesState). Noting g.D.Disk s new c.args.disk.now c.put.new.disk command (Ok (tt {0}))) c.self.view_is
     (brought-done g.D.Disk c.self.inside.kept.ledger c.bring_got.new.self c.put.new.self.ledger c.self.inside.kept.journal c.put.new.self.journal c.args.disk.now c.put.new.disk command
-    c.in_ok-bring_got.ensures.ok.noted (sym c.failed.ensures ∙ c.if-failed.false) c.in-Ok.field-0 (tt {0}) c.in-Ok.ensures.makes c.in-Ok.ensures.answers)
+    c.in_ok-bring_got.ensures.ok.noted c.in-Ok.field-0 (tt {0}) c.in-Ok.ensures.makes c.in-Ok.ensures.answers)
 
 pub returns-in-Err : goal.returns-in-Err
 returns-in-Err g c =
@@ -20,4 +20,4 @@ returns-in-Err g c =
     let command = got c.args.server c.args.number c.args.bytes.now in
     subst (λ (s : NotesState). Noting g.D.Disk s new c.args.disk.now c.put.new.disk command (Err refusal.Disk)) c.self.view_is
     (brought-cut g.D.Disk c.self.inside.kept.ledger c.bring_got.new.self c.put.new.self.ledger c.self.inside.kept.journal c.put.new.self.journal c.args.disk.now c.put.new.disk command
-    c.in_ok-bring_got.ensures.ok.noted (sym c.failed.ensures ∙ c.if-failed.false) c.in-Err.field-0 c.take_back.new.self c.take_back.ensures.lists c.in-Err.ensures.answers)
+    c.in_ok-bring_got.ensures.ok.noted c.in-Err.field-0 c.take_back.new.self c.take_back.ensures.lists c.in-Err.ensures.answers)

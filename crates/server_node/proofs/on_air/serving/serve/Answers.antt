@@ -4,7 +4,7 @@ use Rattle.ftl0_server.specs.ServerState.{ServerState}
 use Rattle.node.specs.Course.{at}
 use Rattle.node.specs.Lent.{lent as lent_so, seen}
 use Rattle.node.specs.Turns.{lent}
-use Rattle.server_node.specs.declared.stop.NodeStop.{NodeStop}
+use Rattle.node.specs.declared.stop.NodeStop.{NodeStop}
 use Rattle.server_node.specs.declared.terms.Served.{Served}
 use Rattle.server_node.proofs.Ending.{Did, Recovers, refused, served}
 use Rattle.server_node.proofs.on_air.ServerLemmas.{owes-none, Ran, not-over, server-did, started}

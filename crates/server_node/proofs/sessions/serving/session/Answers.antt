@@ -4,7 +4,7 @@ use Rattle.file_store.specs.State.{StoreState}
 use Rattle.node.specs.Course.{at}
 use Rattle.node.specs.Lent.{lent as lent_so, seen}
 use Rattle.node.specs.Turns.{lent}
-use Rattle.server_node.specs.declared.stop.NodeStop.{NodeStop}
+use Rattle.node.specs.declared.stop.NodeStop.{NodeStop}
 use Rattle.server_node.specs.declared.terms.Served.{Served}
 use Rattle.server_node.specs.Sessions.Course.{Owes}
 use Rattle.server_node.specs.Sessions.ServerState.{ServerState, new_server}
