@@ -11,10 +11,6 @@ pub record NotesState : Type 0 where
   pub lists : Lists
   pub journal : Position
 
--- the notes of these lists, whose commands stand in this journal
-abbrev pub notes_of : Lists → Position → NotesState
-notes_of lists journal = record { lists = lists; journal = journal }
-
 -- a write or a sync failed before
 abbrev pub HasFailed : NotesState → Type 0
 HasFailed self = self.journal.failed ≡ true

@@ -76,22 +76,18 @@ of_turns P down read write disk spent memory (Err node.AirWrite) polls heard end
 of_turns P down read write disk spent memory (Err node.Disk) polls heard ends = disk
 of_turns P down read write disk spent memory (Err node.Spent) polls heard ends = spent
 of_turns P down read write disk spent memory (Err node.OutOfMemory) polls heard ends = memory
-of_turns P down read write disk spent memory (Err (node.NotAStore found)) polls heard ends = absurd ends
-of_turns P down read write disk spent memory (Err (node.Damaged at)) polls heard ends = absurd ends
+of_turns P down read write disk spent memory (Err why) polls heard ends = absurd ends
 
 -- what holds of each stop that an outcome is, and of the one that these turns are
 module _ (P : SendStop → Type 0) (refused : (code : ℕ) → P (stop.Refused code)) (bad : (code : ℕ) → P (stop.BadFile code)) (down : P stop.LinkDown) (strange : (kind : ℕ) → P (stop.Strange kind))
     (ended : Result Finished NodeStop) (turned : P (stop_of_turns ended)) where
   pub of_answer : (reached : Outcome) (s : SendStop) → answer_of ended reached ≡ Err s → P s
-  of_answer outcome.Idle s is = absurd (cc is)
   of_answer outcome.Working s is = subst P (error-is Outcome (stop_of_turns ended) s is) turned
-  of_answer (outcome.Acked number) s is = absurd (cc is)
   of_answer (outcome.Refused code) s is = subst P (error-is Outcome (stop.Refused code) s is) (refused code)
   of_answer (outcome.BadFile code) s is = subst P (error-is Outcome (stop.BadFile code) s is) (bad code)
-  of_answer (outcome.Fetched number) s is = absurd (cc is)
-  of_answer outcome.Listed s is = absurd (cc is)
   of_answer (outcome.LinkDown why) s is = subst P (error-is Outcome stop.LinkDown s is) down
   of_answer (outcome.Strange kind) s is = subst P (error-is Outcome (stop.Strange kind) s is) (strange kind)
+  of_answer reached s is = absurd (cc is)
 
 -- whether a job's carrying out may stop so
 abbrev pub is_carried : SendStop → Bool
@@ -120,12 +116,7 @@ node_of why = None
 node-of : (why : NodeStop) → node_of (stop_of_node why) ≡ Some why
 unfolding node_of
 node-of node.AirRead = refl
-node-of node.AirWrite = refl
-node-of node.Disk = refl
-node-of node.Spent = refl
-node-of node.OutOfMemory = refl
-node-of (node.NotAStore found) = refl
-node-of (node.Damaged at) = refl
+node-of why = refl
 
 -- it stops by the node exactly where the turns ended by that
 pub turned : (ended : Result Finished NodeStop) (reached : Outcome) (why : NodeStop) → answer_of ended reached ≡ Err (stop_of_node why) → ended ≡ Err why
@@ -148,11 +139,7 @@ module _ (reads reads_n writes writes_n : ℕ) where
   same-turns (Ok finished) h k before = absurd (cc before)
   same-turns (Err node.AirRead) h k before = absurd (cc before)
   same-turns (Err node.AirWrite) h k before = absurd (cc before)
-  same-turns (Err node.Disk) h k before = (h.same (λ e. cc e), k.same (λ e. cc e))
-  same-turns (Err node.Spent) h k before = (h.same (λ e. cc e), k.same (λ e. cc e))
-  same-turns (Err node.OutOfMemory) h k before = (h.same (λ e. cc e), k.same (λ e. cc e))
-  same-turns (Err (node.NotAStore found)) h k before = (h.same (λ e. cc e), k.same (λ e. cc e))
-  same-turns (Err (node.Damaged at)) h k before = (h.same (λ e. cc e), k.same (λ e. cc e))
+  same-turns (Err why) h k before = (h.same (λ e. cc e), k.same (λ e. cc e))
 
   if-err : (result : Result Outcome SendStop) (P : SendStop → Type 0) → ((why : SendStop) → result ≡ Err why → P why) → IfErr result P
   if-err (Ok value) P h = tt
@@ -224,8 +211,7 @@ cut-none (Err node.Spent) least client events reached text done cut fine h = h.4
 cut-none (Err node.AirWrite) least client events reached text done cut fine h = h.stops.stops.5
 cut-none (Err node.Disk) least client events reached text done cut fine h = absurd (fine refl)
 cut-none (Err node.OutOfMemory) least client events reached text done cut fine h = h.stops.stops.4
-cut-none (Err (node.NotAStore found)) least client events reached text done cut fine h = absurd h
-cut-none (Err (node.Damaged at)) least client events reached text done cut fine h = absurd h
+cut-none (Err why) least client events reached text done cut fine h = absurd h
 
 -- A client whose notes were recovered did these first commands, was asked for this job, and carried it out.
 pub record HasCarried {A C D : Type 0} (see : Seen D A C) (old new : Lent D A C) (terms : ClientTerms) (first : List NotesCommand) (job : JobState) (result : Result Outcome SendStop) : Type 0 where
@@ -300,8 +286,7 @@ module _ {A C D : Type 0} (see : Seen D A C) (on : (first second third : D) → 
   unfoldable pub carries : Carries see old new (asked_of terms start first job) result
   carries = record {
     recovered = h.mid;
-    journal = h.made.notes.journal;
-    recovers = h.ready.recovers.recovered;
+    recovers = record { stood = h.ready.recovers.recovered.content; octets = h.ready.recovers.recovered.octets };
     run = run;
     listing = listing_in h.end.attempt;
     answer = h.out.answer;

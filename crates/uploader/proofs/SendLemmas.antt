@@ -260,8 +260,7 @@ module _ {A C D : Type 0} (see : Seen D A C) (lasts : (disk : D) → see.disk.la
         (inl (record {
           start = s.made.notes.lists;
           recovered = s.mid;
-          journal = s.made.notes.journal;
-          recovers = s.ready.recovers.recovered;
+          recovers = record { stood = s.ready.recovers.recovered.content; octets = s.ready.recovers.recovered.octets };
           air = refl;
           clock = refl;
           cut = cut;

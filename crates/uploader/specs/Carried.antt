@@ -1,16 +1,17 @@
 -- What a client's command does over its disk, air and clock: the notes are recovered, and a job is carried out.
-use Rattle.std.specs.Prelude.{◌≡◌, ℕ, List, [], ◌++◌, Result, Err, IsErrOf, ⊤}
+use Rattle.std.specs.Prelude.{◌≡◌, ℕ, List, [], ◌++◌, IfSome, Result, Err, IsErrOf, ⊤}
 use Rattle.disk_model.specs.declared.disk.Disk.{Ghosts}
 use Rattle.node.specs.Lent.{Lent, Seen}
 use Rattle.node.specs.declared.stop.NodeStop.TheVariants as node
-use Rattle.file_journal.specs.Position.{Position}
+use Rattle.file_journal.specs.Calls.{Becomes, TakesStep}
+use Rattle.file_journal.specs.Journal.{after_recovery}
 use Rattle.file_journal.specs.Through.{CountsWrites, StandsThrough}
 use Rattle.client_notes.specs.Command.{NotesCommand}
 use Rattle.client_notes.specs.Laws.{after_all}
 use Rattle.client_notes.specs.Notes.{Lists}
-use Rattle.client_notes.specs.Records.{notes_form}
-use Rattle.client_notes.specs.Recovery.{AnswersRecovery, IsRecovered}
-use Rattle.client_notes.specs.State.{notes_of}
+use Rattle.client_notes.specs.Records.{notes_form, notes_magic}
+use Rattle.client_notes.specs.Recovery.{AnswersRecovery}
+use Rattle.client_notes.specs.State.{StandsFor}
 use Rattle.client_notes.specs.StoreFault.{StoreFault}
 use Rattle.ftl0_client.specs.Window.{window_of}
 use Rattle.ftl0_client.specs.Table.{JobState}
@@ -29,6 +30,12 @@ pub record IsUnrecovered {A C D : Type 0} (g : Ghosts D) (old new : Lent D A C) 
   pub air : new.air ≡ old.air
   pub clock : new.clock ≡ old.clock
   pub answers : AnswersRecovery {T = ⊤} g (Err fault) old.disk new.disk
+
+-- The notes that were recovered are those for which the disk's content stood. No octet of formatted notes changed, and
+-- any other content was made formatted ones.
+pub record RecoversTo {D : Type 0} (g : Ghosts D) (disk disk_now : D) (start : Lists) : Type 0 where
+  pub stood : IfSome (g.content disk) (λ before. StandsFor before start)
+  pub octets : TakesStep g disk disk_now (Becomes (after_recovery notes_magic 1))
 
 -- a client of these terms over these notes, of which nothing was asked
 abbrev pub client_from : ClientTerms → Lists → Client
@@ -55,8 +62,7 @@ client_of asked = client_from asked.terms (after_all asked.start asked.first)
 pub record Carries {A C D : Type 0} (see : Seen D A C) (old new : Lent D A C) (asked : Asked)
     (result : Result Outcome SendStop) : Type 0 where
   pub recovered : D
-  pub journal : Position
-  pub recovers : IsRecovered see.disk old.disk recovered (notes_of asked.start journal)
+  pub recovers : RecoversTo see.disk old.disk recovered asked.start
   pub run : Run
   pub listing : List ℕ
   pub answer : result ≡ answer_of run.ended run.reached

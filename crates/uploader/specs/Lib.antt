@@ -16,6 +16,5 @@ pub use Rattle.client_notes.specs.Laws
 pub use Rattle.client_notes.specs.Notes
 pub use Rattle.client_notes.specs.State
 pub use Rattle.client_notes.specs.StoreFault
-pub use Rattle.client_notes.specs.Recovery
 pub use Rattle.client_notes.specs.declared.answers.Begun
 pub use Rattle.client_notes.specs.declared.refusals.NotesRefusal

@@ -4,15 +4,12 @@ use Rattle.std.specs.Prelude.{MatchResult, Result, Ok, Err}
 use Rattle.px_base.specs.Shelves.{Holding, content_of}
 use Rattle.disk_model.specs.declared.disk.Disk.{Ghosts}
 use Rattle.node.specs.Lent.{Lent, Seen}
-use Rattle.file_journal.specs.Position.{Position}
 use Rattle.file_journal.specs.Through.{CountsWrites, StandsThrough}
 use Rattle.client_notes.specs.Answers.{IsFull, answer_of, fresh_task}
 use Rattle.client_notes.specs.Command.{NotesCommand}
 use Rattle.client_notes.specs.Notes.{Lists, last_task, task_count}
 use Rattle.client_notes.specs.OnDisk.{EachImage}
 use Rattle.client_notes.specs.Records.{notes_form}
-use Rattle.client_notes.specs.Recovery.{IsRecovered}
-use Rattle.client_notes.specs.State.{notes_of}
 use Rattle.client_notes.specs.declared.answers.Begun.{Begun}
 use Rattle.client_notes.specs.declared.answers.Begun.TheVariants as begun
 use Rattle.client_notes.specs.declared.refusals.NotesRefusal.{NotesRefusal}
@@ -27,7 +24,7 @@ use Rattle.uploader.specs.declared.stop.SendStop.TheVariants as stop
 use Rattle.uploader.specs.declared.sum.FileSum.{FileSum}
 use Rattle.uploader.specs.declared.terms.ClientTerms.{ClientTerms}
 use Rattle.uploader.specs.declared.terms.Sent.{Sent}
-use Rattle.uploader.specs.Carried.{Carries, IsUnrecovered, asked_of}
+use Rattle.uploader.specs.Carried.{Carries, IsUnrecovered, RecoversTo, asked_of}
 use Rattle.uploader.specs.Loading.{IsSendable, IsUnfit, sum_of}
 use Rattle.uploader.specs.Stops.{stop_of_start}
 
@@ -78,8 +75,7 @@ pub record IsUnstarted {A C D : Type 0} (g : Ghosts D) (old new : Lent D A C) (t
     (name file : List ℕ) (result : Result Sent SendStop) : Type 0 where
   pub start : Lists
   pub recovered : D
-  pub journal : Position
-  pub recovers : IsRecovered g old.disk recovered (notes_of start journal)
+  pub recovers : RecoversTo g old.disk recovered start
   pub air : new.air ≡ old.air
   pub clock : new.clock ≡ old.clock
   pub cut : List NotesCommand

@@ -77,7 +77,7 @@ fn show_lines<O: Out>(listing: &[u8], out: &mut O) -> Result<(), OutDown>
     let mut left = listing;
     for _ in 0..listing.len() / SHORT_LEN {
         let line = line_of_header(&left[..SHORT_LEN]);
-        out.put(line.as_slice())?;
+        out.put(line.as_str().as_bytes())?;
         left = &left[SHORT_LEN..];
     }
     Ok(())

@@ -34,13 +34,10 @@ use Rattle.uploader.specs.Turns.Carried.{CarriesOut, ClientRan, CountsWhere, End
 use Rattle.uploader.specs.Turns.Carrying.{StopsBehind, StopsOver, TakesAll}
 use Rattle.uploader.specs.Turns.Course.{CameOf, CameToSome, Past, StoppedAt, client_course, further}
 use Rattle.uploader.specs.declared.turns.station.ClientStation.{ClientStation}
-use Rattle.uploader.proofs.turns.CourseLemmas.{came-silent, came-whole}
+use Rattle.uploader.proofs.turns.CourseLemmas.{came-silent, came-whole, closed-done, goes-alike, owes-more, promised}
 use Rattle.client_notes.proofs.Offered.{cuts-none, does-nothing}
-use Rattle.uploader.proofs.turns.GoesLemmas.{goes-alike}
-use Rattle.uploader.proofs.turns.MemoryLemmas.{no-split}
-use Rattle.uploader.proofs.turns.OwesLemmas.{owes-more}
-use Rattle.uploader.proofs.turns.PromiseLemmas.{closed-done, promised}
-use Rattle.uploader.proofs.turns.QuietLemmas.{closed-over, tells-of}
+use Rattle.uploader.proofs.turns.StopsLemmas.{no-split}
+use Rattle.uploader.proofs.turns.SayingLemmas.{closed-over, tells-of}
 
 -- ---- the turns but the last
 
@@ -291,8 +288,6 @@ module _ {A C D : Type 0} (see : Seen D A C) (lasts : (disk : D) → see.disk.la
     stopped-at stop.AirWrite ran turns (λ least reached done cut over. over),
     (counts-same _ _ _ (λ e. cc e) counts.0, record { rose = λ _. counts.1; same = λ never. absurd (never refl) }),
   )
-  came-by (Err (stop.NotAStore found)) turns counts ran = absurd turns
-  came-by (Err (stop.Damaged at)) turns counts ran = absurd turns
   came-by (Err stop.Disk) turns counts ran = (
     stopped-at stop.Disk ran turns (λ least reached done cut over. over),
     none-rose _ _ _ _ _ (λ e. cc e) (λ e. cc e) counts.0 (still h.unsaid _ _ h.is_unsaid (λ is. cc (unsaid-why stop.Disk ran is))),
@@ -301,6 +296,7 @@ module _ {A C D : Type 0} (see : Seen D A C) (lasts : (disk : D) → see.disk.la
     stopped-at stop.OutOfMemory ran turns (λ least reached done cut over. over),
     none-rose _ _ _ _ _ (λ e. cc e) (λ e. cc e) counts.0 (still h.unsaid _ _ h.is_unsaid (λ is. cc (unsaid-why stop.OutOfMemory ran is))),
   )
+  came-by (Err why) turns counts ran = absurd turns
 
   abbrev now : ClientState
   now = to.party.client

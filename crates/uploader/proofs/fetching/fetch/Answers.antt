@@ -11,8 +11,8 @@ use Rattle.uploader.specs.declared.stop.SendStop.TheVariants as stop
 use Rattle.uploader.specs.Causes.{HasCauses}
 use Rattle.uploader.specs.Fetching.{download_of, file_asked}
 use Rattle.uploader.proofs.CarryLemmas.{carried, causes, causes-err, causes-ok, causes-shelf, is_carried, just-asked, never, recovered_exactly}
-use Rattle.uploader.proofs.FetchLemmas.{download-goes, fetch-keeps, fetch-stops}
-use Rattle.uploader.proofs.ReadyLemmas.{refused_exactly}
+use Rattle.uploader.proofs.OutcomeLemmas.{download-goes, fetch-keeps, fetch-stops}
+use Rattle.uploader.proofs.StartLemmas.{refused_exactly}
 use Rattle.uploader.proofs.fetching.fetch.Goals as goal
 
 pub carry_out-client-requires-clause-go_with : goal.carry_out-client-requires-clause-go_with

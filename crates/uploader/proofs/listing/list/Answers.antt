@@ -12,8 +12,8 @@ use Rattle.uploader.specs.Causes.{HasCauses}
 use Rattle.uploader.specs.Lines.{listing_lines}
 use Rattle.uploader.specs.Listing.{directory_of, files_asked}
 use Rattle.uploader.proofs.CarryLemmas.{carried, causes, causes-err, causes-ok, causes-out, is_carried, just-asked, never, recovered_exactly}
-use Rattle.uploader.proofs.ListLemmas.{list-shows, list-stops}
-use Rattle.uploader.proofs.ReadyLemmas.{refused_exactly, unmade_leaves}
+use Rattle.uploader.proofs.OutcomeLemmas.{list-shows, list-stops}
+use Rattle.uploader.proofs.StartLemmas.{refused_exactly, unmade_leaves}
 use Rattle.uploader.proofs.listing.list.Goals as goal
 
 pub returns-in_default-clause-ends : goal.returns-in_default-clause-ends

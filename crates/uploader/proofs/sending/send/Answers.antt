@@ -13,7 +13,7 @@ use Rattle.uploader.specs.Loading.{sum_of}
 use Rattle.uploader.specs.Stops.{stop_of_start}
 use Rattle.uploader.proofs.CarryLemmas.{causes-still, ok-never}
 use Rattle.uploader.proofs.SendLemmas.{SendsAll, already-all, asked-is, does-first, does-going, fresh-task-for, going-task-for, made-upload, may-carry, refused-all, runs_still, started, unfit-never, upload-all}
-use Rattle.uploader.proofs.ReadyLemmas.{refused_exactly}
+use Rattle.uploader.proofs.StartLemmas.{refused_exactly}
 use Rattle.uploader.proofs.sending.send.Goals as goal
 
 pub returns-in_err-file-clause-causes : goal.returns-in_err-file-clause-causes
