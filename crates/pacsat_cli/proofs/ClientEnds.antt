@@ -87,7 +87,7 @@ module _ {A C D : Type 0} (see : Seen D A C) (old new : Lent D A C) where
       subst P (sym h.answer) (air-carried _ _ _ _ h.run.ended h.run.reached h.air.reads h.air.writes)
 
   pub carries-kind : {asked : Asked} {came : Result Outcome SendStop} → Carries see old new asked came → (why : SendStop) → came ≡ Err why → is_carried why ≡ true
-  carries-kind h why e = node-carried h.run.ended h.run.reached why (sym h.answer ∙ e)
+  carries-kind h why e = node-carried _ _ h.run.ended h.run.reached why h.ran.ends (sym h.answer ∙ e)
 
   -- notes that weren't recovered
   unrecovered-air : {T : Type 0} (ended : Result T SendStop) → IsErrAnd ended (IsUnrecovered see.disk old new) → AirBy (see.air.read_faults old.air) (see.air.read_faults new.air) (see.air.write_faults old.air) (see.air.write_faults new.air) ended

@@ -1,12 +1,13 @@
 -- How a client's command is stopped, and which status that is.
-use Rattle.std.proofs.Common.{◌≡◌, ℕ, refl, ap, sym, ◌∙◌, inl, inr, Bool, true, false}
-use Rattle.std.specs.Prelude.{◌⊎◌, Option, None, Some, IsErrOf, IsTrue, Result, Ok, Err}
+use Rattle.std.proofs.Common.{◌≡◌, ℕ, refl, ap, sym, ◌∙◌, inl, inr, Bool, true, false, List, ◌⊎◌, Option, None, Some, IsErrOf, IsTrue, Result, Ok, Err}
 use Rattle.px_base.specs.Outside.{Rose}
+use Rattle.px_base.specs.declared.air.Turn.{Turn}
 use Rattle.uploader.specs.NotesRefusal.{NotesRefusal}
 use Rattle.uploader.specs.NotesRefusal.TheVariants as refusal
 use Rattle.uploader.specs.StoreFault.{StoreFault}
 use Rattle.uploader.specs.StoreFault.TheVariants as fault
 use Rattle.ftl0_client.specs.declared.outcome.Outcome.{Outcome}
+use Rattle.node.specs.Turns.{TurnsBy}
 use Rattle.node.specs.declared.finished.Finished.{Finished}
 use Rattle.node.specs.declared.stop.NodeStop.{NodeStop}
 use Rattle.node.specs.declared.stop.NodeStop.TheVariants as node
@@ -167,9 +168,9 @@ is_carried stop.LinkDown = true
 is_carried (stop.Strange kind) = true
 is_carried why = false
 
-pub node-carried : (ended : Result Finished NodeStop) (reached : Outcome) (why : SendStop) → answer_of ended reached ≡ Err why → is_carried why ≡ true
-node-carried ended reached why e =
-    of_answer (λ s. is_carried s ≡ true) (λ code. refl) (λ code. refl) refl (λ kind. refl) ended (of_turns (λ s. is_carried s ≡ true) refl refl refl refl refl refl ended) reached why e
+pub node-carried : (polls : ℕ) (turns : List Turn) (ended : Result Finished NodeStop) (reached : Outcome) (why : SendStop) → TurnsBy ended polls turns → answer_of ended reached ≡ Err why → is_carried why ≡ true
+node-carried polls turns ended reached why ends e =
+    of_answer (λ s. is_carried s ≡ true) (λ code. refl) (λ code. refl) refl (λ kind. refl) ended (of_turns (λ s. is_carried s ≡ true) refl refl refl refl refl refl ended polls turns ends) reached why e
 
 pub fault-carried : (why : StoreFault) → is_carried (stop_of_fault why) ≡ true
 fault-carried (fault.NotAStore found) = refl

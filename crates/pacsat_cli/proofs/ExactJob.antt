@@ -155,10 +155,7 @@ module _ {T : Type 0} (came : Result Outcome SendStop) (ended : Result T SendSto
   turns-cause polls turns reached (Ok (finished.Closed count)) of working ends e =
       subst (λ (t : Status). IsCause polls turns reached t) (sym (came-err stop.LinkDown e)) (subst (λ (r : Outcome). IsLinkDown turns r) (sym working) ends.0)
   turns-cause polls turns reached (Err node.Spent) of working ends e = subst (λ (t : Status). IsCause polls turns reached t) (sym (came-err stop.Spent e)) (working, ends.0, ends.1)
-  turns-cause polls turns reached (Ok finished.Over) of working ends e = absurd (cc of)
-  turns-cause polls turns reached (Err node.AirWrite) of working ends e = absurd (cc of)
-  turns-cause polls turns reached (Err node.Disk) of working ends e = absurd (cc of)
-  turns-cause polls turns reached (Err node.OutOfMemory) of working ends e = absurd (cc of)
+  turns-cause polls turns reached ended_ of working ends e = absurd (cc of)
 
   module _ (polls : ℕ) (turns : List Turn) (reached : Outcome) (comes : ComesBy polls turns reached came) where
     to-cause : IsCause polls turns reached s

@@ -1,5 +1,6 @@
 -- A session or a server from the recovery of its store, which is refused or gives one, to its end by the turns of its
 -- node; what it does to its disk, and what stands there.
+use Rattle.std.proofs.lemmas.Grind.{common_steps}
 use Rattle.std.proofs.Common.{◌≡◌, inl, inr, ⊎_elim, ◌⊎◌, ℕ, ◌+◌, ◌≤◌, List, ◌++◌, length, refl, ◌∙◌, ap, subst, arith, IfSome, length-append, append_assoc, [], ◌∷◌, Bool, true, false, sym, ◌≢◌, Result, Ok, Err, IsErrAnd, IsErrOf, Option}
 use Rattle.disk_model.specs.declared.disk.Disk.{Ghosts}
 use Rattle.file_journal.specs.Through.{StandsThrough}
@@ -46,27 +47,11 @@ use Rattle.node.specs.declared.finished.Finished.TheVariants as finished
 
 -- what a session does to its disk, by its writes and syncs
 pub node_runs : {D : Type 0} (g : Ghosts D) (failed : Type 0) (old now : D) → PutsAmongReads g failed old now → NodeRuns g failed old now
-node_runs g failed old now puts = record {
-  told = puts.told;
-  reads = puts.reads;
-  writes = puts.faults.no_less;
-  rose = λ stopped. inr (puts.faults.rose stopped);
-  same = puts.faults.same;
-  stops = puts.stops;
-  lasts = puts.lasts;
-}
+node_runs g failed old now puts = grind (arith, common_steps)
 
 -- and by a recovery that is all that it does
 pub runs_refused : {D : Type 0} (g : Ghosts D) (failed : Type 0) (old now : D) → Runs g failed old now → NodeRuns g failed old now
-runs_refused g failed old now runs = record {
-  told = runs.told;
-  reads = runs.faults.reads;
-  writes = runs.faults.writes;
-  rose = runs.faults.rose;
-  same = λ fine. (runs.faults.same fine).1;
-  stops = record { last = runs.stops.last; lasts = runs.stops.lasts; writes = runs.stops.writes; since = ⊎_elim (λ (one : _). inl (one.1, one.2)) (λ only. inr only) runs.stops.since };
-  lasts = runs.lasts;
-}
+runs_refused g failed old now runs = grind (arith, common_steps)
 
 -- whether the disk failed
 by_disk : (result : Result Served NodeStop) → IsErrOf result stop.Disk ⊎ ¬ IsErrOf result stop.Disk

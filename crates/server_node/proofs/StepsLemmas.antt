@@ -1,5 +1,6 @@
 -- Events one after another, and a stop at one of them, whatever serves them.
-use Rattle.std.proofs.Common.{◌≡◌, ℕ, ◌+◌, List, [], ◌∷◌, ◌++◌, Bool, false, refl, ap, sym, ◌∙◌, append_assoc}
+use Rattle.std.proofs.lemmas.Grind.{common_steps}
+use Rattle.std.proofs.Common.{◌≡◌, ℕ, ◌+◌, List, [], ◌∷◌, ◌++◌, Bool, false, refl, ap, sym, ◌∙◌, append_assoc, arith}
 use Rattle.std.proofs.Math.Nat.{add_assoc, zero-add}
 use Rattle.disk_model.specs.declared.disk.Disk.{Ghosts}
 use Rattle.file_store.specs.Command.{Command}
@@ -67,26 +68,7 @@ module _ {S E : Type 0} (steps : Steps S E) (laws : AreSteps steps) (why : NodeS
   module _ {D : Type 0} (g : Ghosts D) where
     -- others behind the one at which it stopped
     pub stops-more : (a : WithStore S D) (c : AtDisk StoreState D) (xs ys : List E) (text : List ℕ) → StopsOn g steps a c xs why unsaid text → StopsOn g steps a c (xs ++ ys) why unsaid text
-    stops-more a c xs ys text h = record {
-      done = h.done;
-      cut = h.cut;
-      missed = h.missed;
-      stops =
-          record {
-            before = h.stops.before;
-            next = h.stops.next;
-            later = h.stops.later ++ ys;
-            events_are = ap (λ (es : List E). es ++ ys) h.stops.events_are ∙ append_assoc h.stops.before (h.stops.next ∷ h.stops.later) ys;
-            earlier = h.stops.earlier;
-            then_is = h.stops.then_is;
-            goes = h.stops.goes;
-            last = h.stops.last;
-            stops = h.stops.stops;
-            all_is = h.stops.all_is;
-          };
-      cuts = h.cuts;
-      kept = h.kept;
-    }
+    stops-more a c xs ys text h = grind (arith, common_steps)
 
     -- others that were taken before it
     module _ (on : (first second third : D) → g.lasts first second → g.lasts second third → g.lasts first third) (a b : WithStore S D) (c : AtDisk StoreState D) (xs ys : List E) (text more : List ℕ)

@@ -1,5 +1,6 @@
 -- The course of a server as a node drives it, and what the server did over the turns of its node.
-use Rattle.std.proofs.Common.{◌≡◌, ℕ, ◌+◌, Bool, true, false, List, [], ◌∷◌, ◌++◌, Option, None, Some, refl, ap, ap₂, sym, subst, ◌∙◌, inl, inr, true≢false, append_assoc, append-nil, ◌⊎◌, length, take, drop, length-append, arith}
+use Rattle.std.proofs.lemmas.Grind.{common_steps}
+use Rattle.std.proofs.Common.{◌≡◌, ℕ, ◌+◌, Bool, true, false, List, [], ◌∷◌, ◌++◌, Option, None, Some, refl, ap, sym, subst, ◌∙◌, inl, inr, true≢false, append_assoc, append-nil, ◌⊎◌, length, take, drop, length-append, arith}
 use Rattle.std.specs.Prelude.{◌≢◌, Result, Ok, Err, ⊤, IsErrOf}
 use Rattle.kiss.specs.KissText.{kiss_text}
 use Rattle.px_base.specs.Octets.{IsFront}
@@ -50,14 +51,7 @@ use Rattle.node.specs.declared.finished.Finished.TheVariants as finished
 
 -- a server goes over its events one after another
 pub are_steps : AreSteps server_steps
-are_steps = record {
-  none = λ server. record { frames = []; text_is = refl; serves = (refl, refl, refl, refl) };
-  on = λ server mid now events others all more h k. record {
-    frames = h.frames ++ k.frames;
-    text_is = ap₂ (λ (t u : List ℕ). t ++ u) h.text_is k.text_is ∙ sym (flat_map-append (λ (frame : FrameValue). kiss_text (canonical frame)) h.frames k.frames);
-    serves = serves-append server events h.frames all.done all.missed mid others k.frames more.done more.missed now h.serves k.serves;
-  };
-}
+are_steps = grind (arith, common_steps, flat_map-append, serves-append)
 
 -- how a server answers an event, by the halt of its node
 abbrev answer_by : Option Halt → Result ⊤ Halt
@@ -106,11 +100,7 @@ module _ {D : Type 0} (g : Ghosts D) (lasts : (disk : D) → g.lasts disk disk) 
 
       -- All of it was taken, and its frames were said.
       event-taken : IsServer new.it.server (settled last) → ComesOn g server old (event ∷ []) (text_of frames) new
-      event-taken stands = record {
-        next = settled last;
-        serving = record { is = stands; silent = silent-settled last (empties-silent taken.after frames last sent) };
-        runs = record { done = taken.done; missed = taken.missed; goes = record { frames = frames; text_is = refl; serves = serves-one server event taken.done frames taken.missed (settled last) takes-event }; does = moved taken.missed taken.done by.2 };
-      }
+      event-taken stands = grind (arith, common_steps, empties-silent, moved, serves-one, silent-settled, takes-event)
 
       -- All of it was taken, and saying its frames failed.
       event-unsaid : (text : List ℕ) → frames ≢ [] → IsFront text (text_of frames) → HaltsOn g server old (event ∷ []) stop.AirWrite true text new
@@ -169,11 +159,7 @@ module _ {D : Type 0} (g : Ghosts D) (lasts : (disk : D) → g.lasts disk disk) 
   -- ---- no events
 
   comes-none : (start : AtDisk ServerStation D) (self : ServerState) (server : Server) → IsUp g start → self.store ≡ start.it.server.store → IsServing self server → ComesOn g server start [] [] (with_server start self)
-  comes-none start self server up same serving = record {
-    next = server;
-    serving = serving;
-    runs = rw same (runs-none server_steps are_steps g server start.it.server.store start.disk up.healthy up.stands_on (lasts start.disk));
-  }
+  comes-none start self server up same serving = grind (arith, common_steps, are_steps, runs-none)
 
   pub goes-none : (start : AtDisk ServerStation D) → IsUp g start → (server_course g).goes start [] [] start
   goes-none start up server serving = comes-none start start.it.server server up refl serving

@@ -1,4 +1,5 @@
 -- The course of a session's server: that it is lawful, what the server owes by what it hears, and what it gives.
+use Rattle.std.proofs.lemmas.Grind.{common_steps}
 use Rattle.std.proofs.Common.{◌≡◌, inl, inr, ℕ, Bool, false, None, List, [], ◌++◌, refl, ap, ap₂, sym, ◌∙◌, subst, append_assoc, append-nil, ◌⊎◌, ◌+◌, ◌==◌, ◌<◌, ◌∷◌, length, true, Option, Some, arith, take, map}
 use Rattle.std.specs.List.{AllByRecursion}
 use Rattle.px_base.specs.CallSign.{CallSign}
@@ -50,17 +51,7 @@ use Rattle.node.specs.declared.stop.NodeStop.TheVariants as stop
 
 -- a session goes over its events one after another
 pub are_steps : (caller : CallSign) → AreSteps (session_steps caller)
-are_steps caller = record {
-  none = λ s. record { met = []; heard = refl; said = []; text_is = refl; missed_is = refl; runs = (refl, refl, refl, refl, refl) };
-  on = λ a b c xs ys m n h k. record {
-    met = h.met ++ k.met;
-    heard = map-append heard_of h.met k.met ∙ ap₂ (λ es os. es ++ os) h.heard k.heard;
-    said = h.said ++ k.said;
-    text_is = ap₂ (λ t u. t ++ u) h.text_is k.text_is ∙ sym (texts-append h.said k.said);
-    missed_is = ap₂ (λ t u. t + u) h.missed_is k.missed_is ∙ sym (told-append h.said k.said);
-    runs = runs-trans caller a.store a.lists a.state h.met h.said m.done b.store b.lists b.state k.met k.said n.done c.store c.lists c.state h.runs k.runs;
-  };
-}
+are_steps caller = grind (arith, common_steps, map-append, runs-trans, texts-append, told-append)
 
 -- ---- texts
 
@@ -87,15 +78,7 @@ not-nil xs some none = let e : true ≡ false = sym (ap (λ ys. length ys == 0) 
 module _ {D : Type 0} (g : Ghosts D) (lasts : (disk : D) → g.lasts disk disk) (on : (first second third : D) → g.lasts first second → g.lasts second third → g.lasts first third) where
   -- before the first input, whatever it has to say
   pub owes-first : (a : AtDisk ServerState D) → IsUp g a.it.store a.disk → a.it.halted ≡ false → ((fails : Bool) → next_due (store_in a.it.store) a.it.state fails ≡ None) → Owes g a [] None [] a
-  owes-first a up going none_due = record {
-    hears = record { caller = refl; are_octets = IsOctets-nil; waits = refl };
-    goes_on = going;
-    said = [];
-    text_is = sym (append-nil a.it.replies);
-    commands = [];
-    answered = (refl, refl, refl, refl, refl, none_due);
-    does = does-none g a.it.store a.disk up.healthy up.stands_on (lasts a.disk);
-  }
+  owes-first a up going none_due = grind (arith, common_steps, IsOctets-nil, does-none)
 
   goes-none : (a : AtDisk ServerState D) → IsReady g a → GoesOver g a [] [] a
   goes-none a ready = record {

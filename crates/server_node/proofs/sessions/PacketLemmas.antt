@@ -1,7 +1,7 @@
 -- The packets that what is handed over brings to a session.
-use Rattle.std.proofs.Common.{List, ℕ, ◌++◌, [], length, subst, Bool, true, false, ◌≡◌, ◌∷◌, refl, ap, sym, ◌∙◌, append_assoc, append-nil, ap₂, arith}
+use Rattle.std.proofs.lemmas.Grind.{common_steps}
+use Rattle.std.proofs.Common.{List, ℕ, ◌++◌, [], length, subst, Bool, true, false, ◌≡◌, ◌∷◌, refl, ap, sym, ◌∙◌, append_assoc, append-nil, ap₂, arith, if◌then◌else◌, ◌==◌}
 use Rattle.std.proofs.lemmas.List.{map-append}
-use Rattle.std.specs.Prelude.{if◌then◌else◌, ◌==◌}
 use Rattle.px_base.specs.Octets.{IsOctets}
 use Rattle.px_base.specs.Polling.{octets_of_turn}
 use Rattle.px_base.specs.declared.air.Turn.{Turn}
@@ -41,11 +41,7 @@ hears-none a = record { caller = refl; are_octets = IsOctets-nil; waits = refl }
 
 module _ (a b : ServerState) (xs : List Input) (h : Hears a xs b) where
   pub hears-then : (c : ServerState) (ys : List Input) → Hears b ys c → Hears a (xs ++ ys) c
-  hears-then c ys k = record {
-    caller = k.caller ∙ h.caller;
-    are_octets = both-octets xs ys h.are_octets k.are_octets;
-    waits = k.waits ∙ ap (λ o. waiting_behind o ys) h.waits ∙ sym (waiting-append a.octets xs ys);
-  }
+  hears-then c ys k = grind (arith, common_steps, both-octets, waiting-append)
 
   pub events-then : (ys : List Input) → events_to a (xs ++ ys) ≡ events_to a xs ++ events_to b ys
   events-then ys = events-append a.octets xs ys ∙ ap (λ o. events_to a xs ++ events_behind o ys) (sym h.waits)
