@@ -1,18 +1,15 @@
 -- Commands that are done, and those in which the disk failed.
 use Rattle.std.proofs.Common.{◌≡◌, List, [], ◌++◌, sym, subst}
-use Rattle.std.specs.Prelude.{false}
 use Rattle.disk_model.specs.declared.disk.Disk.{Ghosts}
 use Rattle.client_notes.specs.Command.{NotesCommand}
-use Rattle.client_notes.specs.Several.{DoesSeveral}
-use Rattle.client_notes.specs.State.{NotesState, StandsOn}
-use Rattle.client_notes.proofs.SeveralLemmas.{Several-none, Several-then}
-use Rattle.client_notes.specs.Through.{CutsOff}
+use Rattle.client_notes.specs.Several.{CutsOff, DoesSeveral}
+use Rattle.client_notes.specs.State.{IsReady, NotesState}
+use Rattle.client_notes.proofs.SeveralLemmas.{Several-none, Several-ready, Several-then}
 
 module _ {D : Type 0} (g : Ghosts D) (lasts : (disk : D) → g.lasts disk disk) where
   -- nothing is noted where the notes are as they were
-  pub does-nothing : (old new : NotesState) (disk : D) → new ≡ old → StandsOn g old disk → old.journal.failed ≡ false → DoesSeveral g ⊥ old new disk disk []
-  does-nothing old new disk same stands healthy =
-      subst (λ (n : NotesState). DoesSeveral g ⊥ old n disk disk []) (sym same) (Several-none g ⊥ old disk (λ never. never) stands healthy (lasts disk))
+  pub does-nothing : (old new : NotesState) (disk : D) → new ≡ old → IsReady g old disk → DoesSeveral g ⊥ old new disk disk []
+  does-nothing old new disk same ready = subst (λ (n : NotesState). DoesSeveral g ⊥ old n disk disk []) (sym same) (Several-none g ⊥ old disk (λ never. never) ready (lasts disk))
 
   -- nothing is cut off
   pub cuts-none : (failed : Type 0) (old new : NotesState) (disk disk_n : D) (done : List NotesCommand) → ¬ failed → DoesSeveral g ⊥ old new disk disk_n done → CutsOff g failed old new disk disk_n done []
@@ -20,7 +17,7 @@ module _ {D : Type 0} (g : Ghosts D) (lasts : (disk : D) → g.lasts disk disk) 
     notes_then = new;
     disk_then = disk_n;
     first = does;
-    second = Several-none g failed new disk_n fine does.does.stands_on (does.does.done (λ never. never)).1 (lasts disk_n);
+    second = Several-none g failed new disk_n fine (Several-ready g old new disk disk_n done does) (lasts disk_n);
   }
 
 -- commands that were done come before

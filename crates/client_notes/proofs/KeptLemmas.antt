@@ -1,34 +1,31 @@
 -- The notes as a state that is kept.
-use Rattle.std.proofs.Common.{◌≡◌, inl, inr, ℕ, zero, suc, ◌+◌, ◌<◌, ◌≤◌, Bool, List, [], ◌∷◌, Option, None, Some, Result, Ok, Err, IsErr, IsErrOf, OnErr, OnOk, refl, sym, ◌∙◌, ap, subst, arith}
+use Rattle.std.proofs.Common.{◌≡◌, ◌↔◌, inl, inr, ⊎_elim, ℕ, zero, suc, ◌+◌, ◌<◌, ◌≤◌, Bool, List, [], ◌∷◌, Option, None, Some, Result, Ok, Err, IsErr, IsErrOf, OnErr, OnOk, refl, sym, ◌∙◌, ap, subst, arith}
 use Rattle.std.specs.Prelude.{IsTrue, if◌then◌else◌}
 use Rattle.std.specs.Option.{option_and_then}
 use Rattle.disk_model.specs.declared.disk.Disk.{Ghosts}
 use Rattle.file_journal.specs.Commands.{MakesBetween, after_first}
 use Rattle.file_journal.specs.Kept as kept
-use Rattle.file_journal.specs.Kept.{KeptOn, StandsAt, kept_on}
+use Rattle.file_journal.specs.Kept.{kept_on}
 use Rattle.file_journal.specs.Position.{Position}
-use Rattle.file_journal.specs.Restoring.{AnswersRecovery}
-use Rattle.file_journal.specs.declared.faults.StoreFault as journal_fault
-use Rattle.file_journal.specs.declared.faults.StoreFault.TheVariants as store_fault
+use Rattle.file_journal.specs.Recovery.{IsFailedSync, IsSyncedFirst}
+use Rattle.file_journal.specs.declared.faults.StoreFault.{StoreFault}
+use Rattle.file_journal.specs.declared.faults.StoreFault.TheVariants as fault
 use Rattle.file_journal.specs.Records.{Record}
 use Rattle.file_journal.specs.declared.faults.JournalFault.{JournalFault}
-use Rattle.file_journal.specs.declared.faults.JournalFault.TheVariants as fault
-use Rattle.file_journal.proofs.Offered.{does_same, images_here, told_weaker, weaker}
+use Rattle.file_journal.specs.declared.faults.JournalFault.TheVariants as journal_fault
+use Rattle.file_journal.proofs.Offered.{does_same, images_here, runs_same, told_weaker, weaker}
 use Rattle.client_notes.specs.Answers.{Noting}
 use Rattle.client_notes.specs.Command.{NotesCommand, after, is_allowed}
 use Rattle.client_notes.specs.Notes.{Lists}
 use Rattle.client_notes.specs.Noting.{lists_of, without}
 use Rattle.client_notes.specs.OnDisk.{Answers, Does, EachImage, IsBeforeOrAfter}
 use Rattle.client_notes.specs.Records.{IsWritable, command_of, notes_after, notes_form, notes_magic, notes_step, record_of_command}
-use Rattle.client_notes.specs.Recovery.{RefusesRecovery}
-use Rattle.client_notes.specs.Refusals.{fault_of_store}
-use Rattle.client_notes.specs.State.{NotesState, StandsFor}
+use Rattle.client_notes.specs.Recovery.{AnswersRecovery, IsRecovered, Recovers, StandsAlike}
+use Rattle.client_notes.specs.State.{IsReady, NotesState, StandsFor}
 use Rattle.client_notes.specs.declared.noted_lists.Coming.{Coming}
 use Rattle.client_notes.specs.declared.noted_lists.Coming.TheVariants as coming
 use Rattle.client_notes.specs.declared.noted_lists.NotedLists.{NotedLists}
 use Rattle.client_notes.specs.declared.refusals.NotesRefusal.TheVariants as refusal
-use Rattle.client_notes.specs.declared.refusals.StoreFault.{StoreFault}
-use Rattle.client_notes.specs.declared.refusals.StoreFault.TheVariants as fault_of_notes
 use Rattle.client_notes.proofs.RecordLemmas.{read-written}
 
 -- a command whose condition holds is what its record does
@@ -81,7 +78,7 @@ module _ {D : Type 0} (g : Ghosts D) where
         none-done (suc more) few is = absurd (omega (arith, few))
 
     -- what a call answers by a put that failed exactly where it does
-    answers-of : {T U E : Type 0} (came : Result U E) (result : Result T JournalFault) → (IsErr came → IsErr result) → (IsErr result → IsErr came) → ¬ IsErrOf result fault.Failed
+    answers-of : {T U E : Type 0} (came : Result U E) (result : Result T JournalFault) → (IsErr came → IsErr result) → (IsErr result → IsErr came) → ¬ IsErrOf result journal_fault.Failed
         → kept.AnswersPut g notes_form command (kept_on old.lists old.journal disk) (kept_on new.lists new.journal disk_now) came → Answers g old new disk disk_now command result
     answers-of came result there back fine put = record {
       failed = (λ was. absurd (fine was), λ before. absurd (cc (sym put.does.healthy ∙ before)));
@@ -121,7 +118,7 @@ all-noted noted nothing = ap (λ (k : Coming). without k noted.lists) nothing
 
 module _ {D T U E : Type 0} (g : Ghosts D) (before after : NotedLists) (journal journal_now : Position) (disk disk_now : D) (command : NotesCommand) (came : Result U E) (result : Result T JournalFault) where
   -- a command that takes no memory
-  pub put-answers : (IsErr came → IsErr result) → (IsErr result → IsErr came) → ¬ IsErrOf result fault.Failed → before.coming ≡ coming.Nothing → OnOk came (after.coming ≡ coming.Nothing) → OnErr came (after ≡ before)
+  pub put-answers : (IsErr came → IsErr result) → (IsErr result → IsErr came) → ¬ IsErrOf result journal_fault.Failed → before.coming ≡ coming.Nothing → OnOk came (after.coming ≡ coming.Nothing) → OnErr came (after ≡ before)
       → kept.AnswersPut g notes_form command (kept_on (lists_of before) journal disk) (kept_on (lists_of after) journal_now disk_now) came
       → Answers g (record { lists = before.lists; journal = journal }) (record { lists = after.lists; journal = journal_now }) disk disk_now command result
   put-answers there back fine nothing made same put =
@@ -150,41 +147,48 @@ module _ {D T U E : Type 0} (g : Ghosts D) (before brought after : NotedLists) (
 
 -- ---- a recovery
 
--- the fault of the notes as one of the kept state
-abbrev store_of : StoreFault → journal_fault.StoreFault
-store_of (fault_of_notes.NotAStore found) = store_fault.NotAStore found
-store_of (fault_of_notes.Damaged at) = store_fault.Damaged at
-store_of fault_of_notes.Disk = store_fault.Disk
-store_of fault_of_notes.OutOfMemory = store_fault.OutOfMemory
+-- what a recovery gave is ready
+pub recovered-ready : {D : Type 0} (g : Ghosts D) (disk disk_now : D) (self : NotesState) → IsRecovered g disk disk_now self → IsReady g self disk_now
+recovered-ready g disk disk_now self is = record { healthy = is.healthy; stands_on = is.stands_at.keeps }
 
-there-and-back : (e : journal_fault.StoreFault) → store_of (fault_of_store e) ≡ e
-there-and-back (store_fault.NotAStore found) = refl
-there-and-back (store_fault.Damaged at) = refl
-there-and-back store_fault.Disk = refl
-there-and-back store_fault.OutOfMemory = refl
+-- and what it answers is what it did to the disk
+pub recovers-as : {D T : Type 0} (g : Ghosts D) (disk disk_now : D) (self : NotesState) (x : T) → IsRecovered g disk disk_now self → AnswersRecovery {T = T} g (Ok x) disk disk_now → Recovers g disk disk_now self
+recovers-as {T} g disk disk_now self x is answers = record {
+  recovered = is;
+  since_start = answers.since_start;
+  since_sync = told_weaker (g.content disk) _ _ (λ before told. ⊎_elim
+      (λ (synced : IsSyncedFirst g disk disk_now (StandsAlike before)). synced)
+      (λ (failed : IsErrOf {T = T} (Ok x) fault.Disk × IsFailedSync g disk disk_now). absurd (cc failed.0))) answers.since_sync;
+  runs = runs_same g _ ⊥ disk disk_now (λ failed. cc failed) (λ never. absurd never) answers.runs;
+}
 
-back-and-there : (f : StoreFault) → fault_of_store (store_of f) ≡ f
-back-and-there (fault_of_notes.NotAStore found) = refl
-back-and-there (fault_of_notes.Damaged at) = refl
-back-and-there fault_of_notes.Disk = refl
-back-and-there fault_of_notes.OutOfMemory = refl
-
--- a refusal comes exactly where the content stands for it
-pub recovery-refuses : {D U : Type 0} (T : Type 0) (g : Ghosts D) (old new : D) (e : journal_fault.StoreFault) (result : Result U StoreFault) → result ≡ Err (fault_of_store e)
-    → AnswersRecovery {T = T} g notes_form 1 (Err e) old new → RefusesRecovery (g.content old) result
-recovery-refuses T g old new e result is answers healthy room = told_weaker (g.content old) _ _ (λ before told exact. record {
-  not_a_store = λ found. (
-    λ was. (exact.not_a_store found).0 (to (fault_of_notes.NotAStore found) was),
-    λ stands. from (fault_of_notes.NotAStore found) ((exact.not_a_store found).1 stands),
-  );
-  damaged = λ at. (
-    λ was. (exact.damaged at).0 (to (fault_of_notes.Damaged at) was),
-    λ stands. from (fault_of_notes.Damaged at) ((exact.damaged at).1 stands),
-  );
-}) (answers.refuses (λ disk. healthy (from fault_of_notes.Disk disk)) (λ memory. room (from fault_of_notes.OutOfMemory memory)))
+-- what a recovery answers, it answers as well where the same is refused
+pub answers-as : {D T U : Type 0} (g : Ghosts D) (old now : D) (one : Result T StoreFault) (other : Result U StoreFault) → ((fault : StoreFault) → IsErrOf one fault ↔ IsErrOf other fault)
+    → AnswersRecovery g one old now → AnswersRecovery g other old now
+answers-as g old now one other same answers = record {
+  refuses = λ healthy room. told_weaker (g.content old) _ _ (λ before told exact. record {
+    not_a_store = λ found. also (fault.NotAStore found) (exact.not_a_store found);
+    damaged = λ at. also (fault.Damaged at) (exact.damaged at);
+  }) (answers.refuses (λ is. healthy ((same fault.Disk).0 is)) (λ is. room ((same fault.OutOfMemory).0 is)));
+  untouched = λ found is. answers.untouched found ((same (fault.NotAStore found)).1 is);
+  untouched_damage = λ at is. answers.untouched_damage at ((same (fault.Damaged at)).1 is);
+  runs = runs_same g _ _ old now (same fault.Disk).0 (same fault.Disk).1 answers.runs;
+  since_start = answers.since_start;
+  since_sync = told_weaker (g.content old) _ _ (λ before told. ⊎_elim
+      (λ (synced : IsSyncedFirst g old now (StandsAlike before)). inl synced)
+      (λ (failed : IsErrOf one fault.Disk × IsFailedSync g old now). inr ((same fault.Disk).0 failed.0, failed.1))) answers.since_sync;
+}
   where
-    to : (f : StoreFault) → IsErrOf result f → IsErrOf {T = T} (Err e) (store_of f)
-    to f was = let same : fault_of_store e ≡ f = cc (sym is ∙ was) in ap Err (sym (there-and-back e) ∙ ap store_of same)
+    also : {P : Type 0} (why : StoreFault) → IsErrOf one why ↔ P → IsErrOf other why ↔ P
+    also why both = (λ is. both.0 ((same why).1 is), λ stands. (same why).0 (both.1 stands))
 
-    from : (f : StoreFault) → IsErrOf {T = T} (Err e) (store_of f) → IsErrOf result f
-    from f was = let same : e ≡ store_of f = cc was in is ∙ ap Err (ap fault_of_store same ∙ back-and-there f)
+-- so where it wasn't refused, whatever it gave
+pub answers-ok : {D T U : Type 0} (g : Ghosts D) (old now : D) (x : T) (y : U) → AnswersRecovery {T = T} g (Ok x) old now → AnswersRecovery {T = U} g (Ok y) old now
+answers-ok g old now x y = answers-as g old now (Ok x) (Ok y) (λ why. (λ is. cc is, λ is. cc is))
+
+-- and where it was
+pub answers-err : {D T U : Type 0} (g : Ghosts D) (old now : D) (why : StoreFault) (other : Result U StoreFault) → other ≡ Err why → AnswersRecovery {T = T} g (Err why) old now → AnswersRecovery g other old now
+answers-err {T} g old now why other same = answers-as {T = T} g old now (Err why) other (λ fault. (
+  λ (is : IsErrOf {T = T} (Err why) fault). let one : why ≡ fault = cc is in same ∙ ap Err one,
+  λ is. let one : why ≡ fault = cc (sym same ∙ is) in ap Err one,
+))

@@ -1,5 +1,5 @@
 -- What several commands of a call do to the disk of the notes, one list of them after another.
-use Rattle.std.proofs.Common.{◌≡◌, inl, inr, ℕ, ◌+◌, ◌*◌, false, List, [], ◌∷◌, ◌++◌, length, refl, ◌∙◌, ap, subst, arith, length-append}
+use Rattle.std.proofs.Common.{◌≡◌, inl, inr, ℕ, ◌+◌, ◌*◌, List, [], ◌∷◌, ◌++◌, length, refl, ◌∙◌, ap, subst, arith, length-append}
 use Rattle.std.specs.Prelude.{IsTrue}
 use Rattle.disk_model.specs.declared.disk.Disk.{Ghosts}
 use Rattle.file_journal.specs.Calls.{images_now}
@@ -12,7 +12,7 @@ use Rattle.client_notes.specs.Notes.{Lists}
 use Rattle.client_notes.specs.OnDisk.{Does, IsBeforeOrAfter}
 use Rattle.client_notes.specs.Records.{notes_form}
 use Rattle.client_notes.specs.Several.{DoesSeveral, MakesBetween, MakesFirst, after_first, notes_on}
-use Rattle.client_notes.specs.State.{NotesState, StandsFor, StandsOn}
+use Rattle.client_notes.specs.State.{IsReady, NotesState, StandsFor}
 
 -- a list of no length
 nothing : (commands : List NotesCommand) → length commands ≡ 0 → commands ≡ []
@@ -91,8 +91,12 @@ module _ {D : Type 0} (g : Ghosts D) where
 
   -- ---- no command
 
-  pub Several-none : (P : Type 0) (self : NotesState) (disk : D) → ¬ P → StandsOn g self disk → self.journal.failed ≡ false → g.lasts disk disk → DoesSeveral g P self self disk disk []
-  Several-none P self disk fine stands healthy same = record { does = does_none g notes_form P self.lists self.journal disk fine stands healthy same; same = λ is. refl }
+  pub Several-none : (P : Type 0) (self : NotesState) (disk : D) → ¬ P → IsReady g self disk → g.lasts disk disk → DoesSeveral g P self self disk disk []
+  Several-none P self disk fine ready same = record { does = does_none g notes_form P self.lists self.journal disk fine ready.stands_on ready.healthy same; same = λ is. refl }
+
+  -- commands that were done leave them ready
+  pub Several-ready : (old new : NotesState) (disk disk_now : D) (commands : List NotesCommand) → DoesSeveral g ⊥ old new disk disk_now commands → IsReady g new disk_now
+  Several-ready old new disk disk_now commands it = record { healthy = (it.does.done (λ never. never)).1; stands_on = it.does.stands_on }
 
   -- ---- the same of what comes to the same
 

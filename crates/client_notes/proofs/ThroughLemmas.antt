@@ -1,98 +1,52 @@
--- What stands on the disk through a command: from the recovery on, and at its end.
-use Rattle.std.proofs.Common.{◌≡◌, inl, inr, ⊎_elim, ℕ, List, [], ◌++◌, refl, ap, ◌∙◌, subst, arith, IfSome}
-use Rattle.std.specs.Prelude.{Err, IsErrOf, Option}
+-- What a command does to the disk of the notes, from their recovery on.
+use Rattle.std.proofs.Common.{◌≡◌, inr, ℕ, List, [], ◌++◌, ◌∙◌, subst, arith}
 use Rattle.px_base.specs.Outside.{Rose}
 use Rattle.disk_model.specs.declared.disk.Disk.{Ghosts}
-use Rattle.file_journal.specs.Calls.{CountsFault, Leaves, Runs, TellsAlike}
+use Rattle.file_journal.specs.Calls.{CountsFault, Runs}
 use Rattle.file_journal.specs.Kept.{alone}
-use Rattle.file_journal.specs.Recovery.{IsFailedSync, IsSyncedFirst}
 use Rattle.file_journal.specs.Through.{CountsWrites, StandsThrough}
-use Rattle.file_journal.specs.Walk.{state}
-use Rattle.file_journal.proofs.Offered.{alike_on, at_told, if_told, joined, runs_same, stops_on, told_before, told_weaker, weaker}
+use Rattle.file_journal.proofs.Offered.{alike_on, stops_on}
 use Rattle.file_journal.proofs.Offered as kept
 use Rattle.client_notes.proofs.PutLemmas.{own-number}
 use Rattle.client_notes.proofs.SeveralLemmas.{Several-then}
 use Rattle.client_notes.specs.Command.{NotesCommand}
-use Rattle.client_notes.specs.Records.{notes_form, notes_magic}
-use Rattle.client_notes.specs.Recovery.{LeavesAlikeSinceSync, RefusesRecovery, StandsAlike}
-use Rattle.client_notes.specs.declared.refusals.StoreFault.{StoreFault}
-use Rattle.client_notes.specs.declared.refusals.StoreFault.TheVariants as fault
-use Rattle.client_notes.specs.Several.{DoesSeveral, notes_on}
-use Rattle.client_notes.specs.State.{NotesState, standing_of}
-use Rattle.client_notes.specs.Through.{CutsOff, IsOfStanding, LeavesStanding}
+use Rattle.client_notes.specs.Records.{notes_form}
+use Rattle.client_notes.specs.Recovery.{Recovers}
+use Rattle.client_notes.specs.Several.{CutsOff, DoesSeveral, notes_on}
+use Rattle.client_notes.specs.State.{NotesState}
+
+-- What stands on the disk at each moment, what is counted, that without commands the disk is as the recovery left it, and
+-- that all is a run of calls.
+pub record GoesThrough {D : Type 0} (g : Ghosts D) (failed : Type 0) (old mid now : D) (start : NotesState) (done cut : List NotesCommand) : Type 0 where
+  pub stands : StandsThrough g notes_form failed start.lists done cut old now
+  pub ready : stands.ready ≡ g.moment mid
+  pub counts : CountsWrites g failed old now
+  pub none : done ++ cut ≡ [] → now ≡ mid
+  pub runs : Runs g failed old now
 
 module _ {D : Type 0} (g : Ghosts D) (on : (first second third : D) → g.lasts first second → g.lasts second third → g.lasts first third) (failed : Type 0) (old mid now : D) (start new : NotesState)
-    (done cut : List NotesCommand) (alike : TellsAlike (g.content old) (g.content mid)) (stood : IfSome (g.content old) (λ before. standing_of before ≡ state start.lists))
-    (since_start : Leaves g old mid StandsAlike) (since_sync : IfSome (g.content old) (λ before. IsSyncedFirst g old mid (StandsAlike before)))
-    (cuts : CutsOff g failed start new mid now done cut) where
-  all_does : DoesSeveral g failed start new mid now (done ++ cut)
-  all_does = Several-then g on ⊥ failed start cuts.notes_then new mid cuts.disk_then now done cut (λ never. never) cuts.first cuts.second
-
-  -- what stands through the command, from the moment on at which the recovery was done
-  pub stands_through : start.journal.magic ≡ notes_magic → (stands : StandsThrough g notes_form failed start.lists done cut old now) × (stands.ready ≡ g.moment mid)
-  stands_through magic =
-      kept.stands_through g notes_form own-number 1 failed old (notes_on start mid) (notes_on cuts.notes_then cuts.disk_then) (notes_on new now) done cut alike stood since_start since_sync magic (alone g failed) (alone g ⊥)
-      (alone g failed) all_does.does cuts.first.does cuts.second.does cuts.first.does.puts.told
-
-  -- and what it counts
-  pub counts_writes : Runs g ⊥ old mid → CountsWrites g failed old now
-  counts_writes first =
-      let same = first.faults.same (λ never. never) in
+    (done cut : List NotesCommand) where
+  pub goes_through : Recovers g old mid start → CutsOff g failed start new mid now done cut → GoesThrough g failed old mid now start done cut
+  goes_through r cuts =
+      let all : DoesSeveral g failed start new mid now (done ++ cut) = Several-then g on ⊥ failed start cuts.notes_then new mid cuts.disk_then now done cut (λ never. never) cuts.first cuts.second in
+      let same = r.runs.faults.same (λ never. never) in
+      let puts = all.does.puts in
+      let stands = kept.stands_through g notes_form own-number 1 failed old (notes_on start mid) (notes_on cuts.notes_then cuts.disk_then) (notes_on new now) done cut r.runs.told r.recovered.content r.since_start
+      r.since_sync r.recovered.stands_at.magic_is (alone g failed) (alone g ⊥) (alone g failed) all.does cuts.first.does cuts.second.does cuts.first.does.puts.told in
       record {
-        reads = all_does.does.puts.reads ∙ same.0;
-        writes = subst (λ (n : ℕ). CountsFault n (g.write_faults now) failed) same.1 all_does.does.puts.faults;
-      }
-
-  -- without commands the disk is as the recovery left it
-  pub none_moves : done ++ cut ≡ [] → now ≡ mid
-  none_moves none = all_does.does.none none
-
-  -- and all that the command does to it is a run of calls
-  pub command_runs : (P : Type 0) → ¬ P → Runs g P old mid → Runs g failed old now
-  command_runs P never first =
-      let same = first.faults.same never in
-      let second = all_does.does.puts in
-      record {
-        told = alike_on _ _ _ first.told second.told;
-        faults = record {
-          reads = omega (arith, same.0, second.reads);
-          writes = omega (arith, same.1, second.faults.no_less);
-          rose = λ stopped. inr (subst (λ (n : ℕ). Rose n (g.write_faults now)) same.1 (second.faults.rose stopped));
-          same = λ fine. (second.reads ∙ same.0, second.faults.same fine ∙ same.1);
+        stands = stands.0;
+        ready = stands.1;
+        counts = record { reads = puts.reads ∙ same.0; writes = subst (λ (n : ℕ). CountsFault n (g.write_faults now) failed) same.1 puts.faults };
+        none = λ none. all.does.none none;
+        runs = record {
+          told = alike_on _ _ _ r.runs.told puts.told;
+          faults = record {
+            reads = omega (arith, same.0, puts.reads);
+            writes = omega (arith, same.1, puts.faults.no_less);
+            rose = λ stopped. inr (subst (λ (n : ℕ). Rose n (g.write_faults now)) same.1 (puts.faults.rose stopped));
+            same = λ fine. (puts.reads ∙ same.0, puts.faults.same fine ∙ same.1);
+          };
+          stops = stops_on g on old mid now r.runs.lasts same.0 same.1 puts.stops;
+          lasts = on old mid now r.runs.lasts puts.lasts;
         };
-        stops = stops_on g on old mid now first.lasts same.0 same.1 second.stops;
-        lasts = on old mid now first.lasts second.lasts;
       }
-
--- ---- a recovery that is refused
-
-module _ (T : Type 0) where
-  -- the fault is the fault
-  fault_is : (why other : StoreFault) → IsErrOf {T = T} (Err why) other → why ≡ other
-  fault_is why other is = cc is
-
-  -- what the content stands for where it is refused
-  refused_cause : (why : StoreFault) (content : Option (List ℕ)) → RefusesRecovery {T = T} content (Err why)
-      → IfSome content (λ before. IsOfStanding (standing_of before) why)
-  refused_cause (fault.NotAStore found) content refuses =
-      told_weaker content _ _ (λ before told exact. (exact.not_a_store found).0 refl) (refuses (λ is. cc is) (λ is. cc is))
-  refused_cause (fault.Damaged at) content refuses =
-      told_weaker content _ _ (λ before told exact. (exact.damaged at).0 refl) (refuses (λ is. cc is) (λ is. cc is))
-  refused_cause fault.Disk content refuses = if_told content _ (λ before told. tt)
-  refused_cause fault.OutOfMemory content refuses = if_told content _ (λ before told. tt)
-
-  -- what a refused recovery leaves
-  pub refused_leaves : {D : Type 0} (g : Ghosts D) (old now : D) (why : StoreFault) → RefusesRecovery {T = T} (g.content old) (Err why)
-      → ((found : List ℕ) → IsErrOf {T = T} (Err why) (fault.NotAStore found) → g.content now ≡ g.content old)
-      → ((at : ℕ) → IsErrOf {T = T} (Err why) (fault.Damaged at) → g.content now ≡ g.content old)
-      → Runs g (IsErrOf {T = T} (Err why) fault.Disk) old now → Leaves g old now StandsAlike → LeavesAlikeSinceSync {T = T} g (Err why) old now → LeavesStanding g why old now
-  refused_leaves g old now why refuses no_store damaged runs since_start since_sync = record {
-    cause = refused_cause why (g.content old) refuses;
-    since_sync = told_weaker (g.content old) _ _ (λ before told. ⊎_elim
-        (λ (synced : IsSyncedFirst g old now (StandsAlike before)). inl synced)
-        (λ (failed : IsErrOf {T = T} (Err why) fault.Disk × IsFailedSync g old now). inr (ap Err (fault_is why fault.Disk failed.0), failed.1))) since_sync;
-    since_start = since_start;
-    not_a_store = λ found is. no_store found (ap Err is);
-    damaged = λ at is. damaged at (ap Err is);
-    runs = runs_same g _ _ old now (fault_is why fault.Disk) (λ is. ap Err is) runs;
-  }

@@ -9,12 +9,11 @@ pub mod Noting
 pub mod OnDisk
 pub mod Records
 pub mod Recovery
-pub mod Refusals
 pub mod Several
 pub mod State
 pub mod Tasks
-pub mod Through
 pub use Rattle.file_journal.specs.Calls
 pub use Rattle.file_journal.specs.Journal
 pub use Rattle.file_journal.specs.Recovery as JournalRecovery
+pub use Rattle.file_journal.specs.declared.faults.StoreFault
 pub use Rattle.file_journal.specs.Walk

@@ -49,3 +49,11 @@ OneLaw {D} g =
     (failed : Bool) (old new : NotesState) (disk disk_now : D) (command : NotesCommand)
     → Does g (IsTrue failed) old new disk disk_now command
     → DoesSeveral g (IsTrue failed) old new disk disk_now (command ∷ [])
+
+-- The notes did these commands, and then those, in one of which the disk failed, if it did.
+pub record CutsOff {D : Type 0} (g : Ghosts D) (failed : Type 0) (old new : NotesState) (disk disk_now : D)
+    (done cut : List NotesCommand) : Type 0 where
+  pub notes_then : NotesState
+  pub disk_then : D
+  pub first : DoesSeveral g ⊥ old notes_then disk disk_then done
+  pub second : DoesSeveral g failed notes_then new disk_then disk_now cut

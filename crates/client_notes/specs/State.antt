@@ -1,5 +1,5 @@
 -- The notes of a client on a disk as contracts see them, and what octets on a disk stand for as notes.
-use Rattle.std.specs.Prelude.{◌≡◌, ℕ, List, true}
+use Rattle.std.specs.Prelude.{◌≡◌, ℕ, List, false, true}
 use Rattle.disk_model.specs.declared.disk.Disk.{Ghosts}
 use Rattle.file_journal.specs.Position.{Position}
 use Rattle.file_journal.specs.Walk.{KeepsState, Stands, state, stands_for}
@@ -32,6 +32,11 @@ StandsFor image lists = standing_of image ≡ state lists
 -- have left stand for them.
 abbrev pub StandsOn : {D : Type 0} → Ghosts D → NotesState → D → Type 0
 StandsOn g self disk = KeepsState fresh_notes notes_step g self.journal self.lists disk
+
+-- The notes haven't failed, and stand on the disk: what they are told is noted.
+pub record IsReady {D : Type 0} (g : Ghosts D) (self : NotesState) (disk : D) : Type 0 where
+  pub healthy : self.journal.failed ≡ false
+  pub stands_on : StandsOn g self disk
 
 -- The journal has the magic of notes, and was read to its end.
 pub record IsRead (journal : Position) : Type 0 where

@@ -1,9 +1,8 @@
 //! The commands of notes as records of their journal.
 
-ghost use Rattle.std.specs.Prelude.{◌≡◌, IfSome};
-ghost use Rattle.std.specs.Option.{option_map};
+ghost use Rattle.std.specs.Prelude.{◌≡◌};
 ghost use Rattle.file_journal.specs.Records.{record_of};
-ghost use Rattle.client_notes.specs.Commands.{command_value};
+ghost use Rattle.client_notes.specs.Commands.{IsReadAs, command_value};
 ghost use Rattle.client_notes.specs.Records.{IsWritable, command_of, record_of_command};
 
 use crate::reading::{read_acked, read_forgot, read_got, read_numbered, read_refused, read_start};
@@ -57,8 +56,7 @@ impl<'a> Command<'a> {
     /// The command that a record of this kind and content is; `None` exactly where the content hasn't the kind's
     /// length, a call in it is none, or there is no such kind. Takes no memory.
     pub(crate) fn read(kind: u8, content: &'a [u8]) -> Option<Command<'a>>
-        ensures command { option_map command_value result ≡ command_of (record_of kind content.now) }
-        ensures writable { IfSome result (λ command. IsWritable (command_value command)) }
+        ensures { IsReadAs result (command_of (record_of kind content.now)) }
     {
         match kind {
             1 => read_start(content),

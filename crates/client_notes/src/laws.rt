@@ -1,10 +1,9 @@
 //! Laws of a client's notes.
 
-ghost use Rattle.std.specs.Prelude.{◌≡◌, false};
 ghost use Rattle.client_notes.specs.Laws.{AckedLaw, ForgotLaw, GotLaw, RecordsLaw, StandingLaw};
 ghost use Rattle.client_notes.specs.OnDisk.{EachImage};
 ghost use Rattle.client_notes.specs.Several.{OneLaw, SeveralLaw};
-ghost use Rattle.client_notes.specs.State.{IsRead, StandsFor, StandsOn};
+ghost use Rattle.client_notes.specs.State.{IsReady, StandsFor};
 ghost use Rattle.client_notes.specs.Tasks.{TasksLaw};
 
 use crate::Notes;
@@ -21,17 +20,9 @@ pub fn standing_law()
     ensures { StandingLaw }
 {}
 
-/// What notes are: their journal was read to its end. Takes no memory.
-pub fn state_law(notes: &Notes)
-    ensures { IsRead notes.now.journal }
-{
-    notes.read_law();
-}
-
 /// What stands on a disk on which notes that haven't failed stand: in every image these notes. Takes no memory.
 pub fn images_law<D: Disk>(notes: &Notes, disk: &D)
-    requires healthy { notes.now.journal.failed ≡ false }
-    requires stands_on { StandsOn D.Disk notes.now disk.now }
+    requires { IsReady D.Disk notes.now disk.now }
     ensures { EachImage D.Disk disk.now (λ image. StandsFor image notes.now.lists) }
 {
     notes.read_law();

@@ -22,7 +22,8 @@ mod task;
 mod writing;
 
 pub use answers::{Begun, Noted};
+pub use file_journal::StoreFault;
 pub use limits::{LONGEST_FILE, LONGEST_NAME, MOST_GOT, MOST_TASKS};
 pub use notes::Notes;
 pub use progress::Progress;
-pub use refusals::{NotesRefusal, StoreFault};
+pub use refusals::NotesRefusal;

@@ -1,9 +1,7 @@
 //! The notes of a client.
 
-ghost use Rattle.std.specs.Prelude.{◌≡◌, ◌⊎◌, ℕ, ◌+◌, ◌≤◌, ◌<◌, List, length, true, IsTrue, IsErr, IsErrOf, IfOk, OnErr, OnOk};
+ghost use Rattle.std.specs.Prelude.{◌≡◌, ◌⊎◌, ◌+◌, ◌≤◌, ◌<◌, length, true, IsTrue, IsErr, IfOk};
 ghost use Rattle.disk_model.specs.Disk.{FillsRoom};
-ghost use Rattle.file_journal.specs.Calls.{Becomes, Leaves, Runs, TakesStep};
-ghost use Rattle.file_journal.specs.Journal.{after_recovery};
 ghost use Rattle.client_notes.specs.Answers.{Noting, StartsBy, answer_of, fresh_task, noted_of, start_reaches};
 ghost use Rattle.client_notes.specs.Command.{acked, forgot, got, is_allowed, numbered, refused};
 ghost use Rattle.client_notes.specs.Commands.{command_value};
@@ -11,8 +9,8 @@ ghost use Rattle.client_notes.specs.Limits.{longest_file, most_tasks};
 ghost use Rattle.client_notes.specs.Notes.{got_of, task_count};
 ghost use Rattle.client_notes.specs.OnDisk.{Answers, Does, Untouched};
 ghost use Rattle.client_notes.specs.Noting.{takes_none};
-ghost use Rattle.client_notes.specs.Records.{IsWritable, notes_magic};
-ghost use Rattle.client_notes.specs.Recovery.{IsRecovered, LeavesAlikeSinceSync, RefusesRecovery, StandsAlike};
+ghost use Rattle.client_notes.specs.Records.{IsWritable};
+ghost use Rattle.client_notes.specs.Recovery.{AnswersRecovery, IsRecovered};
 ghost use Rattle.client_notes.specs.State.{IsRead, StandsOn};
 
 use crate::changes::{Brought, Direct};
@@ -61,22 +59,8 @@ impl Notes {
     pub fn recover<D: Disk>(alloc: Global, disk: &mut D) -> Result<Notes, StoreFault>
         ensures recovered { IfOk result (IsRecovered D.Disk disk.old disk.new) }
 
-        // It changes no octet of formatted notes, and makes formatted ones of any other.
-        ensures octets { OnOk result
-            (TakesStep D.Disk disk.old disk.new (Becomes (after_recovery notes_magic 1))) }
-
-        // But for a fault of the disk and want of memory, each refusal comes exactly where the content stands for it.
-        ensures refuses { RefusesRecovery (D.content disk.old) result }
-        ensures untouched { (found : List ℕ) → IsErrOf result (StoreFault.NotAStore found)
-            → D.content disk.new ≡ D.content disk.old }
-        ensures untouched_damage { (at : ℕ) → IsErrOf result (StoreFault.Damaged at)
-            → D.content disk.new ≡ D.content disk.old }
-        ensures runs { Runs D.Disk (IsErrOf result StoreFault.Disk) disk.old disk.new }
-
-        // A crash since the start leaves what it might have left before, or what stands for the same, and a content of
-        // 18 octets or more as it is; since the end of the first sync the latter, but where that sync failed.
-        ensures since_start { Leaves D.Disk disk.old disk.new StandsAlike }
-        ensures since_sync { LeavesAlikeSinceSync D.Disk result disk.old disk.new }
+        // Each refusal has its exact cause; and what a crash at any moment leaves.
+        ensures answers { AnswersRecovery D.Disk result disk.old disk.new }
     {
         let kept = Kept::recover(alloc, disk, BLOCKS)?;
         Ok(Notes { kept })

@@ -1,9 +1,8 @@
 //! The commands that contents of records are.
 
-ghost use Rattle.std.specs.Prelude.{◌≡◌, IfSome};
-ghost use Rattle.std.specs.Option.{option_map};
-ghost use Rattle.client_notes.specs.Commands.{command_value};
-ghost use Rattle.client_notes.specs.Records.{IsWritable, acked_in, forgot_in, got_in, is_start_len as has_start_len, numbered_in, refused_in, start_in};
+ghost use Rattle.std.specs.Prelude.{◌≡◌};
+ghost use Rattle.client_notes.specs.Commands.{IsReadAs};
+ghost use Rattle.client_notes.specs.Records.{acked_in, forgot_in, got_in, is_start_len as has_start_len, numbered_in, refused_in, start_in};
 
 use crate::command::Command;
 use px_base::{le32, read_call};
@@ -17,8 +16,7 @@ fn is_start_len(content: &[u8]) -> bool
 
 /// The Start that a content is.
 pub(crate) fn read_start(content: &[u8]) -> Option<Command<'_>>
-    ensures command { option_map command_value result ≡ start_in content.now }
-    ensures writable { IfSome result (λ command. IsWritable (command_value command)) }
+    ensures { IsReadAs result (start_in content.now) }
 {
     if !is_start_len(content) {
         return None;
@@ -37,8 +35,7 @@ pub(crate) fn read_start(content: &[u8]) -> Option<Command<'_>>
 
 /// The Numbered that a content is.
 pub(crate) fn read_numbered(content: &[u8]) -> Option<Command<'_>>
-    ensures command { option_map command_value result ≡ numbered_in content.now }
-    ensures writable { IfSome result (λ command. IsWritable (command_value command)) }
+    ensures { IsReadAs result (numbered_in content.now) }
 {
     if content.len() != 8 {
         return None;
@@ -51,8 +48,7 @@ pub(crate) fn read_numbered(content: &[u8]) -> Option<Command<'_>>
 
 /// The Acked that a content is.
 pub(crate) fn read_acked(content: &[u8]) -> Option<Command<'_>>
-    ensures command { option_map command_value result ≡ acked_in content.now }
-    ensures writable { IfSome result (λ command. IsWritable (command_value command)) }
+    ensures { IsReadAs result (acked_in content.now) }
 {
     if content.len() != 4 {
         return None;
@@ -64,8 +60,7 @@ pub(crate) fn read_acked(content: &[u8]) -> Option<Command<'_>>
 
 /// The Refused that a content is.
 pub(crate) fn read_refused(content: &[u8]) -> Option<Command<'_>>
-    ensures command { option_map command_value result ≡ refused_in content.now }
-    ensures writable { IfSome result (λ command. IsWritable (command_value command)) }
+    ensures { IsReadAs result (refused_in content.now) }
 {
     if content.len() != 5 {
         return None;
@@ -78,8 +73,7 @@ pub(crate) fn read_refused(content: &[u8]) -> Option<Command<'_>>
 
 /// The Got that a content is.
 pub(crate) fn read_got(content: &[u8]) -> Option<Command<'_>>
-    ensures command { option_map command_value result ≡ got_in content.now }
-    ensures writable { IfSome result (λ command. IsWritable (command_value command)) }
+    ensures { IsReadAs result (got_in content.now) }
 {
     if content.len() <= 11 || content.len() > 523 {
         return None;
@@ -94,8 +88,7 @@ pub(crate) fn read_got(content: &[u8]) -> Option<Command<'_>>
 
 /// The Forgot that a content is.
 pub(crate) fn read_forgot(content: &[u8]) -> Option<Command<'_>>
-    ensures command { option_map command_value result ≡ forgot_in content.now }
-    ensures writable { IfSome result (λ command. IsWritable (command_value command)) }
+    ensures { IsReadAs result (forgot_in content.now) }
 {
     if content.len() != 11 {
         return None;

@@ -1,49 +1,11 @@
 //! Why a call of the notes did not do what it was asked.
 
 ghost use Rattle.std.specs.Prelude.{◌≡◌};
-ghost use Rattle.client_notes.specs.Refusals.{fault_of_store};
 ghost use Rattle.client_notes.specs.declared.refusals.NotesRefusal.TheVariants.{Disk as disk_failed, OutOfMemory as no_memory};
 
 use disk_model::DiskFault;
 use px_base::OutOfMemory;
 use thiserror::Error;
-
-/// Why a disk's content isn't read as notes.
-#[derive(Clone, Copy, Debug, PartialEq, Eq, Error)]
-pub enum StoreFault {
-    /// There are more than 16 octets, and they don't begin with the magic of notes.
-    #[error("no notes: it begins with {found:?}")]
-    NotAStore {
-        /// The first eight octets.
-        found: [u8; 8],
-    },
-    /// The block number isn't in 1..=65,536; or the record behind an open gate is cut, or is no command that the notes
-    /// before it allow.
-    #[error("the notes are damaged at octet {at}")]
-    Damaged {
-        /// 8 for the block number, else the place of the gate.
-        at: u64,
-    },
-    /// The disk failed, and its count of faults rose.
-    #[error("the disk failed")]
-    Disk,
-    /// No memory was left for the notes.
-    #[error("out of memory")]
-    OutOfMemory,
-}
-
-impl From<file_journal::StoreFault> for StoreFault {
-    ghost from_gives = { λ fault result. result ≡ fault_of_store fault };
-
-    fn from(fault: file_journal::StoreFault) -> StoreFault {
-        match fault {
-            file_journal::StoreFault::NotAStore { found } => StoreFault::NotAStore { found },
-            file_journal::StoreFault::Damaged { at } => StoreFault::Damaged { at },
-            file_journal::StoreFault::Disk => StoreFault::Disk,
-            file_journal::StoreFault::OutOfMemory => StoreFault::OutOfMemory,
-        }
-    }
-}
 
 /// Why a task was not started, or octets were not noted. But for `Disk` neither the notes nor their disk was touched.
 #[derive(Clone, Copy, Debug, PartialEq, Eq, Error)]

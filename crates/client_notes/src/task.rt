@@ -1,6 +1,6 @@
 //! A task, and the files of which octets were got.
 
-ghost use Rattle.std.specs.Prelude.{◌≡◌, ◌+◌, ◌≤◌, ◌++◌, length, take, IfOk, OnOk, OnErr};
+ghost use Rattle.std.specs.Prelude.{◌≡◌, ◌+◌, ◌≤◌, length, IfOk, OnOk, OnErr};
 ghost use Rattle.client_notes.specs.Applied.{cut_to};
 ghost use Rattle.client_notes.specs.Command.{got_file, new_task, with_octets};
 ghost use Rattle.client_notes.specs.Limits.{longest_file};

@@ -1,6 +1,6 @@
 //! The contents of the records of commands. Each call gives the kind of the record.
 
-ghost use Rattle.std.specs.Prelude.{◌≡◌, ◌+◌, ◌≤◌, ◌∷◌, ◌++◌, [], length};
+ghost use Rattle.std.specs.Prelude.{◌≡◌, ◌+◌, ◌≤◌, ◌++◌, length};
 ghost use Rattle.arrayvec.specs.ArrayVec.{array_vec_len};
 ghost use Rattle.px_base.specs.Numbers.{le32_octets};
 ghost use Rattle.px_base.specs.CallOctets.{call_octets as octets_of_call};

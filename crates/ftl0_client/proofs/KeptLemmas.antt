@@ -1,13 +1,13 @@
 -- What a client needs to hear a frame stays, while its notes do, and when a task is started.
-use Rattle.std.proofs.Common.{◌≡◌, ◌⊎◌, refl, sym, ◌∙◌, ap, subst, inl, inr}
-use Rattle.std.specs.Prelude.{ℕ, List, [], ◌∷◌, false, Option, None, Some, Result, Ok, Err, IsErr, IsErrOf, IsTrue}
+use Rattle.std.proofs.Common.{◌⊎◌, refl, sym, ◌∙◌, ap, subst, inl, inr}
+use Rattle.std.specs.Prelude.{ℕ, List, [], ◌∷◌, Option, None, Some, Result, Ok, Err, IsErr, IsErrOf, IsTrue}
 use Rattle.px_base.specs.CallSign.{CallSign}
 use Rattle.disk_model.specs.declared.disk.Disk.{Ghosts}
 use Rattle.client_notes.specs.Answers.{fresh_task, start_reaches}
 use Rattle.client_notes.specs.Command.{after, new_task}
 use Rattle.client_notes.specs.Notes.{Lists}
 use Rattle.client_notes.specs.OnDisk.{Does, Untouched}
-use Rattle.client_notes.specs.State.{NotesState, StandsOn}
+use Rattle.client_notes.specs.State.{IsReady, NotesState, StandsOn}
 use Rattle.client_notes.specs.declared.answers.Begun.{Begun}
 use Rattle.client_notes.specs.declared.refusals.NotesRefusal.{NotesRefusal}
 use Rattle.client_notes.specs.declared.refusals.NotesRefusal.TheVariants as refusal
@@ -26,8 +26,7 @@ pub may-kept : {D : Type 0} (g : Ghosts D) (old new : ClientState) (disk : D) �
 may-kept g old new disk keeps may =
     let back = sym keeps.notes in
     record {
-      healthy = ap (λ (n : NotesState). n.journal.failed) keeps.notes ∙ may.healthy;
-      stands_on = subst (λ (n : NotesState). StandsOn g n disk) back may.stands_on;
+      ready = subst (λ (n : NotesState). IsReady g n disk) back may.ready;
       notes_are = keeps.go_with new.notes.lists (subst (λ (n : NotesState). GoWithAttempt n.lists old.attempt) back may.notes_are);
     }
 
@@ -70,12 +69,13 @@ module _ {D : Type 0} (g : Ghosts D) (attempt : Option AttemptState) (old new : 
     (digest : List ℕ) where
   -- what a client's notes need between events
   abbrev Goes : NotesState → D → Type 0
-  Goes notes at = (notes.journal.failed ≡ false) × StandsOn g notes at × GoWithAttempt notes.lists attempt
+  Goes notes at = IsReady g notes at × GoWithAttempt notes.lists attempt
 
   still : Untouched old new disk disk_now → StandsOn g new disk_now → Goes old disk → Goes new disk_now
-  still same stands goes =
-      let back = sym same.same in
-      (ap (λ (n : NotesState). n.journal.failed) same.same ∙ goes.0, stands, subst (λ (n : NotesState). GoWithAttempt n.lists attempt) back goes.2)
+  still same stands goes = (
+    record { healthy = ap (λ (n : NotesState). n.journal.failed) same.same ∙ goes.0.healthy; stands_on = stands },
+    subst (λ (n : NotesState). GoWithAttempt n.lists attempt) (sym same.same) goes.1,
+  )
 
   pub started-goes : (result : Result Begun NotesRefusal) → IsTrue (start_reaches result) ⊎ Untouched old new disk disk_now
       → (IsTrue (start_reaches result) → Does g (IsErr result) old new disk disk_now (fresh_task old.lists server caller name len digest)) → StandsOn g new disk_now
@@ -84,4 +84,4 @@ module _ {D : Type 0} (g : Ghosts D) (attempt : Option AttemptState) (old new : 
   started-goes (Err why) (inl reaches) does stands fine goes = absurd (fine (only-disk why reaches))
   started-goes (Ok begun_now) (inl reaches) does stands fine goes =
       let done = (does reaches).done (λ failed. cc failed) in
-      (done.healthy, stands, subst (λ (l : Lists). GoWithAttempt l attempt) (sym done.lists) (attempt-begun old.lists server caller name len digest attempt goes.2))
+      (record { healthy = done.healthy; stands_on = stands }, subst (λ (l : Lists). GoWithAttempt l attempt) (sym done.lists) (attempt-begun old.lists server caller name len digest attempt goes.1))

@@ -6,7 +6,7 @@ use Rattle.disk_model.specs.declared.disk.Disk.{Ghosts}
 use Rattle.ax25_link.specs.Kept.{Fits, HasStations, count_of, is_pending, is_there, most_pending}
 use Rattle.ax25_link.specs.Window.{Window, window_of}
 use Rattle.client_notes.specs.Notes.{Lists}
-use Rattle.client_notes.specs.State.{NotesState, StandsOn}
+use Rattle.client_notes.specs.State.{IsReady, NotesState}
 use Rattle.ftl0_job.specs.declared.work.Work.{Work}
 use Rattle.ftl0_job.specs.declared.work.Work.TheVariants as work
 use Rattle.ftl0_job.specs.JobState.{IsTaskOf, NotesGoWith}
@@ -93,10 +93,9 @@ abbrev pub GoWithAttempt : Lists → Option AttemptState → Type 0
 GoWithAttempt lists None = ⊤
 GoWithAttempt lists (Some attempt) = NotesGoWith lists attempt.job
 
--- What a client needs to hear a frame: its notes haven't failed, stand on the disk, and go with the job of its attempt.
+-- What a client needs to hear a frame: its notes are ready, and go with the job of its attempt.
 pub record MayHear {D : Type 0} (g : Ghosts D) (self : ClientState) (disk : D) : Type 0 where
-  pub healthy : self.notes.journal.failed ≡ false
-  pub stands_on : StandsOn g self.notes disk
+  pub ready : IsReady g self.notes disk
   pub notes_are : GoWithAttempt self.notes.lists self.attempt
 
 -- Work that may be asked of this client: an upload is of a task of its server and its own call, whose digest is the

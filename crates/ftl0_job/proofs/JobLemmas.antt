@@ -6,7 +6,7 @@ use Rattle.ftl0_packets.specs.Layout.{Item, PacketValue}
 use Rattle.client_notes.specs.Laws.{after_all}
 use Rattle.client_notes.specs.Notes.{Lists}
 use Rattle.client_notes.specs.Several.{DoesSeveral}
-use Rattle.client_notes.specs.State.{NotesState, StandsOn}
+use Rattle.client_notes.specs.State.{IsReady, NotesState}
 use Rattle.ftl0_job.specs.declared.ending.Ending.{Ending}
 use Rattle.disk_model.specs.declared.halt.Halt.{Halt}
 use Rattle.disk_model.specs.declared.halt.Halt.TheVariants as stop
@@ -24,22 +24,22 @@ use Rattle.ftl0_job.proofs.StaysLemmas.{stays-item}
 
 module _ {D : Type 0} (g : Ghosts D) where
   -- a list has no commands of the notes
-  pub takes-list : (before now : Directory) (packet : PacketValue) (notes : NotesState) (disk : D) (replies : List ℕ) (ending : Option Ending) → notes.journal.failed ≡ false → StandsOn g notes disk
+  pub takes-list : (before now : Directory) (packet : PacketValue) (notes : NotesState) (disk : D) (replies : List ℕ) (ending : Option Ending) → IsReady g notes disk
       → g.lasts disk disk → Gives (directory_row before packet) now replies ending
       → TakesRow g (row_of work.Directory (directory_row before packet)) (with_notes (work.Directory before) notes disk) (with_notes (work.Directory now) notes disk) replies (Ok ending)
-  takes-list before now packet notes disk replies ending healthy stands lasts gives = record {
+  takes-list before now packet notes disk replies ending ready lasts gives = record {
     answers = (ap work.Directory gives.0, gives.1, gives.2);
-    noted = none-by g notes disk (directory_row before packet).commands (directory-silent before packet) healthy stands lasts;
+    noted = none-by g notes disk (directory_row before packet).commands (directory-silent before packet) ready lasts;
   }
 
   -- a packet after the outcome
-  pub takes-ended : (item : Item) (job : JobState) (ending : Ending) (notes : NotesState) (disk : D) (replies : List ℕ) → job.ending ≡ Some ending → replies ≡ [] → notes.journal.failed ≡ false
-      → StandsOn g notes disk → g.lasts disk disk → TakesPacket g item (with_notes job notes disk) (with_notes job notes disk) replies (Ok tt)
-  takes-ended item job ending notes disk replies is none healthy stands lasts =
+  pub takes-ended : (item : Item) (job : JobState) (ending : Ending) (notes : NotesState) (disk : D) (replies : List ℕ) → job.ending ≡ Some ending → replies ≡ [] → IsReady g notes disk
+      → g.lasts disk disk → TakesPacket g item (with_notes job notes disk) (with_notes job notes disk) replies (Ok tt)
+  takes-ended item job ending notes disk replies is none ready lasts =
       let row = job-ended notes.lists job item ending is in
       record {
         answers = subst (λ (r : Row Work). Gives r job.work replies job.ending) (sym row) (refl, none, is);
-        noted = subst (λ (r : Row Work). DoesSeveral g ⊥ notes notes disk disk r.commands) (sym row) (none-by g notes disk [] refl healthy stands lasts);
+        noted = subst (λ (r : Row Work). DoesSeveral g ⊥ notes notes disk disk r.commands) (sym row) (none-by g notes disk [] refl ready lasts);
         stops = tt;
       }
 

@@ -31,7 +31,7 @@ use Rattle.ftl0_job.specs.declared.phases.DownloadPhase.TheVariants as fetch
 use Rattle.ftl0_job.specs.declared.phases.UploadPhase.{UploadPhase}
 use Rattle.ftl0_job.specs.declared.phases.UploadPhase.TheVariants as phase
 use Rattle.ftl0_job.specs.Download as download
-use Rattle.ftl0_job.specs.Download.{Download, download_row, unnoted, whole_gots, whole_row, with_rest}
+use Rattle.ftl0_job.specs.Download.{Download, download_row, unnoted, whole_gots, with_rest}
 use Rattle.ftl0_job.specs.Due.{DuePacket, PutsDue, due_by, due_from, due_in, in_job, in_work, most_data, next_due, place_after, upload_due}
 use Rattle.ftl0_job.specs.JobState.{GoBy, HasGot, HasTask, IsCheckedIn, NotesGoWith, number_in}
 use Rattle.ftl0_job.specs.Laws.{Acknowledges, IsAckedIn, IsStarted, reached, started}
@@ -40,7 +40,7 @@ use Rattle.ftl0_job.specs.declared.work.Work.{Work}
 use Rattle.ftl0_job.specs.declared.work.Work.TheVariants as work
 use Rattle.ftl0_job.specs.Table.{JobState, job_row, new_job, row_by}
 use Rattle.ftl0_job.specs.Upload as upload
-use Rattle.ftl0_job.specs.Upload.{Upload, in_phase, is_complete, may_go, new_upload, number_commands, refusal_of, upload_row}
+use Rattle.ftl0_job.specs.Upload.{Upload, in_phase, new_upload, upload_row}
 use Rattle.ftl0_job.proofs.BlockLemmas.{gots-after}
 use Rattle.ftl0_job.proofs.CaseLemmas.{DownloadRows, UploadRows, download-rows, upload-rows}
 use Rattle.ftl0_job.proofs.StaysLemmas.{stays-item}

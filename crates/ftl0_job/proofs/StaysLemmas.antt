@@ -23,7 +23,7 @@ use Rattle.ftl0_job.specs.JobState.{GoBy, GoWith, HasGot, HasTask, IsCheckedIn, 
 use Rattle.ftl0_job.specs.Row.{Row}
 use Rattle.ftl0_job.specs.Table.{item_row, packet_row}
 use Rattle.ftl0_job.specs.Upload as upload
-use Rattle.ftl0_job.specs.Upload.{Upload, is_complete, is_new, may_go, number_commands, refusal_of, upload_row}
+use Rattle.ftl0_job.specs.Upload.{Upload, is_new, may_go, number_commands, upload_row}
 use Rattle.ftl0_job.proofs.BlockLemmas.{gots-after}
 use Rattle.ftl0_job.proofs.CaseLemmas.{DownloadRows, UploadRows, download-rows, upload-rows}
 use Rattle.ftl0_job.proofs.EndLemmas.{last-after}

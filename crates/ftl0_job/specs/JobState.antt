@@ -1,12 +1,12 @@
 -- A job that was just made, and what a job needs of the notes to take a packet.
-use Rattle.std.specs.Prelude.{◌≡◌, ℕ, ◌+◌, ◌≤◌, List, length, true, false, Option, None, Some, ⊤}
+use Rattle.std.specs.Prelude.{◌≡◌, ℕ, ◌+◌, ◌≤◌, List, length, true, Option, None, Some, ⊤}
 use Rattle.px_base.specs.CallSign.{CallSign}
 use Rattle.disk_model.specs.declared.disk.Disk.{Ghosts}
 use Rattle.pfh_items.specs.Faults.{fault_code}
 use Rattle.client_notes.specs.Limits.{longest_file}
 use Rattle.client_notes.specs.declared.progress.Progress.TheVariants as progress
 use Rattle.client_notes.specs.Notes.{Lists, Task, got_of, is_same_call, task_of}
-use Rattle.client_notes.specs.State.{NotesState, StandsOn}
+use Rattle.client_notes.specs.State.{IsReady, NotesState}
 use Rattle.ftl0_job.specs.declared.ending.Ending.{Ending}
 use Rattle.ftl0_job.specs.declared.phases.DownloadPhase.{DownloadPhase}
 use Rattle.ftl0_job.specs.declared.phases.DownloadPhase.TheVariants as fetch
@@ -53,6 +53,17 @@ pub record IsTaskOf (lists : Lists) (server caller : CallSign) (digest : List �
   pub of_caller : is_same_call entry.caller caller ≡ true
   pub of_file : entry.digest ≡ digest
 
+-- What an upload needs to take a packet: the notes are ready, and have its task.
+pub record MayUpload {D : Type 0} (g : Ghosts D) (notes : NotesState) (disk : D) (at : Upload) : Type 0 where
+  pub ready : IsReady g notes disk
+  pub task : HasTask notes.lists at
+
+-- The same of an upload that waits for UL_GO_RESP.
+pub record MayGo {D : Type 0} (g : Ghosts D) (notes : NotesState) (disk : D) (at : Upload) : Type 0 where
+  pub ready : IsReady g notes disk
+  pub task : HasTask notes.lists at
+  pub go : at.phase ≡ phase.Go
+
 -- once all octets of a file came, it has no fault
 abbrev pub IsCheckedIn : DownloadPhase → List ℕ → Type 0
 IsCheckedIn fetch.Login held = ⊤
@@ -69,11 +80,21 @@ pub record HasGot (lists : Lists) (at : Download) : Type 0 where
   pub fits : FitsBehind lists at.server at.number at.rest
   pub checked : IsCheckedIn at.phase (got_of lists at.server at.number)
 
+-- What a download needs to take a packet: the notes are ready, and have what it got.
+pub record MayDownload {D : Type 0} (g : Ghosts D) (notes : NotesState) (disk : D) (at : Download) : Type 0 where
+  pub ready : IsReady g notes disk
+  pub got : HasGot notes.lists at
+
 -- the notes go with what is done
 abbrev pub GoWith : Lists → Work → Type 0
 GoWith lists (work.Upload at) = HasTask lists at
 GoWith lists (work.Directory at) = ⊤
 GoWith lists (work.Download at) = HasGot lists at
+
+-- What any work needs to take a packet: the notes are ready, and go with it.
+pub record MayWork {D : Type 0} (g : Ghosts D) (notes : NotesState) (disk : D) (doing : Work) : Type 0 where
+  pub ready : IsReady g notes disk
+  pub go_with : GoWith notes.lists doing
 
 -- as long as there is no outcome
 abbrev pub GoBy : Option Ending → Lists → Work → Type 0
@@ -83,8 +104,7 @@ GoBy (Some ending) lists done = ⊤
 abbrev pub NotesGoWith : Lists → JobState → Type 0
 NotesGoWith lists job = GoBy job.ending lists job.work
 
--- What a job needs to take a packet: the notes haven't failed, stand on the disk, and go with the job.
+-- What a job needs to take a packet: the notes are ready, and go with the job.
 pub record MayTake {D : Type 0} (g : Ghosts D) (notes : NotesState) (disk : D) (job : JobState) : Type 0 where
-  pub healthy : notes.journal.failed ≡ false
-  pub stands_on : StandsOn g notes disk
+  pub ready : IsReady g notes disk
   pub notes_are : NotesGoWith notes.lists job

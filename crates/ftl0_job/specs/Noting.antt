@@ -1,13 +1,13 @@
 -- How the code has commands noted.
-use Rattle.std.specs.Prelude.{◌≡◌, ℕ, ◌<◌, List, [], ◌∷◌, length, take, ⊤, Result, Ok, Err}
+use Rattle.std.specs.Prelude.{◌≡◌, ℕ, ◌<◌, List, [], ◌∷◌, length, take, ⊤, IsErrOf, IsTrue, Result, Ok, Err}
 use Rattle.disk_model.specs.declared.disk.Disk.{Ghosts}
 use Rattle.file_journal.specs.declared.faults.JournalFault.{JournalFault}
 use Rattle.file_journal.specs.declared.faults.JournalFault.TheVariants as fault
-use Rattle.client_notes.specs.Command.{NotesCommand}
+use Rattle.client_notes.specs.Command.{NotesCommand, is_allowed}
 use Rattle.client_notes.specs.declared.refusals.NotesRefusal.{NotesRefusal}
 use Rattle.client_notes.specs.declared.refusals.NotesRefusal.TheVariants as refusal
 use Rattle.client_notes.specs.Several.{DoesSeveral}
-use Rattle.client_notes.specs.State.{NotesState}
+use Rattle.client_notes.specs.State.{IsReady, NotesState}
 use Rattle.disk_model.specs.declared.halt.Halt.{Halt}
 use Rattle.disk_model.specs.declared.halt.Halt.TheVariants as stop
 
@@ -24,6 +24,18 @@ HasNoted g old new disk disk_now commands (Ok done) = DoesSeveral g ⊥ old new 
 HasNoted g old new disk disk_now commands (Err stop.Disk) = DoesSeveral g ⊤ old new disk disk_now commands
 HasNoted g old new disk disk_now commands (Err stop.OutOfMemory) =
     (count : ℕ) × IsBefore count commands × DoesSeveral g ⊥ old new disk disk_now (take count commands)
+
+-- The same of commands that take no memory.
+pub record NotesAtOnce {D T : Type 0} (g : Ghosts D) (old new : NotesState) (disk disk_now : D)
+    (commands : List NotesCommand) (result : Result T Halt) : Type 0 where
+  pub noted : HasNoted g old new disk disk_now commands result
+  pub memory : ¬ IsErrOf result stop.OutOfMemory
+
+-- What a command needs to be noted: the notes are ready, and its condition holds.
+pub record MayNote {D : Type 0} (g : Ghosts D) (notes : NotesState) (disk : D) (command : NotesCommand)
+    : Type 0 where
+  pub ready : IsReady g notes disk
+  pub allowed : IsTrue (is_allowed notes.lists command)
 
 -- an answer of notes that hadn't failed, as one of a job
 abbrev pub IsAnswer : Result ⊤ JournalFault → Result ⊤ Halt → Type 0

@@ -1,5 +1,5 @@
 -- How the code's job answers a packet, and what that does to the disk.
-use Rattle.std.specs.Prelude.{◌≡◌, List, ℕ, [], Option, Result, Ok, Err, IsTrue, ⊤}
+use Rattle.std.specs.Prelude.{◌≡◌, List, ℕ, [], Option, Result, Ok, Err, IsErrOf, IsTrue, ⊤}
 use Rattle.disk_model.specs.declared.disk.Disk.{Ghosts}
 use Rattle.ftl0_packets.specs.Items.{texts}
 use Rattle.ftl0_packets.specs.Layout.{Item}
@@ -38,7 +38,13 @@ pub record TakesRow {D S : Type 0} (g : Ghosts D) (row : Row S) (before now : Wi
   pub answers : Answers row before.state now.state replies result
   pub noted : HasNoted g before.notes now.notes before.disk now.disk row.commands result
 
--- the same of what makes no commands and may find no memory
+-- The same of a row that takes no memory.
+pub record TakesAtOnce {D S : Type 0} (g : Ghosts D) (row : Row S) (before now : WithNotes S D) (replies : List ℕ)
+    (result : Result (Option Ending) Halt) : Type 0 where
+  pub takes : TakesRow g row before now replies result
+  pub memory : ¬ IsErrOf result stop.OutOfMemory
+
+-- what makes no commands and may find no memory
 abbrev pub AnswersAlone : {S : Type 0} → Row S → S → S → List ℕ → Result (Option Ending) OutOfMemory → Type 0
 AnswersAlone row before now replies (Ok ending) = Gives row now replies ending
 AnswersAlone row before now replies (Err refused) = (now ≡ before) × (replies ≡ [])

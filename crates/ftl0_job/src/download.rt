@@ -1,13 +1,13 @@
 //! The download of a file: what each packet gives to it (FTL0 1990, downloading).
 
-ghost use Rattle.std.specs.Prelude.{◌≡◌, ◌+◌, ◌<◌, ◌≤◌, ◌++◌, [], drop, false, length, take, IfOk, Ok};
+ghost use Rattle.std.specs.Prelude.{◌≡◌, ◌+◌, ◌<◌, ◌≤◌, ◌++◌, [], drop, length, take, IfOk, Ok};
 ghost use Rattle.ftl0_packets.specs.Values.{value_of};
 ghost use Rattle.pfh_items.specs.Faults.{fault_code};
 ghost use Rattle.client_notes.specs.Notes.{got_of};
-ghost use Rattle.client_notes.specs.State.{StandsOn};
+ghost use Rattle.client_notes.specs.State.{IsReady};
 ghost use Rattle.ftl0_job.specs.Download.{data_end_row, data_row, done_row, download_row, error_row, fetching_row, last_got};
 ghost use Rattle.ftl0_job.specs.Download.{login_row, new_download, unnoted, whole_gots};
-ghost use Rattle.ftl0_job.specs.JobState.{FitsBehind, HasGot};
+ghost use Rattle.ftl0_job.specs.JobState.{FitsBehind, MayDownload};
 ghost use Rattle.ftl0_job.specs.Noting.{HasNoted};
 ghost use Rattle.ftl0_job.specs.Taking.{Answers, TakesRow, with_notes};
 
@@ -76,9 +76,7 @@ impl Download {
         replies: &mut Replies,
     ) -> Result<Option<Ending>, Halt>
         requires empty { replies.old.items ≡ [] }
-        requires healthy { notes.old.journal.failed ≡ false }
-        requires stands_on { StandsOn D.Disk notes.old disk.old }
-        requires got { HasGot notes.old.lists self.old }
+        requires may { MayDownload D.Disk notes.old disk.old self.old }
         ensures { TakesRow D.Disk
             (download_row (got_of notes.old.lists self.old.server self.old.number) self.old (value_of packet.now))
             (with_notes self.old notes.old disk.old) (with_notes self.new notes.new disk.new) replies.new.items result }
@@ -125,9 +123,7 @@ impl Download {
         replies: &mut Replies,
     ) -> Result<Option<Ending>, Halt>
         requires empty { replies.old.items ≡ [] }
-        requires healthy { notes.old.journal.failed ≡ false }
-        requires stands_on { StandsOn D.Disk notes.old disk.old }
-        requires got { HasGot notes.old.lists self.old }
+        requires may { MayDownload D.Disk notes.old disk.old self.old }
         ensures { TakesRow D.Disk
             (fetching_row (got_of notes.old.lists self.old.server self.old.number) self.old (value_of packet.now))
             (with_notes self.old notes.old disk.old) (with_notes self.new notes.new disk.new) replies.new.items result }
@@ -147,8 +143,7 @@ impl Download {
         octets: &[u8],
         notes: &mut Notes,
     ) -> Result<Option<Ending>, Halt>
-        requires healthy { notes.old.journal.failed ≡ false }
-        requires stands_on { StandsOn D.Disk notes.old disk.old }
+        requires { IsReady D.Disk notes.old disk.old }
         ensures { TakesRow D.Disk
             (data_row (got_of notes.old.lists self.old.server self.old.number) self.old octets.now)
             (with_notes self.old notes.old disk.old) (with_notes self.new notes.new disk.new) [] result }
@@ -169,9 +164,7 @@ impl Download {
         replies: &mut Replies,
     ) -> Result<Option<Ending>, Halt>
         requires empty { replies.old.items ≡ [] }
-        requires healthy { notes.old.journal.failed ≡ false }
-        requires stands_on { StandsOn D.Disk notes.old disk.old }
-        requires got { HasGot notes.old.lists self.old }
+        requires may { MayDownload D.Disk notes.old disk.old self.old }
         ensures { TakesRow D.Disk
             (data_end_row (got_of notes.old.lists self.old.server self.old.number) self.old)
             (with_notes self.old notes.old disk.old) (with_notes self.new notes.new disk.new) replies.new.items result }
@@ -196,8 +189,7 @@ impl Download {
         code: u8,
         notes: &mut Notes,
     ) -> Result<Option<Ending>, Halt>
-        requires healthy { notes.old.journal.failed ≡ false }
-        requires stands_on { StandsOn D.Disk notes.old disk.old }
+        requires { IsReady D.Disk notes.old disk.old }
         ensures { TakesRow D.Disk (error_row self.now code)
             (with_notes self.now notes.old disk.old) (with_notes self.now notes.new disk.new) [] result }
     {
@@ -229,8 +221,7 @@ fn note_blocks<D: Disk>(
     rest: &Block,
     octets: &[u8],
 ) -> Result<Block, Halt>
-    requires healthy { notes.old.journal.failed ≡ false }
-    requires stands_on { StandsOn D.Disk notes.old disk.old }
+    requires ready { IsReady D.Disk notes.old disk.old }
     requires few { length rest.now.items < 512 }
     requires some { 1 ≤ number }
     requires fits { FitsBehind notes.old.lists server number (rest.now.items ++ octets.now) }
@@ -269,8 +260,7 @@ fn note_rest<D: Disk>(
     number: u32,
     rest: &Block,
 ) -> Result<(), Halt>
-    requires healthy { notes.old.journal.failed ≡ false }
-    requires stands_on { StandsOn D.Disk notes.old disk.old }
+    requires ready { IsReady D.Disk notes.old disk.old }
     requires some { 1 ≤ number }
     requires fits { FitsBehind notes.old.lists server number rest.now.items }
     ensures { HasNoted D.Disk notes.old notes.new disk.old disk.new (last_got server number rest.now.items) result }

@@ -10,7 +10,7 @@ ghost use Rattle.ftl0_job.specs.declared.work.Work.TheVariants as work;
 ghost use Rattle.ftl0_job.specs.Directory.{new_directory};
 ghost use Rattle.ftl0_job.specs.Download.{new_download};
 ghost use Rattle.ftl0_job.specs.Due.{PutsDue, next_due};
-ghost use Rattle.ftl0_job.specs.JobState.{NotesGoWith};
+ghost use Rattle.ftl0_job.specs.JobState.{MayTake, NotesGoWith};
 ghost use Rattle.ftl0_job.specs.Row.{at_once};
 ghost use Rattle.ftl0_job.specs.Table.{listing_of, new_job};
 ghost use Rattle.ftl0_job.specs.Taking.{TakesPacket, with_notes};
@@ -100,18 +100,15 @@ impl Job {
         replies: &mut Replies,
     ) -> Result<(), Halt>
         requires empty { replies.old.items ≡ [] }
-        requires healthy { notes.old.journal.failed ≡ false }
-        requires stands_on { StandsOn D.Disk notes.old disk.old }
-        requires notes_are { NotesGoWith notes.old.lists self.old }
+        requires may { MayTake D.Disk notes.old disk.old self.old }
 
         // The answer is the packet's row, and the row's commands are on the disk; or a stop.
         ensures takes { TakesPacket D.Disk (item_of packet.entry)
             (with_notes self.old notes.old disk.old) (with_notes self.new notes.new disk.new) replies.new.items result }
 
         // What the next packet needs.
-        ensures healthy { OnOk result (notes.new.journal.failed ≡ false) }
+        ensures may { OnOk result (MayTake D.Disk notes.new disk.new self.new) }
         ensures stands_on { StandsOn D.Disk notes.new disk.new }
-        ensures notes_are { OnOk result (NotesGoWith notes.new.lists self.new) }
     {
         if self.ending.is_some() {
             return Ok(());

@@ -1,9 +1,9 @@
 //! What a job notes, one command a call.
 
-ghost use Rattle.std.specs.Prelude.{◌≡◌, ◌∷◌, [], false, IsTrue, IsErrOf};
-ghost use Rattle.client_notes.specs.Command.{acked, forgot, got, is_allowed, numbered, refused};
-ghost use Rattle.client_notes.specs.State.{StandsOn};
-ghost use Rattle.ftl0_job.specs.Noting.{HasNoted, IsAnswer, IsAnswerOf, IsOfNoting};
+ghost use Rattle.std.specs.Prelude.{◌∷◌, [], IsErrOf};
+ghost use Rattle.client_notes.specs.Command.{acked, forgot, got, numbered, refused};
+ghost use Rattle.client_notes.specs.State.{IsReady};
+ghost use Rattle.ftl0_job.specs.Noting.{HasNoted, IsAnswer, IsAnswerOf, IsOfNoting, MayNote, NotesAtOnce};
 ghost use Rattle.ftl0_job.specs.Upload.{refusal_of};
 
 use client_notes::{Notes, NotesRefusal};
@@ -21,22 +21,16 @@ pub(crate) fn note_number<D: Disk>(
     task: u32,
     number: u32,
 ) -> Result<(), Halt>
-    requires healthy { notes.old.journal.failed ≡ false }
-    requires stands_on { StandsOn D.Disk notes.old disk.old }
-    requires allowed { IsTrue (is_allowed notes.old.lists (numbered task number)) }
-    ensures noted { HasNoted D.Disk notes.old notes.new disk.old disk.new (numbered task number ∷ []) result }
-    ensures memory { ¬ IsErrOf result Halt.OutOfMemory }
+    requires { MayNote D.Disk notes.old disk.old (numbered task number) }
+    ensures { NotesAtOnce D.Disk notes.old notes.new disk.old disk.new (numbered task number ∷ []) result }
 {
     answer_of(notes.numbered(disk, task, number))
 }
 
 /// Notes that a task's file was acknowledged. Takes no memory.
 pub(crate) fn note_acked<D: Disk>(disk: &mut D, notes: &mut Notes, task: u32) -> Result<(), Halt>
-    requires healthy { notes.old.journal.failed ≡ false }
-    requires stands_on { StandsOn D.Disk notes.old disk.old }
-    requires allowed { IsTrue (is_allowed notes.old.lists (acked task)) }
-    ensures noted { HasNoted D.Disk notes.old notes.new disk.old disk.new (acked task ∷ []) result }
-    ensures memory { ¬ IsErrOf result Halt.OutOfMemory }
+    requires { MayNote D.Disk notes.old disk.old (acked task) }
+    ensures { NotesAtOnce D.Disk notes.old notes.new disk.old disk.new (acked task ∷ []) result }
 {
     answer_of(notes.acked(disk, task))
 }
@@ -48,11 +42,8 @@ pub(crate) fn note_refused<D: Disk>(
     task: u32,
     code: u8,
 ) -> Result<(), Halt>
-    requires healthy { notes.old.journal.failed ≡ false }
-    requires stands_on { StandsOn D.Disk notes.old disk.old }
-    requires allowed { IsTrue (is_allowed notes.old.lists (refused task code)) }
-    ensures noted { HasNoted D.Disk notes.old notes.new disk.old disk.new (refusal_of task code) result }
-    ensures memory { ¬ IsErrOf result Halt.OutOfMemory }
+    requires { MayNote D.Disk notes.old disk.old (refused task code) }
+    ensures { NotesAtOnce D.Disk notes.old notes.new disk.old disk.new (refusal_of task code) result }
 {
     if code == FILE_SYSTEM {
         return Ok(());
@@ -67,8 +58,7 @@ pub(crate) fn note_forgot<D: Disk>(
     server: Call,
     number: u32,
 ) -> Result<(), Halt>
-    requires healthy { notes.old.journal.failed ≡ false }
-    requires stands_on { StandsOn D.Disk notes.old disk.old }
+    requires { IsReady D.Disk notes.old disk.old }
     ensures { HasNoted D.Disk notes.old notes.new disk.old disk.new (forgot server number ∷ []) result }
 {
     answer_of(notes.forgot(disk, server, number))
@@ -82,9 +72,7 @@ pub(crate) fn note_got<D: Disk>(
     number: u32,
     octets: &[u8],
 ) -> Result<(), Halt>
-    requires healthy { notes.old.journal.failed ≡ false }
-    requires stands_on { StandsOn D.Disk notes.old disk.old }
-    requires allowed { IsTrue (is_allowed notes.old.lists (got server number octets.now)) }
+    requires { MayNote D.Disk notes.old disk.old (got server number octets.now) }
     ensures { HasNoted D.Disk notes.old notes.new disk.old disk.new (got server number octets.now ∷ []) result }
 {
     answer_of_noting(notes.got(disk, server, number, octets))

@@ -1,14 +1,13 @@
 //! The upload of a file: what each packet gives to it, and what it sends (FTL0 1990, uploading).
 
-ghost use Rattle.std.specs.Prelude.{◌≡◌, ◌≤◌, [], drop, false, length, take, true, IsErrOf, Ok};
+ghost use Rattle.std.specs.Prelude.{◌≡◌, ◌≤◌, [], drop, length, take, true, Ok};
 ghost use Rattle.ftl0_packets.specs.Values.{value_of};
-ghost use Rattle.client_notes.specs.State.{StandsOn};
 ghost use Rattle.client_notes.specs.Limits.{longest_file};
 ghost use Rattle.ftl0_job.specs.Due.{PutsDue, most_data, upload_due};
-ghost use Rattle.ftl0_job.specs.JobState.{HasTask};
-ghost use Rattle.ftl0_job.specs.Noting.{HasNoted};
+ghost use Rattle.ftl0_job.specs.JobState.{MayGo, MayUpload};
+ghost use Rattle.ftl0_job.specs.Noting.{NotesAtOnce};
 ghost use Rattle.ftl0_job.specs.Row.{at_once as ending_at_once};
-ghost use Rattle.ftl0_job.specs.Taking.{Answers, TakesRow, with_notes};
+ghost use Rattle.ftl0_job.specs.Taking.{Answers, TakesAtOnce, with_notes};
 ghost use Rattle.ftl0_job.specs.Upload.{ack_row, error_row, go_resp_row, go_row, login_row};
 ghost use Rattle.ftl0_job.specs.Upload.{is_new as is_new_upload, may_go as may_be_sent, new_upload, number_commands, sending_row, upload_row};
 
@@ -76,12 +75,9 @@ impl Upload {
         replies: &mut Replies,
     ) -> Result<Option<Ending>, Halt>
         requires empty { replies.old.items ≡ [] }
-        requires healthy { notes.old.journal.failed ≡ false }
-        requires stands_on { StandsOn D.Disk notes.old disk.old }
-        requires task { HasTask notes.old.lists self.old }
-        ensures takes { TakesRow D.Disk (upload_row self.old (value_of packet.now))
+        requires may { MayUpload D.Disk notes.old disk.old self.old }
+        ensures { TakesAtOnce D.Disk (upload_row self.old (value_of packet.now))
             (with_notes self.old notes.old disk.old) (with_notes self.new notes.new disk.new) replies.new.items result }
-        ensures memory { ¬ IsErrOf result Halt.OutOfMemory }
     {
         match self.phase {
             UploadPhase::Login => Ok(self.take_login(packet, replies)),
@@ -116,13 +112,9 @@ impl Upload {
         packet: &Packet<'_>,
         notes: &mut Notes,
     ) -> Result<Option<Ending>, Halt>
-        requires healthy { notes.old.journal.failed ≡ false }
-        requires stands_on { StandsOn D.Disk notes.old disk.old }
-        requires task { HasTask notes.old.lists self.old }
-        requires go { self.old.phase ≡ UploadPhase.Go }
-        ensures takes { TakesRow D.Disk (go_row self.old (value_of packet.now))
+        requires { MayGo D.Disk notes.old disk.old self.old }
+        ensures { TakesAtOnce D.Disk (go_row self.old (value_of packet.now))
             (with_notes self.old notes.old disk.old) (with_notes self.new notes.new disk.new) [] result }
-        ensures memory { ¬ IsErrOf result Halt.OutOfMemory }
     {
         match *packet {
             Packet::UlGoResp { number, offset } => self.send_from(disk, notes, number, offset),
@@ -139,13 +131,9 @@ impl Upload {
         number: u32,
         offset: u32,
     ) -> Result<Option<Ending>, Halt>
-        requires healthy { notes.old.journal.failed ≡ false }
-        requires stands_on { StandsOn D.Disk notes.old disk.old }
-        requires task { HasTask notes.old.lists self.old }
-        requires go { self.old.phase ≡ UploadPhase.Go }
-        ensures takes { TakesRow D.Disk (go_resp_row self.old number offset)
+        requires { MayGo D.Disk notes.old disk.old self.old }
+        ensures { TakesAtOnce D.Disk (go_resp_row self.old number offset)
             (with_notes self.old notes.old disk.old) (with_notes self.new notes.new disk.new) [] result }
-        ensures memory { ¬ IsErrOf result Halt.OutOfMemory }
     {
         if !self.may_go(number, offset) {
             return Ok(Some(strange(UL_GO_RESP)));
@@ -178,13 +166,9 @@ impl Upload {
 
     /// Notes the number of a new file.
     fn note_number<D: Disk>(&self, disk: &mut D, notes: &mut Notes, number: u32) -> Result<(), Halt>
-        requires healthy { notes.old.journal.failed ≡ false }
-        requires stands_on { StandsOn D.Disk notes.old disk.old }
-        requires task { HasTask notes.old.lists self.now }
-        requires go { self.now.phase ≡ UploadPhase.Go }
+        requires go { MayGo D.Disk notes.old disk.old self.now }
         requires some { is_new_upload self.now ≡ true → 1 ≤ number }
-        ensures noted { HasNoted D.Disk notes.old notes.new disk.old disk.new (number_commands self.now number) result }
-        ensures memory { ¬ IsErrOf result Halt.OutOfMemory }
+        ensures { NotesAtOnce D.Disk notes.old notes.new disk.old disk.new (number_commands self.now number) result }
     {
         if self.is_new() {
             note_number(disk, notes, self.task, number)?;
@@ -199,13 +183,9 @@ impl Upload {
         notes: &mut Notes,
         code: u8,
     ) -> Result<Option<Ending>, Halt>
-        requires healthy { notes.old.journal.failed ≡ false }
-        requires stands_on { StandsOn D.Disk notes.old disk.old }
-        requires task { HasTask notes.old.lists self.now }
-        requires go { self.now.phase ≡ UploadPhase.Go }
-        ensures takes { TakesRow D.Disk (error_row self.now code)
+        requires { MayGo D.Disk notes.old disk.old self.now }
+        ensures { TakesAtOnce D.Disk (error_row self.now code)
             (with_notes self.now notes.old disk.old) (with_notes self.now notes.new disk.new) [] result }
-        ensures memory { ¬ IsErrOf result Halt.OutOfMemory }
     {
         if !self.is_new() && code == FILE_COMPLETE {
             note_acked(disk, notes, self.task)?;
@@ -224,12 +204,9 @@ impl Upload {
         replies: &mut Replies,
     ) -> Result<Option<Ending>, Halt>
         requires empty { replies.old.items ≡ [] }
-        requires healthy { notes.old.journal.failed ≡ false }
-        requires stands_on { StandsOn D.Disk notes.old disk.old }
-        requires task { HasTask notes.old.lists self.now }
-        ensures takes { TakesRow D.Disk (sending_row self.now (value_of packet.now))
+        requires may { MayUpload D.Disk notes.old disk.old self.now }
+        ensures { TakesAtOnce D.Disk (sending_row self.now (value_of packet.now))
             (with_notes self.now notes.old disk.old) (with_notes self.now notes.new disk.new) replies.new.items result }
-        ensures memory { ¬ IsErrOf result Halt.OutOfMemory }
     {
         let Packet::UlNakResp(code) = *packet else {
             return Ok(Some(strange(packet.kind())));
@@ -247,14 +224,11 @@ impl Upload {
         notes: &mut Notes,
         number: u32,
     ) -> Result<Option<Ending>, Halt>
-        requires healthy { notes.old.journal.failed ≡ false }
-        requires stands_on { StandsOn D.Disk notes.old disk.old }
-        requires task { HasTask notes.old.lists self.now }
+        requires may { MayUpload D.Disk notes.old disk.old self.now }
         requires ack { self.now.phase ≡ UploadPhase.Ack number }
         requires some { 1 ≤ number }
-        ensures takes { TakesRow D.Disk (ack_row self.now number (value_of packet.now))
+        ensures { TakesAtOnce D.Disk (ack_row self.now number (value_of packet.now))
             (with_notes self.now notes.old disk.old) (with_notes self.now notes.new disk.new) [] result }
-        ensures memory { ¬ IsErrOf result Halt.OutOfMemory }
     {
         match *packet {
             Packet::UlAckResp => {

@@ -1,10 +1,9 @@
 //! What a job does.
 
-ghost use Rattle.std.specs.Prelude.{◌≡◌, [], false};
+ghost use Rattle.std.specs.Prelude.{◌≡◌, []};
 ghost use Rattle.ftl0_packets.specs.Values.{item_of, value_of};
-ghost use Rattle.client_notes.specs.State.{StandsOn};
 ghost use Rattle.ftl0_job.specs.Due.{PutsDue, work_due};
-ghost use Rattle.ftl0_job.specs.JobState.{GoWith};
+ghost use Rattle.ftl0_job.specs.JobState.{MayWork};
 ghost use Rattle.ftl0_job.specs.Table.{item_row, listing_of, packet_row};
 ghost use Rattle.ftl0_job.specs.Taking.{StopsAt, TakesRow, with_notes};
 
@@ -39,9 +38,7 @@ impl Work {
         replies: &mut Replies,
     ) -> Result<Option<Ending>, Halt>
         requires empty { replies.old.items ≡ [] }
-        requires healthy { notes.old.journal.failed ≡ false }
-        requires stands_on { StandsOn D.Disk notes.old disk.old }
-        requires notes_are { GoWith notes.old.lists self.old }
+        requires may { MayWork D.Disk notes.old disk.old self.old }
         ensures takes { TakesRow D.Disk (item_row notes.old.lists self.old (item_of packet.entry))
             (with_notes self.old notes.old disk.old) (with_notes self.new notes.new disk.new) replies.new.items result }
         ensures stops { StopsAt self.old result }
@@ -61,9 +58,7 @@ impl Work {
         replies: &mut Replies,
     ) -> Result<Option<Ending>, Halt>
         requires empty { replies.old.items ≡ [] }
-        requires healthy { notes.old.journal.failed ≡ false }
-        requires stands_on { StandsOn D.Disk notes.old disk.old }
-        requires notes_are { GoWith notes.old.lists self.old }
+        requires may { MayWork D.Disk notes.old disk.old self.old }
         ensures takes { TakesRow D.Disk (packet_row notes.old.lists self.old (value_of packet.now))
             (with_notes self.old notes.old disk.old) (with_notes self.new notes.new disk.new) replies.new.items result }
         ensures stops { StopsAt self.old result }

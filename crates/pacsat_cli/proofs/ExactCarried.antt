@@ -1,17 +1,14 @@
 -- The status of `fetch` and of `list`, exactly.
 use Rattle.std.proofs.Common.{◌≡◌, ℕ, List, [], refl, ap, sym, subst, ◌∙◌, inl, inr}
 use Rattle.std.proofs.lemmas.Result.{err_from_is_err_and}
-use Rattle.std.specs.Prelude.{◌⊎◌, Contains, Option, IfOk, Result, Ok, Err, IsErrAnd, ⊤}
+use Rattle.std.specs.Prelude.{Contains, Option, IfOk, Result, Ok, Err, IsErrAnd, ⊤}
 use Rattle.px_base.specs.Shelves.{Holding}
 use Rattle.px_base.specs.declared.out.Out.{Ghosts as OutGhosts}
 use Rattle.px_base.specs.declared.shelf.Shelf.{Ghosts as ShelfGhosts}
 use Rattle.disk_model.specs.declared.disk.Disk.{Ghosts}
-use Rattle.file_store.specs.Walk.{Stands, state}
-use Rattle.file_store.proofs.Offered.{at_told}
 use Rattle.node.specs.Laws.{OneRunLaw}
 use Rattle.node.specs.Lent.{Lent, Seen}
 use Rattle.uploader.specs.Notes.{Lists}
-use Rattle.uploader.specs.State.{standing_of}
 use Rattle.uploader.specs.StoreFault.{StoreFault}
 use Rattle.uploader.specs.StoreFault.TheVariants as fault
 use Rattle.ftl0_client.specs.Table.{JobState}
@@ -21,13 +18,13 @@ use Rattle.ftl0_client.specs.declared.outcome.Outcome.{Outcome}
 use Rattle.ftl0_client.specs.declared.outcome.Outcome.TheVariants as outcome
 use Rattle.uploader.specs.declared.stop.SendStop.{SendStop}
 use Rattle.uploader.specs.declared.terms.ClientTerms.{ClientTerms}
-use Rattle.uploader.specs.Carried.{Carries, IsUnrecovered, asked_of}
+use Rattle.uploader.specs.Carried.{Carries, IsUnrecovered, RecoversTo, asked_of}
 use Rattle.uploader.specs.Fetching.{KeepsBy, file_asked}
 use Rattle.uploader.specs.Led.{ComesBy, IsLedTo}
 use Rattle.uploader.specs.Listing.{ShowsBy, files_asked}
-use Rattle.uploader.specs.NotesThrough.{IsOfStanding, Recovers}
 use Rattle.uploader.specs.Stops.{stop_of_fault}
 use Rattle.uploader.proofs.LedLemmas.{led-law}
+use Rattle.uploader.proofs.StartLemmas.{told_recovered, told_refused}
 use Rattle.pacsat_cli.specs.declared.status.Status.{Status}
 use Rattle.pacsat_cli.specs.declared.status.Status.TheVariants as status
 use Rattle.pacsat_cli.specs.Clients.{FetchRan, ListRan, RunsFetch, RunsList, client_terms, outside}
@@ -39,17 +36,8 @@ use Rattle.pacsat_cli.proofs.ExactJob.{EndsAs, at-disk, at-memory, at-out, at-sh
 
 -- ---- notes that are told are recovered, but for a fault of the disk and want of memory
 
-pub recovered-start : {D : Type 0} (g : Ghosts D) (disk recovered : D) (first start : Lists) → Recovers g disk recovered first → NotesTold g disk start → first ≡ start
-recovered-start g disk recovered first start recovers notes =
-    let stood : standing_of notes.content ≡ state first = at_told (λ (octets : List ℕ). standing_of octets ≡ state first) notes.content notes.told recovers.stood in
-    let both : state first ≡ state start = sym stood ∙ notes.stands in
-    cc
-
-standing-never : (standing : Stands Lists) (start : Lists) (why : StoreFault) → standing ≡ state start → IsOfStanding standing why → (why ≡ fault.Disk) ⊎ (why ≡ fault.OutOfMemory)
-standing-never standing start fault.Disk is h = inl refl
-standing-never standing start fault.OutOfMemory is h = inr refl
-standing-never standing start (fault.NotAStore found) is h = absurd (let both = sym is ∙ h in cc)
-standing-never standing start (fault.Damaged at) is h = absurd (let both = sym is ∙ h in cc)
+pub recovered-start : {D : Type 0} (g : Ghosts D) (disk recovered : D) (first start : Lists) → RecoversTo g disk recovered first → NotesTold g disk start → first ≡ start
+recovered-start g disk recovered first start recovers notes = told_recovered g disk recovered start notes.content notes.told notes.stands first recovers
 
 pub unrecovered-never : {A C D T X : Type 0} (g : Ghosts D) (old new : Lent D A C) (start : Lists) (ended : Result T SendStop) (s : Status) → StatusBy ended s → IsNoFault s → NotesTold g old.disk start
     → IsErrAnd ended (IsUnrecovered g old new) → X
@@ -57,9 +45,8 @@ unrecovered-never g old new start ended s is fine notes h =
     let e = err_from_is_err_and ended h in
     let why : SendStop = e.0 in
     let u : IsUnrecovered g old new why = e.2 in
-    let cause : IsOfStanding (standing_of notes.content) u.fault = at_told (λ (octets : List ℕ). IsOfStanding (standing_of octets) u.fault) notes.content notes.told u.leaves.cause in
     let status_is : s ≡ status_of_stop (stop_of_fault u.fault) = is.stopped why e.1 ∙ ap status_of_stop u.why_is in
-    elim (standing-never (standing_of notes.content) start u.fault notes.stands cause) [
+    elim (told_refused g old.disk new.disk start notes.content notes.told notes.stands u.fault u.answers) [
       | inl disk ↦ no-fault s status.Disk fine (status_is ∙ ap (λ (f : StoreFault). status_of_stop (stop_of_fault f)) disk) at-disk
       | inr memory ↦ no-fault s status.OutOfMemory fine (status_is ∙ ap (λ (f : StoreFault). status_of_stop (stop_of_fault f)) memory) at-memory
     ]

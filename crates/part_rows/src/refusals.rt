@@ -4,7 +4,7 @@
 use anyhow::{Context, Result, bail, ensure};
 use client_notes::NotesRefusal;
 use disk_model::DiskFault;
-use file_journal::{JournalFault, ReadFault, RecoverFault};
+use file_journal::{JournalFault, ReadFault, RecoverFault, StoreFault};
 use file_store::{BeginRefusal, ResumeRefusal};
 use row_words::Player;
 use std::alloc::Global;
@@ -23,10 +23,11 @@ impl Player for RefusalRows {
             "file_journal::RecoverFault" => text_of(alloc, &recover_fault(alloc, name, value)?),
             "file_journal::ReadFault" => text_of(alloc, &read_fault(name, value)?),
             "file_journal::JournalFault" => text_of(alloc, &journal_fault(name)?),
-            "file_store::StoreFault" => text_of(alloc, &store_fault(alloc, name, value)?),
+            "file_journal::StoreFault" | "file_store::StoreFault" => {
+                text_of(alloc, &store_fault(alloc, name, value)?)
+            }
             "file_store::BeginRefusal" => text_of(alloc, &begin_refusal(name, value)?),
             "file_store::ResumeRefusal" => text_of(alloc, &resume_refusal(name)?),
-            "client_notes::StoreFault" => text_of(alloc, &notes_fault(alloc, name, value)?),
             "client_notes::NotesRefusal" => text_of(alloc, &notes_refusal(name, value)?),
             _ => bail!("no type of a refusal"),
         }
@@ -83,16 +84,16 @@ fn journal_fault(name: &str) -> Result<JournalFault> {
 }
 
 /// `NotAStore OCTETS`, `Damaged AT`, `Disk`, `OutOfMemory`
-fn store_fault(alloc: Global, name: &str, value: &str) -> Result<file_store::StoreFault> {
+fn store_fault(alloc: Global, name: &str, value: &str) -> Result<StoreFault> {
     Ok(match name {
-        "NotAStore" => file_store::StoreFault::NotAStore {
+        "NotAStore" => StoreFault::NotAStore {
             found: eight(alloc, value)?,
         },
-        "Damaged" => file_store::StoreFault::Damaged {
+        "Damaged" => StoreFault::Damaged {
             at: value.parse::<u64>()?,
         },
-        "Disk" => file_store::StoreFault::Disk,
-        "OutOfMemory" => file_store::StoreFault::OutOfMemory,
+        "Disk" => StoreFault::Disk,
+        "OutOfMemory" => StoreFault::OutOfMemory,
         _ => bail!("no refusal"),
     })
 }
@@ -124,21 +125,6 @@ fn resume_refusal(name: &str) -> Result<ResumeRefusal> {
         "Bad" => ResumeRefusal::Bad,
         "Complete" => ResumeRefusal::Complete,
         "Failed" => ResumeRefusal::Failed,
-        _ => bail!("no refusal"),
-    })
-}
-
-/// `NotAStore OCTETS`, `Damaged AT`, `Disk`, `OutOfMemory`
-fn notes_fault(alloc: Global, name: &str, value: &str) -> Result<client_notes::StoreFault> {
-    Ok(match name {
-        "NotAStore" => client_notes::StoreFault::NotAStore {
-            found: eight(alloc, value)?,
-        },
-        "Damaged" => client_notes::StoreFault::Damaged {
-            at: value.parse::<u64>()?,
-        },
-        "Disk" => client_notes::StoreFault::Disk,
-        "OutOfMemory" => client_notes::StoreFault::OutOfMemory,
         _ => bail!("no refusal"),
     })
 }

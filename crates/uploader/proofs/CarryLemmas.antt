@@ -1,16 +1,14 @@
 -- A job is carried out by a client whose notes were recovered.
 use Rattle.std.proofs.Common.{◌≡◌, ℕ, Bool, true, false, List, [], ◌++◌, refl, sym, ◌∙◌, ap, subst, append-nil, Option, None, Some, IfSome, ◌≢◌, Result, Ok, Err, IfErr, IsErrOf}
 use Rattle.file_journal.specs.Position.{Position}
-use Rattle.file_journal.specs.Through.{StandsThrough}
 use Rattle.client_notes.specs.Calls.{Runs}
 use Rattle.client_notes.specs.Walk.{state}
-use Rattle.client_notes.proofs.Offered.{counts_writes, images-here, Several-none, Several-then, told_weaker, command_runs, none_moves, runs_same, stands_through}
+use Rattle.client_notes.proofs.Offered.{GoesThrough, goes_through, images-here, recovered-ready, runs_same, Several-none, Several-then, told_weaker}
 use Rattle.client_notes.specs.Command.{NotesCommand}
 use Rattle.client_notes.specs.Laws.{after_all}
 use Rattle.client_notes.specs.Notes.{Lists}
 use Rattle.client_notes.specs.OnDisk.{EachImage}
-use Rattle.client_notes.specs.Records.{notes_form}
-use Rattle.client_notes.specs.Several.{DoesSeveral}
+use Rattle.client_notes.specs.Several.{CutsOff, DoesSeveral}
 use Rattle.client_notes.specs.State.{StandsFor, standing_of}
 use Rattle.node.specs.Lent.{Lent, Seen}
 use Rattle.node.specs.Turns as turns
@@ -25,7 +23,6 @@ use Rattle.ftl0_client.specs.ClientState.{ClientState, listing_in}
 use Rattle.ftl0_client.specs.Going.{Promises}
 use Rattle.ftl0_client.specs.declared.outcome.Outcome.{Outcome}
 use Rattle.ftl0_client.specs.declared.outcome.Outcome.TheVariants as outcome
-use Rattle.client_notes.specs.Through.{CutsOff}
 use Rattle.uploader.specs.Turns.Carried.{CarriesOut, CountsWhere, EndsOver, Run, asked_first, before_last}
 use Rattle.uploader.specs.declared.stop.SendStop.{SendStop}
 use Rattle.uploader.specs.declared.stop.SendStop.TheVariants as stop
@@ -33,7 +30,7 @@ use Rattle.uploader.specs.declared.terms.ClientTerms.{ClientTerms}
 use Rattle.uploader.specs.Carried.{Carries, asked_of, client_from}
 use Rattle.uploader.specs.Causes.{HasAirCause, HasCauses, is_before_outcome}
 use Rattle.uploader.specs.OnDisk.{RefusesNotes}
-use Rattle.uploader.specs.Ready.{IsReady}
+use Rattle.uploader.specs.Ready.{RecoversClient}
 use Rattle.uploader.specs.Stops.{answer_of, stop_of_node, stop_of_turns}
 
 -- ---- the stops of a command
@@ -79,22 +76,18 @@ of_turns P down read write disk spent memory (Err node.AirWrite) polls heard end
 of_turns P down read write disk spent memory (Err node.Disk) polls heard ends = disk
 of_turns P down read write disk spent memory (Err node.Spent) polls heard ends = spent
 of_turns P down read write disk spent memory (Err node.OutOfMemory) polls heard ends = memory
-of_turns P down read write disk spent memory (Err (node.NotAStore found)) polls heard ends = absurd ends
-of_turns P down read write disk spent memory (Err (node.Damaged at)) polls heard ends = absurd ends
+of_turns P down read write disk spent memory (Err why) polls heard ends = absurd ends
 
 -- what holds of each stop that an outcome is, and of the one that these turns are
 module _ (P : SendStop → Type 0) (refused : (code : ℕ) → P (stop.Refused code)) (bad : (code : ℕ) → P (stop.BadFile code)) (down : P stop.LinkDown) (strange : (kind : ℕ) → P (stop.Strange kind))
     (ended : Result Finished NodeStop) (turned : P (stop_of_turns ended)) where
   pub of_answer : (reached : Outcome) (s : SendStop) → answer_of ended reached ≡ Err s → P s
-  of_answer outcome.Idle s is = absurd (cc is)
   of_answer outcome.Working s is = subst P (error-is Outcome (stop_of_turns ended) s is) turned
-  of_answer (outcome.Acked number) s is = absurd (cc is)
   of_answer (outcome.Refused code) s is = subst P (error-is Outcome (stop.Refused code) s is) (refused code)
   of_answer (outcome.BadFile code) s is = subst P (error-is Outcome (stop.BadFile code) s is) (bad code)
-  of_answer (outcome.Fetched number) s is = absurd (cc is)
-  of_answer outcome.Listed s is = absurd (cc is)
   of_answer (outcome.LinkDown why) s is = subst P (error-is Outcome stop.LinkDown s is) down
   of_answer (outcome.Strange kind) s is = subst P (error-is Outcome (stop.Strange kind) s is) (strange kind)
+  of_answer reached s is = absurd (cc is)
 
 -- whether a job's carrying out may stop so
 abbrev pub is_carried : SendStop → Bool
@@ -123,12 +116,7 @@ node_of why = None
 node-of : (why : NodeStop) → node_of (stop_of_node why) ≡ Some why
 unfolding node_of
 node-of node.AirRead = refl
-node-of node.AirWrite = refl
-node-of node.Disk = refl
-node-of node.Spent = refl
-node-of node.OutOfMemory = refl
-node-of (node.NotAStore found) = refl
-node-of (node.Damaged at) = refl
+node-of why = refl
 
 -- it stops by the node exactly where the turns ended by that
 pub turned : (ended : Result Finished NodeStop) (reached : Outcome) (why : NodeStop) → answer_of ended reached ≡ Err (stop_of_node why) → ended ≡ Err why
@@ -151,11 +139,7 @@ module _ (reads reads_n writes writes_n : ℕ) where
   same-turns (Ok finished) h k before = absurd (cc before)
   same-turns (Err node.AirRead) h k before = absurd (cc before)
   same-turns (Err node.AirWrite) h k before = absurd (cc before)
-  same-turns (Err node.Disk) h k before = (h.same (λ e. cc e), k.same (λ e. cc e))
-  same-turns (Err node.Spent) h k before = (h.same (λ e. cc e), k.same (λ e. cc e))
-  same-turns (Err node.OutOfMemory) h k before = (h.same (λ e. cc e), k.same (λ e. cc e))
-  same-turns (Err (node.NotAStore found)) h k before = (h.same (λ e. cc e), k.same (λ e. cc e))
-  same-turns (Err (node.Damaged at)) h k before = (h.same (λ e. cc e), k.same (λ e. cc e))
+  same-turns (Err why) h k before = (h.same (λ e. cc e), k.same (λ e. cc e))
 
   if-err : (result : Result Outcome SendStop) (P : SendStop → Type 0) → ((why : SendStop) → result ≡ Err why → P why) → IfErr result P
   if-err (Ok value) P h = tt
@@ -227,8 +211,7 @@ cut-none (Err node.Spent) least client events reached text done cut fine h = h.4
 cut-none (Err node.AirWrite) least client events reached text done cut fine h = h.stops.stops.5
 cut-none (Err node.Disk) least client events reached text done cut fine h = absurd (fine refl)
 cut-none (Err node.OutOfMemory) least client events reached text done cut fine h = h.stops.stops.4
-cut-none (Err (node.NotAStore found)) least client events reached text done cut fine h = absurd h
-cut-none (Err (node.Damaged at)) least client events reached text done cut fine h = absurd h
+cut-none (Err why) least client events reached text done cut fine h = absurd h
 
 -- A client whose notes were recovered did these first commands, was asked for this job, and carried it out.
 pub record HasCarried {A C D : Type 0} (see : Seen D A C) (old new : Lent D A C) (terms : ClientTerms) (first : List NotesCommand) (job : JobState) (result : Result Outcome SendStop) : Type 0 where
@@ -237,13 +220,13 @@ pub record HasCarried {A C D : Type 0} (see : Seen D A C) (old new : Lent D A C)
   pub made : ClientState
   pub asked : ClientState
   pub end : ClientState
-  pub ready : IsReady see.disk terms old.disk mid made
+  pub ready : RecoversClient see.disk terms old.disk mid made
   pub starts : DoesSeveral see.disk ⊥ made.notes asked.notes mid between first
   pub out : CarriesOut see (turns.lent asked between old.air old.clock) (turns.lent end new.disk new.air new.clock) job terms.polls (client_from terms (after_all made.notes.lists first)) result
 
 -- no command came first
 abbrev pub just-asked : {A C D : Type 0} (see : Seen D A C) → ((disk : D) → see.disk.lasts disk disk) → (old new : Lent D A C) (mid : D) (terms : ClientTerms) (made end : ClientState) (made_job job : JobState)
-    (result : Result Outcome SendStop) → made_job ≡ job → IsReady see.disk terms old.disk mid made
+    (result : Result Outcome SendStop) → made_job ≡ job → RecoversClient see.disk terms old.disk mid made
     → CarriesOut see (turns.lent made mid old.air old.clock) (turns.lent end new.disk new.air new.clock) made_job terms.polls (client_from terms made.notes.lists) result → HasCarried see old new terms [] job result
 just-asked see lasts old new mid terms made end made_job job result is ready out = record {
   mid = mid;
@@ -252,7 +235,7 @@ just-asked see lasts old new mid terms made end made_job job result is ready out
   asked = made;
   end = end;
   ready = ready;
-  starts = Several-none see.disk ⊥ made.notes mid (λ never. never) ready.stands_on ready.healthy (lasts mid);
+  starts = Several-none see.disk ⊥ made.notes mid (λ never. never) (recovered-ready see.disk old.disk mid made.notes ready.recovers.recovered) (lasts mid);
   out = subst (λ (j : JobState). CarriesOut see (turns.lent made mid old.air old.clock) (turns.lent end new.disk new.air new.clock) j terms.polls (client_from terms made.notes.lists) result) is out;
 }
 
@@ -278,9 +261,8 @@ module _ {A C D : Type 0} (see : Seen D A C) (on : (first second third : D) → 
   pub all : DoesSeveral see.disk Failed h.made.notes h.end.notes h.mid new.disk ((first ++ run.done) ++ run.cut)
   all = Several-then see.disk on ⊥ Failed h.made.notes cuts.notes_then h.end.notes h.mid cuts.disk_then new.disk (first ++ run.done) run.cut (λ never. never) cuts.first cuts.second
 
-  pub stands : (through : StandsThrough see.disk notes_form Failed start (first ++ run.done) run.cut old.disk new.disk) × (through.ready ≡ see.disk.moment h.mid)
-  stands =
-      stands_through see.disk on Failed old.disk h.mid new.disk h.made.notes h.end.notes (first ++ run.done) run.cut h.ready.runs.told h.ready.recovers.stood h.ready.since_start h.ready.since_sync cuts h.ready.magic
+  pub through : GoesThrough see.disk Failed old.disk h.mid new.disk h.made.notes (first ++ run.done) run.cut
+  through = goes_through see.disk on Failed old.disk h.mid new.disk h.made.notes h.end.notes (first ++ run.done) run.cut h.ready.recovers cuts
 
   -- where the disk failed nothing had become of the job
   pub failed-working : Failed → run.reached ≡ outcome.Working
@@ -299,12 +281,12 @@ module _ {A C D : Type 0} (see : Seen D A C) (on : (first second third : D) → 
 
   -- and each image stands for them
   pub images-at-end : ¬ Failed → EachImage see.disk new.disk (λ image. StandsFor image h.end.notes.lists)
-  images-at-end fine = images-here see.disk h.end.notes.journal new.disk h.end.notes.lists (ap (λ (p : Position). p.magic) all.does.journal ∙ h.ready.magic) (all.does.done fine).1 all.does.stands_on
+  images-at-end fine = images-here see.disk h.end.notes.journal new.disk h.end.notes.lists (ap (λ (p : Position). p.magic) all.does.journal ∙ h.ready.recovers.recovered.stands_at.magic_is) (all.does.done fine).1 all.does.stands_on
 
   unfoldable pub carries : Carries see old new (asked_of terms start first job) result
   carries = record {
     recovered = h.mid;
-    recovers = h.ready.recovers;
+    recovers = record { stood = h.ready.recovers.recovered.content; octets = h.ready.recovers.recovered.octets };
     run = run;
     listing = listing_in h.end.attempt;
     answer = h.out.answer;
@@ -315,10 +297,10 @@ module _ {A C D : Type 0} (see : Seen D A C) (on : (first second third : D) → 
       came = h.out.became.came;
       promises = λ some. subst (λ (l : Lists). Promises l job.work (listing_in h.end.attempt) run.reached) (lists-at-end (λ e. some (failed-working e))) (h.out.became.promises some);
     };
-    stands = stands.0;
-    ready = stands.1;
-    counts = counts_writes see.disk on Failed old.disk h.mid new.disk h.made.notes h.end.notes (first ++ run.done) run.cut h.ready.runs.told h.ready.recovers.stood h.ready.since_start h.ready.since_sync cuts h.ready.runs;
-    none = none_moves see.disk on Failed old.disk h.mid new.disk h.made.notes h.end.notes (first ++ run.done) run.cut h.ready.runs.told h.ready.recovers.stood h.ready.since_start h.ready.since_sync cuts;
+    stands = through.stands;
+    ready = through.ready;
+    counts = through.counts;
+    none = through.none;
   }
 
   pub causes : HasCauses see old new result
@@ -326,8 +308,7 @@ module _ {A C D : Type 0} (see : Seen D A C) (on : (first second third : D) → 
     runs =
         runs_same see.disk Failed (IsErrOf result stop.Disk) old.disk new.disk (λ e. h.out.answer ∙ ap (answer_of run.ended) (failed-working e) ∙ ap (λ (r : Result Finished NodeStop). Err (stop_of_turns r)) e)
         (λ e. turned run.ended run.reached node.Disk (sym h.out.answer ∙ e))
-        (command_runs see.disk on Failed old.disk h.mid new.disk h.made.notes h.end.notes (first ++ run.done) run.cut h.ready.runs.told h.ready.recovers.stood h.ready.since_start h.ready.since_sync cuts ⊥ (λ never. never)
-        h.ready.runs);
+        through.runs;
     of_air = air-cause _ _ _ _ run.ended run.reached result h.out.answer h.out.air.reads h.out.air.writes;
   }
 

@@ -23,8 +23,7 @@ use Rattle.uploader.specs.Turns.Carried.{EndsOver, asked_first, before_last}
 use Rattle.uploader.specs.Turns.Carrying.{StopsBehind, TakesAll, event_of}
 use Rattle.node.specs.declared.stop.NodeStop.{NodeStop}
 use Rattle.node.specs.declared.stop.NodeStop.TheVariants as node
-use Rattle.uploader.proofs.turns.GoesLemmas.{goes-alike, goes-append, goes-one}
-use Rattle.uploader.proofs.turns.PromiseLemmas.{nothing-asked}
+use Rattle.uploader.proofs.turns.CourseLemmas.{goes-alike, goes-append, goes-one, nothing-asked}
 use Rattle.uploader.specs.declared.stop.SendStop.{SendStop}
 use Rattle.uploader.specs.Carried.{client_of}
 use Rattle.uploader.specs.Led.{ComesBy, IsCutShort, LedLaw, is_of_turns}
@@ -108,14 +107,7 @@ asked-up job events (event ∷ before) next later is =
 at-stop : (ended : Result Finished NodeStop) (reached : Outcome) (P : Result Outcome SendStop → Type 0) → (reached ≡ outcome.Working → P (Err (stop_of_turns ended))) → (reached ≢ outcome.Working → P (by_outcome reached))
     → P (answer_of ended reached)
 at-stop ended outcome.Working P stopped came = stopped refl
-at-stop ended outcome.Idle P stopped came = came (λ e. cc e)
-at-stop ended (outcome.Acked number) P stopped came = came (λ e. cc e)
-at-stop ended (outcome.Refused code) P stopped came = came (λ e. cc e)
-at-stop ended (outcome.BadFile code) P stopped came = came (λ e. cc e)
-at-stop ended (outcome.Fetched number) P stopped came = came (λ e. cc e)
-at-stop ended outcome.Listed P stopped came = came (λ e. cc e)
-at-stop ended (outcome.LinkDown reason) P stopped came = came (λ e. cc e)
-at-stop ended (outcome.Strange kind) P stopped came = came (λ e. cc e)
+at-stop ended reached P stopped came = came (λ e. cc e)
 
 -- ---- what was reached
 
@@ -178,8 +170,7 @@ module _ (steps : OneStepLaw) (stays : StaysLaw) (client : Client) where
         (λ some. came-to (unsaid-same job least events got reached text done cut frames commands now h goes is some) some)
     comes-by (Err node.Disk) over ends h = cut-short (Err node.Disk) (inr (inl refl)) h.stops.stops.4
     comes-by (Err node.OutOfMemory) over ends h = cut-short (Err node.OutOfMemory) (inr (inr refl)) h.stops.stops.5
-    comes-by (Err (node.NotAStore found)) over ends h = absurd h
-    comes-by (Err (node.Damaged at)) over ends h = absurd h
+    comes-by (Err why) over ends h = absurd h
 
 pub led-law : {A C D : Type 0} (see : Seen D A C) → OneRunLaw → OneStepLaw → StaysLaw → LedLaw see
 led-law see runs steps stays old new asked came turns reached h led =

@@ -5,7 +5,7 @@ use Rattle.px_base.specs.Shelves.{Holding, content_of}
 use Rattle.pfh_reader.specs.Faults.{fault_code}
 use Rattle.disk_model.specs.declared.disk.Disk.{Ghosts}
 use Rattle.client_notes.specs.Calls.{Runs}
-use Rattle.client_notes.proofs.Offered.{acked-last, alike_same, begun-fresh, begun-kept, command_runs, counts_writes, images-here, none_moves, not-failed, of_task, Several-none, Several-one, Several-same, stands_through, stops_none, told_weaker}
+use Rattle.client_notes.proofs.Offered.{acked-last, alike_same, begun-fresh, begun-kept, goes_through, images-here, not-failed, of_task, recovered-ready, Several-none, Several-one, Several-same, stops_none, told_weaker}
 use Rattle.client_notes.specs.Walk.{state}
 use Rattle.client_notes.specs.Answers.{StartsBy, answer_of, fresh_task, start_reaches}
 use Rattle.client_notes.specs.Command.{NotesCommand}
@@ -16,8 +16,8 @@ use Rattle.client_notes.specs.declared.refusals.NotesRefusal.{NotesRefusal}
 use Rattle.client_notes.specs.declared.refusals.NotesRefusal.TheVariants as refusal
 use Rattle.client_notes.specs.Notes.{Lists, last_task}
 use Rattle.client_notes.specs.OnDisk.{Does, EachImage, Untouched}
-use Rattle.client_notes.specs.Several.{DoesSeveral}
-use Rattle.client_notes.specs.State.{NotesState, StandsFor, standing_of}
+use Rattle.client_notes.specs.Several.{CutsOff, DoesSeveral}
+use Rattle.client_notes.specs.State.{IsReady, NotesState, StandsFor, standing_of}
 use Rattle.node.specs.Lent.{Lent, Seen, lent}
 use Rattle.node.specs.Turns as turns
 use Rattle.ftl0_client.specs.JobLaws.{IsAckedIn}
@@ -27,7 +27,6 @@ use Rattle.ftl0_client.specs.Client.{Client}
 use Rattle.ftl0_client.specs.ClientState.{ClientState, GoWithAttempt, IsClient, MayHear, client_pending, listing_in}
 use Rattle.ftl0_client.specs.declared.outcome.Outcome.{Outcome}
 use Rattle.ftl0_client.specs.declared.outcome.Outcome.TheVariants as outcome
-use Rattle.client_notes.specs.Through.{CutsOff}
 use Rattle.uploader.specs.Turns.Carried.{CarriesOut, MayCarryOut}
 use Rattle.uploader.specs.declared.stop.SendStop.{SendStop}
 use Rattle.uploader.specs.declared.stop.SendStop.TheVariants as stop
@@ -38,7 +37,7 @@ use Rattle.uploader.specs.Carried.{client_from}
 use Rattle.uploader.specs.Causes.{HasCauses}
 use Rattle.uploader.specs.Loading.{HasShelfCause, IsPastFile, IsSendable, IsUnfit, LoadsExactly, RefusesFile, sum_of}
 use Rattle.uploader.specs.OnDisk.{RefusesNotes}
-use Rattle.uploader.specs.Ready.{IsReady, UploadsJob}
+use Rattle.uploader.specs.Ready.{RecoversClient, UploadsJob}
 use Rattle.uploader.specs.Sending.{EndsAtStart, IsLastAcked, IsTaskFor, IsUnstarted, SendEnds, Uploads, first_command, last_answer, upload_of}
 use Rattle.uploader.specs.Stops.{stop_of_start}
 use Rattle.uploader.proofs.CarryLemmas.{HasCarried, carries, causes, causes-err, causes-ok, causes-still, images-at-end, never, of_answer, of_turns, outcome-fine, recovered_exactly}
@@ -139,13 +138,13 @@ pub record HasStarted {D : Type 0} (g : Ghosts D) (terms : ClientTerms) (name fi
   pub mid : D
   pub made : ClientState
   pub asked : ClientState
-  pub ready : IsReady g terms disk mid made
+  pub ready : RecoversClient g terms disk mid made
   pub same : asked ≡ record made { notes = asked.notes }
   pub becomes : (client : Client) → IsClient made client → IsClient asked (record client { lists = asked.notes.lists })
   pub starts : StartsTask g made.notes asked.notes mid now terms.server terms.me name (sum_of file) result
 
 -- the start as one of the terms' calls and the file's sum
-pub at_terms : {D : Type 0} (g : Ghosts D) (terms : ClientTerms) (name file : List ℕ) (disk mid now : D) (made asked : ClientState) → IsReady g terms disk mid made → (sum : FileSum) → sum ≡ sum_of file
+pub at_terms : {D : Type 0} (g : Ghosts D) (terms : ClientTerms) (name file : List ℕ) (disk mid now : D) (made asked : ClientState) → RecoversClient g terms disk mid made → (sum : FileSum) → sum ≡ sum_of file
     → (given result : Result Begun NotesRefusal) → given ≡ result → StartsTask g made.notes asked.notes mid now made.server made.me name sum given
     → StartsTask g made.notes asked.notes mid now terms.server terms.me name (sum_of file) result
 at_terms g terms name file disk mid now made asked ready sum is given result same starts =
@@ -156,7 +155,7 @@ at_terms g terms name file disk mid now made asked ready sum is given result sam
     (subst (λ (s : FileSum). StartsTask g made.notes asked.notes mid now made.server made.me name s result) is
     (subst (λ (r : Result Begun NotesRefusal). StartsTask g made.notes asked.notes mid now made.server made.me name sum r) same starts)))
 
-abbrev pub started : {D : Type 0} (g : Ghosts D) (terms : ClientTerms) (name file : List ℕ) (disk mid now : D) (made asked : ClientState) → IsReady g terms disk mid made → asked ≡ record made { notes = asked.notes }
+abbrev pub started : {D : Type 0} (g : Ghosts D) (terms : ClientTerms) (name file : List ℕ) (disk mid now : D) (made asked : ClientState) → RecoversClient g terms disk mid made → asked ≡ record made { notes = asked.notes }
     → ((client : Client) → IsClient made client → IsClient asked (record client { lists = asked.notes.lists })) → (sum : FileSum) → sum ≡ sum_of file → (given result : Result Begun NotesRefusal) → given ≡ result
     → StartsTask g made.notes asked.notes mid now made.server made.me name sum given → HasStarted g terms name file disk now result
 started g terms name file disk mid now made asked ready same becomes sum is given result same_result starts = record {
@@ -177,22 +176,24 @@ module _ {D : Type 0} (g : Ghosts D) (lasts : (disk : D) → g.lasts disk disk) 
   command start = first_command terms start name (sum_of file)
 
   module _ (result : Result Begun NotesRefusal) (s : Started result) where
+    made-ready : IsReady g s.made.notes s.mid
+    made-ready = recovered-ready g disk s.mid s.made.notes s.ready.recovers.recovered
+
     -- the client may be asked for its job
     pub may-carry : (MayHear g s.made s.mid → MayHear g s.asked now) → MayCarryOut g s.asked now
     may-carry may =
         let after = may (record {
-          healthy = s.ready.healthy;
-          stands_on = s.ready.stands_on;
+          ready = made-ready;
           notes_are = subst (λ (c : ClientState). GoWithAttempt c.notes.lists c.attempt) (sym s.ready.state) tt;
         }) in
-        record { healthy = after.healthy; stands_on = after.stands_on; quiet = ap client_pending (s.same ∙ ap (λ (c : ClientState). record c { notes = s.asked.notes }) s.ready.state) }
+        record { ready = after.ready; quiet = ap client_pending (s.same ∙ ap (λ (c : ClientState). record c { notes = s.asked.notes }) s.ready.state) }
 
     -- and stands for one over the notes then
     pub asked-is : IsClient s.asked (client_from terms s.asked.notes.lists)
     asked-is = s.becomes _ s.ready.is
 
     does-idle : (P : Type 0) → ¬ P → DoesSeveral g P s.made.notes s.made.notes s.mid s.mid []
-    does-idle P fine = Several-none g P s.made.notes s.mid fine s.ready.stands_on s.ready.healthy (lasts s.mid)
+    does-idle P fine = Several-none g P s.made.notes s.mid fine made-ready (lasts s.mid)
 
     -- the disk wasn't reached
     kept : start_reaches result ≡ false → Untouched s.made.notes s.asked.notes s.mid now
@@ -218,11 +219,11 @@ module _ {D : Type 0} (g : Ghosts D) (lasts : (disk : D) → g.lasts disk disk) 
 
   -- the task isn't started
   refused-cuts : (refused : NotesRefusal) (s : Started (Err refused))
-      → CutsOff g (IsErrOf {T = Sent} (Err (stop_of_start (sum_of file) refused)) stop.Disk) s.made.notes s.asked.notes s.mid now [] (cut_of s.made.notes s.ready.healthy (command s.made.notes.lists) refused)
+      → CutsOff g (IsErrOf {T = Sent} (Err (stop_of_start (sum_of file) refused)) stop.Disk) s.made.notes s.asked.notes s.mid now [] (cut_of s.made.notes s.ready.recovers.recovered.healthy (command s.made.notes.lists) refused)
   refused-cuts (refusal.Changed length digest) s = none-cut _ s _ (λ e. cc e) refl
   refused-cuts refusal.Full s = none-cut _ s _ (λ e. cc e) refl
   refused-cuts refusal.OutOfMemory s = none-cut _ s _ (λ e. cc e) refl
-  refused-cuts refusal.Failed s = absurd (not-failed s.made.notes s.ready.healthy _ (of_task s.made.notes.lists terms.server terms.me name (length file) (sum_of file).digest) s.starts.answers)
+  refused-cuts refusal.Failed s = absurd (not-failed s.made.notes s.ready.recovers.recovered.healthy _ (of_task s.made.notes.lists terms.server terms.me name (length file) (sum_of file).digest) s.starts.answers)
   refused-cuts refusal.Disk s = record {
     notes_then = s.made.notes;
     disk_then = s.mid;
@@ -233,11 +234,11 @@ module _ {D : Type 0} (g : Ghosts D) (lasts : (disk : D) → g.lasts disk disk) 
   -- which task the file is uploaded by
   pub fresh-task-for : (task : ℕ) (s : Started (Ok (begun.Fresh task))) → IsTaskFor terms s.made.notes.lists name (sum_of file) task 0 (command s.made.notes.lists ∷ [])
   fresh-task-for task s =
-      let fresh = begun-fresh s.made.notes s.ready.healthy _ task (of_task s.made.notes.lists terms.server terms.me name (length file) (sum_of file).digest) s.starts.answers in
+      let fresh = begun-fresh s.made.notes s.ready.recovers.recovered.healthy _ task (of_task s.made.notes.lists terms.server terms.me name (length file) (sum_of file).digest) s.starts.answers in
       inl (fresh.0, fresh.1, fresh.2, refl, refl)
 
   pub going-task-for : (task number : ℕ) (s : Started (Ok (begun.Going task number))) → IsTaskFor terms s.made.notes.lists name (sum_of file) task number []
-  going-task-for task number s = inr (begun-kept s.made.notes s.ready.healthy _ (begun.Going task number) (λ other e. cc e) s.starts.answers, refl)
+  going-task-for task number s = inr (begun-kept s.made.notes s.ready.recovers.recovered.healthy _ (begun.Going task number) (λ other e. cc e) s.starts.answers, refl)
 
 -- ---- the whole
 
@@ -254,26 +255,23 @@ module _ {A C D : Type 0} (see : Seen D A C) (lasts : (disk : D) → see.disk.la
         → EndsAtStart s.made.notes.lists (first_command terms s.made.notes.lists name (sum_of file)) (sum_of file) (last_answer terms s.made.notes.lists name (sum_of file)) result cut
         → IfOk result (λ sent. IsLastAcked see.disk now terms s.made.notes.lists name sent.number) → SendsAll see old still held faults faults_n terms name result
     unstarted result cut past start cuts ends acked =
-        let r = s.ready in
-        let through =
-        stands_through see.disk on (IsErrOf result stop.Disk) old.disk s.mid now s.made.notes s.asked.notes [] cut r.runs.told r.recovers.stood r.since_start r.since_sync cuts r.magic in
-        sends-all see lasts on old terms name file held faults faults_n there sendable same still s.made.notes.lists result r.recovers.stood past
+        let through = goes_through see.disk on (IsErrOf result stop.Disk) old.disk s.mid now s.made.notes s.asked.notes [] cut s.ready.recovers cuts in
+        sends-all see lasts on old terms name file held faults faults_n there sendable same still s.made.notes.lists result s.ready.recovers.recovered.content past
         (inl (record {
           start = s.made.notes.lists;
           recovered = s.mid;
-          recovers = r.recovers;
+          recovers = record { stood = s.ready.recovers.recovered.content; octets = s.ready.recovers.recovered.octets };
           air = refl;
           clock = refl;
           cut = cut;
           ends = ends;
-          stands = through.0;
-          ready = through.1;
-          counts = counts_writes see.disk on (IsErrOf result stop.Disk) old.disk s.mid now s.made.notes s.asked.notes [] cut r.runs.told r.recovers.stood r.since_start r.since_sync cuts r.runs;
-          none = none_moves see.disk on (IsErrOf result stop.Disk) old.disk s.mid now s.made.notes s.asked.notes [] cut r.runs.told r.recovers.stood r.since_start r.since_sync cuts;
+          stands = through.stands;
+          ready = through.ready;
+          counts = through.counts;
+          none = through.none;
           acked = acked;
         }))
-        (causes-still see old still result (never is_start result start stop.AirRead refl) (never is_start result start stop.AirWrite refl) refl
-        (command_runs see.disk on (IsErrOf result stop.Disk) old.disk s.mid now s.made.notes s.asked.notes [] cut r.runs.told r.recovers.stood r.since_start r.since_sync cuts ⊥ (λ never_. never_) r.runs))
+        (causes-still see old still result (never is_start result start stop.AirRead refl) (never is_start result start stop.AirWrite refl) refl through.runs)
 
   -- the task isn't started
   pub refused-all : (refused : NotesRefusal) → HasStarted see.disk terms name file old.disk now (Err refused)
@@ -281,17 +279,17 @@ module _ {A C D : Type 0} (see : Seen D A C) (lasts : (disk : D) → see.disk.la
   refused-all refused s =
       unstarted (Err refused) s (Err (stop_of_start (sum_of file) refused)) _ (start-stops is_past (λ kept given. refl) refl refl refl (sum_of file) refused) (start-stops is_start (λ kept given. refl) refl refl refl (sum_of file) refused)
       (refused-cuts see.disk lasts terms name file old.disk now refused s)
-      (refused-start s.made.notes s.ready.healthy _ (sum_of file) _ refused (of_task s.made.notes.lists terms.server terms.me name (length file) (sum_of file).digest) s.starts.answers) tt
+      (refused-start s.made.notes s.ready.recovers.recovered.healthy _ (sum_of file) _ refused (of_task s.made.notes.lists terms.server terms.me name (length file) (sum_of file).digest) s.starts.answers) tt
 
   -- the file was acknowledged before
   pub already-all : (sent : Sent) → HasStarted see.disk terms name file old.disk now (Ok (begun.Already sent.number)) → SendsAll see old (lent now old.air old.clock) held faults faults_n terms name (Ok sent)
   already-all sent s =
       let given : Result Begun NotesRefusal = Ok (begun.Already sent.number) in
       let untouched = kept see.disk lasts terms name file old.disk now given s refl in
-      let answer = begun-kept s.made.notes s.ready.healthy _ (begun.Already sent.number) (λ task e. cc e) s.starts.answers in
+      let answer = begun-kept s.made.notes s.ready.recovers.recovered.healthy _ (begun.Already sent.number) (λ task e. cc e) s.starts.answers in
       let last = acked-last s.made.notes.lists (length file) sent.number (sum_of file).digest (last_task s.made.notes.lists terms.server terms.me name) answer in
       let images = subst (λ (d : D). EachImage see.disk d (λ image. StandsFor image s.made.notes.lists)) (sym untouched.same_disk)
-      (images-here see.disk s.made.notes.journal s.mid s.made.notes.lists s.ready.magic s.ready.healthy s.ready.stands_on) in
+      (images-here see.disk s.made.notes.journal s.mid s.made.notes.lists s.ready.recovers.recovered.stands_at.magic_is s.ready.recovers.recovered.healthy s.ready.recovers.recovered.stands_at.keeps) in
       unstarted given s (Ok sent) [] tt tt (none-cut see.disk lasts terms name file old.disk now given s _ (λ e. cc e) refl)
       (subst (λ a. EndsAtStart s.made.notes.lists (first_command terms s.made.notes.lists name (sum_of file)) (sum_of file) a (Ok sent) []) (sym answer) (refl, refl))
       (last.0, last.1, acked-in see.disk now s.made.notes.lists last.0 sent.number images last.2)
@@ -346,7 +344,7 @@ module _ {A C D : Type 0} (see : Seen D A C) (lasts : (disk : D) → see.disk.la
 
     pub upload-all : SendsAll see old new held faults faults_n terms name result
     upload-all =
-        sends-all see lasts on old terms name file held faults faults_n there sendable same new s.made.notes.lists result s.ready.recovers.stood (past-of result uploads.answer)
+        sends-all see lasts on old terms name file held faults faults_n there sendable same new s.made.notes.lists result s.ready.recovers.recovered.content (past-of result uploads.answer)
         (inr (record {
           start = s.made.notes.lists;
           task = task;

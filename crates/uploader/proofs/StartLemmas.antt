@@ -1,15 +1,70 @@
--- How a start that gives no task ends a command.
-use Rattle.std.proofs.Common.{◌≡◌, false, List, [], ◌∷◌, refl, sym, ◌∙◌, subst, Option, None, Some, Result, Ok, Err}
+-- The start of a command: a recovery that is refused, or behind which there was no memory, and a start that gives no task.
+use Rattle.std.proofs.Common.{◌≡◌, inl, ℕ, List, refl, sym, ◌∙◌, ap, ◌⊎◌, inr, false, [], ◌∷◌, subst, Option, None, Some, Ok}
+use Rattle.std.specs.Prelude.{⊤, IsErrOf, Result, Err}
+use Rattle.disk_model.specs.declared.disk.Disk.{Ghosts}
+use Rattle.file_journal.specs.Restoring.{RefusesExactly}
+use Rattle.client_notes.specs.Records.{notes_form}
+use Rattle.client_notes.specs.Recovery.{AnswersRecovery, Recovers}
+use Rattle.client_notes.specs.State.{NotesState, standing_of}
+use Rattle.client_notes.specs.StoreFault.{StoreFault}
+use Rattle.client_notes.specs.StoreFault.TheVariants as fault
+use Rattle.client_notes.proofs.Offered.{runs_same, told_weaker, at_told}
+use Rattle.uploader.specs.declared.stop.SendStop.{SendStop}
+use Rattle.uploader.specs.declared.stop.SendStop.TheVariants as stop
+use Rattle.uploader.specs.OnDisk.{EndsExactly, RefusesNotes}
+use Rattle.uploader.specs.Ready.{StopsRecovery}
+use Rattle.uploader.specs.Stops.{stop_of_fault, stop_of_start}
 use Rattle.client_notes.specs.Answers.{StartsBy}
 use Rattle.client_notes.specs.Command.{NotesCommand}
-use Rattle.client_notes.specs.State.{NotesState}
+use Rattle.client_notes.specs.Notes.{Lists}
+use Rattle.client_notes.specs.Walk.{state}
+use Rattle.uploader.specs.Carried.{RecoversTo}
 use Rattle.client_notes.specs.declared.answers.Begun.{Begun}
 use Rattle.client_notes.specs.declared.refusals.NotesRefusal.{NotesRefusal}
 use Rattle.client_notes.specs.declared.refusals.NotesRefusal.TheVariants as refusal
 use Rattle.uploader.specs.declared.sum.FileSum.{FileSum}
 use Rattle.uploader.specs.Sending.{EndsAtStart, IsUnnoted}
-use Rattle.uploader.specs.Stops.{stop_of_start}
 pub use Rattle.client_notes.proofs.Offered.{IsOfTask, of_task}
+
+-- what a recovery leaves behind which there was no memory
+pub unmade_leaves : {D : Type 0} (g : Ghosts D) (old now : D) (notes : NotesState) → Recovers g old now notes → AnswersRecovery {T = ⊤} g (Err fault.OutOfMemory) old now
+unmade_leaves g old now notes recovers = record {
+  refuses = λ healthy room. absurd (room refl);
+  untouched = λ found is. absurd (cc is);
+  untouched_damage = λ at is. absurd (cc is);
+  runs = runs_same g _ _ old now (λ never. absurd never) (λ is. cc is) recovers.runs;
+  since_start = recovers.since_start;
+  since_sync = told_weaker (g.content old) _ _ (λ before told synced. inl synced) recovers.since_sync;
+}
+
+-- by what fault it is refused, it stops the command
+by_fault : {T : Type 0} (before : List ℕ) (why : StoreFault) (result : Result T SendStop) → result ≡ Err (stop_of_fault why) → ¬ IsErrOf result stop.Disk → ¬ IsErrOf result stop.OutOfMemory
+    → RefusesExactly {T = ⊤} notes_form 1 before (Err why) → EndsExactly before result
+by_fault before (fault.NotAStore other) result is disk memory exact = record {
+  not_a_store = λ found. (
+    λ was. (exact.not_a_store found).0 (let both = sym is ∙ was in cc both),
+    λ stands. let both = (exact.not_a_store found).1 stands in let same : other ≡ found = cc both in is ∙ ap (λ (octets : List ℕ). Err (stop.NotAStore octets)) same,
+  );
+  damaged = λ at. (λ was. let both = sym is ∙ was in absurd (cc both), λ stands. let both = (exact.damaged at).1 stands in absurd (cc both));
+}
+by_fault before (fault.Damaged place) result is disk memory exact = record {
+  not_a_store = λ found. (λ was. let both = sym is ∙ was in absurd (cc both), λ stands. let both = (exact.not_a_store found).1 stands in absurd (cc both));
+  damaged = λ at. (
+    λ was. (exact.damaged at).0 (let both = sym is ∙ was in cc both),
+    λ stands. let both = (exact.damaged at).1 stands in let same : place ≡ at = cc both in is ∙ ap (λ (k : ℕ). Err (stop.Damaged k)) same,
+  );
+}
+by_fault before fault.Disk result is disk memory exact = absurd (disk is)
+by_fault before fault.OutOfMemory result is disk memory exact = absurd (memory is)
+
+-- each stop by what the disk has comes exactly where that is told
+pub refused_exactly : {D T : Type 0} (g : Ghosts D) (old now : D) (why : SendStop) (result : Result T SendStop) → result ≡ Err why → StopsRecovery g old now why → RefusesNotes (g.content old) result
+refused_exactly g old now why result is stops disk memory =
+    let is_fault = is ∙ ap Err stops.1 in
+    told_weaker (g.content old) _ _ (λ before told exact. by_fault before stops.0 result is_fault disk memory exact)
+    (stops.2.refuses
+    (λ was. let same : stops.0 ≡ fault.Disk = cc was in disk (is_fault ∙ ap (λ (r : StoreFault). Err (stop_of_fault r)) same))
+    (λ was. let same : stops.0 ≡ fault.OutOfMemory = cc was in memory (is_fault ∙ ap (λ (r : StoreFault). Err (stop_of_fault r)) same)))
 
 module _ (self : NotesState) (healthy : self.journal.failed ≡ false) where
   -- the commands in one of which the disk failed
@@ -26,11 +81,8 @@ module _ (self : NotesState) (healthy : self.journal.failed ≡ false) where
   unnoted command sum refusal.OutOfMemory starts = (starts.0, refl)
 
   none-cut : (command : NotesCommand) (refused : NotesRefusal) → IsOfTask (Err refused) → cut_of command refused ≡ []
-  none-cut command (refusal.Changed kept digest) of = refl
-  none-cut command refusal.Full of = refl
-  none-cut command refusal.Failed of = refl
   none-cut command refusal.Disk of = absurd of
-  none-cut command refusal.OutOfMemory of = refl
+  none-cut command refused of = refl
 
   pub refused-start : (command : NotesCommand) (sum : FileSum) (answer : Result (Option Begun) NotesRefusal) (refused : NotesRefusal) → IsOfTask answer → StartsBy self answer (Err refused)
       → EndsAtStart self.lists command sum answer (Err (stop_of_start sum refused)) (cut_of command refused)
@@ -39,3 +91,25 @@ module _ (self : NotesState) (healthy : self.journal.failed ≡ false) where
   refused-start command sum (Err kept) refused of starts =
       let same : kept ≡ refused = cc (sym starts) in
       subst (λ (r : NotesRefusal). EndsAtStart self.lists command sum (Err kept) (Err (stop_of_start sum r)) (cut_of command r)) same (refl, none-cut command kept of)
+
+-- ---- notes that are told
+
+module _ {D : Type 0} (g : Ghosts D) (disk now : D) (start : Lists) (content : List ℕ) (told : g.content disk ≡ Some content) (stands : standing_of content ≡ state start) where
+  -- they are the ones that are recovered,
+  pub told_recovered : (first : Lists) → RecoversTo g disk now first → first ≡ start
+  told_recovered first recovers =
+      let both : state first ≡ state start = sym (at_told (λ (octets : List ℕ). standing_of octets ≡ state first) content told recovers.stood) ∙ stands in
+      cc both
+
+  -- and only a fault of the disk or want of memory refuses them
+  pub told_refused : (why : StoreFault) → AnswersRecovery {T = ⊤} g (Err why) disk now → (why ≡ fault.Disk) ⊎ (why ≡ fault.OutOfMemory)
+  told_refused fault.Disk answers = inl refl
+  told_refused fault.OutOfMemory answers = inr refl
+  told_refused (fault.NotAStore found) answers =
+      let exact = at_told (λ (octets : List ℕ). RefusesExactly {T = ⊤} notes_form 1 octets (Err (fault.NotAStore found))) content told (answers.refuses (λ is. cc is) (λ is. cc is)) in
+      let both = sym stands ∙ (exact.not_a_store found).0 refl in
+      absurd (cc both)
+  told_refused (fault.Damaged at) answers =
+      let exact = at_told (λ (octets : List ℕ). RefusesExactly {T = ⊤} notes_form 1 octets (Err (fault.Damaged at))) content told (answers.refuses (λ is. cc is) (λ is. cc is)) in
+      let both = sym stands ∙ (exact.damaged at).0 refl in
+      absurd (cc both)

@@ -1,9 +1,4 @@
 mod CarriedLemmas
-mod CourseLemmas
-pub mod GoesLemmas
-mod MemoryLemmas
-mod OwesLemmas
-pub mod PromiseLemmas
-mod QuietLemmas
+pub mod CourseLemmas
 mod SayingLemmas
 mod StopsLemmas

@@ -1,21 +1,24 @@
 -- What a client's command does over its disk, air and clock: the notes are recovered, and a job is carried out.
-use Rattle.std.specs.Prelude.{◌≡◌, ℕ, List, [], ◌++◌, Result, IsErrOf}
+use Rattle.std.specs.Prelude.{◌≡◌, ℕ, List, [], ◌++◌, IfSome, Result, Err, IsErrOf, ⊤}
 use Rattle.disk_model.specs.declared.disk.Disk.{Ghosts}
 use Rattle.node.specs.Lent.{Lent, Seen}
 use Rattle.node.specs.declared.stop.NodeStop.TheVariants as node
+use Rattle.file_journal.specs.Calls.{Becomes, TakesStep}
+use Rattle.file_journal.specs.Journal.{after_recovery}
 use Rattle.file_journal.specs.Through.{CountsWrites, StandsThrough}
 use Rattle.client_notes.specs.Command.{NotesCommand}
 use Rattle.client_notes.specs.Laws.{after_all}
 use Rattle.client_notes.specs.Notes.{Lists}
-use Rattle.client_notes.specs.Records.{notes_form}
-use Rattle.client_notes.specs.declared.refusals.StoreFault.{StoreFault}
+use Rattle.client_notes.specs.Records.{notes_form, notes_magic}
+use Rattle.client_notes.specs.Recovery.{AnswersRecovery}
+use Rattle.client_notes.specs.State.{StandsFor}
+use Rattle.client_notes.specs.StoreFault.{StoreFault}
 use Rattle.ftl0_client.specs.Window.{window_of}
 use Rattle.ftl0_client.specs.Table.{JobState}
 use Rattle.ftl0_client.specs.Client.{Client, new_client}
 use Rattle.ftl0_client.specs.declared.outcome.Outcome.{Outcome}
 use Rattle.uploader.specs.declared.stop.SendStop.{SendStop}
 use Rattle.uploader.specs.declared.terms.ClientTerms.{ClientTerms}
-use Rattle.client_notes.specs.Through.{LeavesStanding, Recovers}
 use Rattle.uploader.specs.Stops.{answer_of, stop_of_fault}
 use Rattle.uploader.specs.Turns.Carried.{Became, ClientRan, Run, TakesAir}
 
@@ -26,7 +29,13 @@ pub record IsUnrecovered {A C D : Type 0} (g : Ghosts D) (old new : Lent D A C) 
   pub why_is : why ≡ stop_of_fault fault
   pub air : new.air ≡ old.air
   pub clock : new.clock ≡ old.clock
-  pub leaves : LeavesStanding g fault old.disk new.disk
+  pub answers : AnswersRecovery {T = ⊤} g (Err fault) old.disk new.disk
+
+-- The notes that were recovered are those for which the disk's content stood. No octet of formatted notes changed, and
+-- any other content was made formatted ones.
+pub record RecoversTo {D : Type 0} (g : Ghosts D) (disk disk_now : D) (start : Lists) : Type 0 where
+  pub stood : IfSome (g.content disk) (λ before. StandsFor before start)
+  pub octets : TakesStep g disk disk_now (Becomes (after_recovery notes_magic 1))
 
 -- a client of these terms over these notes, of which nothing was asked
 abbrev pub client_from : ClientTerms → Lists → Client
@@ -53,7 +62,7 @@ client_of asked = client_from asked.terms (after_all asked.start asked.first)
 pub record Carries {A C D : Type 0} (see : Seen D A C) (old new : Lent D A C) (asked : Asked)
     (result : Result Outcome SendStop) : Type 0 where
   pub recovered : D
-  pub recovers : Recovers see.disk old.disk recovered asked.start
+  pub recovers : RecoversTo see.disk old.disk recovered asked.start
   pub run : Run
   pub listing : List ℕ
   pub answer : result ≡ answer_of run.ended run.reached

@@ -15,7 +15,6 @@ pub use Rattle.client_notes.specs.Command
 pub use Rattle.client_notes.specs.Laws
 pub use Rattle.client_notes.specs.Notes
 pub use Rattle.client_notes.specs.State
-pub use Rattle.client_notes.specs.Through as NotesThrough
+pub use Rattle.client_notes.specs.StoreFault
 pub use Rattle.client_notes.specs.declared.answers.Begun
 pub use Rattle.client_notes.specs.declared.refusals.NotesRefusal
-pub use Rattle.client_notes.specs.declared.refusals.StoreFault

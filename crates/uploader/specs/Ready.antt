@@ -1,14 +1,10 @@
 -- What the commands share: a client whose notes were recovered, and a job that it is asked for.
-use Rattle.std.specs.Prelude.{◌≡◌, ℕ, false, IfSome, MatchResult, Result, Ok, Err, ⊤}
+use Rattle.std.specs.Prelude.{◌≡◌, ℕ, MatchResult, Result, Ok, Err, ⊤}
 use Rattle.disk_model.specs.declared.disk.Disk.{Ghosts}
 use Rattle.node.specs.Lent.{Seen}
 use Rattle.node.specs.Turns.{Lent}
-use Rattle.client_notes.specs.Calls.{Leaves, Runs}
-use Rattle.client_notes.specs.JournalRecovery.{IsSyncedFirst}
-use Rattle.client_notes.specs.Records.{notes_magic}
-use Rattle.client_notes.specs.Recovery.{StandsAlike}
-use Rattle.client_notes.specs.State.{StandsOn}
-use Rattle.client_notes.specs.declared.refusals.StoreFault.{StoreFault}
+use Rattle.client_notes.specs.Recovery.{AnswersRecovery, Recovers}
+use Rattle.client_notes.specs.StoreFault.{StoreFault}
 use Rattle.ftl0_client.specs.Work.{Work}
 use Rattle.ftl0_client.specs.Work.TheVariants as work
 use Rattle.ftl0_client.specs.Table.{JobState}
@@ -21,26 +17,19 @@ use Rattle.uploader.specs.declared.stop.SendStop.{SendStop}
 use Rattle.uploader.specs.declared.terms.ClientTerms.{ClientTerms}
 use Rattle.uploader.specs.declared.terms.Sent.{Sent}
 use Rattle.uploader.specs.Carried.{client_from}
-use Rattle.client_notes.specs.Through.{LeavesStanding, Recovers}
 use Rattle.uploader.specs.Stops.{stop_of_fault}
 
--- A client of these terms was made over the notes that the recovery gave, which stand on the disk. Nothing was asked.
-pub record IsReady {D : Type 0} (g : Ghosts D) (terms : ClientTerms) (disk disk_now : D) (self : ClientState)
-    : Type 0 where
-  pub recovers : Recovers g disk disk_now self.notes.lists
+-- A client of these terms was made over the notes that the recovery gave. Nothing was asked.
+pub record RecoversClient {D : Type 0} (g : Ghosts D) (terms : ClientTerms) (disk disk_now : D)
+    (self : ClientState) : Type 0 where
+  pub recovers : Recovers g disk disk_now self.notes
   pub state : self ≡ new_state terms.me terms.server terms.k self.notes
   pub is : IsClient self (client_from terms self.notes.lists)
-  pub healthy : self.notes.journal.failed ≡ false
-  pub stands_on : StandsOn g self.notes disk_now
-  pub magic : self.notes.journal.magic ≡ notes_magic
-  pub since_start : Leaves g disk disk_now StandsAlike
-  pub since_sync : IfSome (g.content disk) (λ before. IsSyncedFirst g disk disk_now (StandsAlike before))
-  pub runs : Runs g ⊥ disk disk_now
 
 -- the recovery was refused, and this is the stop by that
-abbrev pub IsUnready : {D : Type 0} → Ghosts D → D → D → SendStop → Type 0
-IsUnready g disk disk_now why =
-    (fault : StoreFault) × (why ≡ stop_of_fault fault) × LeavesStanding g fault disk disk_now
+abbrev pub StopsRecovery : {D : Type 0} → Ghosts D → D → D → SendStop → Type 0
+StopsRecovery g disk disk_now why =
+    (fault : StoreFault) × (why ≡ stop_of_fault fault) × AnswersRecovery {T = ⊤} g (Err fault) disk disk_now
 
 -- the work is an upload
 abbrev pub IsUpload : Work → Type 0

@@ -24,9 +24,8 @@ use Rattle.uploader.specs.declared.stop.SendStop.TheVariants as stop
 use Rattle.uploader.specs.declared.sum.FileSum.{FileSum}
 use Rattle.uploader.specs.declared.terms.ClientTerms.{ClientTerms}
 use Rattle.uploader.specs.declared.terms.Sent.{Sent}
-use Rattle.uploader.specs.Carried.{Carries, IsUnrecovered, asked_of}
+use Rattle.uploader.specs.Carried.{Carries, IsUnrecovered, RecoversTo, asked_of}
 use Rattle.uploader.specs.Loading.{IsSendable, IsUnfit, sum_of}
-use Rattle.client_notes.specs.Through.{Recovers}
 use Rattle.uploader.specs.Stops.{stop_of_start}
 
 -- The file isn't sent, by what the shelf has under its name, by a fault of the shelf or for want of memory. Nothing
@@ -76,7 +75,7 @@ pub record IsUnstarted {A C D : Type 0} (g : Ghosts D) (old new : Lent D A C) (t
     (name file : List ℕ) (result : Result Sent SendStop) : Type 0 where
   pub start : Lists
   pub recovered : D
-  pub recovers : Recovers g old.disk recovered start
+  pub recovers : RecoversTo g old.disk recovered start
   pub air : new.air ≡ old.air
   pub clock : new.clock ≡ old.clock
   pub cut : List NotesCommand

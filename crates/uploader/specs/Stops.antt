@@ -4,8 +4,8 @@ use Rattle.px_base.specs.declared.shelf.ShelfRefusal.{ShelfRefusal}
 use Rattle.px_base.specs.declared.shelf.ShelfRefusal.TheVariants as shelf
 use Rattle.client_notes.specs.declared.refusals.NotesRefusal.{NotesRefusal}
 use Rattle.client_notes.specs.declared.refusals.NotesRefusal.TheVariants as refusal
-use Rattle.client_notes.specs.declared.refusals.StoreFault.{StoreFault}
-use Rattle.client_notes.specs.declared.refusals.StoreFault.TheVariants as fault
+use Rattle.client_notes.specs.StoreFault.{StoreFault}
+use Rattle.client_notes.specs.StoreFault.TheVariants as fault
 use Rattle.ftl0_client.specs.declared.outcome.Outcome.{Outcome}
 use Rattle.ftl0_client.specs.declared.outcome.Outcome.TheVariants as outcome
 use Rattle.node.specs.declared.finished.Finished.{Finished}

@@ -1,6 +1,6 @@
 //! A file is fetched.
 
-ghost use Rattle.std.specs.Prelude.{◌≡◌, ◌≤◌, IsErrOf};
+ghost use Rattle.std.specs.Prelude.{◌≤◌, IsErrOf};
 ghost use Rattle.ftl0_client.specs.Window.{IsGoodK};
 ghost use Rattle.client_notes.specs.Calls.{CountsFault};
 ghost use Rattle.node.specs.Lent.{lent, seen};

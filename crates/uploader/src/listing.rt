@@ -1,6 +1,6 @@
 //! The files of a selection are listed.
 
-ghost use Rattle.std.specs.Prelude.{◌≡◌, ◌≤◌, length, IsErrOf, OnErr, OnOk};
+ghost use Rattle.std.specs.Prelude.{◌≤◌, length, IsErrOf, OnErr, OnOk};
 ghost use Rattle.px_base.specs.Outside.{Gains, GainsPrefix, HasCause};
 ghost use Rattle.ftl0_client.specs.Window.{IsGoodK};
 ghost use Rattle.client_notes.specs.Calls.{CountsFault};
@@ -77,7 +77,7 @@ fn show_lines<O: Out>(listing: &[u8], out: &mut O) -> Result<(), OutDown>
     let mut left = listing;
     for _ in 0..listing.len() / SHORT_LEN {
         let line = line_of_header(&left[..SHORT_LEN]);
-        out.put(line.as_slice())?;
+        out.put(line.as_str().as_bytes())?;
         left = &left[SHORT_LEN..];
     }
     Ok(())

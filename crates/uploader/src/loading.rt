@@ -1,8 +1,6 @@
 //! The file that is sent.
 
-ghost use Rattle.std.specs.Prelude.{◌≡◌, ◌≤◌, None, length, IfOk};
-ghost use Rattle.px_base.specs.Shelves.{Holding};
-ghost use Rattle.pfh_reader.specs.Faults.{fault_code};
+ghost use Rattle.std.specs.Prelude.{◌≡◌, IfOk};
 ghost use Rattle.uploader.specs.Loading.{HasShelfCause, IsSendable, LoadsBy, sent_of};
 
 use crate::SendStop;

@@ -2,11 +2,10 @@
 
 ghost use Rattle.std.specs.Prelude.{IfErr, IfOk};
 ghost use Rattle.ftl0_client.specs.Window.{IsGoodK};
-ghost use Rattle.uploader.specs.Ready.{IsReady, IsUnready};
+ghost use Rattle.uploader.specs.Ready.{RecoversClient, StopsRecovery};
 
 use crate::{ClientTerms, SendStop};
 use client_notes::Notes;
-use client_notes::laws::state_law;
 use disk_model::Disk;
 use ftl0_client::Client;
 use std::alloc::Global;
@@ -18,14 +17,11 @@ pub(crate) fn recover_client<D: Disk>(
     terms: &ClientTerms,
 ) -> Result<Client, SendStop>
     requires { IsGoodK terms.now.k }
-    ensures ready { IfOk result (IsReady D.Disk terms.now disk.old disk.new) }
-    ensures unready { IfErr result (IsUnready D.Disk disk.old disk.new) }
+    ensures recovers { IfOk result (RecoversClient D.Disk terms.now disk.old disk.new) }
+    ensures stops { IfErr result (StopsRecovery D.Disk disk.old disk.new) }
 {
     match Notes::recover(alloc, disk) {
-        Ok(notes) => {
-            state_law(&notes);
-            Ok(Client::start(notes, terms.me, terms.server, terms.k))
-        }
+        Ok(notes) => Ok(Client::start(notes, terms.me, terms.server, terms.k)),
         Err(fault) => Err(SendStop::from(fault)),
     }
 }

@@ -28,7 +28,7 @@ module _ {D : Type 0} (g : Ghosts D) where
   takes-none before lasts may w a stands same = record {
     link = stands;
     job = same;
-    noted = Several-none g ⊥ before.notes before.disk (λ never. never) may.may.stands_on may.may.healthy lasts;
+    noted = Several-none g ⊥ before.notes before.disk (λ never. never) may.may.ready lasts;
   }
 
   pub taking-start : (octets : List ℕ) (before : Working D) → g.lasts before.disk before.disk → MayAnswer g before → IsTaking g octets octets before before
@@ -37,7 +37,7 @@ module _ {D : Type 0} (g : Ghosts D) where
     front = front-none octets;
     takes = takes-none before lasts may;
     may = may;
-    fit = record { may = may.may; stands_on = may.may.stands_on; stations = stations-same before.link };
+    fit = record { may = may.may; stands_on = may.may.ready.stands_on; stations = stations-same before.link };
   }
 
   module _ (on : (first second third : D) → g.lasts first second → g.lasts second third → g.lasts first third) where

@@ -1,10 +1,10 @@
 -- An attempt as contracts see it, which of the definitions' it stands for, and what its calls do.
-use Rattle.std.specs.Prelude.{◌≡◌, ℕ, List, ◌∷◌, ◌++◌, Bool, not, ◌&&◌, Option, None}
+use Rattle.std.specs.Prelude.{◌≡◌, ℕ, List, ◌∷◌, ◌++◌, Bool, false, not, ◌&&◌, Option, None}
 use Rattle.std.specs.Prelude.{OnOk, Result, Ok, Err, IsErrOf, ⊤}
 use Rattle.ax25_frames.specs.FrameText.{FrameValue}
 use Rattle.disk_model.specs.declared.disk.Disk.{Ghosts}
 use Rattle.ax25_link.specs.declared.state.Why.{Why}
-use Rattle.ax25_link.specs.Kept.{Kept, SameStations, StandsFor, is_pending}
+use Rattle.ax25_link.specs.Kept.{IsFromPeer, Kept, SameStations, StandsFor, is_pending}
 use Rattle.ax25_link.specs.Timer.{is_down}
 use Rattle.ax25_link.specs.Window.{Window, window_of}
 use Rattle.ftl0_packets.specs.Layout.{Item}
@@ -92,6 +92,28 @@ pub record Hears {D : Type 0} (g : Ghosts D) (w : Window) (a : Attempted) (frame
       result
   pub since :
       Leaves g before.disk now.disk (λ _. MakesFirst before.notes.lists (hearing w before.notes.lists a frame).noted)
+
+-- What a frame makes of an attempt before the end of the event, of whichever attempt it stands for; or it stopped at
+-- one of the packets.
+abbrev pub TakesFrame :
+    {D : Type 0} → Ghosts D → FrameValue → WithNotes AttemptState D → WithNotes AttemptState D → Result ⊤ Halt → Type 0
+TakesFrame g frame before now result =
+    (w : Window) (a : Attempted) → IsAttempt w before.state a
+    → HearsBy g w (taking before.notes.lists (after_hearing w a frame) (packets_heard w a frame))
+    (after_hearing w a frame) (packets_heard w a frame) before now result
+
+-- What the whole event is, of whichever attempt it stands for.
+abbrev pub HearsFrame :
+    {D : Type 0} → Ghosts D → FrameValue → WithNotes AttemptState D → WithNotes AttemptState D → Result ⊤ Halt → Type 0
+HearsFrame g frame before now result =
+    (w : Window) (a : Attempted) → IsAttempt w before.state a → Hears g w a frame before now result
+
+-- What an attempt needs to hear a frame: it is the server's, nothing is pending, and the job may take a packet.
+pub record MayHearFrame {D : Type 0} (g : Ghosts D) (attempt : AttemptState) (notes : NotesState) (disk : D)
+    (frame : FrameValue) : Type 0 where
+  pub frame_is : IsFromPeer attempt.link frame
+  pub quiet : is_pending attempt.link ≡ false
+  pub may : MayTake g notes disk attempt.job
 
 -- what takes packets: a link and a job, over notes on a disk
 pub record Working (D : Type 0) : Type 0 where

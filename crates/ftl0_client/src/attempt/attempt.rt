@@ -4,7 +4,7 @@ ghost use Rattle.std.specs.Prelude.{◌≡◌, ◌<◌, ◌++◌, false, true};
 ghost use Rattle.std.specs.Prelude.{IfOk, IsTrue, None, OnOk};
 ghost use Rattle.ax25_frames.specs.Values.{value_of};
 ghost use Rattle.ax25_link.specs.Ends.{LinkEnd, free_octets};
-ghost use Rattle.ax25_link.specs.Kept.{Fits, HasStations, IsFromPeer, SameStations, StandsFor, Steps};
+ghost use Rattle.ax25_link.specs.Kept.{Fits, HasStations, SameStations, StandsFor, Steps};
 ghost use Rattle.ax25_link.specs.Kept.{is_pending};
 ghost use Rattle.ax25_link.specs.declared.state.LinkState.{LinkState};
 ghost use Rattle.ax25_link.specs.Window.{IsGoodK, Window, window_of};
@@ -14,19 +14,19 @@ ghost use Rattle.ftl0_packets.specs.Values.{item_of};
 ghost use Rattle.packet_link.specs.PacketLink.{GivesFrame, KeepsReader, octets_in};
 ghost use Rattle.ftl0_client.specs.Calls.{SameJob};
 ghost use Rattle.client_notes.specs.Notes.{Lists};
-ghost use Rattle.ftl0_job.specs.JobState.{MayTake, NotesGoWith};
+ghost use Rattle.ftl0_job.specs.JobState.{NotesGoWith};
 ghost use Rattle.ftl0_job.specs.Table.{listing_of};
 ghost use Rattle.ftl0_job.specs.Taking.{with_notes};
-ghost use Rattle.ftl0_client.specs.Attempt.Attempted.{Attempted, calling, outcome_by};
+ghost use Rattle.ftl0_client.specs.Attempt.Attempted.{calling, outcome_by};
 ghost use Rattle.ftl0_client.specs.Attempt.AttemptState.{AttemptState as Carried};
-ghost use Rattle.ftl0_client.specs.Attempt.AttemptState.{Becomes, Hears, HearsBy, IsAttempt, IsSomeAttempt, LeavesFit};
-ghost use Rattle.ftl0_client.specs.Attempt.AttemptState.{PutsBy, is_closed, working};
+ghost use Rattle.ftl0_client.specs.Attempt.AttemptState.{Becomes, HearsFrame, IsAttempt, IsSomeAttempt, LeavesFit};
+ghost use Rattle.ftl0_client.specs.Attempt.AttemptState.{MayHearFrame, PutsBy, TakesFrame, is_closed, working};
 ghost use Rattle.ftl0_client.specs.Attempt.Feeding.{AnswersPacket, KeepsFit, KeepsUp, MayAnswer, QueuesNext};
 ghost use Rattle.ftl0_client.specs.Attempt.Feeding.{Replies as HasReplied, RepliesAndParts, TakesOctetsBy};
-ghost use Rattle.ftl0_client.specs.Attempt.Hearing.{after_hearing, after_ticking, down_by};
-ghost use Rattle.ftl0_client.specs.Attempt.Hearing.{packets_heard, ticking};
+ghost use Rattle.ftl0_client.specs.Attempt.Hearing.{after_ticking, down_by};
+ghost use Rattle.ftl0_client.specs.Attempt.Hearing.{ticking};
 ghost use Rattle.ftl0_client.specs.Attempt.Settling.{is_later as is_to_part_later, parting_later, queuing, settled};
-ghost use Rattle.ftl0_client.specs.Attempt.Taking.{parting, taking};
+ghost use Rattle.ftl0_client.specs.Attempt.Taking.{parting};
 
 use crate::attempt::AttemptOutcome;
 use arrayvec::ArrayVec;
@@ -104,13 +104,10 @@ impl Attempt {
         notes: &mut Notes,
         frame: &Frame<'_>,
     ) -> Result<(), Halt>
-        requires frame { IsFromPeer self.old.link (value_of frame.now) }
-        requires quiet { is_pending self.old.link ≡ false }
-        requires may { MayTake D.Disk notes.old disk.old self.old.job }
+        requires { MayHearFrame D.Disk self.old notes.old disk.old (value_of frame.now) }
 
         // Of whichever attempt it stands for, it is what the frame makes of that; or it stopped at one of the packets.
-        ensures hears { (w : Window) (a : Attempted) → IsAttempt w self.old a →
-            Hears D.Disk w a (value_of frame.now)
+        ensures hears { HearsFrame D.Disk (value_of frame.now)
             (with_notes self.old notes.old disk.old) (with_notes self.new notes.new disk.new) result }
         ensures puts { PutsBy D.Disk disk.old disk.new result }
 
@@ -206,13 +203,8 @@ impl Attempt {
         notes: &mut Notes,
         frame: &Frame<'_>,
     ) -> Result<(), Halt>
-        requires frame { IsFromPeer self.old.link (value_of frame.now) }
-        requires quiet { is_pending self.old.link ≡ false }
-        requires may { MayTake D.Disk notes.old disk.old self.old.job }
-        ensures hears { (w : Window) (a : Attempted) → IsAttempt w self.old a →
-            HearsBy D.Disk w
-            (taking notes.old.lists (after_hearing w a (value_of frame.now)) (packets_heard w a (value_of frame.now)))
-            (after_hearing w a (value_of frame.now)) (packets_heard w a (value_of frame.now))
+        requires { MayHearFrame D.Disk self.old notes.old disk.old (value_of frame.now) }
+        ensures takes { TakesFrame D.Disk (value_of frame.now)
             (with_notes self.old notes.old disk.old) (with_notes self.new notes.new disk.new) result }
         ensures puts { PutsBy D.Disk disk.old disk.new result }
         ensures fit { LeavesFit D.Disk (working self.old.link self.old.job notes.old disk.old)

@@ -5,7 +5,7 @@ use Rattle.px_base.proofs.Told.{Gains-none, Grows-none}
 use Rattle.disk_model.specs.declared.disk.Disk.{Ghosts}
 use Rattle.client_notes.specs.Command.{NotesCommand}
 use Rattle.client_notes.specs.Notes.{Lists}
-use Rattle.client_notes.specs.State.{NotesState, StandsOn}
+use Rattle.client_notes.specs.State.{IsReady, NotesState}
 use Rattle.node.specs.Course.{AtDisk, at}
 use Rattle.node.specs.Events.{NodeEvent, NodeEvents}
 use Rattle.node.specs.Laws.{OneRunLaw}
@@ -29,18 +29,15 @@ use Rattle.ftl0_client.specs.declared.outcome.Outcome.TheVariants as outcome
 use Rattle.uploader.specs.declared.stop.SendStop.{SendStop}
 use Rattle.uploader.specs.declared.stop.SendStop.TheVariants as send_stop
 use Rattle.uploader.specs.Stops.{answer_of}
-use Rattle.client_notes.specs.Through.{CutsOff}
+use Rattle.client_notes.specs.Several.{CutsOff}
 use Rattle.uploader.specs.Turns.Carried.{CarriesOut, ClientRan, CountsWhere, EndsOver, IsOpenBeforeEach, MayCarryOut, Run, asked_first, before_last}
 use Rattle.uploader.specs.Turns.Carrying.{StopsBehind, StopsOver, TakesAll}
 use Rattle.uploader.specs.Turns.Course.{CameOf, CameToSome, Past, StoppedAt, client_course, further}
 use Rattle.uploader.specs.declared.turns.station.ClientStation.{ClientStation}
-use Rattle.uploader.proofs.turns.CourseLemmas.{came-silent, came-whole}
+use Rattle.uploader.proofs.turns.CourseLemmas.{came-silent, came-whole, closed-done, goes-alike, owes-more, promised}
 use Rattle.client_notes.proofs.Offered.{cuts-none, does-nothing}
-use Rattle.uploader.proofs.turns.GoesLemmas.{goes-alike}
-use Rattle.uploader.proofs.turns.MemoryLemmas.{no-split}
-use Rattle.uploader.proofs.turns.OwesLemmas.{owes-more}
-use Rattle.uploader.proofs.turns.PromiseLemmas.{closed-done, promised}
-use Rattle.uploader.proofs.turns.QuietLemmas.{closed-over, tells-of}
+use Rattle.uploader.proofs.turns.StopsLemmas.{no-split}
+use Rattle.uploader.proofs.turns.SayingLemmas.{closed-over, tells-of}
 
 -- ---- the turns but the last
 
@@ -291,8 +288,6 @@ module _ {A C D : Type 0} (see : Seen D A C) (lasts : (disk : D) → see.disk.la
     stopped-at stop.AirWrite ran turns (λ least reached done cut over. over),
     (counts-same _ _ _ (λ e. cc e) counts.0, record { rose = λ _. counts.1; same = λ never. absurd (never refl) }),
   )
-  came-by (Err (stop.NotAStore found)) turns counts ran = absurd turns
-  came-by (Err (stop.Damaged at)) turns counts ran = absurd turns
   came-by (Err stop.Disk) turns counts ran = (
     stopped-at stop.Disk ran turns (λ least reached done cut over. over),
     none-rose _ _ _ _ _ (λ e. cc e) (λ e. cc e) counts.0 (still h.unsaid _ _ h.is_unsaid (λ is. cc (unsaid-why stop.Disk ran is))),
@@ -301,6 +296,7 @@ module _ {A C D : Type 0} (see : Seen D A C) (lasts : (disk : D) → see.disk.la
     stopped-at stop.OutOfMemory ran turns (λ least reached done cut over. over),
     none-rose _ _ _ _ _ (λ e. cc e) (λ e. cc e) counts.0 (still h.unsaid _ _ h.is_unsaid (λ is. cc (unsaid-why stop.OutOfMemory ran is))),
   )
+  came-by (Err why) turns counts ran = absurd turns
 
   abbrev now : ClientState
   now = to.party.client
@@ -330,8 +326,7 @@ module _ {A C D : Type 0} (see : Seen D A C) (lasts : (disk : D) → see.disk.la
     -- a client that was asked may hear a frame
     pub may-asked : MayHear see.disk asked disk
     may-asked = record {
-      healthy = ap (λ (n : NotesState). n.journal.failed) has.notes ∙ may.healthy;
-      stands_on = subst (λ (n : NotesState). StandsOn see.disk n disk) (sym has.notes) may.stands_on;
+      ready = subst (λ (n : NotesState). IsReady see.disk n disk) (sym has.notes) may.ready;
       notes_are = has.go_with;
     }
 
@@ -347,7 +342,7 @@ module _ {A C D : Type 0} (see : Seen D A C) (lasts : (disk : D) → see.disk.la
       owes = owes-more [] base [] [] [] base (asks job) [] refl (refl, refl, refl) silent;
       text_is = refl;
       is = becomes;
-      does = does-nothing see.disk lasts old.notes asked.notes disk has.notes may.stands_on may.healthy;
+      does = does-nothing see.disk lasts old.notes asked.notes disk has.notes may.ready;
     }
 
   -- there was no memory for the attempt
@@ -399,6 +394,6 @@ module _ {A C D : Type 0} (see : Seen D A C) (lasts : (disk : D) → see.disk.la
             };
         cuts =
             cuts-none see.disk lasts (IsErrOf {T = Finished} (Err stop.OutOfMemory) stop.Disk) old.notes new.notes disk disk [] (λ e. cc e)
-            (does-nothing see.disk lasts old.notes new.notes disk (ap (λ (s : ClientState). s.notes) same) may.stands_on may.healthy);
+            (does-nothing see.disk lasts old.notes new.notes disk (ap (λ (s : ClientState). s.notes) same) may.ready);
         became = record { over = λ e. cc e; came = λ some. absurd (some refl); promises = λ some. absurd (some refl) };
       }

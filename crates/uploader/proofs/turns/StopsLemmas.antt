@@ -1,40 +1,99 @@
--- A frame at which the client halts.
-use Rattle.std.proofs.Common.{◌≡◌, ℕ, List, [], ◌∷◌, ◌++◌, length, take, Option, Err, refl, ap, sym, ◌∙◌, subst, append_assoc, arith, take-append-drop, drop}
-use Rattle.std.specs.Prelude.{Some, IsErrOf, ⊤}
+-- A frame at which the client halts: nothing had become of the job, since a link that is down brings no packets.
+use Rattle.std.proofs.Common.{◌≡◌, ℕ, List, [], ◌∷◌, ◌++◌, refl, ap, sym, subst, ◌∙◌, Option, None, Some, length, take, Err, append_assoc, arith, take-append-drop, drop}
+use Rattle.std.proofs.lemmas.Bool.{cond_both}
 use Rattle.disk_model.specs.declared.disk.Disk.{Ghosts}
 use Rattle.ax25_frames.specs.FrameText.{FrameValue}
+use Rattle.ax25_link.specs.declared.state.Heard.{Heard}
+use Rattle.ax25_link.specs.declared.state.Heard.TheVariants.{Closed}
+use Rattle.ax25_link.specs.declared.state.Why.{Why}
+use Rattle.ax25_link.specs.Rows.{after_frame, heard_of}
+use Rattle.client_notes.specs.Notes.{Lists, is_same_call}
+use Rattle.ftl0_client.specs.Layout.{Item}
+use Rattle.ftl0_client.specs.Ending.{Ending}
+use Rattle.disk_model.specs.declared.halt.Halt.{Halt}
+use Rattle.ftl0_client.specs.Table.{JobState, job_row}
+use Rattle.ftl0_client.specs.Taking.{WithNotes, with_notes}
+use Rattle.ftl0_client.specs.Attempt.Attempted as attempted
+use Rattle.ftl0_client.specs.Attempt.Attempted.{Attempted}
+use Rattle.ftl0_client.specs.Attempt.AttemptState.{AttemptState, StopsAmong}
+use Rattle.ftl0_client.specs.Attempt.Hearing.{after_hearing, after_told, packets_heard, packets_told, with_end}
+use Rattle.ftl0_client.specs.Attempt.Taking.{Happened, taking}
+use Rattle.ftl0_client.proofs.attempt.DownLemmas.{still-silent}
+use Rattle.ftl0_client.proofs.attempt.EndedLemmas.{taking-ended, told-job}
+use Rattle.ftl0_client.specs.Client.{Client, attempt_for, client_hearing, hearing_by, hears}
+use Rattle.ftl0_client.specs.Laws.{IsToldDownOf}
+use Rattle.ftl0_client.specs.declared.outcome.Outcome.TheVariants as outcome
+use Rattle.ftl0_client.specs.Outcomes.{outcome_as, outcome_by}
+use Rattle.std.specs.Prelude.{IsErrOf, ⊤}
 use Rattle.client_notes.specs.Command.{NotesCommand}
-use Rattle.client_notes.specs.Notes.{Lists}
-use Rattle.client_notes.specs.Several.{DoesSeveral}
+use Rattle.client_notes.specs.Several.{CutsOff, DoesSeveral}
 use Rattle.client_notes.specs.State.{NotesState}
 use Rattle.node.specs.declared.finished.Finished.{Finished}
 use Rattle.node.specs.Course.{AtDisk, stop_of}
 use Rattle.node.specs.Events as node
-use Rattle.ftl0_client.specs.Layout.{Item}
-use Rattle.disk_model.specs.declared.halt.Halt.{Halt}
 use Rattle.disk_model.specs.declared.halt.Halt.TheVariants as halt
-use Rattle.ftl0_client.specs.Table.{job_row}
-use Rattle.ftl0_client.specs.Taking.{WithNotes, with_notes}
-use Rattle.ftl0_client.specs.Attempt.Attempted.{Attempted}
-use Rattle.ftl0_client.specs.Attempt.AttemptState.{AttemptState, StopsAmong}
-use Rattle.ftl0_client.specs.Attempt.Hearing.{after_hearing, packets_heard}
-use Rattle.ftl0_client.specs.Attempt.Taking.{taking}
 use Rattle.ftl0_client.proofs.attempt.TakingLemmas.{noted-front}
 use Rattle.ftl0_client.specs.Calls.{StopsBy}
-use Rattle.ftl0_client.specs.Client.{Client, attempt_for, client_hearing, hearing_by, hears}
 use Rattle.ftl0_client.specs.ClientState.{outcome_in}
 use Rattle.ftl0_client.specs.Going.{GoesLaw}
-use Rattle.ftl0_client.specs.Laws.{IsToldDownOf}
-use Rattle.ftl0_client.specs.declared.outcome.Outcome.TheVariants as outcome
-use Rattle.client_notes.specs.Through.{CutsOff}
 use Rattle.uploader.specs.Turns.Carrying.{StopsAt}
 use Rattle.uploader.specs.Turns.Course.{CameOf, IsFit, Past, StoppedAt, all_events, further}
 use Rattle.uploader.specs.declared.turns.station.ClientStation.{ClientStation}
 use Rattle.node.specs.declared.stop.NodeStop.TheVariants as stop
-use Rattle.uploader.proofs.turns.CourseLemmas.{asked-append, came-silent}
+use Rattle.uploader.proofs.turns.CourseLemmas.{asked-append, came-silent, nothing-asked}
 use Rattle.client_notes.proofs.Offered.{cuts-none, cuts-then, Several-same, Several-then}
-use Rattle.uploader.proofs.turns.MemoryLemmas.{still-working, stopped-working}
-use Rattle.uploader.proofs.turns.PromiseLemmas.{nothing-asked}
+
+-- there is something among what has an item in the midst
+pub no-split : {T : Type 0} (before : List T) (item : T) (behind : List T) → [] ≡ before ++ item ∷ behind → ⊥
+no-split [] item behind h = absurd (cc h)
+no-split (x ∷ before) item behind h = absurd (cc h)
+
+module _ (client : Client) (frame : FrameValue) (told : IsToldDownOf client.attempt) (a : Attempted) (hears_it : attempt_for client frame ≡ Some a) where
+  -- the attempt before packets are taken
+  abbrev begins : Attempted
+  begins = after_hearing client.window a frame
+
+  is_attempt : client.attempt ≡ Some a
+  is_attempt =
+      cond_both (is_same_call frame.src client.server) client.attempt None (λ (o : Option Attempted). o ≡ Some a → client.attempt ≡ Some a) (λ same is. is) (λ other is. absurd (cc is)) hears_it
+
+  -- the packets keep an outcome, so there was none before them
+  no-ending : (lists : Lists) (before : List Item) → (taking lists begins before).after.job.ending ≡ None → (e : Option Ending) → a.job.ending ≡ e → a.job.ending ≡ None
+  no-ending lists before none None is = is
+  no-ending lists before none (Some ending) is =
+      let job : begins.job ≡ a.job = told-job (heard_of client.window a.end frame) (with_end a (after_frame client.window a.end frame)) frame.kind.information in
+      let begun : begins.job.ending ≡ Some ending = ap (λ (j : JobState). j.ending) job ∙ is in
+      let kept : (taking lists begins before).after.job.ending ≡ Some ending = ap (λ (h : Happened). h.after.job.ending) (taking-ended lists begins before ending begun) ∙ begun in
+      absurd (cc (sym none ∙ kept))
+
+  -- a link that is down brings no packet
+  not-down : (before : List Item) (item : Item) (behind : List Item) → packets_heard client.window a frame ≡ before ++ item ∷ behind → (d : Option Why) → a.down ≡ d → a.down ≡ None
+  not-down before item behind parts None is = is
+  not-down before item behind parts (Some why) is =
+      let silent = still-silent client.window a.end frame (subst (λ (o : Option Attempted). IsToldDownOf o) is_attempt told why is) in
+      absurd (no-split before item behind (sym (ap (λ (t : Heard). packets_told t a frame.kind.information) silent) ∙ parts))
+
+  -- the client was at work
+  pub stopped-working : {D : Type 0} (g : Ghosts D) (old new : WithNotes AttemptState D) (why : Halt) → StopsAmong g begins (packets_heard client.window a frame) old new why
+      → outcome_by client.attempt ≡ outcome.Working
+  stopped-working g old new why h =
+      ap outcome_by is_attempt
+      ∙ ap (λ (e : Option Ending). outcome_as (attempted.outcome_by e a.down)) (no-ending old.notes.lists h.before h.stops.no_outcome a.job.ending refl)
+      ∙ ap (λ (d : Option Why). outcome_as (attempted.outcome_by None d)) (not-down h.before h.item h.behind h.is_part a.down refl)
+
+  -- and is so still
+  told-down : (told : Heard) (b : Attempted) (octets : List ℕ) (before : List Item) (item : Item) (behind : List Item) → packets_told told a octets ≡ before ++ item ∷ behind → (after_told told b octets).down ≡ b.down
+  told-down (Closed why) b octets before item behind parts = absurd (no-split before item behind parts)
+  told-down told b octets before item behind parts = refl
+
+  pub still-working : {D : Type 0} (g : Ghosts D) (old new : WithNotes AttemptState D) (why : Halt) → StopsAmong g begins (packets_heard client.window a frame) old new why
+      → outcome_as (attempted.outcome_by new.state.job.ending new.state.down) ≡ outcome.Working
+  still-working g old new why h =
+      let down : new.state.down ≡ None =
+      h.down ∙ told-down (heard_of client.window a.end frame) (with_end a (after_frame client.window a.end frame)) frame.kind.information h.before h.item h.behind h.is_part
+      ∙ not-down h.before h.item h.behind h.is_part a.down refl in
+      ap (λ (e : Option Ending). outcome_as (attempted.outcome_by e new.state.down)) (ap (λ (j : JobState). j.ending) h.stops.same ∙ h.stops.no_outcome)
+      ∙ ap (λ (d : Option Why). outcome_as (attempted.outcome_by None d)) down
 
 module _ {D : Type 0} (g : Ghosts D) (lasts : (disk : D) → g.lasts disk disk) (on : (first second third : D) → g.lasts first second → g.lasts second third → g.lasts first third) where
   some-cut : (P : Type 0) (old new : NotesState) (disk disk_n : D) (commands : List NotesCommand) → P → DoesSeveral g P old new disk disk_n commands → commands ≡ [] → ⊥

@@ -7,8 +7,8 @@ use Rattle.disk_model.specs.declared.disk.Disk.{Ghosts}
 use Rattle.ax25_frames.specs.FrameText.{FrameValue}
 use Rattle.client_notes.specs.Command.{NotesCommand}
 use Rattle.client_notes.specs.Notes.{Lists}
-use Rattle.client_notes.specs.State.{StandsOn}
-use Rattle.client_notes.specs.Through.{CutsOff}
+use Rattle.client_notes.specs.State.{IsReady}
+use Rattle.client_notes.specs.Several.{CutsOff}
 use Rattle.node.specs.Events.{NodeEvent, NodeEvents}
 use Rattle.node.specs.Lent.{Seen}
 use Rattle.node.specs.Turns.{Lent, TurnsBy}
@@ -27,10 +27,9 @@ use Rattle.uploader.specs.Turns.Came.{CameWith}
 use Rattle.uploader.specs.Turns.Carrying.{StopsBehind, TakesAll, event_of}
 use Rattle.uploader.specs.declared.stop.SendStop.{SendStop}
 
--- What a client needs for its turns: its notes haven't failed and stand on the disk, and nothing is to be sent.
+-- What a client needs for its turns: its notes are ready, and nothing is to be sent.
 pub record MayCarryOut {D : Type 0} (g : Ghosts D) (self : ClientState) (disk : D) : Type 0 where
-  pub healthy : self.notes.journal.failed ≡ false
-  pub stands_on : StandsOn g self.notes disk
+  pub ready : IsReady g self.notes disk
   pub quiet : client_pending self ≡ false
 
 -- A client's turns: what was heard at which moments and how they ended, the text that was said, what became of the job,

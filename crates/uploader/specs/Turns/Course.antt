@@ -4,7 +4,7 @@ use Rattle.px_base.specs.Octets.{IsFront}
 use Rattle.disk_model.specs.declared.disk.Disk.{Ghosts}
 use Rattle.ax25_frames.specs.FrameText.{FrameValue}
 use Rattle.client_notes.specs.Command.{NotesCommand}
-use Rattle.client_notes.specs.Several.{DoesSeveral}
+use Rattle.client_notes.specs.Several.{CutsOff, DoesSeveral}
 use Rattle.node.specs.Course.{AtDisk, Course, stop_of}
 use Rattle.node.specs.Events.{NodeEvent}
 use Rattle.node.specs.declared.finished.Finished.{Finished}
@@ -22,7 +22,6 @@ use Rattle.ftl0_client.specs.Table.{JobState}
 use Rattle.ftl0_client.specs.declared.outcome.Outcome.{Outcome}
 use Rattle.ftl0_client.specs.declared.outcome.Outcome.TheVariants as outcome
 use Rattle.uploader.specs.Turns.Came.{CameWith, TellsOf}
-use Rattle.client_notes.specs.Through.{CutsOff}
 use Rattle.uploader.specs.Turns.Carried.{asked_first}
 use Rattle.uploader.specs.Turns.Carrying.{StopsBehind, text_of}
 use Rattle.uploader.specs.declared.turns.station.ClientStation.{ClientStation}

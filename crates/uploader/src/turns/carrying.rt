@@ -1,7 +1,6 @@
 //! One job of a client is carried out.
 
 ghost use Rattle.std.specs.Prelude.{◌≡◌};
-ghost use Rattle.client_notes.specs.State.{StandsOn};
 ghost use Rattle.node.specs.Lent.{seen};
 ghost use Rattle.node.specs.Turns.{lent};
 ghost use Rattle.ftl0_client.specs.JobState.{IsNew, NotesGoWith};

@@ -3,24 +3,23 @@ use Rattle.std.proofs.lemmas.List.{take_all}
 use Rattle.client_notes.proofs.RecordLemmas.{IsOctets-part, length-part, octets-slice, start-in, start_lengths}
 use Rattle.client_notes.proofs.reading.read_start.Goals as goal
 
-pub returns-clause-command : goal.returns-clause-command
-returns-clause-command c =
-    let content = c.args.content.now in
-    let left = length-drop 55 content in
-    start-in content _ c.le32.result c.le32-2.result c.in_ok-server.server c.in_ok-caller.caller c.if-not-is_start_len.ensures c.in_ok-server.ensures.call c.in_ok-caller.ensures.call c.le32.ensures c.le32-2.ensures
-    (take_all (length content - 55) (drop 55 content) (omega (arith, left)))
-
-pub returns-clause-writable : goal.returns-clause-writable
-returns-clause-writable c =
+pub returns : goal.returns
+returns c =
     let content = c.args.content.now in
     let octets = octets-slice content (λ i. omega (arith, c.type_inv.content i)) in
     let is = start_lengths content (sym c.if-not-is_start_len.ensures) in
     let name = length-part content 55 (length content - 55) (omega (arith, is.some)) in
-    let digest = length-part content 22 32 (omega (arith, is.some)) in (
-      omega arith,
-      c.in_ok-server.ensures.valid,
-      c.in_ok-caller.ensures.valid,
-      (IsOctets-part content 55 (length content - 55) octets, omega (arith, name, is.some), omega (arith, name, is.whole, is.most)),
-      omega arith,
-      (IsOctets-part content 22 32 octets, omega (arith, digest), omega (arith, digest)),
-    )
+    let digest = length-part content 22 32 (omega (arith, is.some)) in
+    record {
+      command =
+          start-in content _ c.le32.result c.le32-2.result c.in_ok-server.server c.in_ok-caller.caller c.if-not-is_start_len.ensures c.in_ok-server.ensures.call c.in_ok-caller.ensures.call c.le32.ensures c.le32-2.ensures
+          (take_all (length content - 55) (drop 55 content) (omega (arith, length-drop 55 content)));
+      writable = (
+        omega arith,
+        c.in_ok-server.ensures.valid,
+        c.in_ok-caller.ensures.valid,
+        (IsOctets-part content 55 (length content - 55) octets, omega (arith, name, is.some), omega (arith, name, is.whole, is.most)),
+        omega arith,
+        (IsOctets-part content 22 32 octets, omega (arith, digest), omega (arith, digest)),
+      );
+    }

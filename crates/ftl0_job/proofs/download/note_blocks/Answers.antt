@@ -2,6 +2,7 @@ use Rattle.std.proofs.Common.{◌≡◌, ℕ, ◌+◌, ◌-◌, ◌*◌, ◌/◌
 use Rattle.std.specs.Prelude.{⊤, Result, Err}
 use Rattle.arrayvec.specs.declared.array_vec.ArrayVec.{ArrayVec}
 use Rattle.client_notes.specs.Several.{DoesSeveral}
+use Rattle.client_notes.proofs.Offered.{Several-ready}
 use Rattle.disk_model.specs.declared.halt.Halt.{Halt}
 use Rattle.ftl0_job.specs.Download.{gots}
 use Rattle.ftl0_job.specs.Noting.{HasNoted}
@@ -12,8 +13,8 @@ use Rattle.ftl0_job.proofs.download.note_blocks.Goals as goal
 abbrev Block : Type 0
 Block = ArrayVec ℕ 512 (Unit {0})
 
-pub note_got-requires-clause-allowed : goal.note_got-requires-clause-allowed
-note_got-requires-clause-allowed g c =
+pub note_got-requires : goal.note_got-requires
+note_got-requires g c =
     let all = c.args.rest.now.items ++ c.args.octets.now in
     let n = length all / 512 in
     let same : c.len.result + length c.args.octets.now ≡ length all =
@@ -21,8 +22,12 @@ note_got-requires-clause-allowed g c =
     let below : c.loop.counter < n = subst (λ (k : ℕ). c.loop.counter < k / 512) same c.loop-test.true in
     let is : c.as_slice-in-loop.result.now ≡ take 512 (drop (512 * c.loop.counter) all) =
     c.as_slice-in-loop.ensures.value ∙ c.fill_block-left.ensures.block ∙ ap (take 512) c.loop.invariant.octets in
-    block-allowed c.args.server c.args.number n c.loop.counter all c.args.notes.now.lists c.loop.notes.lists c.requires.some (omega arith) c.requires.fits below
-    (c.loop.invariant.noted.does.done (λ never. never)).0 c.as_slice-in-loop.result.now is
+    record {
+      ready = Several-ready g.D.Disk c.args.notes.now c.loop.notes c.args.disk.now c.loop.disk _ c.loop.invariant.noted;
+      allowed =
+          block-allowed c.args.server c.args.number n c.loop.counter all c.args.notes.now.lists c.loop.notes.lists c.requires.some (omega arith) c.requires.fits below
+          (c.loop.invariant.noted.does.done (λ never. never)).0 c.as_slice-in-loop.result.now is;
+    }
 
 pub returns-in_err-note_got-clause-noted : goal.returns-in_err-note_got-clause-noted
 returns-in_err-note_got-clause-noted g c =

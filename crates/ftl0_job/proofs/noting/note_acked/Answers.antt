@@ -1,7 +1,6 @@
 use Rattle.client_notes.specs.Command.{acked}
-use Rattle.ftl0_job.proofs.NotingLemmas.{answers-noted}
+use Rattle.ftl0_job.proofs.NotingLemmas.{answers-at-once}
 use Rattle.ftl0_job.proofs.noting.note_acked.Goals as goal
 
-pub returns-clause-noted : goal.returns-clause-noted
-returns-clause-noted g c =
-    answers-noted g.D.Disk c.args.notes.now c.acked.new.self c.args.disk.now c.acked.new.disk (acked c.args.task) c.acked.result c.answer_of.result c.acked.ensures c.answer_of.ensures
+pub returns : goal.returns
+returns g c = answers-at-once g.D.Disk c.args.notes.now c.acked.new.self c.args.disk.now c.acked.new.disk (acked c.args.task) c.acked.result c.answer_of.result c.acked.ensures c.answer_of.ensures

@@ -1,14 +1,14 @@
 use Rattle.std.proofs.lemmas.Grind.{common_steps}
 use Rattle.std.proofs.Common.{arith, ◌≡◌, sym, subst, List, ◌∷◌, []}
 use Rattle.client_notes.specs.Command.{NotesCommand, refused}
-use Rattle.ftl0_job.specs.Noting.{HasNoted}
+use Rattle.ftl0_job.specs.Noting.{NotesAtOnce}
 use Rattle.ftl0_job.specs.Upload.{refusal_of}
-use Rattle.ftl0_job.proofs.NotingLemmas.{answers-noted}
+use Rattle.ftl0_job.proofs.NotingLemmas.{answers-at-once}
 use Rattle.ftl0_job.proofs.noting.note_refused.Goals as goal
 
-pub returns-clause-noted : goal.returns-clause-noted
-returns-clause-noted g c =
+pub returns : goal.returns
+returns g c =
     let same : refusal_of c.args.task c.args.code ≡ refused c.args.task c.args.code ∷ [] = grind (arith, common_steps) in
-    subst (λ (cs : List NotesCommand). HasNoted g.D.Disk c.args.notes.now c.refused.new.self c.args.disk.now c.refused.new.disk cs c.answer_of.result) (sym same)
-    (answers-noted g.D.Disk c.args.notes.now c.refused.new.self c.args.disk.now c.refused.new.disk (refused c.args.task c.args.code) c.refused.result c.answer_of.result c.refused.ensures
+    subst (λ (cs : List NotesCommand). NotesAtOnce g.D.Disk c.args.notes.now c.refused.new.self c.args.disk.now c.refused.new.disk cs c.answer_of.result) (sym same)
+    (answers-at-once g.D.Disk c.args.notes.now c.refused.new.self c.args.disk.now c.refused.new.disk (refused c.args.task c.args.code) c.refused.result c.answer_of.result c.refused.ensures
     c.answer_of.ensures)

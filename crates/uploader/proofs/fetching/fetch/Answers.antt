@@ -1,5 +1,5 @@
 -- The recovery is refused; or the download stops, or is fetched, and the file is kept.
-use Rattle.std.proofs.Common.{inr, [], length, refl, ap, ◌∙◌, subst}
+use Rattle.std.proofs.Common.{inr, [], length, refl, ap, ◌∙◌, subst, ◌≡◌, rules}
 use Rattle.std.specs.Prelude.{Result, Ok, Err, ⊤}
 use Rattle.client_notes.proofs.Offered.{counts_none}
 use Rattle.client_notes.specs.Notes.{got_of}
@@ -11,7 +11,8 @@ use Rattle.uploader.specs.declared.stop.SendStop.TheVariants as stop
 use Rattle.uploader.specs.Causes.{HasCauses}
 use Rattle.uploader.specs.Fetching.{download_of, file_asked}
 use Rattle.uploader.proofs.CarryLemmas.{carried, causes, causes-err, causes-ok, causes-shelf, is_carried, just-asked, never, recovered_exactly}
-use Rattle.uploader.proofs.FetchLemmas.{download-goes, fetch-keeps, fetch-stops}
+use Rattle.uploader.proofs.OutcomeLemmas.{download-goes, fetch-keeps, fetch-stops}
+use Rattle.uploader.proofs.StartLemmas.{refused_exactly}
 use Rattle.uploader.proofs.fetching.fetch.Goals as goal
 
 pub carry_out-client-requires-clause-go_with : goal.carry_out-client-requires-clause-go_with
@@ -22,13 +23,13 @@ carry_out-client-requires-clause-go_with g c =
 pub returns : goal.returns
 returns g c =
     let see = seen g.D.Disk g.A.Air g.C.Clock.given in
-    let ready = c.in_ok-client.ensures.ready in
+    let ready = c.in_ok-client.ensures.recovers in
     let why = c.in-Err.stop in
     let h = just-asked see g.met.D.Disk.lasts_same (lent c.args.disk.now c.args.air.now c.args.clock.now) (lent c.carry_out-client.new.disk c.carry_out-client.new.air c.carry_out-client.new.clock) c.recover_client.new.disk c.args.terms.now
     c.in_ok-client.client c.carry_out-client.result.0 c.download-job.result (download_of (file_asked c.args.terms.now c.args.number c.args.name.now)) c.carry_out-client.result.1 c.download-job.ensures ready (c.carry_out-client.ensures.carried _ ready.is) in
     let carried_ = carried see g.met.D.Disk.lasts_on (lent c.args.disk.now c.args.air.now c.args.clock.now) (lent c.carry_out-client.new.disk c.carry_out-client.new.air c.carry_out-client.new.clock) c.args.terms.now [] (download_of (file_asked c.args.terms.now c.args.number c.args.name.now)) c.carry_out-client.result.1 h why c.in-Err.is in
     record {
-      notes = recovered_exactly is_carried (λ found. refl) (λ at. refl) (g.D.Disk.content c.args.disk.now) c.in_ok-client.client.notes.lists (Err why) ready.recovers.stood carried_;
+      notes = recovered_exactly is_carried (λ found. refl) (λ at. refl) (g.D.Disk.content c.args.disk.now) c.in_ok-client.client.notes.lists (Err why) ready.recovers.recovered.content carried_;
       ends = inr (fetch-stops see g.S.Shelf.held g.met.D.Disk.lasts_on (lent c.args.disk.now c.args.air.now c.args.clock.now) (lent c.carry_out-client.new.disk c.carry_out-client.new.air c.carry_out-client.new.clock) (file_asked c.args.terms.now c.args.number c.args.name.now) c.carry_out-client.result.1 h why c.in-Err.is c.args.shelf.now);
       shelf = counts_none _ _ (never {T = ⊤} is_carried (Err why) carried_ stop.Shelf refl);
       causes =
@@ -39,7 +40,7 @@ returns g c =
 pub returns-in-Ok-keep-clause-ends : goal.returns-in-Ok-keep-clause-ends
 returns-in-Ok-keep-clause-ends g c =
     let see = seen g.D.Disk g.A.Air g.C.Clock.given in
-    let ready = c.in_ok-client.ensures.ready in
+    let ready = c.in_ok-client.ensures.recovers in
     let h = just-asked see g.met.D.Disk.lasts_same (lent c.args.disk.now c.args.air.now c.args.clock.now) (lent c.carry_out-client.new.disk c.carry_out-client.new.air c.carry_out-client.new.clock) c.recover_client.new.disk c.args.terms.now
     c.in_ok-client.client c.carry_out-client.result.0 c.download-job.result (download_of (file_asked c.args.terms.now c.args.number c.args.name.now)) c.carry_out-client.result.1 c.download-job.ensures ready (c.carry_out-client.ensures.carried _ ready.is) in
     inr (fetch-keeps see g.S.Shelf.held g.met.D.Disk.lasts_on (lent c.args.disk.now c.args.air.now c.args.clock.now) (lent c.carry_out-client.new.disk c.carry_out-client.new.air c.carry_out-client.new.clock) (file_asked c.args.terms.now c.args.number c.args.name.now) c.carry_out-client.result.1 h c.in-Ok._fetched c.in-Ok.is c.args.shelf.now c.keep.new.self c.got_octets.result.now
@@ -48,7 +49,7 @@ returns-in-Ok-keep-clause-ends g c =
 pub returns-in-Ok-keep-clause-causes : goal.returns-in-Ok-keep-clause-causes
 returns-in-Ok-keep-clause-causes g c =
     let see = seen g.D.Disk g.A.Air g.C.Clock.given in
-    let ready = c.in_ok-client.ensures.ready in
+    let ready = c.in_ok-client.ensures.recovers in
     let h = just-asked see g.met.D.Disk.lasts_same (lent c.args.disk.now c.args.air.now c.args.clock.now) (lent c.carry_out-client.new.disk c.carry_out-client.new.air c.carry_out-client.new.clock) c.recover_client.new.disk c.args.terms.now
     c.in_ok-client.client c.carry_out-client.result.0 c.download-job.result (download_of (file_asked c.args.terms.now c.args.number c.args.name.now)) c.carry_out-client.result.1 c.download-job.ensures ready (c.carry_out-client.ensures.carried _ ready.is) in
     causes-ok see (lent c.args.disk.now c.args.air.now c.args.clock.now) (lent c.carry_out-client.new.disk c.carry_out-client.new.air c.carry_out-client.new.clock) c.in-Ok._fetched tt
@@ -58,7 +59,7 @@ returns-in-Ok-keep-clause-causes g c =
 pub returns-in-Ok-clause-ends : goal.returns-in-Ok-clause-ends
 returns-in-Ok-clause-ends g c =
     let see = seen g.D.Disk g.A.Air g.C.Clock.given in
-    let ready = c.in_ok-client.ensures.ready in
+    let ready = c.in_ok-client.ensures.recovers in
     let h = just-asked see g.met.D.Disk.lasts_same (lent c.args.disk.now c.args.air.now c.args.clock.now) (lent c.carry_out-client.new.disk c.carry_out-client.new.air c.carry_out-client.new.clock) c.recover_client.new.disk c.args.terms.now
     c.in_ok-client.client c.carry_out-client.result.0 c.download-job.result (download_of (file_asked c.args.terms.now c.args.number c.args.name.now)) c.carry_out-client.result.1 c.download-job.ensures ready (c.carry_out-client.ensures.carried _ ready.is) in
     inr (fetch-keeps see g.S.Shelf.held g.met.D.Disk.lasts_on (lent c.args.disk.now c.args.air.now c.args.clock.now) (lent c.carry_out-client.new.disk c.carry_out-client.new.air c.carry_out-client.new.clock) (file_asked c.args.terms.now c.args.number c.args.name.now) c.carry_out-client.result.1 h c.in-Ok._fetched c.in-Ok.is c.args.shelf.now c.keep.new.self c.got_octets.result.now
@@ -67,9 +68,14 @@ returns-in-Ok-clause-ends g c =
 pub returns-in-Ok-clause-causes : goal.returns-in-Ok-clause-causes
 returns-in-Ok-clause-causes g c =
     let see = seen g.D.Disk g.A.Air g.C.Clock.given in
-    let ready = c.in_ok-client.ensures.ready in
+    let ready = c.in_ok-client.ensures.recovers in
     let h = just-asked see g.met.D.Disk.lasts_same (lent c.args.disk.now c.args.air.now c.args.clock.now) (lent c.carry_out-client.new.disk c.carry_out-client.new.air c.carry_out-client.new.clock) c.recover_client.new.disk c.args.terms.now
     c.in_ok-client.client c.carry_out-client.result.0 c.download-job.result (download_of (file_asked c.args.terms.now c.args.number c.args.name.now)) c.carry_out-client.result.1 c.download-job.ensures ready (c.carry_out-client.ensures.carried _ ready.is) in
     causes-shelf see (lent c.args.disk.now c.args.air.now c.args.clock.now) (lent c.carry_out-client.new.disk c.carry_out-client.new.air c.carry_out-client.new.clock) c.in-Ok._fetched
     (subst (λ (r : Result Outcome SendStop). HasCauses see (lent c.args.disk.now c.args.air.now c.args.clock.now) (lent c.carry_out-client.new.disk c.carry_out-client.new.air c.carry_out-client.new.clock) r) c.in-Ok.is
     (causes see g.met.D.Disk.lasts_on (lent c.args.disk.now c.args.air.now c.args.clock.now) (lent c.carry_out-client.new.disk c.carry_out-client.new.air c.carry_out-client.new.clock) c.args.terms.now [] (download_of (file_asked c.args.terms.now c.args.number c.args.name.now)) c.carry_out-client.result.1 h))
+
+pub returns-in_err-client-clause-notes : goal.returns-in_err-client-clause-notes
+returns-in_err-client-clause-notes g c =
+    let stopped : c.from_residual.result ≡ Err c.in_err-client.field-0.0 = search rules in
+    refused_exactly g.D.Disk c.args.disk.now c.recover_client.new.disk c.in_err-client.field-0.0 c.from_residual.result stopped c.in_err-client.ensures.stops

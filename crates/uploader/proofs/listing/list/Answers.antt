@@ -1,9 +1,9 @@
 -- The recovery is refused, or there was no memory for the tokens; or the list stops, or came whole and is shown.
-use Rattle.std.proofs.Common.{inl, inr, ℕ, List, [], refl, ap, ◌∙◌, subst}
+use Rattle.std.proofs.Common.{inl, inr, ℕ, List, [], refl, ap, ◌∙◌, subst, ◌≡◌, rules}
 use Rattle.std.specs.Prelude.{Result, Ok, Err, ⊤}
 use Rattle.px_base.specs.Outside.{Gains, GainsPrefix}
 use Rattle.client_notes.proofs.Offered.{counts_none}
-use Rattle.client_notes.specs.declared.refusals.StoreFault.TheVariants as fault
+use Rattle.client_notes.specs.StoreFault.TheVariants as fault
 use Rattle.node.specs.Lent.{lent, seen}
 use Rattle.ftl0_client.specs.declared.outcome.Outcome.{Outcome}
 use Rattle.uploader.specs.declared.stop.SendStop.{SendStop}
@@ -12,8 +12,8 @@ use Rattle.uploader.specs.Causes.{HasCauses}
 use Rattle.uploader.specs.Lines.{listing_lines}
 use Rattle.uploader.specs.Listing.{directory_of, files_asked}
 use Rattle.uploader.proofs.CarryLemmas.{carried, causes, causes-err, causes-ok, causes-out, is_carried, just-asked, never, recovered_exactly}
-use Rattle.uploader.proofs.ListLemmas.{list-shows, list-stops}
-use Rattle.uploader.proofs.ReadyLemmas.{unmade_leaves}
+use Rattle.uploader.proofs.OutcomeLemmas.{list-shows, list-stops}
+use Rattle.uploader.proofs.StartLemmas.{refused_exactly, unmade_leaves}
 use Rattle.uploader.proofs.listing.list.Goals as goal
 
 pub returns-in_default-clause-ends : goal.returns-in_default-clause-ends
@@ -24,7 +24,7 @@ returns-in_default-clause-ends g c =
         why_is = refl;
         air = refl;
         clock = refl;
-        leaves = unmade_leaves g.D.Disk c.args.terms.now c.args.disk.now c.recover_client.new.disk c.in_ok-client.client c.in_ok-client.ensures.ready;
+        answers = unmade_leaves g.D.Disk c.args.disk.now c.recover_client.new.disk c.in_ok-client.client.notes c.in_ok-client.ensures.recovers.recovers;
       },
       refl,
     )
@@ -32,13 +32,13 @@ returns-in_default-clause-ends g c =
 pub returns : goal.returns
 returns g c =
     let see = seen g.D.Disk g.A.Air g.C.Clock.given in
-    let ready = c.in_ok-client.ensures.ready in
+    let ready = c.in_ok-client.ensures.recovers in
     let why = c.in-Err.stop in
     let h = just-asked see g.met.D.Disk.lasts_same (lent c.args.disk.now c.args.air.now c.args.clock.now) (lent c.carry_out-client.new.disk c.carry_out-client.new.air c.carry_out-client.new.clock) c.recover_client.new.disk c.args.terms.now
     c.in_ok-client.client c.carry_out-client.result.0 c.list-job.result (directory_of c.args.tokens.now) c.carry_out-client.result.1 (c.list-job.ensures ∙ ap (λ (t : List ℕ). directory_of t) c.in-Ok.ensures) ready (c.carry_out-client.ensures.carried _ ready.is) in
     let carried_ = carried see g.met.D.Disk.lasts_on (lent c.args.disk.now c.args.air.now c.args.clock.now) (lent c.carry_out-client.new.disk c.carry_out-client.new.air c.carry_out-client.new.clock) c.args.terms.now [] (directory_of c.args.tokens.now) c.carry_out-client.result.1 h why c.in-Err.is in
     record {
-      notes = recovered_exactly is_carried (λ found. refl) (λ at. refl) (g.D.Disk.content c.args.disk.now) c.in_ok-client.client.notes.lists (Err why) ready.recovers.stood carried_;
+      notes = recovered_exactly is_carried (λ found. refl) (λ at. refl) (g.D.Disk.content c.args.disk.now) c.in_ok-client.client.notes.lists (Err why) ready.recovers.recovered.content carried_;
       ends = inr (list-stops see g.O.Out.shown g.met.D.Disk.lasts_on (lent c.args.disk.now c.args.air.now c.args.clock.now) (lent c.carry_out-client.new.disk c.carry_out-client.new.air c.carry_out-client.new.clock) (files_asked c.args.terms.now c.args.tokens.now) c.carry_out-client.result.1 h why c.in-Err.is c.args.out.now);
       out = counts_none _ _ (never {T = ⊤} is_carried (Err why) carried_ stop.Out refl);
       causes =
@@ -49,7 +49,7 @@ returns g c =
 pub returns-in-Ok-show_lines-clause-ends : goal.returns-in-Ok-show_lines-clause-ends
 returns-in-Ok-show_lines-clause-ends g c =
     let see = seen g.D.Disk g.A.Air g.C.Clock.given in
-    let ready = c.in_ok-client.ensures.ready in
+    let ready = c.in_ok-client.ensures.recovers in
     let h = just-asked see g.met.D.Disk.lasts_same (lent c.args.disk.now c.args.air.now c.args.clock.now) (lent c.carry_out-client.new.disk c.carry_out-client.new.air c.carry_out-client.new.clock) c.recover_client.new.disk c.args.terms.now
     c.in_ok-client.client c.carry_out-client.result.0 c.list-job.result (directory_of c.args.tokens.now) c.carry_out-client.result.1 (c.list-job.ensures ∙ ap (λ (t : List ℕ). directory_of t) c.in-Ok.ensures) ready (c.carry_out-client.ensures.carried _ ready.is) in
     inr (list-shows see g.O.Out.shown g.met.D.Disk.lasts_on (lent c.args.disk.now c.args.air.now c.args.clock.now) (lent c.carry_out-client.new.disk c.carry_out-client.new.air c.carry_out-client.new.clock) (files_asked c.args.terms.now c.args.tokens.now) c.carry_out-client.result.1 h c.in-Ok-came._listed c.in-Ok-came.is c.args.out.now c.show_lines.new.out (Ok tt)
@@ -58,7 +58,7 @@ returns-in-Ok-show_lines-clause-ends g c =
 pub returns-in-Ok-show_lines-clause-causes : goal.returns-in-Ok-show_lines-clause-causes
 returns-in-Ok-show_lines-clause-causes g c =
     let see = seen g.D.Disk g.A.Air g.C.Clock.given in
-    let ready = c.in_ok-client.ensures.ready in
+    let ready = c.in_ok-client.ensures.recovers in
     let h = just-asked see g.met.D.Disk.lasts_same (lent c.args.disk.now c.args.air.now c.args.clock.now) (lent c.carry_out-client.new.disk c.carry_out-client.new.air c.carry_out-client.new.clock) c.recover_client.new.disk c.args.terms.now
     c.in_ok-client.client c.carry_out-client.result.0 c.list-job.result (directory_of c.args.tokens.now) c.carry_out-client.result.1 (c.list-job.ensures ∙ ap (λ (t : List ℕ). directory_of t) c.in-Ok.ensures) ready (c.carry_out-client.ensures.carried _ ready.is) in
     causes-ok see (lent c.args.disk.now c.args.air.now c.args.clock.now) (lent c.carry_out-client.new.disk c.carry_out-client.new.air c.carry_out-client.new.clock) c.in-Ok-came._listed tt
@@ -68,7 +68,7 @@ returns-in-Ok-show_lines-clause-causes g c =
 pub returns-in-Ok-came-clause-ends : goal.returns-in-Ok-came-clause-ends
 returns-in-Ok-came-clause-ends g c =
     let see = seen g.D.Disk g.A.Air g.C.Clock.given in
-    let ready = c.in_ok-client.ensures.ready in
+    let ready = c.in_ok-client.ensures.recovers in
     let h = just-asked see g.met.D.Disk.lasts_same (lent c.args.disk.now c.args.air.now c.args.clock.now) (lent c.carry_out-client.new.disk c.carry_out-client.new.air c.carry_out-client.new.clock) c.recover_client.new.disk c.args.terms.now
     c.in_ok-client.client c.carry_out-client.result.0 c.list-job.result (directory_of c.args.tokens.now) c.carry_out-client.result.1 (c.list-job.ensures ∙ ap (λ (t : List ℕ). directory_of t) c.in-Ok.ensures) ready (c.carry_out-client.ensures.carried _ ready.is) in
     inr (list-shows see g.O.Out.shown g.met.D.Disk.lasts_on (lent c.args.disk.now c.args.air.now c.args.clock.now) (lent c.carry_out-client.new.disk c.carry_out-client.new.air c.carry_out-client.new.clock) (files_asked c.args.terms.now c.args.tokens.now) c.carry_out-client.result.1 h c.in-Ok-came._listed c.in-Ok-came.is c.args.out.now c.show_lines.new.out (Err stop.Out)
@@ -77,9 +77,14 @@ returns-in-Ok-came-clause-ends g c =
 pub returns-in-Ok-came-clause-causes : goal.returns-in-Ok-came-clause-causes
 returns-in-Ok-came-clause-causes g c =
     let see = seen g.D.Disk g.A.Air g.C.Clock.given in
-    let ready = c.in_ok-client.ensures.ready in
+    let ready = c.in_ok-client.ensures.recovers in
     let h = just-asked see g.met.D.Disk.lasts_same (lent c.args.disk.now c.args.air.now c.args.clock.now) (lent c.carry_out-client.new.disk c.carry_out-client.new.air c.carry_out-client.new.clock) c.recover_client.new.disk c.args.terms.now
     c.in_ok-client.client c.carry_out-client.result.0 c.list-job.result (directory_of c.args.tokens.now) c.carry_out-client.result.1 (c.list-job.ensures ∙ ap (λ (t : List ℕ). directory_of t) c.in-Ok.ensures) ready (c.carry_out-client.ensures.carried _ ready.is) in
     causes-out see (lent c.args.disk.now c.args.air.now c.args.clock.now) (lent c.carry_out-client.new.disk c.carry_out-client.new.air c.carry_out-client.new.clock) c.in-Ok-came._listed
     (subst (λ (r : Result Outcome SendStop). HasCauses see (lent c.args.disk.now c.args.air.now c.args.clock.now) (lent c.carry_out-client.new.disk c.carry_out-client.new.air c.carry_out-client.new.clock) r) c.in-Ok-came.is
     (causes see g.met.D.Disk.lasts_on (lent c.args.disk.now c.args.air.now c.args.clock.now) (lent c.carry_out-client.new.disk c.carry_out-client.new.air c.carry_out-client.new.clock) c.args.terms.now [] (directory_of c.args.tokens.now) c.carry_out-client.result.1 h))
+
+pub returns-in_err-client-clause-notes : goal.returns-in_err-client-clause-notes
+returns-in_err-client-clause-notes g c =
+    let stopped : c.from_residual.result ≡ Err c.in_err-client.field-0.0 = search rules in
+    refused_exactly g.D.Disk c.args.disk.now c.recover_client.new.disk c.in_err-client.field-0.0 c.from_residual.result stopped c.in_err-client.ensures.stops

@@ -18,7 +18,7 @@ pub returns-in_err-put-clause-err : goal.returns-in_err-put-clause-err
 returns-in_err-put-clause-err g c =
     let left = c.loop.left.now in
     let n = length c.args.listing.now / 73 in
-    let line = c.as_slice.ensures.value ∙ c.line_of_header-line.ensures in
+    let line = c.as_bytes.ensures.value ∙ c.as_str.ensures.value ∙ c.line_of_header-line.ensures in
     on_err _ (showing-stops g.O.Out.shown g.O.Out.faults c.args.out.now (listing_lines c.args.listing.now) c.loop.out c.put.new.self (file_line (take short_len left))
     (first_lines (n - (c.loop.counter + 1)) (drop short_len left)) _ c.loop.invariant.showing (lines-step n c.loop.counter left c.loop-test.true)
     (subst (GainsPrefix (g.O.Out.shown c.loop.out) (g.O.Out.shown c.put.new.self)) line c.in_err-put.ensures.err))
@@ -30,7 +30,7 @@ loop-preserved g c =
     let all = c.loop.invariant.left in
     let there : 73 ≤ length left = header-there c.args.listing.now left c.loop.counter all c.loop-test.true in
     let rest : length (take (length left - 73) (drop 73 left)) ≡ length left - 73 = ap length (take_rest left 73) ∙ length-drop 73 left in
-    let line = c.as_slice.ensures.value ∙ c.line_of_header-line.ensures in
+    let line = c.as_bytes.ensures.value ∙ c.as_str.ensures.value ∙ c.line_of_header-line.ensures in
     let P : List ℕ → Type 0 =
     λ t. IsShowing g.O.Out.shown g.O.Out.faults c.args.out.now c.put.new.self (listing_lines c.args.listing.now) (first_lines (n - (c.loop.counter + 1)) t) in
     record {

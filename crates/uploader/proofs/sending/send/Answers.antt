@@ -1,6 +1,6 @@
 -- The file isn't loaded, or the recovery is refused; or the task isn't started, or the file was acknowledged before; or it
 -- is uploaded.
-use Rattle.std.proofs.Common.{ℕ, refl, sym, ap, ◌∙◌, subst}
+use Rattle.std.proofs.Common.{ℕ, refl, sym, ap, ◌∙◌, subst, ◌≡◌, rules}
 use Rattle.std.specs.Prelude.{Result, Ok, Err}
 use Rattle.std.proofs.lemmas.Result.{err_from_is_err_and}
 use Rattle.node.specs.Lent.{lent, seen}
@@ -13,6 +13,7 @@ use Rattle.uploader.specs.Loading.{sum_of}
 use Rattle.uploader.specs.Stops.{stop_of_start}
 use Rattle.uploader.proofs.CarryLemmas.{causes-still, ok-never}
 use Rattle.uploader.proofs.SendLemmas.{SendsAll, already-all, asked-is, does-first, does-going, fresh-task-for, going-task-for, made-upload, may-carry, refused-all, runs_still, started, unfit-never, upload-all}
+use Rattle.uploader.proofs.StartLemmas.{refused_exactly}
 use Rattle.uploader.proofs.sending.send.Goals as goal
 
 pub returns-in_err-file-clause-causes : goal.returns-in_err-file-clause-causes
@@ -31,7 +32,7 @@ pub returns-in-Ok-Already : goal.returns-in-Ok-Already
 returns-in-Ok-Already g c =
     let see = seen g.D.Disk g.A.Air g.C.Clock.given in
     let h = c.in-Ok-Already.ensures in
-    let s = started g.D.Disk c.args.terms.now c.args.name.now c.in_ok-file.file c.args.disk.now c.recover_client.new.disk c.start_task.new.disk c.in_ok-client.client c.start_task.new.self c.in_ok-client.ensures.ready h.same h.starts
+    let s = started g.D.Disk c.args.terms.now c.args.name.now c.in_ok-file.file c.args.disk.now c.recover_client.new.disk c.start_task.new.disk c.in_ok-client.client c.start_task.new.self c.in_ok-client.ensures.recovers h.same h.starts
     c.sum_of_file-sum.result (c.sum_of_file-sum.ensures ∙ ap sum_of c.as_slice.ensures) (Ok c.in-Ok-Already.field-0) (Ok (begun.Already c.in-Ok-Already.number)) (ap Ok c.in-Ok-Already.field-0-is) (record { answers = h.answers; untouched = h.untouched; does = h.does }) in
     let all = subst (λ (n : ℕ). SendsAll see (lent c.args.disk.now c.args.air.now c.args.clock.now) (lent c.start_task.new.disk c.args.air.now c.args.clock.now) (g.S.Shelf.held c.args.shelf.now) (g.S.Shelf.faults c.args.shelf.now)
     (g.S.Shelf.faults c.load_file.new.shelf) c.args.terms.now c.args.name.now (Ok (record { number = n }))) (sym c.in-Ok-Already.number-is) (already-all see g.met.D.Disk.lasts_same g.met.D.Disk.lasts_on (lent c.args.disk.now c.args.air.now c.args.clock.now) c.args.terms.now c.args.name.now c.in_ok-file.file (g.S.Shelf.held c.args.shelf.now) (g.S.Shelf.faults c.args.shelf.now)
@@ -42,7 +43,7 @@ pub returns-in-Err : goal.returns-in-Err
 returns-in-Err g c =
     let see = seen g.D.Disk g.A.Air g.C.Clock.given in
     let h = c.in-Err.ensures in
-    let s = started g.D.Disk c.args.terms.now c.args.name.now c.in_ok-file.file c.args.disk.now c.recover_client.new.disk c.start_task.new.disk c.in_ok-client.client c.start_task.new.self c.in_ok-client.ensures.ready h.same h.starts
+    let s = started g.D.Disk c.args.terms.now c.args.name.now c.in_ok-file.file c.args.disk.now c.recover_client.new.disk c.start_task.new.disk c.in_ok-client.client c.start_task.new.self c.in_ok-client.ensures.recovers h.same h.starts
     c.sum_of_file-sum.result (c.sum_of_file-sum.ensures ∙ ap sum_of c.as_slice.ensures) (Err c.in-Err.refusal) (Err c.in-Err.refusal) (refl) (record { answers = h.answers; untouched = h.untouched; does = h.does }) in
     let why = c.stop_of_refusal.ensures ∙ ap (λ s. stop_of_start s c.in-Err.refusal) (c.sum_of_file-sum.ensures ∙ ap sum_of c.as_slice.ensures) in
     let all = subst (λ w. SendsAll see (lent c.args.disk.now c.args.air.now c.args.clock.now) (lent c.start_task.new.disk c.args.air.now c.args.clock.now) (g.S.Shelf.held c.args.shelf.now) (g.S.Shelf.faults c.args.shelf.now)
@@ -54,7 +55,7 @@ pub returns-in-Ok-Fresh : goal.returns-in-Ok-Fresh
 returns-in-Ok-Fresh g c =
     let see = seen g.D.Disk g.A.Air g.C.Clock.given in
     let h = c.in-Ok-Fresh.ensures in
-    let s = started g.D.Disk c.args.terms.now c.args.name.now c.in_ok-file.file c.args.disk.now c.recover_client.new.disk c.start_task.new.disk c.in_ok-client.client c.start_task.new.self c.in_ok-client.ensures.ready h.same h.starts
+    let s = started g.D.Disk c.args.terms.now c.args.name.now c.in_ok-file.file c.args.disk.now c.recover_client.new.disk c.start_task.new.disk c.in_ok-client.client c.start_task.new.self c.in_ok-client.ensures.recovers h.same h.starts
     c.sum_of_file-sum.result (c.sum_of_file-sum.ensures ∙ ap sum_of c.as_slice.ensures) (Ok c.in-Ok-Fresh.field-0) (Ok (begun.Fresh c.in-Ok-Fresh.task)) (ap Ok c.in-Ok-Fresh.field-0-is) (record { answers = h.answers; untouched = h.untouched; does = h.does }) in
     let all = upload-all see g.met.D.Disk.lasts_same g.met.D.Disk.lasts_on (lent c.args.disk.now c.args.air.now c.args.clock.now) c.args.terms.now c.args.name.now c.in_ok-file.file (g.S.Shelf.held c.args.shelf.now) (g.S.Shelf.faults c.args.shelf.now)
     (g.S.Shelf.faults c.load_file.new.shelf) c.in_ok-file.ensures.loads c.in_ok-file.ensures.sendable (c.in_ok-file.ensures.cause.same (ok-never _ stop.Shelf)) c.start_task.new.disk
@@ -65,7 +66,7 @@ returns-in-Ok-Fresh g c =
 pub upload-requires-clause-may : goal.upload-requires-clause-may
 upload-requires-clause-may g c =
     let h = c.in-Ok-Fresh.ensures in
-    let s = started g.D.Disk c.args.terms.now c.args.name.now c.in_ok-file.file c.args.disk.now c.recover_client.new.disk c.start_task.new.disk c.in_ok-client.client c.start_task.new.self c.in_ok-client.ensures.ready h.same h.starts
+    let s = started g.D.Disk c.args.terms.now c.args.name.now c.in_ok-file.file c.args.disk.now c.recover_client.new.disk c.start_task.new.disk c.in_ok-client.client c.start_task.new.self c.in_ok-client.ensures.recovers h.same h.starts
     c.sum_of_file-sum.result (c.sum_of_file-sum.ensures ∙ ap sum_of c.as_slice.ensures) (Ok c.in-Ok-Fresh.field-0) (Ok c.in-Ok-Fresh.field-0) (refl) (record { answers = h.answers; untouched = h.untouched; does = h.does }) in
     may-carry g.D.Disk g.met.D.Disk.lasts_same c.args.terms.now c.args.name.now c.in_ok-file.file c.args.disk.now c.start_task.new.disk (Ok c.in-Ok-Fresh.field-0) s (h.may (λ e. cc e))
 
@@ -73,7 +74,7 @@ pub returns-in-Ok-Going : goal.returns-in-Ok-Going
 returns-in-Ok-Going g c =
     let see = seen g.D.Disk g.A.Air g.C.Clock.given in
     let h = c.in-Ok-Going.ensures in
-    let s = started g.D.Disk c.args.terms.now c.args.name.now c.in_ok-file.file c.args.disk.now c.recover_client.new.disk c.start_task.new.disk c.in_ok-client.client c.start_task.new.self c.in_ok-client.ensures.ready h.same h.starts
+    let s = started g.D.Disk c.args.terms.now c.args.name.now c.in_ok-file.file c.args.disk.now c.recover_client.new.disk c.start_task.new.disk c.in_ok-client.client c.start_task.new.self c.in_ok-client.ensures.recovers h.same h.starts
     c.sum_of_file-sum.result (c.sum_of_file-sum.ensures ∙ ap sum_of c.as_slice.ensures) (Ok c.in-Ok-Going.field-0) (Ok (begun.Going c.in-Ok-Going.task c.in-Ok-Going.number)) (ap Ok c.in-Ok-Going.field-0-is) (record { answers = h.answers; untouched = h.untouched; does = h.does }) in
     let all = upload-all see g.met.D.Disk.lasts_same g.met.D.Disk.lasts_on (lent c.args.disk.now c.args.air.now c.args.clock.now) c.args.terms.now c.args.name.now c.in_ok-file.file (g.S.Shelf.held c.args.shelf.now) (g.S.Shelf.faults c.args.shelf.now)
     (g.S.Shelf.faults c.load_file.new.shelf) c.in_ok-file.ensures.loads c.in_ok-file.ensures.sendable (c.in_ok-file.ensures.cause.same (ok-never _ stop.Shelf)) c.start_task.new.disk
@@ -84,6 +85,11 @@ returns-in-Ok-Going g c =
 pub upload-requires-in-Ok-Going-clause-may : goal.upload-requires-in-Ok-Going-clause-may
 upload-requires-in-Ok-Going-clause-may g c =
     let h = c.in-Ok-Going.ensures in
-    let s = started g.D.Disk c.args.terms.now c.args.name.now c.in_ok-file.file c.args.disk.now c.recover_client.new.disk c.start_task.new.disk c.in_ok-client.client c.start_task.new.self c.in_ok-client.ensures.ready h.same h.starts
+    let s = started g.D.Disk c.args.terms.now c.args.name.now c.in_ok-file.file c.args.disk.now c.recover_client.new.disk c.start_task.new.disk c.in_ok-client.client c.start_task.new.self c.in_ok-client.ensures.recovers h.same h.starts
     c.sum_of_file-sum.result (c.sum_of_file-sum.ensures ∙ ap sum_of c.as_slice.ensures) (Ok c.in-Ok-Going.field-0) (Ok c.in-Ok-Going.field-0) (refl) (record { answers = h.answers; untouched = h.untouched; does = h.does }) in
     may-carry g.D.Disk g.met.D.Disk.lasts_same c.args.terms.now c.args.name.now c.in_ok-file.file c.args.disk.now c.start_task.new.disk (Ok c.in-Ok-Going.field-0) s (h.may (λ e. cc e))
+
+pub returns-in_err-client-clause-notes : goal.returns-in_err-client-clause-notes
+returns-in_err-client-clause-notes g c =
+    let stopped : c.from_residual-in_err-client.result ≡ Err c.in_err-client.field-0.0 = search rules in
+    λ past. refused_exactly g.D.Disk c.args.disk.now c.recover_client.new.disk c.in_err-client.field-0.0 c.from_residual-in_err-client.result stopped c.in_err-client.ensures.stops

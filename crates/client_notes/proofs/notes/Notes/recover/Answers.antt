@@ -1,9 +1,12 @@
 use Rattle.std.proofs.Common.{Err, ◌∙◌, ap}
 use Rattle.std.proofs.lemmas.Result.{err_from_is_err_and}
-use Rattle.client_notes.proofs.KeptLemmas.{recovery-refuses}
+use Rattle.client_notes.proofs.KeptLemmas.{answers-err, answers-ok}
 use Rattle.client_notes.proofs.notes.Notes.recover.Goals as goal
 
-pub returns-in_err-kept-clause-refuses : goal.returns-in_err-kept-clause-refuses
-returns-in_err-kept-clause-refuses g c =
+pub returns-clause-answers : goal.returns-clause-answers
+returns-clause-answers g c = answers-ok g.D.Disk c.args.disk.now c.recover.new.disk _ _ c.in_ok-kept.ensures.answers
+
+pub returns-in_err-kept-clause-answers : goal.returns-in_err-kept-clause-answers
+returns-in_err-kept-clause-answers g c =
     let p = err_from_is_err_and c.from_residual.result c.from_residual.ensures.1 in
-    recovery-refuses _ g.D.Disk c.args.disk.now c.recover.new.disk c.in_err-kept.field-0.0 c.from_residual.result (p.1 ∙ ap (λ x. Err x) p.2) c.in_err-kept.ensures.answers
+    answers-err g.D.Disk c.args.disk.now c.recover.new.disk c.in_err-kept.field-0.0 c.from_residual.result (p.1 ∙ ap (λ x. Err x) p.2) c.in_err-kept.ensures.answers

@@ -13,8 +13,8 @@ returns-clause-may g c = λ fine.
     let P : ClientState → Type 0 = λ s. MayHear g.D.Disk s c.args.disk.now → MayHear g.D.Disk now c.start.new.disk in
     subst P c.self.view_is (λ may.
     let goes = started-goes g.D.Disk a.attempt a.notes c.start.new.self c.args.disk.now c.start.new.disk _ _ _ _ _ c.start.result
-    c.start.ensures.untouched c.start.ensures.does c.start.ensures.stands_on fine (may.healthy, may.stands_on, may.notes_are) in
-    record { healthy = goes.0; stands_on = goes.1; notes_are = goes.2 })
+    c.start.ensures.untouched c.start.ensures.does c.start.ensures.stands_on fine (may.ready, may.notes_are) in
+    record { ready = goes.0; notes_are = goes.1 })
 
 pub returns-clause-started : goal.returns-clause-started
 returns-clause-started g c =

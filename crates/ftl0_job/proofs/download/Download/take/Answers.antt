@@ -19,7 +19,7 @@ returns-in-Login g c =
     subst (λ (r : Row Download). TakesRow g.D.Disk r (with_notes self c.args.notes.now c.args.disk.now) (with_notes c.take_login.new.self c.args.notes.now c.args.disk.now) c.take_login.new.replies.items (Ok c.take_login.result))
     (sym is)
     (takes-still g.D.Disk (login_row held self packet) self c.take_login.new.self c.args.notes.now c.args.disk.now c.take_login.new.replies.items c.take_login.result (fetch-silent held self packet)
-    c.requires.healthy c.requires.stands_on (g.met.D.Disk.lasts_same c.args.disk.now) c.take_login.ensures)
+    c.requires.may.ready (g.met.D.Disk.lasts_same c.args.disk.now) c.take_login.ensures)
 
 pub returns-in-Fetching : goal.returns-in-Fetching
 returns-in-Fetching g c =
@@ -38,4 +38,4 @@ returns-in-Done g c =
     let gives = subst (λ (os : List ℕ). Gives (done_row self packet) self os c.take_done.result) (sym c.requires.empty) c.take_done.ensures in
     subst (λ (r : Row Download). TakesRow g.D.Disk r (with_notes self c.args.notes.now c.args.disk.now) (with_notes self c.args.notes.now c.args.disk.now) c.args.replies.now.items (Ok c.take_done.result)) (sym is)
     (takes-still g.D.Disk (done_row self packet) self self c.args.notes.now c.args.disk.now c.args.replies.now.items c.take_done.result (done-silent self packet)
-    c.requires.healthy c.requires.stands_on (g.met.D.Disk.lasts_same c.args.disk.now) gives)
+    c.requires.may.ready (g.met.D.Disk.lasts_same c.args.disk.now) gives)

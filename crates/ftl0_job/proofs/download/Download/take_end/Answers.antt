@@ -17,7 +17,7 @@ returns-in_err-note_rest g c =
     let inside = c.self.inside in
     let at : Download = record { server = inside.server; number = inside.number; rest = inside.rest.items; phase = inside.phase } in
     let old = c.args.notes.now in
-    let has = subst (λ (d : Download). HasGot old.lists d) (sym c.self.view_is) c.requires.got in
+    let has = subst (λ (d : Download). HasGot old.lists d) (sym c.self.view_is) c.requires.may.got in
     let why = c.in_err-note_rest.field-0.0 in
     let stops : c.from_residual.result ≡ Err why = search rules in
     let P : Download → Result (Option Ending) Halt → Type 0 = λ d r. TakesRow g.D.Disk (data_end_row (got_of old.lists d.server d.number) d) (with_notes d old c.args.disk.now)
@@ -32,7 +32,7 @@ returns-in_default g c =
     let inside = c.self.inside in
     let at : Download = record { server = inside.server; number = inside.number; rest = inside.rest.items; phase = inside.phase } in
     let old = c.args.notes.now in
-    let has = subst (λ (d : Download). HasGot old.lists d) (sym c.self.view_is) c.requires.got in
+    let has = subst (λ (d : Download). HasGot old.lists d) (sym c.self.view_is) c.requires.may.got in
     let none : None ≡ fault_code (got_of c.note_rest.new.notes.lists at.server at.number) = sym c.in_default.is ∙ c.fault_in.ensures ∙ ap fault_code c.got_octets.ensures.octets in
     let P : Download → List ℕ → Type 0 = λ d rest. TakesRow g.D.Disk (data_end_row (got_of old.lists d.server d.number) d) (with_notes d old c.args.disk.now)
     (with_notes (in_phase (with_rest at rest) phase.Done) c.note_rest.new.notes c.note_rest.new.disk) c.write_packet.new.out.items (Ok None) in
@@ -46,7 +46,7 @@ returns-in_err-note_forgot g c =
     let inside = c.self.inside in
     let at : Download = record { server = inside.server; number = inside.number; rest = inside.rest.items; phase = inside.phase } in
     let old = c.args.notes.now in
-    let has = subst (λ (d : Download). HasGot old.lists d) (sym c.self.view_is) c.requires.got in
+    let has = subst (λ (d : Download). HasGot old.lists d) (sym c.self.view_is) c.requires.may.got in
     let some : Some c.in-Some.code ≡ fault_code (got_of c.note_rest.new.notes.lists at.server at.number) = sym c.in-Some.is ∙ c.fault_in.ensures ∙ ap fault_code c.got_octets.ensures.octets in
     let why = c.in_err-note_forgot.field-0.0 in
     let stops : c.from_residual-in_err-note_forgot.result ≡ Err why = search rules in
@@ -62,7 +62,7 @@ returns g c =
     let inside = c.self.inside in
     let at : Download = record { server = inside.server; number = inside.number; rest = inside.rest.items; phase = inside.phase } in
     let old = c.args.notes.now in
-    let has = subst (λ (d : Download). HasGot old.lists d) (sym c.self.view_is) c.requires.got in
+    let has = subst (λ (d : Download). HasGot old.lists d) (sym c.self.view_is) c.requires.may.got in
     let some : Some c.in-Some.code ≡ fault_code (got_of c.note_rest.new.notes.lists at.server at.number) = sym c.in-Some.is ∙ c.fault_in.ensures ∙ ap fault_code c.got_octets.ensures.octets in
     let P : Download → List ℕ → Ending → Type 0 = λ d rest e. TakesRow g.D.Disk (data_end_row (got_of old.lists d.server d.number) d) (with_notes d old c.args.disk.now)
     (with_notes (with_rest at rest) c.note_forgot.new.notes c.note_forgot.new.disk) c.write_packet-2.new.out.items (Ok (Some e)) in

@@ -2,6 +2,7 @@
 use Rattle.std.proofs.Common.{◌≡◌, Ok, rules, sym, ◌∙◌, ap, subst, true, false}
 use Rattle.std.specs.Prelude.{⊤, is_some, Option, Result, Err}
 use Rattle.ftl0_packets.specs.Values.{item_of}
+use Rattle.client_notes.proofs.Offered.{Several-ready}
 use Rattle.ftl0_job.specs.declared.ending.Ending.{Ending}
 use Rattle.disk_model.specs.declared.halt.Halt.{Halt}
 use Rattle.ftl0_job.specs.JobState.{GoBy, GoWith, NotesGoWith}
@@ -15,7 +16,7 @@ returns-then-is_some-clause-takes g c =
     let test : is_some c.self.inside.ending ≡ true = search rules in
     let some = ending-some c.self.inside.ending test in
     let is = ap (λ (j : JobState). j.ending) (sym c.self.view_is) ∙ some.1 in
-    takes-ended g.D.Disk (item_of c.args.packet) c.args.self.now some.0 c.args.notes.now c.args.disk.now c.args.replies.now.items is c.requires.empty c.requires.healthy c.requires.stands_on
+    takes-ended g.D.Disk (item_of c.args.packet) c.args.self.now some.0 c.args.notes.now c.args.disk.now c.args.replies.now.items is c.requires.empty c.requires.may.ready
     (g.met.D.Disk.lasts_same c.args.disk.now)
 
 pub returns-in_err-self-inside-clause-takes : goal.returns-in_err-self-inside-clause-takes
@@ -44,12 +45,16 @@ returns-clause-takes g c =
     (takes-item g.D.Disk (item_of c.args.packet) job c.take_item.new.self c.args.notes.now c.take_item.new.notes c.args.disk.now c.take_item.new.disk c.take_item.new.replies.items is
     c.in_ok-self-inside.field-0 c.in_ok-self-inside.ensures.takes)
 
-pub returns-clause-notes_are : goal.returns-clause-notes_are
-returns-clause-notes_are g c =
+pub returns-clause-may : goal.returns-clause-may
+returns-clause-may g c =
     let job : JobState = record { work = c.self.inside.work; ending = c.self.inside.ending } in
     let test : is_some c.self.inside.ending ≡ false = search rules in
     let is = ending-none c.self.inside.ending test in
-    let went = subst (λ (j : JobState). NotesGoWith c.args.notes.now.lists j) (sym c.self.view_is) c.requires.notes_are in
+    let went = subst (λ (j : JobState). NotesGoWith c.args.notes.now.lists j) (sym c.self.view_is) c.requires.may.notes_are in
     let goes : GoWith c.args.notes.now.lists job.work = subst (λ (e : Option Ending). GoBy e c.args.notes.now.lists job.work) is went in
-    goes-on g.D.Disk (item_of c.args.packet) job c.take_item.new.self c.args.notes.now c.take_item.new.notes c.args.disk.now c.take_item.new.disk c.take_item.new.replies.items is
-    c.in_ok-self-inside.field-0 goes c.in_ok-self-inside.ensures.takes
+    record {
+      ready = Several-ready g.D.Disk c.args.notes.now c.take_item.new.notes c.args.disk.now c.take_item.new.disk _ c.in_ok-self-inside.ensures.takes.noted;
+      notes_are =
+          goes-on g.D.Disk (item_of c.args.packet) job c.take_item.new.self c.args.notes.now c.take_item.new.notes c.args.disk.now c.take_item.new.disk c.take_item.new.replies.items is
+          c.in_ok-self-inside.field-0 goes c.in_ok-self-inside.ensures.takes;
+    }

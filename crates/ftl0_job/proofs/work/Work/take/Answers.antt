@@ -12,4 +12,4 @@ returns-in_ok-take-in-Directory-clause-takes g c =
     let P : Work → Type 0 = λ w. TakesRow g.D.Disk (packet_row c.args.notes.now.lists w (value_of c.args.packet.now)) (with_notes w c.args.notes.now c.args.disk.now) (with_notes (work.Directory c.take-in-Directory.new.self) c.args.notes.now c.args.disk.now) c.take-in-Directory.new.replies.items (Ok c.in_ok-take-in-Directory.field-0) in
     subst P (sym c.in-Directory.is)
     (takes-list g.D.Disk c.in-Directory.at c.take-in-Directory.new.self (value_of c.args.packet.now) c.args.notes.now c.args.disk.now c.take-in-Directory.new.replies.items
-    c.in_ok-take-in-Directory.field-0 c.requires.healthy c.requires.stands_on (g.met.D.Disk.lasts_same c.args.disk.now) c.in_ok-take-in-Directory.ensures)
+    c.in_ok-take-in-Directory.field-0 c.requires.may.ready (g.met.D.Disk.lasts_same c.args.disk.now) c.in_ok-take-in-Directory.ensures)

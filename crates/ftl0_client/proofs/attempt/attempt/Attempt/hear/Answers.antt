@@ -18,7 +18,7 @@ returns-in_err-take_frame-clause-hears g c w a is =
     let before = with_notes c.args.self.now c.args.notes.now c.args.disk.now in
     let now = with_notes c.take_frame.new.self c.take_frame.new.notes c.take_frame.new.disk in
     let at_result : Result ⊤ Halt → Type 0 = λ r. Hears g.D.Disk w a frame before now r in
-    let by = c.in_err-take_frame.ensures.hears w a is in
+    let by = c.in_err-take_frame.ensures.takes w a is in
     subst at_result (sym stops)
     (record {
       by = by;
@@ -35,7 +35,7 @@ returns-in_err-take_frame-clause-puts g c =
 pub returns-clause-hears : goal.returns-clause-hears
 returns-clause-hears g c w a is =
     let frame = value_of c.args.frame.now in
-    let made = c.in_ok-take_frame.ensures.hears w a is in
+    let made = c.in_ok-take_frame.ensures.takes w a is in
     record {
       by = (c.settle.ensures.settles w (taking c.args.notes.now.lists (after_hearing w a frame) (packets_heard w a frame)).after made.0, made.1);
       since = made.1.does.since;

@@ -16,8 +16,8 @@ use Rattle.ftl0_client.proofs.attempt.FeedLemmas.{hears-octets}
 use Rattle.ftl0_client.proofs.attempt.HearLemmas.{hears-puts, hears-told}
 use Rattle.ftl0_client.proofs.attempt.attempt.Attempt.take_frame.Goals as goal
 
-pub returns-in-Bytes-clause-hears : goal.returns-in-Bytes-clause-hears
-returns-in-Bytes-clause-hears g c =
+pub returns-in-Bytes-clause-takes : goal.returns-in-Bytes-clause-takes
+returns-in-Bytes-clause-takes g c =
     let s = c.self.inside in
     let frame = value_of c.args.frame.now in
     let mid = attempt_state (record { link = c.take.new.self; job = s.job; down = s.down }) in

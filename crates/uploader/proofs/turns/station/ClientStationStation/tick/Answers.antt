@@ -15,4 +15,4 @@ returns-clause-takes g c =
     let may = c.requires.may in
     let keeps = c.tick.ensures.keeps in
     event-taken g.D.Disk g.met.D.Disk.lasts_on (at old disk) (at new disk) c.requires (ticks c.args._moment) c.requires.awake (may-kept g.D.Disk old.client new.client disk keeps may)
-    (λ client is. (c.tick.ensures.ticks client is, does-nothing g.D.Disk g.met.D.Disk.lasts_same old.client.notes new.client.notes disk keeps.notes may.stands_on may.healthy))
+    (λ client is. (c.tick.ensures.ticks client is, does-nothing g.D.Disk g.met.D.Disk.lasts_same old.client.notes new.client.notes disk keeps.notes may.ready))
