@@ -103,14 +103,25 @@ IsListed see o old new out out_now asked status =
     → IsUnlisted old new out out_now status
     ⊎ ListRan see o old new out out_now (files_asked (client_terms (list_terms asked)) tokens) status
 
+-- so it was with the file that is to be sent
+abbrev pub IsSent :
+    {A C D S O : Type 0} → Seen D A C → ShelfGhosts S → OutGhosts O → Outside D A C S O → Outside D A C S O
+    → SendRequest → Status → Type 0
+IsSent see s o old new asked status = SendRan see s o old new (client_terms (send_terms asked)) asked.name.now status
+
+-- so it was with the one that is to be fetched
+abbrev pub IsFetched :
+    {A C D S O : Type 0} → Seen D A C → ShelfGhosts S → OutGhosts O → Outside D A C S O → Outside D A C S O
+    → FetchRequest → Status → Type 0
+IsFetched see s o old new asked status =
+    FetchRan see s o old new (file_asked (client_terms (fetch_terms asked)) asked.number asked.name.now) status
+
 -- so it was with what a client was asked for
 abbrev pub ClientRan :
     {A C D S O : Type 0} → Seen D A C → ShelfGhosts S → OutGhosts O → Outside D A C S O → Outside D A C S O
     → ClientRequest → Status → Type 0
-ClientRan see s o old new (client.Send asked) status =
-    SendRan see s o old new (client_terms (send_terms asked)) asked.name.now status
-ClientRan see s o old new (client.Fetch asked) status =
-    FetchRan see s o old new (file_asked (client_terms (fetch_terms asked)) asked.number asked.name.now) status
+ClientRan see s o old new (client.Send asked) status = IsSent see s o old new asked status
+ClientRan see s o old new (client.Fetch asked) status = IsFetched see s o old new asked status
 ClientRan see s o old new (client.List asked) status =
     IsListed see o old.lent new.lent old.out new.out asked status × (new.shelf ≡ old.shelf)
 

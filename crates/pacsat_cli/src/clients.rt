@@ -1,11 +1,9 @@
 //! The commands `send`, `fetch` and `list`.
 
 ghost use Rattle.std.specs.Prelude.{◌≡◌, ◌≤◌, length};
-ghost use Rattle.command_words.specs.Asked.{fetch_terms, send_terms};
 ghost use Rattle.node.specs.Lent.{lent, seen};
-ghost use Rattle.uploader.specs.Fetching.{file_asked};
-ghost use Rattle.pacsat_cli.specs.Clients.{ClientRan, FetchRan, IsListed, MayFetch, MayList, MayRun, MaySend, PutsLine};
-ghost use Rattle.pacsat_cli.specs.Clients.{SendRan, client_terms, outside};
+ghost use Rattle.pacsat_cli.specs.Clients.{ClientRan, IsFetched, IsListed, IsSent, MayFetch, MayList, MayRun, MaySend};
+ghost use Rattle.pacsat_cli.specs.Clients.{PutsLine, outside};
 ghost use Rattle.pacsat_cli.specs.Status.{numbered_line};
 ghost use Rattle.pacsat_cli.specs.Stops.{status_of_stop as stop_status};
 
@@ -50,10 +48,9 @@ fn run_send<D: Disk, A: Air, S: Shelf, O: Out, C: Clock>(
     clock: &mut C,
 ) -> Status
     requires { MaySend request.now }
-    ensures ran { SendRan (seen D.Disk A.Air C.given) S.Shelf O.Out
+    ensures ran { IsSent (seen D.Disk A.Air C.given) S.Shelf O.Out
         (outside (lent disk.old air.old clock.old) shelf.old out.old)
-        (outside (lent disk.new air.new clock.new) shelf.new out.new) (client_terms (send_terms request.now))
-        request.now.name.now result }
+        (outside (lent disk.new air.new clock.new) shelf.new out.new) request.now result }
 {
     let terms = ClientTerms {
         server: request.server,
@@ -78,10 +75,9 @@ fn run_fetch<D: Disk, A: Air, S: Shelf, O: Out, C: Clock>(
     clock: &mut C,
 ) -> Status
     requires { MayFetch request.now }
-    ensures ran { FetchRan (seen D.Disk A.Air C.given) S.Shelf O.Out
+    ensures ran { IsFetched (seen D.Disk A.Air C.given) S.Shelf O.Out
         (outside (lent disk.old air.old clock.old) shelf.old out.old)
-        (outside (lent disk.new air.new clock.new) shelf.new out.new)
-        (file_asked (client_terms (fetch_terms request.now)) request.now.number request.now.name.now) result }
+        (outside (lent disk.new air.new clock.new) shelf.new out.new) request.now result }
 {
     let terms = ClientTerms {
         server: request.server,

@@ -15,7 +15,7 @@ use std::alloc::Global;
 pub(crate) const MOST_OCTETS: usize = 4_194_304;
 
 /// A command that shows a text of a file on the shelf.
-#[derive(Clone, Copy, Debug, PartialEq, Eq)]
+#[derive(Clone, Copy)]
 pub(crate) enum FileCommand {
     /// `frames`: a line for each part of recorded KISS text.
     Frames,

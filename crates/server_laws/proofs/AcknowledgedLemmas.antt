@@ -21,7 +21,7 @@ use Rattle.ftl0_session.specs.Laws.{AcknowledgedStandsLaw}
 use Rattle.ftl0_session.specs.Lists.Lists.{CallerList}
 use Rattle.ftl0_session.specs.Run.{Event, RunsOver, Sends, Session, event_row, session_over}
 use Rattle.ftl0_session.specs.Table.{Row, State, aborting, command, download_row, due_at, error_by, fault_reply, receiving, row_among, session_row, state_by, upload_row}
-use Rattle.ftl0_session.specs.Uploads.Failures.{Failure, read_fails}
+use Rattle.ftl0_session.specs.Uploads.Failures.{Failure, failed_reads, failed_write, read_fails}
 use Rattle.ftl0_session.specs.Uploads.Laws.{IsWhole}
 use Rattle.ftl0_session.specs.Uploads.Session as upload
 use Rattle.ftl0_session.specs.Uploads.Session.{is_all, is_upload_kind, whole_row}
@@ -36,13 +36,16 @@ use Rattle.ftl0_server.specs.Connection.Laws.{TakesUpTo, TakingLaw}
 use Rattle.ftl0_server.specs.Connection.Taking.{Progress, queued, queuing}
 use Rattle.ftl0_server.specs.Server.{Server, hearing_at, hearing_by}
 use Rattle.ftl0_server.specs.ServerStep.{happening}
+use Rattle.ftl0_server.specs.Serving.{ServesOver}
 use Rattle.ftl0_server.specs.Slots.{Slot}
+use Rattle.ax25_frames.specs.FrameText.{FrameValue}
+use Rattle.server_node.specs.OnAir.Serving.{server_steps}
 use Rattle.ftl0_server.proofs.Offered.{serves}
 use Rattle.node.specs.Events.{NodeEvent}
 use Rattle.node.specs.Lent.{Seen}
 use Rattle.node.specs.declared.stop.NodeStop.{NodeStop as Stop}
 use Rattle.node.specs.declared.stop.NodeStop.TheVariants as node_stop
-use Rattle.server_laws.specs.Acknowledged.{AcknowledgedSince, FileEnd, ServerAcknowledgesLaw, SessionAcknowledgesLaw, TakesPacket, row_of_end, taken_first}
+use Rattle.server_laws.specs.Acknowledged.{AcknowledgedSince, FileEnd, MeetsEvent, ServerAcknowledgesLaw, SessionAcknowledgesLaw, TakesPacket, row_of_end, taken_first}
 use Rattle.server_node.specs.OnAir.Served.{ServerRan, server_from}
 use Rattle.server_node.specs.Served.{IsServed, IsUnrecovered, Run}
 use Rattle.server_node.specs.Sessions.Running.{IsSaid, RunsAs, StopsAs, first_session, session_steps}
@@ -68,12 +71,12 @@ pub acks-at : (before later : List PacketValue) → acks (before ++ ul_ack_resp 
 acks-at [] later = refl
 acks-at (packet ∷ before) later = let each = acks-at before later in grind (arith, common_steps)
 
--- what stands in two lists of packets stands in the first, or in the second
-pub split : (xs ys before later : List PacketValue) (x : PacketValue) → xs ++ ys ≡ before ++ x ∷ later
-    → ((more : List PacketValue) × (xs ≡ before ++ x ∷ more)) ⊎ ((more : List PacketValue) × (before ≡ xs ++ more) × (ys ≡ more ++ x ∷ later))
+-- what stands in two lists stands in the first, or in the second
+split : {X : Type 0} (xs ys before later : List X) (x : X) → xs ++ ys ≡ before ++ x ∷ later
+    → ((more : List X) × (xs ≡ before ++ x ∷ more)) ⊎ ((more : List X) × (before ≡ xs ++ more) × (ys ≡ more ++ x ∷ later))
 split [] ys before later x e = inr (before, refl, e)
 split (a ∷ xs) ys [] later x e = inl (xs, cc)
-split (a ∷ xs) ys (b ∷ before) later x e = ⊎_elim (λ (one : (more : List PacketValue) × (xs ≡ before ++ x ∷ more)). inl (one.0, cc)) (λ other. inr (other.0, cc, other.2)) (split xs ys before later x cc)
+split {X = X} (a ∷ xs) ys (b ∷ before) later x e = ⊎_elim (λ (one : (more : List X) × (xs ≡ before ++ x ∷ more)). inl (one.0, cc)) (λ other. inr (other.0, cc, other.2)) (split xs ys before later x cc)
 
 -- ---- which row replies it
 
@@ -489,13 +492,137 @@ module _ (server : Server) (event : NodeEvent) (failures : List Failure) (taken 
       let up = law (caller_of c) taken.moment (session_over server.store server.lists c.state) (after_frame server.window c.end taken.frame) taken.items taken.packet taken.others failures taken.goes taken.not_over taken.written in
       record { others = up.others; done_is = taking-done ∙ up.done_is ∙ ap (λ (r : Row). progress.done ++ (r.commands ++ up.others)) taken.row_is }
 
+-- It took the first of these events, and met each of them.
+record Took (server : Server) (events least : List NodeEvent) (done : List Command) : Type 0 where
+  pub taken : List NodeEvent
+  pub others : List NodeEvent
+  pub in_order : events ≡ taken ++ others
+  pub whole : (others ≡ []) ⊎ ((between : List NodeEvent) × (taken ≡ least ++ between))
+  pub met : (earlier : List NodeEvent) (event : NodeEvent) (later : List NodeEvent) → taken ≡ earlier ++ event ∷ later
+      → (meets : MeetsEvent server events done) × (meets.earlier ≡ earlier) × (meets.event ≡ event)
+
+-- one event among others is the only one
+only-one : (next event : NodeEvent) (before later : List NodeEvent) → next ∷ [] ≡ before ++ event ∷ later → (before ≡ []) × (next ≡ event)
+only-one next event [] later is = (refl, cc)
+only-one next event (one ∷ []) later is = absurd (let e : [] ≡ event ∷ later = cc in cc)
+only-one next event (one ∷ (two ∷ before)) later is = absurd (let e : [] ≡ two ∷ (before ++ event ∷ later) = cc in cc)
+
+module _ (server : Server) (events least : List NodeEvent) where
+  -- events that were served over are met, whatever is behind them
+  met-over : (taken behind : List NodeEvent) (frames : List FrameValue) (first more : List Command) (missed : ℕ) (now : Server) → events ≡ taken ++ behind → ServesOver server taken frames first missed now
+      → (earlier : List NodeEvent) (event : NodeEvent) (later : List NodeEvent) → taken ≡ earlier ++ event ∷ later → (meets : MeetsEvent server events (first ++ more)) × (meets.earlier ≡ earlier) × (meets.event ≡ event)
+  met-over taken behind frames first more missed now in_order h earlier event later is =
+      let P : List NodeEvent → Type 0 = λ es. ServesOver server es frames first missed now in
+      let m = serves.comes_to server earlier event later frames first missed now (subst P is h) in
+      let here : List Command = (happening m.server_then event (failed_reads m.parts)).done in (
+        record {
+          earlier = earlier;
+          event = event;
+          later = later ++ behind;
+          in_order = in_order ∙ ap (λ (es : List NodeEvent). es ++ behind) is ∙ append_assoc earlier (event ∷ later) behind;
+          frames = m.frames;
+          before = m.before;
+          missed = m.missed;
+          now = m.server_then;
+          serves = m.serves;
+          failures = failed_reads m.parts;
+          others = m.others ++ more;
+          done_are =
+              ap (λ (cs : List Command). cs ++ more) m.commands_are ∙ append_assoc m.before (here ++ m.others) more ∙ ap (λ (cs : List Command). m.before ++ cs) (append_assoc here m.others more);
+        },
+        refl,
+        refl,
+      )
+
+  took-all : (frames : List FrameValue) (done : List Command) (missed : ℕ) (now : Server) → ServesOver server events frames done missed now → Took server events least done
+  took-all frames done missed now h = record {
+    taken = events;
+    others = [];
+    in_order = sym (append-nil events);
+    whole = inl refl;
+    met = λ earlier event later is.
+        let P : List Command → Type 0 = λ cs. (meets : MeetsEvent server events cs) × (meets.earlier ≡ earlier) × (meets.event ≡ event) in
+        subst P (append-nil done) (met-over events [] frames done [] missed now (sym (append-nil events)) h earlier event later is);
+  }
+
+  module _ (unsaid : Bool) (all : Made) (cut : List Command) where
+    -- a stop at an event with these failures
+    took-up_to : (why : Stop) (h : StopsBehind least server_steps server events why unsaid all cut) (failures : List Failure) → h.stops.last.done ≡ (happening h.stops.then_is h.stops.next failures).done → Took server events least all.done
+    took-up_to why h failures done_is =
+        let s = h.stops in
+        let first : List Command = s.earlier.done in
+        let last : List Command = s.last.done in
+        let done : all.done ≡ first ++ last = ap (λ (m : Made). m.done) s.all_is in
+        let order : events ≡ (s.before ++ s.next ∷ []) ++ s.later = s.events_are ∙ sym (append_assoc s.before (s.next ∷ []) s.later) in
+        record {
+          taken = s.before ++ s.next ∷ [];
+          others = s.later;
+          in_order = order;
+          whole = inr (h.between ++ s.next ∷ [], ap (λ (es : List NodeEvent). es ++ s.next ∷ []) h.in_order ∙ append_assoc least h.between (s.next ∷ []));
+          met = λ earlier event later is.
+              let P : List Command → Type 0 = λ cs. (meets : MeetsEvent server events cs) × (meets.earlier ≡ earlier) × (meets.event ≡ event) in
+              subst P (sym done)
+              (⊎_elim (λ (one : (m : List NodeEvent) × (s.before ≡ earlier ++ event ∷ m)). met-over s.before (s.next ∷ s.later) s.goes.frames first last s.earlier.missed s.then_is s.events_are s.goes.serves earlier event one.0 one.1)
+              (λ (other : (m : List NodeEvent) × (earlier ≡ s.before ++ m) × (s.next ∷ [] ≡ m ++ event ∷ later)).
+              let at = only-one s.next event other.0 later other.2 in (
+                record {
+                  earlier = s.before;
+                  event = s.next;
+                  later = s.later;
+                  in_order = s.events_are;
+                  frames = s.goes.frames;
+                  before = first;
+                  missed = s.earlier.missed;
+                  now = s.then_is;
+                  serves = s.goes.serves;
+                  failures = failures;
+                  others = [];
+                  done_are = ap (λ (cs : List Command). first ++ cs) (done_is ∙ sym (append-nil _));
+                },
+                sym (append-nil s.before) ∙ ap (λ (es : List NodeEvent). s.before ++ es) (sym at.0) ∙ sym other.1,
+                at.1,
+              ))
+              (split s.before (s.next ∷ []) earlier later event is));
+        }
+
+    -- a stop that leaves its event out
+    took-before : (why : Stop) → StopsBehind least server_steps server events why unsaid all cut → Took server events least all.done
+    took-before why h =
+        let s = h.stops in
+        let done : all.done ≡ s.earlier.done ++ s.last.done = ap (λ (m : Made). m.done) s.all_is in
+        record {
+          taken = s.before;
+          others = s.next ∷ s.later;
+          in_order = s.events_are;
+          whole = inr (h.between, h.in_order);
+          met = λ earlier event later is.
+              let P : List Command → Type 0 = λ cs. (meets : MeetsEvent server events cs) × (meets.earlier ≡ earlier) × (meets.event ≡ event) in
+              subst P (sym done) (met-over s.before (s.next ∷ s.later) s.goes.frames s.earlier.done s.last.done s.earlier.missed s.then_is s.events_are s.goes.serves earlier event later is);
+        }
+
+    took : (ended : Result Served NodeStop) → EndsOver ended least server_steps server events unsaid all cut → Took server events least all.done
+    took (Ok served) h = took-all h.1.frames all.done all.missed h.0 h.1.serves
+    took (Err stop.AirRead) h = took-all h.1.frames all.done all.missed h.0 h.1.serves
+    took (Err stop.Spent) h = took-all h.1.frames all.done all.missed h.0 h.1.serves
+    took (Err stop.AirWrite) h = let at = h.stops.stops in took-up_to node_stop.AirWrite h (failed_reads at.2.parts) at.2.step.done_is
+    took (Err stop.Disk) h = let at = h.stops.stops in took-up_to node_stop.Disk h (failed_write at.0 ++ failed_reads at.1) at.4.done_is
+    took (Err stop.OutOfMemory) h = took-before node_stop.OutOfMemory h
+    took (Err (stop.NotAStore found)) h = absurd h
+    took (Err (stop.Damaged at)) h = absurd h
+
 pub server_acknowledges : {D A C : Type 0} (seen : Seen D A C) → AcknowledgedStandsLaw → TakingLaw → ServerAcknowledgesLaw seen
 server_acknowledges {D} {A} {C} seen law taking old new terms ended ends =
     ⊎_elim (λ (none : IsUnrecovered seen terms.limits.blocks old new ended). inl none.air)
     (λ (served : IsServed seen terms.limits.blocks None (λ start run. ServerRan (server_from terms start) terms.polls run ended) old new ended).
+    let t = took (server_from terms served.start) served.ran.events served.ran.least served.run.unsaid served.run.all served.run.cut ended served.ran.ends_over in
     inr (record {
       ended = ended;
       served = served;
+      taken = t.taken;
+      others = t.others;
+      in_order = t.in_order;
+      whole = t.whole;
+      met = t.met;
       each = λ meets taken before later is.
           let done : Progress = progress meets.now meets.event meets.failures taken in
           let store : Store = after_all meets.now.store done.done in

@@ -26,7 +26,7 @@ pub enum WordsRefusal {
 }
 
 /// A call that reached the system, with what it answered.
-#[derive(Debug, Drop)]
+#[derive(Drop)]
 pub enum HostCall {
     /// The standard streams were to be open.
     Holds {

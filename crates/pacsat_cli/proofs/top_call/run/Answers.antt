@@ -20,6 +20,10 @@ use Rattle.pacsat_cli.proofs.RunServe.{serve-bad_store, serve-complete, serve-di
 use Rattle.pacsat_cli.proofs.RunSession.{asked_moment, most_blocks, session-alone, session-bad_store, session-complete, session-disk, session-done, session-not, session-read, session-runs, session-spent, session-write, some_blocks}
 use Rattle.pacsat_cli.proofs.top_call.run.Goals as goal
 
+-- what stayed is as it was
+same : {X : Type 0} (x : X) → x ≡ x
+same x = refl
+
 pub returns-in-Err : goal.returns-in-Err
 returns-in-Err g c =
     let why = c.in-Err.refusal in
@@ -39,41 +43,41 @@ returns-in-Err g c =
       unbuilt = refused-unbuilt_told words only why h;
       unbuilt_words = refused-unbuilt words only why h;
       unread = λ _. refused-unread words only why h;
-      untouched = λ _. (refl, refl, refl);
-      held = λ _. refl;
+      untouched = λ _. (same c.args.air.now, same c.args.shelf.now, same c.args.clock.now);
+      held = λ _. same (g.S.Shelf.held c.args.shelf.now);
       session = refused-session words only why h g.A.Air c.args.air.now g.D.Disk g.C.Clock.given c.args.disk.now c.args.clock.now;
-      session_alone = λ _. refl;
+      session_alone = λ _. same c.args.shelf.now;
       serve = refused-serve words only why h g.A.Air c.args.air.now g.D.Disk g.C.Clock.given c.args.disk.now c.args.clock.now;
-      serve_alone = λ _. refl;
-      clock_unasked = λ _. refl;
+      serve_alone = λ _. same c.args.shelf.now;
+      clock_unasked = λ _. same c.args.clock.now;
       send = send;
       fetch = fetch;
       list = list;
-      list_alone = λ _. refl;
+      list_alone = λ _. same c.args.shelf.now;
       send_refuses = send-refuses (seen g.D.Disk g.A.Air g.C.Clock.given) g.S.Shelf g.O.Out words (lent c.args.disk.now c.args.air.now c.args.clock.now) (lent c.args.disk.now c.args.air.now c.args.clock.now) c.args.shelf.now c.args.shelf.now (status_of_refusal why) c.args.out.now c.show_line.new.out send;
       send_starts = send-starts (seen g.D.Disk g.A.Air g.C.Clock.given) g.S.Shelf g.O.Out words (lent c.args.disk.now c.args.air.now c.args.clock.now) (lent c.args.disk.now c.args.air.now c.args.clock.now) c.args.shelf.now c.args.shelf.now (status_of_refusal why) c.args.out.now c.show_line.new.out send;
       send_exactly = send-exactly (seen g.D.Disk g.A.Air g.C.Clock.given) g.S.Shelf g.O.Out words (lent c.args.disk.now c.args.air.now c.args.clock.now) (lent c.args.disk.now c.args.air.now c.args.clock.now) c.args.shelf.now c.args.shelf.now (status_of_refusal why) c.args.out.now c.show_line.new.out send c.one_run_law.ensures c.one_step_law.ensures c.stays_law.ensures;
       fetch_exactly = fetch-exactly (seen g.D.Disk g.A.Air g.C.Clock.given) c.one_run_law.ensures c.one_step_law.ensures c.stays_law.ensures (lent c.args.disk.now c.args.air.now c.args.clock.now) (lent c.args.disk.now c.args.air.now c.args.clock.now) g.S.Shelf g.O.Out words c.args.shelf.now c.args.shelf.now c.args.out.now c.show_line.new.out (status_of_refusal why) fetch;
       list_exactly = list-exactly (seen g.D.Disk g.A.Air g.C.Clock.given) c.one_run_law.ensures c.one_step_law.ensures c.stays_law.ensures (lent c.args.disk.now c.args.air.now c.args.clock.now) (lent c.args.disk.now c.args.air.now c.args.clock.now) g.S.Shelf g.O.Out words c.args.shelf.now c.args.shelf.now c.args.out.now c.show_line.new.out (status_of_refusal why) list;
-      session_acknowledged = λ _ _ _. inl refl;
-      serve_acknowledged = λ _ _. inl refl;
-      disk_alone = λ _. refl;
+      session_acknowledged = λ _ _ _. inl (same c.args.air.now);
+      serve_acknowledged = λ _ _. inl (same c.args.air.now);
+      disk_alone = λ _. same c.args.disk.now;
       complete = refused-complete words only why h g.A.Air c.args.air.now;
       spent = refused-spent words only why h g.A.Air c.args.air.now;
       serve_complete = refused-serve_complete words only why h g.A.Air c.args.air.now;
       serve_spent = refused-serve_spent words only why h g.A.Air c.args.air.now;
       files = refused-files words only why h g.S.Shelf.held g.O.Out.shown g.O.Out.faults c.args.shelf.now c.args.out.now c.show_line.new.out line.shown line.no_line;
-      files_alone = λ _. (refl, refl);
+      files_alone = λ _. (same c.args.air.now, same c.args.clock.now);
       no_such = refused-no_such words only why h held;
       too_long = refused-too_long words only why h held;
       files_done = refused-shown words only why h held;
       made = refused-made words only why h g.S.Shelf.held c.args.shelf.now;
       body = refused-body words only why h g.S.Shelf.held c.args.shelf.now;
-      made_alone = λ _. (refl, refl);
-      air_read = record { rose = λ e. absurd (refused-not why status.AirRead refl e); same = λ _ _. refl };
-      air_write = record { rose = λ e. absurd (refused-not why status.AirWrite refl e); same = λ _ _ _ _. refl };
+      made_alone = λ _. (same c.args.air.now, same c.args.clock.now);
+      air_read = record { rose = λ e. absurd (refused-not why status.AirRead refl e); same = λ _ _. same (g.A.Air.read_faults c.args.air.now) };
+      air_write = record { rose = λ e. absurd (refused-not why status.AirWrite refl e); same = λ _ _ _ _. same (g.A.Air.write_faults c.args.air.now) };
       disk = refused-disk words only why h g.D.Disk.read_faults g.D.Disk.write_faults c.args.disk.now c.args.air.now;
-      shelf = record { rose = λ e. absurd (refused-not why status.Shelf refl e); same = λ _. refl };
+      shelf = record { rose = λ e. absurd (refused-not why status.Shelf refl e); same = λ _. same (g.S.Shelf.faults c.args.shelf.now) };
       out = λ e. absurd (refused-not why status.Out refl e);
       bad_store = refused-bad_store words only why h (g.D.Disk.content c.args.disk.now);
       node_done = λ _ e. absurd (refused-not why status.Done refl e);
@@ -108,16 +112,16 @@ returns-in-Session g c =
       unbuilt_words = λ unbuilt. absurd (only.unbuilt_session unbuilt session);
       unread = λ refused. absurd (elim refused [ inl usage ↦ only.usage_session usage session | inr unbuilt ↦ only.unbuilt_session unbuilt session ]);
       untouched = λ refused. absurd (elim refused [ inl usage ↦ only.usage_session usage session | inr unbuilt ↦ only.unbuilt_session unbuilt session ]);
-      held = λ _. refl;
+      held = λ _. same (g.S.Shelf.held c.args.shelf.now);
       session = runs;
-      session_alone = λ _. refl;
+      session_alone = λ _. same c.args.shelf.now;
       serve = λ other is. absurd (only.session_serve session (other, is));
       serve_alone = λ serve. absurd (only.session_serve session serve);
       clock_unasked = λ given. ran.ensures.clock (asked_moment words asked asks determined given);
       send = λ asked name is. absurd (only.session_client session (inl (asked, name, is)));
       fetch = λ asked number name is. absurd (only.session_client session (inr (inl (asked, number, name, is))));
       list = λ asked tokens is. absurd (only.session_client session (inr (inr (asked, tokens, is))));
-      list_alone = λ _. refl;
+      list_alone = λ _. same c.args.shelf.now;
       send_refuses = λ asked name is. absurd (only.session_client session (inl (asked, name, is)));
       send_starts = λ of. absurd (only.session_client session (inl (of.asked, of.name, of.asks)));
       send_exactly = λ of. absurd (only.session_client session (inl (of.asked, of.name, of.asks)));
@@ -141,11 +145,11 @@ returns-in-Session g c =
       air_read = session-read g.D.Disk g.A.Air g.C.Clock.given c.args.disk.now ran.new.disk c.args.air.now ran.new.air c.args.clock.now ran.new.clock asked ran.result words asks only determined over;
       air_write = session-write g.D.Disk g.A.Air g.C.Clock.given c.args.disk.now ran.new.disk c.args.air.now ran.new.air c.args.clock.now ran.new.clock asked ran.result words asks only determined over;
       disk = session-disk g.D.Disk g.A.Air g.C.Clock.given c.args.disk.now ran.new.disk c.args.air.now ran.new.air c.args.clock.now ran.new.clock asked ran.result words asks only determined over;
-      shelf = record { rose = λ e. absurd (isnt status.Shelf refl e); same = λ _. refl };
+      shelf = record { rose = λ e. absurd (isnt status.Shelf refl e); same = λ _. same (g.S.Shelf.faults c.args.shelf.now) };
       out = λ e. absurd (isnt status.Out refl e);
       bad_store = session-bad_store g.D.Disk g.A.Air g.C.Clock.given c.args.disk.now ran.new.disk c.args.air.now ran.new.air c.args.clock.now ran.new.clock asked ran.result words asks only determined over;
       node_done = λ _. session-done g.D.Disk g.A.Air g.C.Clock.given c.args.disk.now ran.new.disk c.args.air.now ran.new.air c.args.clock.now ran.new.clock asked ran.result words asks only determined over;
-      done = λ e. (refl, ap g.O.Out.faults (line.no_line (ap line_of e)));
+      done = λ e. (same (g.S.Shelf.faults c.args.shelf.now), ap g.O.Out.faults (line.no_line (ap line_of e)));
       unshown = λ e _. line.no_line (ap line_of e);
       shown = λ _. line.shown;
     }
@@ -175,16 +179,16 @@ returns-in-Serve g c =
       unbuilt_words = λ unbuilt. absurd (only.unbuilt_serve unbuilt serve);
       unread = λ refused. absurd (elim refused [ inl usage ↦ only.usage_serve usage serve | inr unbuilt ↦ only.unbuilt_serve unbuilt serve ]);
       untouched = λ refused. absurd (elim refused [ inl usage ↦ only.usage_serve usage serve | inr unbuilt ↦ only.unbuilt_serve unbuilt serve ]);
-      held = λ _. refl;
+      held = λ _. same (g.S.Shelf.held c.args.shelf.now);
       session = λ other is. absurd (only.session_serve (other, is) serve);
       session_alone = λ session. absurd (only.session_serve session serve);
       serve = runs;
-      serve_alone = λ _. refl;
+      serve_alone = λ _. same c.args.shelf.now;
       clock_unasked = λ given. absurd (only.session_serve (given.0, given.1) serve);
       send = λ asked name is. absurd (only.serve_client serve (inl (asked, name, is)));
       fetch = λ asked number name is. absurd (only.serve_client serve (inr (inl (asked, number, name, is))));
       list = λ asked tokens is. absurd (only.serve_client serve (inr (inr (asked, tokens, is))));
-      list_alone = λ _. refl;
+      list_alone = λ _. same c.args.shelf.now;
       send_refuses = λ asked name is. absurd (only.serve_client serve (inl (asked, name, is)));
       send_starts = λ of. absurd (only.serve_client serve (inl (of.asked, of.name, of.asks)));
       send_exactly = λ of. absurd (only.serve_client serve (inl (of.asked, of.name, of.asks)));
@@ -208,11 +212,11 @@ returns-in-Serve g c =
       air_read = serve-read g.D.Disk g.A.Air g.C.Clock.given c.args.disk.now ran.new.disk c.args.air.now ran.new.air c.args.clock.now ran.new.clock asked ran.result words asks only determined over;
       air_write = serve-write g.D.Disk g.A.Air g.C.Clock.given c.args.disk.now ran.new.disk c.args.air.now ran.new.air c.args.clock.now ran.new.clock asked ran.result words asks only determined over;
       disk = serve-disk g.D.Disk g.A.Air g.C.Clock.given c.args.disk.now ran.new.disk c.args.air.now ran.new.air c.args.clock.now ran.new.clock asked ran.result words asks only determined over;
-      shelf = record { rose = λ e. absurd (isnt status.Shelf refl e); same = λ _. refl };
+      shelf = record { rose = λ e. absurd (isnt status.Shelf refl e); same = λ _. same (g.S.Shelf.faults c.args.shelf.now) };
       out = λ e. absurd (isnt status.Out refl e);
       bad_store = serve-bad_store g.D.Disk g.A.Air g.C.Clock.given c.args.disk.now ran.new.disk c.args.air.now ran.new.air c.args.clock.now ran.new.clock asked ran.result words asks only determined over;
       node_done = λ _. serve-done g.D.Disk g.A.Air g.C.Clock.given c.args.disk.now ran.new.disk c.args.air.now ran.new.air c.args.clock.now ran.new.clock asked ran.result words asks only determined over;
-      done = λ e. (refl, ap g.O.Out.faults (line.no_line (ap line_of e)));
+      done = λ e. (same (g.S.Shelf.faults c.args.shelf.now), ap g.O.Out.faults (line.no_line (ap line_of e)));
       unshown = λ e _. line.no_line (ap line_of e);
       shown = λ _. line.shown;
     }
@@ -242,7 +246,7 @@ returns-in-File g c =
       session_alone = λ session. absurd (session-file words only session file);
       serve = λ asked is. absurd (serve-file words only (asked, is) file);
       serve_alone = λ serve. absurd (serve-file words only serve file);
-      clock_unasked = λ _. refl;
+      clock_unasked = λ _. same c.args.clock.now;
       send = λ asked name is. absurd (file-client words only file (inl (asked, name, is)));
       fetch = λ asked number name is. absurd (file-client words only file (inr (inl (asked, number, name, is))));
       list = λ asked tokens is. absurd (file-client words only file (inr (inr (asked, tokens, is))));
@@ -252,9 +256,9 @@ returns-in-File g c =
       send_exactly = λ of. absurd (file-client words only file (inl (of.asked, of.name, of.asks)));
       fetch_exactly = λ led. absurd (file-client words only file (inr (inl (led.asked, led.number, led.name, led.asks))));
       list_exactly = λ led. absurd (file-client words only file (inr (inr (led.asked, led.tokens, led.asks))));
-      session_acknowledged = λ _ _ _. inl refl;
-      serve_acknowledged = λ _ _. inl refl;
-      disk_alone = λ _. refl;
+      session_acknowledged = λ _ _ _. inl (same c.args.air.now);
+      serve_acknowledged = λ _ _. inl (same c.args.air.now);
+      disk_alone = λ _. same c.args.disk.now;
       complete = λ told. absurd (session-file words only (told.asked, told.asks) file);
       spent = λ told. absurd (session-file words only (told.asked, told.asks) file);
       serve_complete = λ told. absurd (serve-file words only (told.asked, told.asks) file);
@@ -262,16 +266,16 @@ returns-in-File g c =
       files =
           file-runs g.O.Out.shown g.O.Out.faults command held name c.args.out.now ran.new.out ran.result ran.ensures.shown words one g.S.Shelf.held c.args.shelf.now refl
           c.show_line-in-File.new.out line.shown line.no_line;
-      files_alone = λ _. (refl, refl);
+      files_alone = λ _. (same c.args.air.now, same c.args.clock.now);
       no_such = file-no_such g.O.Out.shown g.O.Out.faults command held name c.args.out.now ran.new.out ran.result ran.ensures.shown words one;
       too_long = file-too_long g.O.Out.shown g.O.Out.faults command held name c.args.out.now ran.new.out ran.result ran.ensures.shown words one;
       files_done = file-shown g.O.Out.shown g.O.Out.faults command held name c.args.out.now ran.new.out ran.result ran.ensures.shown words one;
       made = λ body kept asked is. absurd (file-make words only file (inl (body, kept, asked, is)));
       body = λ name kept is. absurd (file-make words only file (inr (name, kept, is)));
       made_alone = λ make. absurd (file-make words only file make);
-      air_read = record { rose = λ e. absurd (isnt status.AirRead refl e); same = λ _ _. refl };
-      air_write = record { rose = λ e. absurd (isnt status.AirWrite refl e); same = λ _ _ _ _. refl };
-      disk = record { asked = λ e. absurd (isnt status.Disk refl e); rose = λ e. absurd (isnt status.Disk refl e); same = λ _. refl; same_reads = λ _ _. refl; no_less = (omega arith, omega arith) };
+      air_read = record { rose = λ e. absurd (isnt status.AirRead refl e); same = λ _ _. same (g.A.Air.read_faults c.args.air.now) };
+      air_write = record { rose = λ e. absurd (isnt status.AirWrite refl e); same = λ _ _ _ _. same (g.A.Air.write_faults c.args.air.now) };
+      disk = record { asked = λ e. absurd (isnt status.Disk refl e); rose = λ e. absurd (isnt status.Disk refl e); same = λ _. same (g.D.Disk.write_faults c.args.disk.now); same_reads = λ _ _. same (g.D.Disk.read_faults c.args.disk.now); no_less = (omega arith, omega arith) };
       shelf = ran.ensures.shelf;
       out = file-rose g.O.Out.shown g.O.Out.faults command held name c.args.out.now ran.new.out ran.result ran.ensures.shown c.show_line-in-File.new.out line.no_fewer_faults;
       bad_store = record {
@@ -316,7 +320,7 @@ returns-in-Make g c =
       session_alone = λ session. absurd (session-make words only session make);
       serve = λ asked is. absurd (serve-make words only (asked, is) make);
       serve_alone = λ serve. absurd (serve-make words only serve make);
-      clock_unasked = λ _. refl;
+      clock_unasked = λ _. same c.args.clock.now;
       send = λ asked name is. absurd (make-client words only make (inl (asked, name, is)));
       fetch = λ asked number name is. absurd (make-client words only make (inr (inl (asked, number, name, is))));
       list = λ asked tokens is. absurd (make-client words only make (inr (inr (asked, tokens, is))));
@@ -326,9 +330,9 @@ returns-in-Make g c =
       send_exactly = λ of. absurd (make-client words only make (inl (of.asked, of.name, of.asks)));
       fetch_exactly = λ led. absurd (make-client words only make (inr (inl (led.asked, led.number, led.name, led.asks))));
       list_exactly = λ led. absurd (make-client words only make (inr (inr (led.asked, led.tokens, led.asks))));
-      session_acknowledged = λ _ _ _. inl refl;
-      serve_acknowledged = λ _ _. inl refl;
-      disk_alone = λ _. refl;
+      session_acknowledged = λ _ _ _. inl (same c.args.air.now);
+      serve_acknowledged = λ _ _. inl (same c.args.air.now);
+      disk_alone = λ _. same c.args.disk.now;
       complete = λ told. absurd (session-make words only (told.asked, told.asks) make);
       spent = λ told. absurd (session-make words only (told.asked, told.asks) make);
       serve_complete = λ told. absurd (serve-make words only (told.asked, told.asks) make);
@@ -340,10 +344,10 @@ returns-in-Make g c =
       files_done = λ command name shelf is. absurd (file-make words only (command, name, is) make);
       made = make-runs words g.S.Shelf.held c.args.shelf.now ran.new.shelf ran.result only determined command asks made;
       body = body-runs words g.S.Shelf.held c.args.shelf.now ran.new.shelf ran.result only determined command asks made;
-      made_alone = λ _. (refl, refl);
-      air_read = record { rose = λ e. absurd (isnt status.AirRead refl e); same = λ _ _. refl };
-      air_write = record { rose = λ e. absurd (isnt status.AirWrite refl e); same = λ _ _ _ _. refl };
-      disk = record { asked = λ e. absurd (isnt status.Disk refl e); rose = λ e. absurd (isnt status.Disk refl e); same = λ _. refl; same_reads = λ _ _. refl; no_less = (omega arith, omega arith) };
+      made_alone = λ _. (same c.args.air.now, same c.args.clock.now);
+      air_read = record { rose = λ e. absurd (isnt status.AirRead refl e); same = λ _ _. same (g.A.Air.read_faults c.args.air.now) };
+      air_write = record { rose = λ e. absurd (isnt status.AirWrite refl e); same = λ _ _ _ _. same (g.A.Air.write_faults c.args.air.now) };
+      disk = record { asked = λ e. absurd (isnt status.Disk refl e); rose = λ e. absurd (isnt status.Disk refl e); same = λ _. same (g.D.Disk.write_faults c.args.disk.now); same_reads = λ _ _. same (g.D.Disk.read_faults c.args.disk.now); no_less = (omega arith, omega arith) };
       shelf = ran.ensures.shelf;
       out = λ e. absurd (isnt status.Out refl e);
       bad_store = record {
