@@ -8,10 +8,9 @@ ghost use Rattle.uploader.specs.Causes.{HasCauses};
 ghost use Rattle.uploader.specs.Loading.{HasShelfCause, IsPastFile, RefusesFile};
 ghost use Rattle.uploader.specs.OnDisk.{RefusesNotes};
 ghost use Rattle.uploader.specs.Sending.{SendEnds};
-ghost use Rattle.ftl0_client.specs.JobState.{IsNew, NotesGoWith};
 ghost use Rattle.ftl0_client.specs.Client.{Client as ClientValue};
-ghost use Rattle.ftl0_client.specs.ClientState.{IsClient, IsFree, IsOwn};
-ghost use Rattle.uploader.specs.Turns.Carried.{MayCarryOut};
+ghost use Rattle.ftl0_client.specs.ClientState.{IsClient};
+ghost use Rattle.uploader.specs.Turns.Carried.{MayBeAsked, MayCarryOut};
 ghost use Rattle.uploader.specs.Ready.{IsUpload, UploadsJob};
 ghost use Rattle.uploader.specs.Stops.{stop_of_start};
 
@@ -92,10 +91,7 @@ fn upload<D: Disk, A: Air, C: Clock>(
     polls: u64,
 ) -> (Client, Result<Sent, SendStop>)
     requires may { MayCarryOut D.Disk client disk.old }
-    requires free { IsFree client }
-    requires new { IsNew job }
-    requires go_with { NotesGoWith client.notes.lists job }
-    requires own { IsOwn client job.work }
+    requires asked { MayBeAsked client job }
     requires upload { IsUpload job.work }
     ensures uploaded { (base : ClientValue) → IsClient client base →
         UploadsJob (seen D.Disk A.Air C.given) (turns.lent client disk.old air.old clock.old)

@@ -18,7 +18,8 @@ use Rattle.node.specs.declared.stop.NodeStop.{NodeStop}
 use Rattle.node.specs.declared.stop.NodeStop.TheVariants as stop
 use Rattle.ftl0_client.specs.Table.{JobState}
 use Rattle.ftl0_client.specs.Client.{Client, ClientEvent, asks}
-use Rattle.ftl0_client.specs.ClientState.{ClientState, client_pending, listing_in}
+use Rattle.ftl0_client.specs.ClientState.{ClientState, IsFree, IsOwn, client_pending, listing_in}
+use Rattle.ftl0_client.specs.JobState.{IsNew, NotesGoWith}
 use Rattle.ftl0_client.specs.Going.{GoesOver, Promises, is_over}
 use Rattle.ftl0_client.specs.declared.outcome.Outcome.{Outcome}
 use Rattle.ftl0_client.specs.declared.outcome.Outcome.TheVariants as outcome
@@ -31,6 +32,14 @@ use Rattle.uploader.specs.declared.stop.SendStop.{SendStop}
 pub record MayCarryOut {D : Type 0} (g : Ghosts D) (self : ClientState) (disk : D) : Type 0 where
   pub ready : IsReady g self.notes disk
   pub quiet : client_pending self ≡ false
+
+-- What a client needs to be asked for this job: nothing is under way, and the job was just made, goes with the notes, and
+-- is one of this client.
+pub record MayBeAsked (self : ClientState) (job : JobState) : Type 0 where
+  pub free : IsFree self
+  pub new : IsNew job
+  pub go_with : NotesGoWith self.notes.lists job
+  pub own : IsOwn self job.work
 
 -- A client's turns: what was heard at which moments and how they ended, the text that was said, what became of the job,
 -- and which commands were noted, then those in one of which the disk failed, if it did.

@@ -3,11 +3,10 @@
 ghost use Rattle.std.specs.Prelude.{◌≡◌};
 ghost use Rattle.node.specs.Lent.{seen};
 ghost use Rattle.node.specs.Turns.{lent};
-ghost use Rattle.ftl0_client.specs.JobState.{IsNew, NotesGoWith};
 ghost use Rattle.ftl0_client.specs.Client.{Client as ClientValue};
-ghost use Rattle.ftl0_client.specs.ClientState.{IsClient, IsFree, IsOwn};
+ghost use Rattle.ftl0_client.specs.ClientState.{IsClient};
 ghost use Rattle.uploader.specs.Stops.{answer_of, stop_of_turns};
-ghost use Rattle.uploader.specs.Turns.Carried.{CarriesOut, MayCarryOut};
+ghost use Rattle.uploader.specs.Turns.Carried.{CarriesOut, MayBeAsked, MayCarryOut};
 
 use super::station::{ClientStation, sends_nothing};
 use crate::SendStop;
@@ -40,10 +39,7 @@ pub(crate) fn carry_out<D: Disk, A: Air, C: Clock>(
     polls: u64,
 ) -> (Client, Result<Outcome, SendStop>)
     requires may { MayCarryOut D.Disk client disk.old }
-    requires free { IsFree client }
-    requires new { IsNew job }
-    requires go_with { NotesGoWith client.notes.lists job }
-    requires own { IsOwn client job.work }
+    requires asked { MayBeAsked client job }
 
     // What was heard, given, said and noted, why the turns ended, and what the answer is.
     ensures carried { (base : ClientValue) → IsClient client base →

@@ -15,10 +15,11 @@ use Rattle.uploader.proofs.OutcomeLemmas.{download-goes, fetch-keeps, fetch-stop
 use Rattle.uploader.proofs.StartLemmas.{refused_exactly}
 use Rattle.uploader.proofs.fetching.fetch.Goals as goal
 
-pub carry_out-client-requires-clause-go_with : goal.carry_out-client-requires-clause-go_with
-carry_out-client-requires-clause-go_with g c =
+pub carry_out-client-requires-clause-asked : goal.carry_out-client-requires-clause-asked
+carry_out-client-requires-clause-asked g c =
     let len = c.got_len-held.ensures.len ∙ ap (λ (n : NotesState). length (got_of n.lists c.args.terms.now.server c.args.number)) c.notes.ensures in
-    download-goes c.in_ok-client.client.notes.lists c.args.terms.now.server c.args.number c.got_len-held.result len c.got_len-held.ensures.most c.download-job.result c.download-job.ensures
+    let goes = download-goes c.in_ok-client.client.notes.lists c.args.terms.now.server c.args.number c.got_len-held.result len c.got_len-held.ensures.most c.download-job.result c.download-job.ensures in
+    record { free = search rules; new = search rules; go_with = goes; own = search rules }
 
 pub returns : goal.returns
 returns g c =
@@ -37,43 +38,37 @@ returns g c =
           (causes see g.met.D.Disk.lasts_on (lent c.args.disk.now c.args.air.now c.args.clock.now) (lent c.carry_out-client.new.disk c.carry_out-client.new.air c.carry_out-client.new.clock) c.args.terms.now [] (download_of (file_asked c.args.terms.now c.args.number c.args.name.now)) c.carry_out-client.result.1 h));
     }
 
-pub returns-in-Ok-keep-clause-ends : goal.returns-in-Ok-keep-clause-ends
-returns-in-Ok-keep-clause-ends g c =
+pub returns-in-Ok-keep : goal.returns-in-Ok-keep
+returns-in-Ok-keep g c =
     let see = seen g.D.Disk g.A.Air g.C.Clock.given in
     let ready = c.in_ok-client.ensures.recovers in
     let h = just-asked see g.met.D.Disk.lasts_same (lent c.args.disk.now c.args.air.now c.args.clock.now) (lent c.carry_out-client.new.disk c.carry_out-client.new.air c.carry_out-client.new.clock) c.recover_client.new.disk c.args.terms.now
     c.in_ok-client.client c.carry_out-client.result.0 c.download-job.result (download_of (file_asked c.args.terms.now c.args.number c.args.name.now)) c.carry_out-client.result.1 c.download-job.ensures ready (c.carry_out-client.ensures.carried _ ready.is) in
-    inr (fetch-keeps see g.S.Shelf.held g.met.D.Disk.lasts_on (lent c.args.disk.now c.args.air.now c.args.clock.now) (lent c.carry_out-client.new.disk c.carry_out-client.new.air c.carry_out-client.new.clock) (file_asked c.args.terms.now c.args.number c.args.name.now) c.carry_out-client.result.1 h c.in-Ok._fetched c.in-Ok.is c.args.shelf.now c.keep.new.self c.got_octets.result.now
-    (c.got_octets.ensures.octets ∙ ap (λ (n : NotesState). got_of n.lists c.args.terms.now.server c.args.number) c.notes-in-Ok.ensures) (Ok tt) c.in-Ok-keep.ensures.ok)
+    record {
+      notes = search rules;
+      ends = inr (fetch-keeps see g.S.Shelf.held g.met.D.Disk.lasts_on (lent c.args.disk.now c.args.air.now c.args.clock.now) (lent c.carry_out-client.new.disk c.carry_out-client.new.air c.carry_out-client.new.clock) (file_asked c.args.terms.now c.args.number c.args.name.now) c.carry_out-client.result.1 h c.in-Ok._fetched c.in-Ok.is c.args.shelf.now c.keep.new.self c.got_octets.result.now
+          (c.got_octets.ensures.octets ∙ ap (λ (n : NotesState). got_of n.lists c.args.terms.now.server c.args.number) c.notes-in-Ok.ensures) (Ok tt) c.in-Ok-keep.ensures.ok);
+      shelf = search rules;
+      causes = causes-ok see (lent c.args.disk.now c.args.air.now c.args.clock.now) (lent c.carry_out-client.new.disk c.carry_out-client.new.air c.carry_out-client.new.clock) c.in-Ok._fetched tt
+          (subst (λ (r : Result Outcome SendStop). HasCauses see (lent c.args.disk.now c.args.air.now c.args.clock.now) (lent c.carry_out-client.new.disk c.carry_out-client.new.air c.carry_out-client.new.clock) r) c.in-Ok.is
+          (causes see g.met.D.Disk.lasts_on (lent c.args.disk.now c.args.air.now c.args.clock.now) (lent c.carry_out-client.new.disk c.carry_out-client.new.air c.carry_out-client.new.clock) c.args.terms.now [] (download_of (file_asked c.args.terms.now c.args.number c.args.name.now)) c.carry_out-client.result.1 h));
+    }
 
-pub returns-in-Ok-keep-clause-causes : goal.returns-in-Ok-keep-clause-causes
-returns-in-Ok-keep-clause-causes g c =
+pub returns-in-Ok : goal.returns-in-Ok
+returns-in-Ok g c =
     let see = seen g.D.Disk g.A.Air g.C.Clock.given in
     let ready = c.in_ok-client.ensures.recovers in
     let h = just-asked see g.met.D.Disk.lasts_same (lent c.args.disk.now c.args.air.now c.args.clock.now) (lent c.carry_out-client.new.disk c.carry_out-client.new.air c.carry_out-client.new.clock) c.recover_client.new.disk c.args.terms.now
     c.in_ok-client.client c.carry_out-client.result.0 c.download-job.result (download_of (file_asked c.args.terms.now c.args.number c.args.name.now)) c.carry_out-client.result.1 c.download-job.ensures ready (c.carry_out-client.ensures.carried _ ready.is) in
-    causes-ok see (lent c.args.disk.now c.args.air.now c.args.clock.now) (lent c.carry_out-client.new.disk c.carry_out-client.new.air c.carry_out-client.new.clock) c.in-Ok._fetched tt
-    (subst (λ (r : Result Outcome SendStop). HasCauses see (lent c.args.disk.now c.args.air.now c.args.clock.now) (lent c.carry_out-client.new.disk c.carry_out-client.new.air c.carry_out-client.new.clock) r) c.in-Ok.is
-    (causes see g.met.D.Disk.lasts_on (lent c.args.disk.now c.args.air.now c.args.clock.now) (lent c.carry_out-client.new.disk c.carry_out-client.new.air c.carry_out-client.new.clock) c.args.terms.now [] (download_of (file_asked c.args.terms.now c.args.number c.args.name.now)) c.carry_out-client.result.1 h))
-
-pub returns-in-Ok-clause-ends : goal.returns-in-Ok-clause-ends
-returns-in-Ok-clause-ends g c =
-    let see = seen g.D.Disk g.A.Air g.C.Clock.given in
-    let ready = c.in_ok-client.ensures.recovers in
-    let h = just-asked see g.met.D.Disk.lasts_same (lent c.args.disk.now c.args.air.now c.args.clock.now) (lent c.carry_out-client.new.disk c.carry_out-client.new.air c.carry_out-client.new.clock) c.recover_client.new.disk c.args.terms.now
-    c.in_ok-client.client c.carry_out-client.result.0 c.download-job.result (download_of (file_asked c.args.terms.now c.args.number c.args.name.now)) c.carry_out-client.result.1 c.download-job.ensures ready (c.carry_out-client.ensures.carried _ ready.is) in
-    inr (fetch-keeps see g.S.Shelf.held g.met.D.Disk.lasts_on (lent c.args.disk.now c.args.air.now c.args.clock.now) (lent c.carry_out-client.new.disk c.carry_out-client.new.air c.carry_out-client.new.clock) (file_asked c.args.terms.now c.args.number c.args.name.now) c.carry_out-client.result.1 h c.in-Ok._fetched c.in-Ok.is c.args.shelf.now c.keep.new.self c.got_octets.result.now
-    (c.got_octets.ensures.octets ∙ ap (λ (n : NotesState). got_of n.lists c.args.terms.now.server c.args.number) c.notes-in-Ok.ensures) (Err stop.Shelf) (refl, c.in-Err-keep.ensures.err))
-
-pub returns-in-Ok-clause-causes : goal.returns-in-Ok-clause-causes
-returns-in-Ok-clause-causes g c =
-    let see = seen g.D.Disk g.A.Air g.C.Clock.given in
-    let ready = c.in_ok-client.ensures.recovers in
-    let h = just-asked see g.met.D.Disk.lasts_same (lent c.args.disk.now c.args.air.now c.args.clock.now) (lent c.carry_out-client.new.disk c.carry_out-client.new.air c.carry_out-client.new.clock) c.recover_client.new.disk c.args.terms.now
-    c.in_ok-client.client c.carry_out-client.result.0 c.download-job.result (download_of (file_asked c.args.terms.now c.args.number c.args.name.now)) c.carry_out-client.result.1 c.download-job.ensures ready (c.carry_out-client.ensures.carried _ ready.is) in
-    causes-shelf see (lent c.args.disk.now c.args.air.now c.args.clock.now) (lent c.carry_out-client.new.disk c.carry_out-client.new.air c.carry_out-client.new.clock) c.in-Ok._fetched
-    (subst (λ (r : Result Outcome SendStop). HasCauses see (lent c.args.disk.now c.args.air.now c.args.clock.now) (lent c.carry_out-client.new.disk c.carry_out-client.new.air c.carry_out-client.new.clock) r) c.in-Ok.is
-    (causes see g.met.D.Disk.lasts_on (lent c.args.disk.now c.args.air.now c.args.clock.now) (lent c.carry_out-client.new.disk c.carry_out-client.new.air c.carry_out-client.new.clock) c.args.terms.now [] (download_of (file_asked c.args.terms.now c.args.number c.args.name.now)) c.carry_out-client.result.1 h))
+    record {
+      notes = search rules;
+      ends = inr (fetch-keeps see g.S.Shelf.held g.met.D.Disk.lasts_on (lent c.args.disk.now c.args.air.now c.args.clock.now) (lent c.carry_out-client.new.disk c.carry_out-client.new.air c.carry_out-client.new.clock) (file_asked c.args.terms.now c.args.number c.args.name.now) c.carry_out-client.result.1 h c.in-Ok._fetched c.in-Ok.is c.args.shelf.now c.keep.new.self c.got_octets.result.now
+          (c.got_octets.ensures.octets ∙ ap (λ (n : NotesState). got_of n.lists c.args.terms.now.server c.args.number) c.notes-in-Ok.ensures) (Err stop.Shelf) (refl, c.in-Err-keep.ensures.err));
+      shelf = search rules;
+      causes = causes-shelf see (lent c.args.disk.now c.args.air.now c.args.clock.now) (lent c.carry_out-client.new.disk c.carry_out-client.new.air c.carry_out-client.new.clock) c.in-Ok._fetched
+          (subst (λ (r : Result Outcome SendStop). HasCauses see (lent c.args.disk.now c.args.air.now c.args.clock.now) (lent c.carry_out-client.new.disk c.carry_out-client.new.air c.carry_out-client.new.clock) r) c.in-Ok.is
+          (causes see g.met.D.Disk.lasts_on (lent c.args.disk.now c.args.air.now c.args.clock.now) (lent c.carry_out-client.new.disk c.carry_out-client.new.air c.carry_out-client.new.clock) c.args.terms.now [] (download_of (file_asked c.args.terms.now c.args.number c.args.name.now)) c.carry_out-client.result.1 h));
+    }
 
 pub returns-in_err-client-clause-notes : goal.returns-in_err-client-clause-notes
 returns-in_err-client-clause-notes g c =

@@ -46,43 +46,37 @@ returns g c =
           (causes see g.met.D.Disk.lasts_on (lent c.args.disk.now c.args.air.now c.args.clock.now) (lent c.carry_out-client.new.disk c.carry_out-client.new.air c.carry_out-client.new.clock) c.args.terms.now [] (directory_of c.args.tokens.now) c.carry_out-client.result.1 h));
     }
 
-pub returns-in-Ok-show_lines-clause-ends : goal.returns-in-Ok-show_lines-clause-ends
-returns-in-Ok-show_lines-clause-ends g c =
+pub returns-in-Ok-show_lines : goal.returns-in-Ok-show_lines
+returns-in-Ok-show_lines g c =
     let see = seen g.D.Disk g.A.Air g.C.Clock.given in
     let ready = c.in_ok-client.ensures.recovers in
     let h = just-asked see g.met.D.Disk.lasts_same (lent c.args.disk.now c.args.air.now c.args.clock.now) (lent c.carry_out-client.new.disk c.carry_out-client.new.air c.carry_out-client.new.clock) c.recover_client.new.disk c.args.terms.now
     c.in_ok-client.client c.carry_out-client.result.0 c.list-job.result (directory_of c.args.tokens.now) c.carry_out-client.result.1 (c.list-job.ensures ∙ ap (λ (t : List ℕ). directory_of t) c.in-Ok.ensures) ready (c.carry_out-client.ensures.carried _ ready.is) in
-    inr (list-shows see g.O.Out.shown g.met.D.Disk.lasts_on (lent c.args.disk.now c.args.air.now c.args.clock.now) (lent c.carry_out-client.new.disk c.carry_out-client.new.air c.carry_out-client.new.clock) (files_asked c.args.terms.now c.args.tokens.now) c.carry_out-client.result.1 h c.in-Ok-came._listed c.in-Ok-came.is c.args.out.now c.show_lines.new.out (Ok tt)
-    (subst (Gains (g.O.Out.shown c.args.out.now) (g.O.Out.shown c.show_lines.new.out)) (ap listing_lines c.listing.ensures) c.in-Ok-show_lines.ensures.ok))
+    record {
+      notes = search rules;
+      ends = inr (list-shows see g.O.Out.shown g.met.D.Disk.lasts_on (lent c.args.disk.now c.args.air.now c.args.clock.now) (lent c.carry_out-client.new.disk c.carry_out-client.new.air c.carry_out-client.new.clock) (files_asked c.args.terms.now c.args.tokens.now) c.carry_out-client.result.1 h c.in-Ok-came._listed c.in-Ok-came.is c.args.out.now c.show_lines.new.out (Ok tt)
+          (subst (Gains (g.O.Out.shown c.args.out.now) (g.O.Out.shown c.show_lines.new.out)) (ap listing_lines c.listing.ensures) c.in-Ok-show_lines.ensures.ok));
+      out = search rules;
+      causes = causes-ok see (lent c.args.disk.now c.args.air.now c.args.clock.now) (lent c.carry_out-client.new.disk c.carry_out-client.new.air c.carry_out-client.new.clock) c.in-Ok-came._listed tt
+          (subst (λ (r : Result Outcome SendStop). HasCauses see (lent c.args.disk.now c.args.air.now c.args.clock.now) (lent c.carry_out-client.new.disk c.carry_out-client.new.air c.carry_out-client.new.clock) r) c.in-Ok-came.is
+          (causes see g.met.D.Disk.lasts_on (lent c.args.disk.now c.args.air.now c.args.clock.now) (lent c.carry_out-client.new.disk c.carry_out-client.new.air c.carry_out-client.new.clock) c.args.terms.now [] (directory_of c.args.tokens.now) c.carry_out-client.result.1 h));
+    }
 
-pub returns-in-Ok-show_lines-clause-causes : goal.returns-in-Ok-show_lines-clause-causes
-returns-in-Ok-show_lines-clause-causes g c =
+pub returns-in-Ok-came : goal.returns-in-Ok-came
+returns-in-Ok-came g c =
     let see = seen g.D.Disk g.A.Air g.C.Clock.given in
     let ready = c.in_ok-client.ensures.recovers in
     let h = just-asked see g.met.D.Disk.lasts_same (lent c.args.disk.now c.args.air.now c.args.clock.now) (lent c.carry_out-client.new.disk c.carry_out-client.new.air c.carry_out-client.new.clock) c.recover_client.new.disk c.args.terms.now
     c.in_ok-client.client c.carry_out-client.result.0 c.list-job.result (directory_of c.args.tokens.now) c.carry_out-client.result.1 (c.list-job.ensures ∙ ap (λ (t : List ℕ). directory_of t) c.in-Ok.ensures) ready (c.carry_out-client.ensures.carried _ ready.is) in
-    causes-ok see (lent c.args.disk.now c.args.air.now c.args.clock.now) (lent c.carry_out-client.new.disk c.carry_out-client.new.air c.carry_out-client.new.clock) c.in-Ok-came._listed tt
-    (subst (λ (r : Result Outcome SendStop). HasCauses see (lent c.args.disk.now c.args.air.now c.args.clock.now) (lent c.carry_out-client.new.disk c.carry_out-client.new.air c.carry_out-client.new.clock) r) c.in-Ok-came.is
-    (causes see g.met.D.Disk.lasts_on (lent c.args.disk.now c.args.air.now c.args.clock.now) (lent c.carry_out-client.new.disk c.carry_out-client.new.air c.carry_out-client.new.clock) c.args.terms.now [] (directory_of c.args.tokens.now) c.carry_out-client.result.1 h))
-
-pub returns-in-Ok-came-clause-ends : goal.returns-in-Ok-came-clause-ends
-returns-in-Ok-came-clause-ends g c =
-    let see = seen g.D.Disk g.A.Air g.C.Clock.given in
-    let ready = c.in_ok-client.ensures.recovers in
-    let h = just-asked see g.met.D.Disk.lasts_same (lent c.args.disk.now c.args.air.now c.args.clock.now) (lent c.carry_out-client.new.disk c.carry_out-client.new.air c.carry_out-client.new.clock) c.recover_client.new.disk c.args.terms.now
-    c.in_ok-client.client c.carry_out-client.result.0 c.list-job.result (directory_of c.args.tokens.now) c.carry_out-client.result.1 (c.list-job.ensures ∙ ap (λ (t : List ℕ). directory_of t) c.in-Ok.ensures) ready (c.carry_out-client.ensures.carried _ ready.is) in
-    inr (list-shows see g.O.Out.shown g.met.D.Disk.lasts_on (lent c.args.disk.now c.args.air.now c.args.clock.now) (lent c.carry_out-client.new.disk c.carry_out-client.new.air c.carry_out-client.new.clock) (files_asked c.args.terms.now c.args.tokens.now) c.carry_out-client.result.1 h c.in-Ok-came._listed c.in-Ok-came.is c.args.out.now c.show_lines.new.out (Err stop.Out)
-    (refl, subst (GainsPrefix (g.O.Out.shown c.args.out.now) (g.O.Out.shown c.show_lines.new.out)) (ap listing_lines c.listing.ensures) c.in-Err-show_lines.ensures.err))
-
-pub returns-in-Ok-came-clause-causes : goal.returns-in-Ok-came-clause-causes
-returns-in-Ok-came-clause-causes g c =
-    let see = seen g.D.Disk g.A.Air g.C.Clock.given in
-    let ready = c.in_ok-client.ensures.recovers in
-    let h = just-asked see g.met.D.Disk.lasts_same (lent c.args.disk.now c.args.air.now c.args.clock.now) (lent c.carry_out-client.new.disk c.carry_out-client.new.air c.carry_out-client.new.clock) c.recover_client.new.disk c.args.terms.now
-    c.in_ok-client.client c.carry_out-client.result.0 c.list-job.result (directory_of c.args.tokens.now) c.carry_out-client.result.1 (c.list-job.ensures ∙ ap (λ (t : List ℕ). directory_of t) c.in-Ok.ensures) ready (c.carry_out-client.ensures.carried _ ready.is) in
-    causes-out see (lent c.args.disk.now c.args.air.now c.args.clock.now) (lent c.carry_out-client.new.disk c.carry_out-client.new.air c.carry_out-client.new.clock) c.in-Ok-came._listed
-    (subst (λ (r : Result Outcome SendStop). HasCauses see (lent c.args.disk.now c.args.air.now c.args.clock.now) (lent c.carry_out-client.new.disk c.carry_out-client.new.air c.carry_out-client.new.clock) r) c.in-Ok-came.is
-    (causes see g.met.D.Disk.lasts_on (lent c.args.disk.now c.args.air.now c.args.clock.now) (lent c.carry_out-client.new.disk c.carry_out-client.new.air c.carry_out-client.new.clock) c.args.terms.now [] (directory_of c.args.tokens.now) c.carry_out-client.result.1 h))
+    record {
+      notes = search rules;
+      ends = inr (list-shows see g.O.Out.shown g.met.D.Disk.lasts_on (lent c.args.disk.now c.args.air.now c.args.clock.now) (lent c.carry_out-client.new.disk c.carry_out-client.new.air c.carry_out-client.new.clock) (files_asked c.args.terms.now c.args.tokens.now) c.carry_out-client.result.1 h c.in-Ok-came._listed c.in-Ok-came.is c.args.out.now c.show_lines.new.out (Err stop.Out)
+          (refl, subst (GainsPrefix (g.O.Out.shown c.args.out.now) (g.O.Out.shown c.show_lines.new.out)) (ap listing_lines c.listing.ensures) c.in-Err-show_lines.ensures.err));
+      out = search rules;
+      causes = causes-out see (lent c.args.disk.now c.args.air.now c.args.clock.now) (lent c.carry_out-client.new.disk c.carry_out-client.new.air c.carry_out-client.new.clock) c.in-Ok-came._listed
+          (subst (λ (r : Result Outcome SendStop). HasCauses see (lent c.args.disk.now c.args.air.now c.args.clock.now) (lent c.carry_out-client.new.disk c.carry_out-client.new.air c.carry_out-client.new.clock) r) c.in-Ok-came.is
+          (causes see g.met.D.Disk.lasts_on (lent c.args.disk.now c.args.air.now c.args.clock.now) (lent c.carry_out-client.new.disk c.carry_out-client.new.air c.carry_out-client.new.clock) c.args.terms.now [] (directory_of c.args.tokens.now) c.carry_out-client.result.1 h));
+    }
 
 pub returns-in_err-client-clause-notes : goal.returns-in_err-client-clause-notes
 returns-in_err-client-clause-notes g c =

@@ -39,7 +39,7 @@ returns g c =
       carried = λ base is.
           carries see g.met.D.Disk.lasts_same c.one_run_law.ensures c.one_step_law.ensures c.goes_law.ensures c.args.client base c.args.job from to
           (came-asked see g.met.D.Disk.lasts_same c.args.client c.args.disk.now c.args.job c.requires.may c.ask.new.self has base is (c.sends_nothing.ensures.quiet.silent base is)
-          c.requires.new c.requires.go_with (c.in-Ok.ensures.asks base (subst (λ old. IsClient old base) (sym c.sends_nothing.ensures.same) is))) c.args.polls drove.result.1
+          c.requires.asked.new c.requires.asked.go_with (c.in-Ok.ensures.asks base (subst (λ old. IsClient old base) (sym c.sends_nothing.ensures.same) is))) c.args.polls drove.result.1
           (subst (λ (me : CallSign). TookTurns (NodeEvents me) (client_course g.D.Disk) g.A.Air g.C.Clock.given from to (record { polls = c.args.polls; given = None; first = None }) drove.result.1)
           (c.me-me.ensures ∙ has.same.me ∙ is.me) drove.ensures.turns)
           c.answer_by.result (c.answer_by.ensures ∙ ap (answer_of drove.result.1) c.outcome-reached.ensures.outcome);
