@@ -2,11 +2,15 @@
 use Rattle.std.specs.Prelude.{◌≡◌, ◌⊎◌, ℕ, ◌≤◌, List, [], ◌∷◌, length, Option, None, Some, IfSome}
 use Rattle.px_base.specs.Shelves.{Holding, Keeps, KeepsOthers, content_of}
 use Rattle.header_tool.specs.Built.{passing_len}
-use Rattle.header_tool.specs.Made.{IsMade, MakeValue, made_builder}
+use Rattle.header_tool.specs.Made.{IsMade, MakeValue, made_builder, spec_refusal}
 use Rattle.pacsat_cli.specs.declared.status.Status.{Status}
 use Rattle.pacsat_cli.specs.declared.status.Status.TheVariants.{Done, NoSuch, OutOfMemory, Shelf, TooLong}
 use Rattle.pacsat_cli.specs.Files.{most_octets}
 use Rattle.pacsat_cli.specs.Run.{IsUnless}
+
+-- no rule refuses the header of a file that is made so
+abbrev pub IsPossible : MakeValue → Type 0
+IsPossible spec = spec_refusal spec ≡ None
 
 -- This is the file that is made of the content of BODY, where it is told what the shelf holds.
 pub record IsMadeOf (spec : MakeValue) (body : List ℕ) (held : Option Holding) (file : List ℕ) : Type 0 where

@@ -1,10 +1,10 @@
 -- What the words ask a run to do, and what a run did of it.
-use Rattle.std.specs.Prelude.{◌≡◌, ◌⊎◌, ℕ, List, Option, Some, None}
+use Rattle.std.specs.Prelude.{◌≡◌, ◌⊎◌, ℕ, List, Option, Some}
 use Rattle.px_base.specs.Shelves.{Holding, content_of}
 use Rattle.command_words.specs.Asked.{AsksClientFor}
 use Rattle.command_words.specs.Words.{AsksClient, AsksFetch, AsksMake, IsBody, IsMake, IsServe, IsSession}
 use Rattle.command_words.specs.Words.{IsCheck, IsFrames, IsShow}
-use Rattle.header_tool.specs.Made.{MakeValue, make_value, spec_refusal}
+use Rattle.header_tool.specs.Made.{MakeValue, make_value}
 use Rattle.pacsat_cli.specs.declared.files.FileCommand.{FileCommand}
 use Rattle.pacsat_cli.specs.declared.files.FileCommand.TheVariants as command
 use Rattle.pacsat_cli.specs.declared.making.MakeCommand.{MakeCommand}
@@ -14,7 +14,7 @@ use Rattle.pacsat_cli.specs.declared.task.Task.{Task}
 use Rattle.pacsat_cli.specs.declared.task.Task.TheVariants.{Session, Serve, File, Make, Client}
 use Rattle.pacsat_cli.specs.Bodies.{BodyRan}
 use Rattle.pacsat_cli.specs.Files.{FileRan}
-use Rattle.pacsat_cli.specs.Making.{MakeRan}
+use Rattle.pacsat_cli.specs.Making.{IsPossible, MakeRan}
 
 -- the words ask for this command's text of the file of this name
 abbrev pub AsksText : List (List ℕ) → FileCommand → List ℕ → Type 0
@@ -33,7 +33,7 @@ AsksMaking words (making.Body request) = IsBody words request.name.now request.k
 
 -- such a file may be made: its header isn't refused
 abbrev pub MayMake : MakeCommand → Type 0
-MayMake (making.Make request) = spec_refusal (make_value request.header) ≡ None
+MayMake (making.Make request) = IsPossible (make_value request.header)
 MayMake (making.Body request) = Unit
 
 -- such a file was made and kept, or was not, and this is the status

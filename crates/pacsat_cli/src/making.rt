@@ -1,9 +1,8 @@
 //! The commands that keep a file on the shelf which is made of another one: `pfh-make` and `pfh-body`.
 
-ghost use Rattle.std.specs.Prelude.{◌≡◌, None};
-ghost use Rattle.header_tool.specs.Made.{make_value, spec_refusal};
+ghost use Rattle.header_tool.specs.Made.{make_value};
 ghost use Rattle.pacsat_cli.specs.Bodies.{BodyRan, OctetsBody};
-ghost use Rattle.pacsat_cli.specs.Making.{FileKept, MakeRan, OctetsMade};
+ghost use Rattle.pacsat_cli.specs.Making.{FileKept, IsPossible, MakeRan, OctetsMade};
 ghost use Rattle.pacsat_cli.specs.Run.{HasStatusCause};
 ghost use Rattle.pacsat_cli.specs.Tasks.{MakingRan, MayMake};
 
@@ -49,7 +48,7 @@ fn run_make<S: Shelf>(
     name: &str,
     shelf: &mut S,
 ) -> Status
-    requires { spec_refusal (make_value spec.now) ≡ None }
+    requires { IsPossible (make_value spec.now) }
     ensures made { MakeRan (make_value spec.now) body.now name.now (S.held shelf.old) (S.held shelf.new) result }
     ensures shelf { HasStatusCause Status.Shelf (S.faults shelf.old) (S.faults shelf.new) result }
 {
@@ -67,7 +66,7 @@ fn make_of<S: Shelf>(
     name: &str,
     shelf: &mut S,
 ) -> Status
-    requires { spec_refusal (make_value spec.now) ≡ None }
+    requires { IsPossible (make_value spec.now) }
     ensures made { OctetsMade (make_value spec.now) body.now name.now (S.held shelf.old) (S.held shelf.new) result }
     ensures shelf { HasStatusCause Status.Shelf (S.faults shelf.old) (S.faults shelf.new) result }
 {

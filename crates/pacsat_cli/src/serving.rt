@@ -68,8 +68,7 @@ fn run_in_memory<A: Air, C: Clock>(
     air: &mut A,
     clock: &mut C,
 ) -> Status
-    requires some { 1 ≤ terms.now.limits.blocks }
-    requires most { terms.now.limits.blocks ≤ 65536 }
+    requires { (1 ≤ terms.now.limits.blocks) × (terms.now.limits.blocks ≤ 65536) }
     ensures over { OverMemory A.Air C.given air.old air.new clock.old clock.new terms.now result }
     ensures clock { IsSome terms.now.moment → clock.new ≡ clock.old }
 {

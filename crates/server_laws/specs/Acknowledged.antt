@@ -153,9 +153,9 @@ pub record IsEndOf (server : Server) (event : NodeEvent) (failures : List Failur
   pub before_is :
       file.before ≡ before ++ (taken_first server taken.frame taken.moment failures taken.c taken.items).done
 
--- A server of these terms was served, and took the first of its events: all of them, or, where it stopped, those that all
--- turns but the last one brought, and some more. It met each of these, and for each packet that it takes at an event that
--- it meets, and to which UL_ACK_RESP is a reply, a file stands on the disk: the one that the packet ends.
+-- A server of these terms was served, and took the first of its events: all of them, or, where it stopped, those that
+-- all turns but the last one brought, and some more. It met each of these. For each packet that it takes at an event
+-- that it meets, and to which UL_ACK_RESP is a reply, a file stands on the disk: the one that the packet ends.
 pub record ServerAcknowledges {D A C : Type 0} (seen : Seen D A C) (old new : Lent D A C) (terms : ServerTerms) :
     Type 0 where
   pub ended : Result Served NodeStop
