@@ -51,12 +51,6 @@ pub never : {T : Type 0} (test : SendStop → Bool) (result : Result T SendStop)
 never {T} test (Ok value) pass other none is = cc is
 never {T} test (Err why) pass other none is = cc (sym pass ∙ ap test (error-is T why other is) ∙ none)
 
--- whether a stop isn't by what the content of the disk stands for
-abbrev pub is_recovered : SendStop → Bool
-is_recovered (stop.NotAStore found) = false
-is_recovered (stop.Damaged at) = false
-is_recovered why = true
-
 -- where none is, the content may stand for notes
 pub recovered_exactly : {T : Type 0} (test : SendStop → Bool) → ((found : List ℕ) → test (stop.NotAStore found) ≡ false) → ((at : ℕ) → test (stop.Damaged at) ≡ false) → (content : Option (List ℕ)) (start : Lists) (result : Result T SendStop)
     → IfSome content (λ before. standing_of before ≡ state start) → IfErr result (λ why. test why ≡ true) → RefusesNotes content result

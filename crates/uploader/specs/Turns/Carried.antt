@@ -33,8 +33,8 @@ pub record MayCarryOut {D : Type 0} (g : Ghosts D) (self : ClientState) (disk : 
   pub ready : IsReady g self.notes disk
   pub quiet : client_pending self ≡ false
 
--- What a client needs to be asked for this job: nothing is under way, and the job was just made, goes with the notes, and
--- is one of this client.
+-- What a client needs to be asked for this job: nothing is under way, and the job was just made, goes with the notes,
+-- and is one of this client.
 pub record MayBeAsked (self : ClientState) (job : JobState) : Type 0 where
   pub free : IsFree self
   pub new : IsNew job
