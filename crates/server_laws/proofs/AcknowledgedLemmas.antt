@@ -43,8 +43,6 @@ use Rattle.server_node.specs.OnAir.Serving.{server_steps}
 use Rattle.ftl0_server.proofs.Offered.{serves}
 use Rattle.node.specs.Events.{NodeEvent}
 use Rattle.node.specs.Lent.{Seen}
-use Rattle.node.specs.declared.stop.NodeStop.{NodeStop as Stop}
-use Rattle.node.specs.declared.stop.NodeStop.TheVariants as node_stop
 use Rattle.server_laws.specs.Acknowledged.{AcknowledgedSince, FileEnd, MeetsEvent, ServerAcknowledgesLaw, SessionAcknowledgesLaw, TakesPacket, row_of_end, taken_first}
 use Rattle.server_node.specs.OnAir.Served.{ServerRan, server_from}
 use Rattle.server_node.specs.Served.{IsServed, IsUnrecovered, Run}
@@ -390,11 +388,11 @@ module _ (caller : CallSign) (start : Session) (first : List ℕ) where
   fault-acks : (state : State) → acks (fault_reply state ∷ []) ≡ false
   fault-acks state = grind (arith, common_steps)
 
-  says-stopped : (why : Stop) (unsaid : Bool) (events : List Heard) (next : Heard) (earlier last : Made) (mid : Session) (cut : List Command) → RunsAs caller start events earlier mid
+  says-stopped : (why : NodeStop) (unsaid : Bool) (events : List Heard) (next : Heard) (earlier last : Made) (mid : Session) (cut : List Command) → RunsAs caller start events earlier mid
       → StopsAs caller why unsaid mid next last cut → Says caller start (earlier.done ++ last.done) first (first ++ (earlier.text ++ last.text))
-  says-stopped node_stop.OutOfMemory unsaid events next earlier last mid cut h stops =
+  says-stopped stop.OutOfMemory unsaid events next earlier last mid cut h stops =
       says-last events earlier last mid [] h ([], sym (ap (λ (m : Made). m.text ++ []) stops.stops.1)) (no-ack mid [] last.done refl)
-  says-stopped node_stop.AirWrite unsaid events next earlier last mid cut h stops =
+  says-stopped stop.AirWrite unsaid events next earlier last mid cut h stops =
       let row : Row = event_row caller mid.store mid.lists mid.state stops.met in
       let at = stops.stops in
       says-last events earlier last mid (row.replies ++ at.0) h at.3
@@ -404,12 +402,14 @@ module _ (caller : CallSign) (start : Session) (first : List ℕ) where
       (λ (due : (m : List PacketValue) × (before ≡ row.replies ++ m) × (at.0 ≡ m ++ ul_ack_resp ∷ later)).
       absurd (true≢false (sym (acks-at due.0 later) ∙ ap acks (sym due.2) ∙ some-acks (after_all mid.store row.commands) row.state stops.met.failures 1 at.0 at.1)))
       (split row.replies at.0 before later ul_ack_resp is))
-  says-stopped node_stop.Disk unsaid events next earlier last mid cut h stops =
+  says-stopped stop.Disk unsaid events next earlier last mid cut h stops =
       says-last events earlier last mid (fault_reply mid.state ∷ []) h (said-front unsaid _ last.text stops.stops.0) (no-ack mid _ last.done (fault-acks mid.state))
-  says-stopped node_stop.AirRead unsaid events next earlier last mid cut h stops = absurd stops.stops
-  says-stopped node_stop.Spent unsaid events next earlier last mid cut h stops = absurd stops.stops
+  says-stopped stop.AirRead unsaid events next earlier last mid cut h stops = absurd stops.stops
+  says-stopped stop.Spent unsaid events next earlier last mid cut h stops = absurd stops.stops
+  says-stopped (stop.NotAStore found) unsaid events next earlier last mid cut h stops = absurd stops.stops
+  says-stopped (stop.Damaged at) unsaid events next earlier last mid cut h stops = absurd stops.stops
 
-  says-behind : (why : Stop) (unsaid : Bool) (least events : List Heard) (replies : List ℕ) (done : List Command) (missed : ℕ) (cut : List Command)
+  says-behind : (why : NodeStop) (unsaid : Bool) (least events : List Heard) (replies : List ℕ) (done : List Command) (missed : ℕ) (cut : List Command)
       → StopsBehind least (session_steps caller) start events why unsaid (made replies done missed) cut → Says caller start done first (first ++ replies)
   says-behind why unsaid least events replies done missed cut behind =
       let h = behind.stops in
@@ -421,9 +421,9 @@ module _ (caller : CallSign) (start : Session) (first : List ℕ) where
   says-over (Ok served) least events unsaid replies done missed cut h = says-all events (made replies done missed) h.0 h.1
   says-over (Err stop.AirRead) least events unsaid replies done missed cut h = says-all events (made replies done missed) h.0 h.1
   says-over (Err stop.Spent) least events unsaid replies done missed cut h = says-all events (made replies done missed) h.0 h.1
-  says-over (Err stop.AirWrite) least events unsaid replies done missed cut h = says-behind node_stop.AirWrite unsaid least events replies done missed cut h
-  says-over (Err stop.Disk) least events unsaid replies done missed cut h = says-behind node_stop.Disk unsaid least events replies done missed cut h
-  says-over (Err stop.OutOfMemory) least events unsaid replies done missed cut h = says-behind node_stop.OutOfMemory unsaid least events replies done missed cut h
+  says-over (Err stop.AirWrite) least events unsaid replies done missed cut h = says-behind stop.AirWrite unsaid least events replies done missed cut h
+  says-over (Err stop.Disk) least events unsaid replies done missed cut h = says-behind stop.Disk unsaid least events replies done missed cut h
+  says-over (Err stop.OutOfMemory) least events unsaid replies done missed cut h = says-behind stop.OutOfMemory unsaid least events replies done missed cut h
   says-over (Err (stop.NotAStore found)) least events unsaid replies done missed cut h = absurd h
   says-over (Err (stop.Damaged at)) least events unsaid replies done missed cut h = absurd h
 
@@ -547,7 +547,7 @@ module _ (server : Server) (events least : List NodeEvent) where
 
   module _ (unsaid : Bool) (all : Made) (cut : List Command) where
     -- a stop at an event with these failures
-    took-up_to : (why : Stop) (h : StopsBehind least server_steps server events why unsaid all cut) (failures : List Failure) → h.stops.last.done ≡ (happening h.stops.then_is h.stops.next failures).done → Took server events least all.done
+    took-up_to : (why : NodeStop) (h : StopsBehind least server_steps server events why unsaid all cut) (failures : List Failure) → h.stops.last.done ≡ (happening h.stops.then_is h.stops.next failures).done → Took server events least all.done
     took-up_to why h failures done_is =
         let s = h.stops in
         let first : List Command = s.earlier.done in
@@ -586,7 +586,7 @@ module _ (server : Server) (events least : List NodeEvent) where
         }
 
     -- a stop that leaves its event out
-    took-before : (why : Stop) → StopsBehind least server_steps server events why unsaid all cut → Took server events least all.done
+    took-before : (why : NodeStop) → StopsBehind least server_steps server events why unsaid all cut → Took server events least all.done
     took-before why h =
         let s = h.stops in
         let done : all.done ≡ s.earlier.done ++ s.last.done = ap (λ (m : Made). m.done) s.all_is in
@@ -604,9 +604,9 @@ module _ (server : Server) (events least : List NodeEvent) where
     took (Ok served) h = took-all h.1.frames all.done all.missed h.0 h.1.serves
     took (Err stop.AirRead) h = took-all h.1.frames all.done all.missed h.0 h.1.serves
     took (Err stop.Spent) h = took-all h.1.frames all.done all.missed h.0 h.1.serves
-    took (Err stop.AirWrite) h = let at = h.stops.stops in took-up_to node_stop.AirWrite h (failed_reads at.2.parts) at.2.step.done_is
-    took (Err stop.Disk) h = let at = h.stops.stops in took-up_to node_stop.Disk h (failed_write at.0 ++ failed_reads at.1) at.4.done_is
-    took (Err stop.OutOfMemory) h = took-before node_stop.OutOfMemory h
+    took (Err stop.AirWrite) h = let at = h.stops.stops in took-up_to stop.AirWrite h (failed_reads at.2.parts) at.2.step.done_is
+    took (Err stop.Disk) h = let at = h.stops.stops in took-up_to stop.Disk h (failed_write at.0 ++ failed_reads at.1) at.4.done_is
+    took (Err stop.OutOfMemory) h = took-before stop.OutOfMemory h
     took (Err (stop.NotAStore found)) h = absurd h
     took (Err (stop.Damaged at)) h = absurd h
 
