@@ -1,11 +1,11 @@
 //! Rows of disks that are armed to fail, and lose power. A row has the kind of the disk (`memory`, or `fuse` or `log`,
-//! which aren't armed at first), its octets, behind `|` its failing calls, and behind another one the calls that are made,
-//! parted by `;`.
+//! which aren't armed at first), its octets, behind `|` its failing calls, and behind another one the calls that are
+//! made, parted by `;`.
 //!
 //! The calls are those of rows of `disk`, and `cut PICK`; and but for `memory`, `arm N`, `disarm`, and `put AT OCTETS`,
-//! which writes the octets and syncs them. What each answers is printed, parted by `;`. Behind it stand the disk's octets
-//! then, with `starved` where a call found no memory, and what the power cuts left, as far as the disk tells it; all
-//! parted by ` | `.
+//! which writes the octets and syncs them. What each answers is printed, parted by `;`. Behind it stand the disk's
+//! octets then, with `starved` where a call found no memory, and what the power cuts left, as far as the disk tells it;
+//! all parted by ` | `.
 
 ghost use Rattle.std.specs.Prelude.{◌≡◌, false, IfSome};
 ghost use Rattle.disk_model.specs.Cuts.{LastsSo, cut_state, cuts_by};
