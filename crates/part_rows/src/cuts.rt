@@ -1,10 +1,11 @@
-//! Rows of disks that are armed to fail, and lose power. A row has the kind of the disk (`memory`, `fuse` or `log`, both
-//! of which aren't armed at first), its octets, behind `|` its failing calls, and behind another one the calls that are
+//! Rows of disks that are armed to fail, and lose power. A row has the kind of the disk (`memory`, or `fuse` or `log`,
+//! which aren't armed at first), its octets, behind `|` its failing calls, and behind another one the calls that are
 //! made, parted by `;`.
 //!
-//! The calls are those of rows of `disk`, and `cut PICK`; and but for `memory`, `arm N` and `disarm`. What each answers
-//! is printed, parted by `;`. Behind it stand the disk's octets then, with `starved` where a call found no memory, and
-//! what the power cuts left, as far as the disk tells it; all parted by ` | `.
+//! The calls are those of rows of `disk`, and `cut PICK`; and but for `memory`, `arm N`, `disarm`, and `put AT OCTETS`,
+//! which writes the octets and syncs them. What each answers is printed, parted by `;`. Behind it stand the disk's
+//! octets then, with `starved` where a call found no memory, and what the power cuts left, as far as the disk tells it;
+//! all parted by ` | `.
 
 ghost use Rattle.std.specs.Prelude.{◌≡◌, false, IfSome};
 ghost use Rattle.disk_model.specs.Cuts.{LastsSo, cut_state, cuts_by};
@@ -12,7 +13,7 @@ ghost use Rattle.disk_model.specs.Moments.{SamePast};
 
 use crate::disk::calls::make_call;
 use anyhow::{Context, Result, bail};
-use disk_model::{CutDisk, Disk, FuseDisk, LogDisk, MemoryDisk};
+use disk_model::{CutDisk, DiskFault, FuseDisk, LogDisk, MemoryDisk};
 use px_base::FileBytes;
 use row_words::{Player, read_numbers, read_octets};
 use std::alloc::Global;
@@ -111,6 +112,14 @@ fn make<D: CutDisk>(alloc: Global, disk: &mut D, call: &str) -> Result<String> {
             cut(disk, word.parse::<u64>()?);
             "cut"
         }
+        "put" => {
+            let (at, octets) = word.split_once(' ').context("no octets")?;
+            let octets = read_octets(alloc, octets)?;
+            match put(disk, at.parse::<u64>()?, octets.as_slice()) {
+                Ok(()) => "put",
+                Err(DiskFault) => "failed",
+            }
+        }
         _ => return make_call(alloc, disk, call),
     };
     Ok(String::from_str(alloc, done)?)
@@ -122,6 +131,15 @@ fn cut<D: CutDisk>(disk: &mut D, pick: u64)
     ensures past { SamePast (D.images_since disk.old) (D.images_since disk.new) }
 {
     disk.power_cut(pick);
+}
+
+/// Writes octets and syncs them, by calls that know nothing of the arming: what lasts through them is told by one law.
+fn put<D: CutDisk>(disk: &mut D, at: u64, octets: &[u8]) -> Result<(), DiskFault>
+    ensures { LastsSo (cut_state D.Disk (cuts_by D.restarts D.arming D.plain D.is_starved) disk.old)
+        (cut_state D.Disk (cuts_by D.restarts D.arming D.plain D.is_starved) disk.new) }
+{
+    disk.write_at(at, octets)?;
+    disk.sync()
 }
 
 /// Puts an answer behind the others.
