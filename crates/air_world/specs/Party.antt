@@ -2,7 +2,7 @@
 use Rattle.std.specs.Prelude.{◌≡◌, ℕ, ◌-◌, ◌==◌, List, [], ◌∷◌, map, slice_get, Bool, false, if◌then◌else◌}
 use Rattle.std.specs.Prelude.{Option, None, Some, IfSome, MatchOption, ⊤}
 use Rattle.std.specs.List.{AllByRecursion}
-use Rattle.std.specs.Option.{option_and_then, option_map, option_map_or}
+use Rattle.std.specs.Option.{option_and_then, option_map, option_map_or, option_or}
 use Rattle.px_base.specs.CallSign.{CallSign}
 use Rattle.ax25_link.specs.Air.{Transmission, delivering, sending_all}
 use Rattle.ax25_frames.specs.FrameText.{FrameValue}
@@ -61,7 +61,7 @@ with_answered change (a ∷ older) =
 -- the server's side of the newest attempt that a session answered, if there is one
 abbrev pub newest_side : List Attempt → Option ServerSide
 newest_side [] = None
-newest_side (a ∷ older) = option_map_or (λ side. Some side) a.server (newest_side older)
+newest_side (a ∷ older) = option_or a.server (newest_side older)
 
 -- the sessions are over: their ends and states stay as they were last
 abbrev pub over : ServerSide → ServerSide

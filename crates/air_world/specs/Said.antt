@@ -4,10 +4,8 @@ use Rattle.ftl0_packets.specs.Layout.{Item, PacketValue, data_part, ul_ack_resp,
 use Rattle.ftl0_server.specs.Entries as session
 use Rattle.ftl0_server.specs.Entries.{SessionEntry}
 use Rattle.ftl0_job.specs.declared.work.Work.TheVariants as work
-use Rattle.ftl0_job.specs.Download.{new_download}
 use Rattle.ftl0_job.specs.Upload.{new_upload}
 use Rattle.ftl0_client.specs.Entries as job
-use Rattle.px_base.specs.CallSign.{CallSign}
 use Rattle.air_world.specs.Attempt.{Attempt}
 use Rattle.air_world.specs.Lists.{Has, OneIs}
 use Rattle.air_world.specs.Sides.{ClientSide, ServerSide, said_by_client, said_by_server}
@@ -15,10 +13,6 @@ use Rattle.air_world.specs.Sides.{ClientSide, ServerSide, said_by_client, said_b
 -- the attempt is one to send this file of a task, whose number was known, or 0 where none was
 abbrev pub AsksUpload : Attempt → ℕ → ℕ → List ℕ → Type 0
 AsksUpload a task known file = a.client.asked ≡ work.Upload (new_upload task known file)
-
--- the attempt is one to get the server's file of this number
-abbrev pub AsksDownload : Attempt → CallSign → ℕ → Type 0
-AsksDownload a server number = a.client.asked ≡ work.Download (new_download server number)
 
 -- the session has said that the file of this number may come, from this offset on
 abbrev pub Offers : ServerSide → ℕ → ℕ → Type 0
