@@ -1,5 +1,6 @@
 -- A job is carried out by a client whose notes were recovered.
-use Rattle.std.proofs.Common.{◌≡◌, ℕ, Bool, true, false, List, [], ◌++◌, refl, sym, ◌∙◌, ap, subst, append-nil, Option, None, Some, IfSome, ◌≢◌, Result, Ok, Err, IfErr, IsErrOf}
+use Rattle.std.specs.Prelude.{⊤, MatchResult}
+use Rattle.std.proofs.Common.{◌≡◌, ℕ, Bool, true, false, List, [], ◌++◌, refl, sym, ◌∙◌, ap, subst, append-nil, Option, None, Some, IfSome, Result, Ok, Err, IfErr, IsErrOf}
 use Rattle.file_journal.specs.Position.{Position}
 use Rattle.client_notes.specs.Calls.{Runs}
 use Rattle.client_notes.specs.Walk.{state}
@@ -150,6 +151,21 @@ module _ (reads reads_n writes writes_n : ℕ) where
 
 -- ---- the causes of a command's end
 
+-- whether a command stops so only behind the outcome of its job
+abbrev pub is_late : SendStop → Bool
+is_late stop.Shelf = true
+is_late stop.Out = true
+is_late why = false
+
+late-after : (why : SendStop) → is_late why ≡ true → is_before_outcome why ≡ true → ⊥
+late-after stop.Shelf late before = cc before
+late-after stop.Out late before = cc before
+late-after why late before = cc late
+
+pub late-by : (result : Result ⊤ SendStop) (P Q : Type 0) (s : SendStop) → is_late s ≡ true → MatchResult result (λ _. P) (λ why. (why ≡ s) × Q) → IfErr result (λ why. is_late why ≡ true)
+late-by (Ok done) P Q s late by = tt
+late-by (Err why) P Q s late by = ap is_late by.0 ∙ late
+
 module _ {A C D : Type 0} (see : Seen D A C) (old new : Lent D A C) where
   -- of another answer with the same stop
   pub causes-err : (T U : Type 0) (why : SendStop) → HasCauses {T = T} see old new (Err why) → HasCauses {T = U} see old new (Err why)
@@ -159,23 +175,17 @@ module _ {A C D : Type 0} (see : Seen D A C) (old new : Lent D A C) where
   }
 
   -- of an answer behind an outcome
-  causes-behind : (T U : Type 0) (value : T) (result : Result U SendStop) → IfErr result (λ why. (is_before_outcome why ≡ false) × (why ≢ stop.AirRead) × (why ≢ stop.AirWrite)) → ¬ (result ≡ Err stop.Disk)
-      → HasCauses {T = T} see old new (Ok value) → HasCauses see old new result
-  causes-behind T U value (Ok other) late fine causes =
+  pub causes-late : {T U : Type 0} (value : T) (result : Result U SendStop) → IfErr result (λ why. is_late why ≡ true) → HasCauses see old new (Ok value) → HasCauses see old new result
+  causes-late value (Ok other) late causes =
       record { runs = runs_same see.disk _ _ old.disk new.disk (λ e. absurd (cc e)) (λ e. absurd (cc e)) causes.runs; of_air = record { read = λ e. absurd (cc e); write = λ e. absurd (cc e); same = tt } }
-  causes-behind T U value (Err why) late fine causes = record {
-    runs = runs_same see.disk _ _ old.disk new.disk (λ e. absurd (cc e)) (λ e. absurd (fine e)) causes.runs;
-    of_air = record { read = λ e. absurd (late.1 (error-is U why stop.AirRead e)); write = λ e. absurd (late.2 (error-is U why stop.AirWrite e)); same = λ before. absurd (cc (sym late.0 ∙ before)) };
+  causes-late {T} {U} value (Err why) late causes = record {
+    runs = runs_same see.disk _ _ old.disk new.disk (λ e. absurd (cc e)) (λ e. absurd (never {T = U} is_late (Err why) late stop.Disk refl e)) causes.runs;
+    of_air = record {
+      read = λ e. absurd (never {T = U} is_late (Err why) late stop.AirRead refl e);
+      write = λ e. absurd (never {T = U} is_late (Err why) late stop.AirWrite refl e);
+      same = λ before. absurd (late-after why late before);
+    };
   }
-
-  pub causes-ok : {T U : Type 0} (value : T) (other : U) → HasCauses see old new (Ok value) → HasCauses see old new (Ok other)
-  causes-ok {T} {U} value other = causes-behind T U value (Ok other) tt (λ e. cc e)
-
-  pub causes-shelf : {T U : Type 0} (value : T) → HasCauses see old new (Ok value) → HasCauses {T = U} see old new (Err stop.Shelf)
-  causes-shelf {T} {U} value = causes-behind T U value (Err stop.Shelf) (refl, λ e. cc e, λ e. cc e) (λ e. cc e)
-
-  pub causes-out : {T U : Type 0} (value : T) → HasCauses see old new (Ok value) → HasCauses {T = U} see old new (Err stop.Out)
-  causes-out {T} {U} value = causes-behind T U value (Err stop.Out) (refl, λ e. cc e, λ e. cc e) (λ e. cc e)
 
   -- where nothing is heard or said
   pub causes-still : {T : Type 0} (result : Result T SendStop) → ¬ (result ≡ Err stop.AirRead) → ¬ (result ≡ Err stop.AirWrite) → new.air ≡ old.air → Runs see.disk (IsErrOf result stop.Disk) old.disk new.disk

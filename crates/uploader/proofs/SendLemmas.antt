@@ -40,7 +40,7 @@ use Rattle.uploader.specs.OnDisk.{RefusesNotes}
 use Rattle.uploader.specs.Ready.{RecoversClient, UploadsJob}
 use Rattle.uploader.specs.Sending.{EndsAtStart, IsLastAcked, IsTaskFor, IsUnstarted, SendEnds, Uploads, first_command, last_answer, upload_of}
 use Rattle.uploader.specs.Stops.{stop_of_start}
-use Rattle.uploader.proofs.CarryLemmas.{HasCarried, carries, causes, causes-err, causes-ok, causes-still, images-at-end, never, of_answer, of_turns, outcome-fine, recovered_exactly}
+use Rattle.uploader.proofs.CarryLemmas.{HasCarried, carries, causes, causes-err, causes-late, causes-still, images-at-end, never, of_answer, of_turns, outcome-fine, recovered_exactly}
 use Rattle.uploader.proofs.OutcomeLemmas.{acked-in, never-bad, upload-reached}
 use Rattle.uploader.proofs.StartLemmas.{cut_of, refused-start}
 
@@ -332,7 +332,7 @@ module _ {A C D : Type 0} (see : Seen D A C) (lasts : (disk : D) → see.disk.la
 
     causes-of : (r : Result Sent SendStop) → Answered r → HasCauses see old new r
     causes-of (Ok sent) is =
-        causes-ok see old new (outcome.Acked sent.number) sent (subst (λ (r : Result Outcome SendStop). HasCauses see old new r) is (causes see on old new terms first job uploads.came h))
+        causes-late see old new (outcome.Acked sent.number) (Ok sent) tt (subst (λ (r : Result Outcome SendStop). HasCauses see old new r) is (causes see on old new terms first job uploads.came h))
     causes-of (Err why) is = causes-err see old new Outcome Sent why (subst (λ (r : Result Outcome SendStop). HasCauses see old new r) is (causes see on old new terms first job uploads.came h))
 
     past-of : (r : Result Sent SendStop) → Answered r → IfErr r (λ why. is_past why ≡ true)
