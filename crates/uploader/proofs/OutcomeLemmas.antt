@@ -71,13 +71,10 @@ pub acked-in : {D : Type 0} (g : Ghosts D) (disk : D) (lists : Lists) (task numb
     → EachImage g disk (IsAckedIn task number)
 acked-in g disk lists task number images is = told_weaker (g.content disk) _ _ (λ octets told each image here. (lists, each image here, is)) images
 
--- to show what holds of an answer that is known
-pub at_stop : {T E : Type 0} (result : Result T E) (why : E) → result ≡ Err why → (P : T → Type 0) → IfOk result P
-at_stop (Ok value) why is P = absurd (cc is)
-at_stop (Err other) why is P = tt
-
-pub at_reached : {T E : Type 0} (result : Result T E) (value : T) → result ≡ Ok value → (P : T → Type 0) → P value → IfOk result P
-at_reached result value is P p = subst (λ r. IfOk r P) (sym is) p
+-- what holds of the value, if there is one
+if-ok : {T E : Type 0} (result : Result T E) (P : T → Type 0) → ((value : T) → result ≡ Ok value → P value) → IfOk result P
+if-ok (Ok value) P holds = holds value refl
+if-ok (Err why) P holds = tt
 
 -- an upload that came to what a command asks for came to that its file was acknowledged
 pub acked-alone : (lists : Lists) (asked : Work) (listing : List ℕ) (ended : Result Finished NodeStop) (reached answer : Outcome) → IsUpload asked → (reached ≢ outcome.Working → Promises lists asked listing reached)
@@ -102,62 +99,36 @@ download-goes lists server number held is most job job_is =
 
 module _ {A C D S : Type 0} (see : Seen D A C) (held : S → Option Holding) (on : (first second third : D) → see.disk.lasts first second → see.disk.lasts second third → see.disk.lasts first third) (old new : Lent D A C)
     (file : FileAsked) (result : Result Outcome SendStop) (h : HasCarried see old new file.terms [] (download_of file) result) where
-  -- the download stopped, and the shelf isn't touched
-  pub fetch-stops : (why : SendStop) → result ≡ Err why → (shelf : S) → Fetches see held old new shelf shelf file (Err why)
+  -- the shelf keeps what was fetched, or can't; it isn't touched where the download stopped
+  pub fetch-ends : (shelf shelf_n : S) (octets : List ℕ) → octets ≡ got_of h.end.notes.lists file.terms.server file.number → (last : Result ⊤ SendStop) → KeepsBy held shelf shelf_n file.name octets result last
+      → Fetches see held old new shelf shelf_n file last
   unfolding carries
-  fetch-stops why is shelf = record {
+  fetch-ends shelf shelf_n octets octets_are last keeps = record {
     start = h.made.notes.lists;
     came = result;
     carries = carries see on old new file.terms [] (download_of file) result h;
-    octets = [];
-    got = at_stop result why is (λ _. [] ≡ got_of (after_all h.made.notes.lists h.out.run.done) file.terms.server file.number);
-    fetched = at_stop result why is (λ reached. (reached ≡ outcome.Fetched file.number) × (fault_code [] ≡ None));
-    keeps = subst (λ (r : Result Outcome SendStop). KeepsBy held shelf shelf file.name [] r (Err why)) (sym is) (refl, refl);
+    octets = octets;
+    got = if-ok result (λ _. octets ≡ got_of (after_all h.made.notes.lists h.out.run.done) file.terms.server file.number) (λ answer is.
+        octets_are
+        ∙ ap (λ (l : Lists). got_of l file.terms.server file.number)
+        (lists-at-end see on old new file.terms [] (download_of file) result h (outcome-fine see on old new file.terms [] (download_of file) result h answer is)));
+    fetched = if-ok result (λ reached. (reached ≡ outcome.Fetched file.number) × (fault_code octets ≡ None)) (λ answer is.
+        let came =
+        download-reached h.end.notes.lists (new_download file.terms.server file.number) (listing_in h.end.attempt) h.out.run.ended h.out.run.reached answer h.out.became.promises (sym h.out.answer ∙ is) in
+        (came.0, ap fault_code octets_are ∙ came.1));
+    keeps = keeps;
   }
-
-  -- it was fetched, and the shelf keeps it, or can't
-  pub fetch-keeps : (answer : Outcome) → result ≡ Ok answer → (shelf shelf_n : S) (octets : List ℕ) → octets ≡ got_of h.end.notes.lists file.terms.server file.number → (last : Result ⊤ SendStop)
-      → KeepsBy held shelf shelf_n file.name octets (Ok answer) last → Fetches see held old new shelf shelf_n file last
-  unfolding carries
-  fetch-keeps answer is shelf shelf_n octets octets_are last keeps =
-      let fine = outcome-fine see on old new file.terms [] (download_of file) result h answer is in
-      let came =
-      download-reached h.end.notes.lists (new_download file.terms.server file.number) (listing_in h.end.attempt) h.out.run.ended h.out.run.reached answer h.out.became.promises (sym h.out.answer ∙ is) in
-      record {
-        start = h.made.notes.lists;
-        came = result;
-        carries = carries see on old new file.terms [] (download_of file) result h;
-        octets = octets;
-        got =
-            at_reached result answer is (λ _. octets ≡ got_of (after_all h.made.notes.lists h.out.run.done) file.terms.server file.number)
-            (octets_are ∙ ap (λ (l : Lists). got_of l file.terms.server file.number) (lists-at-end see on old new file.terms [] (download_of file) result h fine));
-        fetched =
-            at_reached result answer is (λ reached. (reached ≡ outcome.Fetched file.number) × (fault_code octets ≡ None)) (came.0, ap fault_code octets_are ∙ came.1);
-        keeps = subst (λ (r : Result Outcome SendStop). KeepsBy held shelf shelf_n file.name octets r last) (sym is) keeps;
-      }
 
 module _ {A C D O : Type 0} (see : Seen D A C) (shown : O → Option (List ℕ)) (on : (first second third : D) → see.disk.lasts first second → see.disk.lasts second third → see.disk.lasts first third) (old new : Lent D A C)
     (files : FilesAsked) (result : Result Outcome SendStop) (h : HasCarried see old new files.terms [] (directory_of files.tokens) result) where
-  -- the list stopped, and the output isn't touched
-  pub list-stops : (why : SendStop) → result ≡ Err why → (out : O) → ListsFiles see shown old new out out files (Err why)
+  -- the lines of a list that came whole are shown, or can't be; where it stopped the output isn't touched
+  pub list-ends : (out out_n : O) (last : Result ⊤ SendStop) → ShowsBy shown out out_n (listing_in h.end.attempt) result last → ListsFiles see shown old new out out_n files last
   unfolding carries
-  list-stops why is out = record {
+  list-ends out out_n last shows = record {
     start = h.made.notes.lists;
     came = result;
     carries = carries see on old new files.terms [] (directory_of files.tokens) result h;
-    listed = at_stop result why is (λ reached. (reached ≡ outcome.Listed) × (are_short_headers (listing_in h.end.attempt) ≡ true));
-    shows = subst (λ (r : Result Outcome SendStop). ShowsBy shown out out (listing_in h.end.attempt) r (Err why)) (sym is) (refl, refl);
-  }
-
-  -- it came whole, and its lines are shown, or can't be
-  pub list-shows : (answer : Outcome) → result ≡ Ok answer → (out out_n : O) (last : Result ⊤ SendStop) → ShowsBy shown out out_n (listing_in h.end.attempt) (Ok answer) last → ListsFiles see shown old new out out_n files last
-  unfolding carries
-  list-shows answer is out out_n last shows = record {
-    start = h.made.notes.lists;
-    came = result;
-    carries = carries see on old new files.terms [] (directory_of files.tokens) result h;
-    listed =
-        at_reached result answer is (λ reached. (reached ≡ outcome.Listed) × (are_short_headers (listing_in h.end.attempt) ≡ true))
-        (list-reached h.end.notes.lists (new_directory files.tokens) (listing_in h.end.attempt) h.out.run.ended h.out.run.reached answer h.out.became.promises (sym h.out.answer ∙ is));
-    shows = subst (λ (r : Result Outcome SendStop). ShowsBy shown out out_n (listing_in h.end.attempt) r last) (sym is) shows;
+    listed = if-ok result (λ reached. (reached ≡ outcome.Listed) × (are_short_headers (listing_in h.end.attempt) ≡ true)) (λ answer is.
+        list-reached h.end.notes.lists (new_directory files.tokens) (listing_in h.end.attempt) h.out.run.ended h.out.run.reached answer h.out.became.promises (sym h.out.answer ∙ is));
+    shows = shows;
   }
