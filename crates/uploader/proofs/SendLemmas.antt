@@ -40,8 +40,7 @@ use Rattle.uploader.specs.OnDisk.{RefusesNotes}
 use Rattle.uploader.specs.Ready.{RecoversClient, UploadsJob}
 use Rattle.uploader.specs.Sending.{EndsAtStart, IsLastAcked, IsTaskFor, IsUnstarted, SendEnds, Uploads, first_command, last_answer, upload_of}
 use Rattle.uploader.specs.Stops.{stop_of_start}
-use Rattle.uploader.proofs.CarryLemmas.{HasCarried, carries, causes, causes-err, causes-late, causes-still, images-at-end, never, of_answer, of_turns, outcome-fine, recovered_exactly}
-use Rattle.uploader.proofs.OutcomeLemmas.{acked-in, never-bad, upload-reached}
+use Rattle.uploader.proofs.CarryLemmas.{acked-in, carries, causes, causes-err, causes-late, causes-still, HasCarried, images-at-end, never, never-bad, of_answer, of_turns, outcome-fine, recovered_exactly, upload-reached}
 use Rattle.uploader.proofs.StartLemmas.{cut_of, refused-start}
 
 -- nothing is called

@@ -10,8 +10,7 @@ use Rattle.uploader.specs.declared.stop.SendStop.{SendStop}
 use Rattle.uploader.specs.declared.stop.SendStop.TheVariants as stop
 use Rattle.uploader.specs.Causes.{HasCauses}
 use Rattle.uploader.specs.Fetching.{KeepsBy, download_of, file_asked}
-use Rattle.uploader.proofs.CarryLemmas.{carried, causes, causes-err, causes-late, is_carried, is_late, just-asked, late-by, never, recovered_exactly}
-use Rattle.uploader.proofs.OutcomeLemmas.{download-goes, fetch-ends}
+use Rattle.uploader.proofs.CarryLemmas.{carried, causes, causes-err, causes-late, download-goes, fetch-ends, is_carried, is_late, just-asked, late-by, never, recovered_exactly}
 use Rattle.uploader.proofs.StartLemmas.{refused_exactly}
 use Rattle.uploader.proofs.fetching.fetch.Goals as goal
 

@@ -10,8 +10,7 @@ use Rattle.uploader.specs.declared.stop.SendStop.{SendStop}
 use Rattle.uploader.specs.declared.stop.SendStop.TheVariants as stop
 use Rattle.uploader.specs.Causes.{HasCauses}
 use Rattle.uploader.specs.Listing.{ShowsBy, directory_of, files_asked}
-use Rattle.uploader.proofs.CarryLemmas.{carried, causes, causes-err, causes-late, is_carried, is_late, just-asked, late-by, never, recovered_exactly}
-use Rattle.uploader.proofs.OutcomeLemmas.{list-ends}
+use Rattle.uploader.proofs.CarryLemmas.{carried, causes, causes-err, causes-late, is_carried, is_late, just-asked, late-by, list-ends, never, recovered_exactly}
 use Rattle.uploader.proofs.StartLemmas.{refused_exactly, unmade_leaves}
 use Rattle.uploader.proofs.listing.list.Goals as goal
 
