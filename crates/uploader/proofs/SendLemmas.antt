@@ -1,4 +1,5 @@
 -- How `send` ends.
+use Rattle.std.proofs.lemmas.Grind.{common_steps}
 use Rattle.std.proofs.Common.{◌≡◌, ◌⊎◌, ⊎_elim, inl, inr, ℕ, Bool, true, false, List, [], ◌∷◌, length, refl, sym, ap, ◌∙◌, subst, arith, Some, Option, IfSome, Result, Ok, Err, IfErr, IfOk, IsErr, IsErrOf, IsTrue, MatchResult}
 use Rattle.px_base.specs.CallSign.{CallSign}
 use Rattle.px_base.specs.Shelves.{Holding, content_of}
@@ -45,18 +46,12 @@ use Rattle.uploader.proofs.StartLemmas.{cut_of, refused-start}
 
 -- nothing is called
 pub runs_still : {D : Type 0} (g : Ghosts D) (P : Type 0) (disk : D) → ¬ P → g.lasts disk disk → Runs g P disk disk
-runs_still g P disk fine same = record {
-  told = alike_same (g.content disk) (g.content disk) refl;
-  faults = record { reads = omega arith; writes = omega arith; rose = λ p. absurd (fine p); same = λ q. (refl, refl) };
-  stops = stops_none g disk same;
-  lasts = same;
-}
+runs_still g P disk fine same = grind (arith, common_steps, alike_same, stops_none)
 
 -- the upload that was made, by what was begun
 pub made-upload : (made : JobState) (task number one other : ℕ) (file : List ℕ) → made ≡ upload_of one other file → one ≡ task → other ≡ number
     → made ≡ upload_of task number file
-made-upload made task number one other file is same same_number =
-    is ∙ ap (λ (t : ℕ). upload_of t other file) same ∙ ap (λ (n : ℕ). upload_of task n file) same_number
+made-upload made task number one other file is same same_number = cc
 
 -- the content of a name stops the command by what it may alone
 pub unfit-never : (held : Option Holding) (name : List ℕ) (why other : SendStop) → IsUnfit held name why → ¬ IsUnfit held name other → ¬ IsErrOf {T = Sent} (Err why) other
