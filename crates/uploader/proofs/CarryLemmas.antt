@@ -1,5 +1,6 @@
 -- What carrying out a job comes to, and what its outcomes are to the command that asked for it.
 use Rattle.std.specs.Prelude.{⊤, MatchResult}
+use Rattle.std.proofs.lemmas.Grind.{common_steps}
 use Rattle.std.proofs.Common.{◌≡◌, ℕ, Bool, true, false, List, [], ◌++◌, refl, sym, ◌∙◌, ap, subst, append-nil, Option, None, Some, IfSome, Result, Ok, Err, IfErr, IsErrOf, ◌≢◌, IfOk, ◌≤◌, length, arith}
 use Rattle.file_journal.specs.Position.{Position}
 use Rattle.client_notes.specs.Calls.{Runs}
@@ -187,10 +188,7 @@ late-by (Err why) P Q s late by = ap is_late by.0 ∙ late
 module _ {A C D : Type 0} (see : Seen D A C) (old new : Lent D A C) where
   -- of another answer with the same stop
   pub causes-err : (T U : Type 0) (why : SendStop) → HasCauses {T = T} see old new (Err why) → HasCauses {T = U} see old new (Err why)
-  causes-err T U why causes = record {
-    runs = runs_same see.disk _ _ old.disk new.disk (same-stop T U why stop.Disk) (same-stop U T why stop.Disk) causes.runs;
-    of_air = record { read = λ is. causes.of_air.read (same-stop U T why stop.AirRead is); write = λ is. causes.of_air.write (same-stop U T why stop.AirWrite is); same = causes.of_air.same };
-  }
+  causes-err T U why causes = grind (arith, common_steps, runs_same, same-stop)
 
   -- of an answer behind an outcome
   pub causes-late : {T U : Type 0} (value : T) (result : Result U SendStop) → IfErr result (λ why. is_late why ≡ true) → HasCauses see old new (Ok value) → HasCauses see old new result

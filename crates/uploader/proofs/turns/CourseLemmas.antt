@@ -393,10 +393,7 @@ closed-over self client is quiet =
 
 told-by : (attempt : AttemptState) (a : Attempted) (job : JobState) (down : Option Why) → attempt.job ≡ job → attempt.down ≡ down → a.job ≡ job → a.down ≡ down
     → (outcome_as (attempted.outcome_by attempt.job.ending attempt.down) ≡ outcome_as (attempted.outcome_by a.job.ending a.down)) × (listing_of attempt.job.work ≡ listing_of a.job.work)
-told-by attempt a job down h k m n = (
-  ap (λ (j : JobState). outcome_as (attempted.outcome_by j.ending attempt.down)) (h ∙ sym m) ∙ ap (λ (d : Option Why). outcome_as (attempted.outcome_by a.job.ending d)) (k ∙ sym n),
-  ap (λ (j : JobState). listing_of j.work) (h ∙ sym m),
-)
+told-by attempt a job down h k m n = (cc, cc)
 
 -- the attempt of the code's client tells what that one has
 abbrev ToldOf : Option AttemptState → Option Attempted → Type 0
