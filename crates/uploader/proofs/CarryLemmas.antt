@@ -1,12 +1,14 @@
--- A job is carried out by a client whose notes were recovered.
-use Rattle.std.proofs.Common.{◌≡◌, ℕ, Bool, true, false, List, [], ◌++◌, refl, sym, ◌∙◌, ap, subst, append-nil, Option, None, Some, IfSome, ◌≢◌, Result, Ok, Err, IfErr, IsErrOf}
+-- What carrying out a job comes to, and what its outcomes are to the command that asked for it.
+use Rattle.std.specs.Prelude.{⊤, MatchResult}
+use Rattle.std.proofs.lemmas.Grind.{common_steps}
+use Rattle.std.proofs.Common.{◌≡◌, ℕ, Bool, true, false, List, [], ◌++◌, refl, sym, ◌∙◌, ap, subst, append-nil, Option, None, Some, IfSome, Result, Ok, Err, IfErr, IsErrOf, ◌≢◌, IfOk, ◌≤◌, length, arith}
 use Rattle.file_journal.specs.Position.{Position}
 use Rattle.client_notes.specs.Calls.{Runs}
 use Rattle.client_notes.specs.Walk.{state}
 use Rattle.client_notes.proofs.Offered.{GoesThrough, goes_through, images-here, recovered-ready, runs_same, Several-none, Several-then, told_weaker}
 use Rattle.client_notes.specs.Command.{NotesCommand}
 use Rattle.client_notes.specs.Laws.{after_all}
-use Rattle.client_notes.specs.Notes.{Lists}
+use Rattle.client_notes.specs.Notes.{Lists, got_of}
 use Rattle.client_notes.specs.OnDisk.{EachImage}
 use Rattle.client_notes.specs.Several.{CutsOff, DoesSeveral}
 use Rattle.client_notes.specs.State.{StandsFor, standing_of}
@@ -17,7 +19,7 @@ use Rattle.node.specs.declared.finished.Finished.{Finished}
 use Rattle.node.specs.declared.finished.Finished.TheVariants as finished
 use Rattle.node.specs.declared.stop.NodeStop.{NodeStop}
 use Rattle.node.specs.declared.stop.NodeStop.TheVariants as node
-use Rattle.ftl0_client.specs.Table.{JobState}
+use Rattle.ftl0_client.specs.Table.{JobState, new_job}
 use Rattle.ftl0_client.specs.Client.{Client, ClientEvent}
 use Rattle.ftl0_client.specs.ClientState.{ClientState, listing_in}
 use Rattle.ftl0_client.specs.Going.{Promises}
@@ -30,8 +32,26 @@ use Rattle.uploader.specs.declared.terms.ClientTerms.{ClientTerms}
 use Rattle.uploader.specs.Carried.{Carries, asked_of, client_from}
 use Rattle.uploader.specs.Causes.{HasAirCause, HasCauses, is_before_outcome}
 use Rattle.uploader.specs.OnDisk.{RefusesNotes}
-use Rattle.uploader.specs.Ready.{RecoversClient}
+use Rattle.uploader.specs.Ready.{RecoversClient, IsUpload}
 use Rattle.uploader.specs.Stops.{answer_of, stop_of_node, stop_of_turns}
+use Rattle.pfh_reader.specs.Faults.{fault_code}
+use Rattle.disk_model.specs.declared.disk.Disk.{Ghosts}
+use Rattle.client_notes.specs.Answers.{noted_at}
+use Rattle.client_notes.specs.declared.answers.Noted.TheVariants as noted
+use Rattle.node.specs.Turns.{TurnsBy}
+use Rattle.ftl0_client.specs.Work.{Work}
+use Rattle.ftl0_client.specs.Work.TheVariants as work
+use Rattle.ftl0_client.specs.Directory.{Directory, new_directory}
+use Rattle.ftl0_client.specs.Download.{Download, new_download}
+use Rattle.ftl0_client.specs.JobLaws.{IsAckedIn}
+use Rattle.ftl0_client.specs.Short.{are_short_headers}
+use Rattle.ftl0_client.specs.Upload.{Upload}
+use Rattle.px_base.specs.CallSign.{CallSign}
+use Rattle.px_base.specs.Shelves.{Holding}
+use Rattle.client_notes.specs.Limits.{longest_file}
+use Rattle.ftl0_client.specs.JobState.{NotesGoWith}
+use Rattle.uploader.specs.Fetching.{Fetches, FileAsked, KeepsBy, download_of}
+use Rattle.uploader.specs.Listing.{FilesAsked, ListsFiles, ShowsBy, directory_of}
 
 -- ---- the stops of a command
 
@@ -150,32 +170,38 @@ module _ (reads reads_n writes writes_n : ℕ) where
 
 -- ---- the causes of a command's end
 
+-- whether a command stops so only behind the outcome of its job
+abbrev pub is_late : SendStop → Bool
+is_late stop.Shelf = true
+is_late stop.Out = true
+is_late why = false
+
+late-after : (why : SendStop) → is_late why ≡ true → is_before_outcome why ≡ true → ⊥
+late-after stop.Shelf late before = cc before
+late-after stop.Out late before = cc before
+late-after why late before = cc late
+
+pub late-by : (result : Result ⊤ SendStop) (P Q : Type 0) (s : SendStop) → is_late s ≡ true → MatchResult result (λ _. P) (λ why. (why ≡ s) × Q) → IfErr result (λ why. is_late why ≡ true)
+late-by (Ok done) P Q s late by = tt
+late-by (Err why) P Q s late by = ap is_late by.0 ∙ late
+
 module _ {A C D : Type 0} (see : Seen D A C) (old new : Lent D A C) where
   -- of another answer with the same stop
   pub causes-err : (T U : Type 0) (why : SendStop) → HasCauses {T = T} see old new (Err why) → HasCauses {T = U} see old new (Err why)
-  causes-err T U why causes = record {
-    runs = runs_same see.disk _ _ old.disk new.disk (same-stop T U why stop.Disk) (same-stop U T why stop.Disk) causes.runs;
-    of_air = record { read = λ is. causes.of_air.read (same-stop U T why stop.AirRead is); write = λ is. causes.of_air.write (same-stop U T why stop.AirWrite is); same = causes.of_air.same };
-  }
+  causes-err T U why causes = grind (arith, common_steps, runs_same, same-stop)
 
   -- of an answer behind an outcome
-  causes-behind : (T U : Type 0) (value : T) (result : Result U SendStop) → IfErr result (λ why. (is_before_outcome why ≡ false) × (why ≢ stop.AirRead) × (why ≢ stop.AirWrite)) → ¬ (result ≡ Err stop.Disk)
-      → HasCauses {T = T} see old new (Ok value) → HasCauses see old new result
-  causes-behind T U value (Ok other) late fine causes =
+  pub causes-late : {T U : Type 0} (value : T) (result : Result U SendStop) → IfErr result (λ why. is_late why ≡ true) → HasCauses see old new (Ok value) → HasCauses see old new result
+  causes-late value (Ok other) late causes =
       record { runs = runs_same see.disk _ _ old.disk new.disk (λ e. absurd (cc e)) (λ e. absurd (cc e)) causes.runs; of_air = record { read = λ e. absurd (cc e); write = λ e. absurd (cc e); same = tt } }
-  causes-behind T U value (Err why) late fine causes = record {
-    runs = runs_same see.disk _ _ old.disk new.disk (λ e. absurd (cc e)) (λ e. absurd (fine e)) causes.runs;
-    of_air = record { read = λ e. absurd (late.1 (error-is U why stop.AirRead e)); write = λ e. absurd (late.2 (error-is U why stop.AirWrite e)); same = λ before. absurd (cc (sym late.0 ∙ before)) };
+  causes-late {T} {U} value (Err why) late causes = record {
+    runs = runs_same see.disk _ _ old.disk new.disk (λ e. absurd (cc e)) (λ e. absurd (never {T = U} is_late (Err why) late stop.Disk refl e)) causes.runs;
+    of_air = record {
+      read = λ e. absurd (never {T = U} is_late (Err why) late stop.AirRead refl e);
+      write = λ e. absurd (never {T = U} is_late (Err why) late stop.AirWrite refl e);
+      same = λ before. absurd (late-after why late before);
+    };
   }
-
-  pub causes-ok : {T U : Type 0} (value : T) (other : U) → HasCauses see old new (Ok value) → HasCauses see old new (Ok other)
-  causes-ok {T} {U} value other = causes-behind T U value (Ok other) tt (λ e. cc e)
-
-  pub causes-shelf : {T U : Type 0} (value : T) → HasCauses see old new (Ok value) → HasCauses {T = U} see old new (Err stop.Shelf)
-  causes-shelf {T} {U} value = causes-behind T U value (Err stop.Shelf) (refl, λ e. cc e, λ e. cc e) (λ e. cc e)
-
-  pub causes-out : {T U : Type 0} (value : T) → HasCauses see old new (Ok value) → HasCauses {T = U} see old new (Err stop.Out)
-  causes-out {T} {U} value = causes-behind T U value (Err stop.Out) (refl, λ e. cc e, λ e. cc e) (λ e. cc e)
 
   -- where nothing is heard or said
   pub causes-still : {T : Type 0} (result : Result T SendStop) → ¬ (result ≡ Err stop.AirRead) → ¬ (result ≡ Err stop.AirWrite) → new.air ≡ old.air → Runs see.disk (IsErrOf result stop.Disk) old.disk new.disk
@@ -308,3 +334,97 @@ module _ {A C D : Type 0} (see : Seen D A C) (on : (first second third : D) → 
 
   pub carried : (why : SendStop) → result ≡ Err why → is_carried why ≡ true
   carried why is = of_answer (λ s. is_carried s ≡ true) (λ code. refl) (λ code. refl) refl (λ kind. refl) run.ended (of_turns (λ s. is_carried s ≡ true) refl refl refl refl refl refl run.ended _ _ h.out.ran.ends) run.reached why (sym h.out.answer ∙ is)
+
+-- an upload came to that its file was acknowledged, and that is noted
+pub upload-reached : (lists : Lists) (at : Upload) (listing : List ℕ) (ended : Result Finished NodeStop) (reached answer : Outcome) → (reached ≢ outcome.Working → Promises lists (work.Upload at) listing reached)
+    → answer_of ended reached ≡ Ok answer → (number : ℕ) × (answer ≡ outcome.Acked number) × (noted_at lists at.task ≡ Some (noted.Acked at.task number))
+upload-reached lists at listing ended outcome.Idle answer h is = absurd (h (λ e. cc e))
+upload-reached lists at listing ended (outcome.Acked number) answer h is = (number, cc is, h (λ e. cc e))
+upload-reached lists at listing ended (outcome.Fetched number) answer h is = absurd (h (λ e. cc e))
+upload-reached lists at listing ended outcome.Listed answer h is = absurd (h (λ e. cc e))
+upload-reached lists at listing ended reached answer h is = absurd (cc is)
+
+-- a download to that its file was fetched, which has no fault
+pub download-reached : (lists : Lists) (at : Download) (listing : List ℕ) (ended : Result Finished NodeStop) (reached answer : Outcome) → (reached ≢ outcome.Working → Promises lists (work.Download at) listing reached)
+    → answer_of ended reached ≡ Ok answer → (answer ≡ outcome.Fetched at.number) × (fault_code (got_of lists at.server at.number) ≡ None)
+download-reached lists at listing ended outcome.Idle answer h is = absurd (h (λ e. cc e))
+download-reached lists at listing ended (outcome.Acked number) answer h is = absurd (h (λ e. cc e))
+download-reached lists at listing ended (outcome.Fetched number) answer h is = (let e : answer ≡ outcome.Fetched number = cc is in e ∙ ap outcome.Fetched (h (λ e. cc e)).0, (h (λ e. cc e)).1)
+download-reached lists at listing ended outcome.Listed answer h is = absurd (h (λ e. cc e))
+download-reached lists at listing ended reached answer h is = absurd (cc is)
+
+-- a list to that it is whole short headers
+pub list-reached : (lists : Lists) (at : Directory) (listing : List ℕ) (ended : Result Finished NodeStop) (reached answer : Outcome) → (reached ≢ outcome.Working → Promises lists (work.Directory at) listing reached)
+    → answer_of ended reached ≡ Ok answer → (answer ≡ outcome.Listed) × (are_short_headers listing ≡ true)
+list-reached lists at listing ended outcome.Idle answer h is = absurd (h (λ e. cc e))
+list-reached lists at listing ended (outcome.Acked number) answer h is = absurd (h (λ e. cc e))
+list-reached lists at listing ended (outcome.Fetched number) answer h is = absurd (h (λ e. cc e))
+list-reached lists at listing ended outcome.Listed answer h is = (cc is, h (λ e. cc e))
+list-reached lists at listing ended reached answer h is = absurd (cc is)
+
+-- where each image stands for notes by which a task was acknowledged, it was in each
+pub acked-in : {D : Type 0} (g : Ghosts D) (disk : D) (lists : Lists) (task number : ℕ) → EachImage g disk (λ image. StandsFor image lists) → noted_at lists task ≡ Some (noted.Acked task number)
+    → EachImage g disk (IsAckedIn task number)
+acked-in g disk lists task number images is = told_weaker (g.content disk) _ _ (λ octets told each image here. (lists, each image here, is)) images
+
+-- what holds of the value, if there is one
+if-ok : {T E : Type 0} (result : Result T E) (P : T → Type 0) → ((value : T) → result ≡ Ok value → P value) → IfOk result P
+if-ok (Ok value) P holds = holds value refl
+if-ok (Err why) P holds = tt
+
+-- an upload that came to what a command asks for came to that its file was acknowledged
+pub acked-alone : (lists : Lists) (asked : Work) (listing : List ℕ) (ended : Result Finished NodeStop) (reached answer : Outcome) → IsUpload asked → (reached ≢ outcome.Working → Promises lists asked listing reached)
+    → answer_of ended reached ≡ Ok answer → (number : ℕ) × (answer ≡ outcome.Acked number)
+acked-alone lists (work.Upload at) listing ended reached answer upload h is = let came = upload-reached lists at listing ended reached answer h is in (came.0, came.1)
+acked-alone lists (work.Directory at) listing ended reached answer upload h is = absurd upload
+acked-alone lists (work.Download at) listing ended reached answer upload h is = absurd upload
+
+-- an upload comes to no bad file
+pub never-bad : (lists : Lists) (at : Upload) (listing : List ℕ) (ended : Result Finished NodeStop) (reached : Outcome) (code : ℕ) (polls : ℕ) (turns : List Turn) → TurnsBy ended polls turns → (reached ≢ outcome.Working → Promises lists (work.Upload at) listing reached)
+    → ¬ (answer_of ended reached ≡ Err (stop.BadFile code))
+never-bad lists at listing ended outcome.Working code polls turns ends h is =
+    of_turns (λ s. ¬ (s ≡ stop.BadFile code)) (λ e. cc e) (λ e. cc e) (λ e. cc e) (λ e. cc e) (λ e. cc e) (λ e. cc e) ended polls turns ends (let e : stop_of_turns ended ≡ stop.BadFile code = cc is in e)
+never-bad lists at listing ended (outcome.BadFile other) code polls turns ends h is = h (λ e. cc e)
+never-bad lists at listing ended reached code polls turns ends h is = cc is
+
+-- the notes go with the download that was just made
+pub download-goes : (lists : Lists) (server : CallSign) (number held : ℕ) → held ≡ length (got_of lists server number) → held ≤ longest_file → (job : JobState) → job ≡ new_job (work.Download (new_download server number))
+    → NotesGoWith lists job
+download-goes lists server number held is most job job_is =
+    subst (NotesGoWith lists) (sym job_is) (record { fits = omega (arith, is, most); checked = tt })
+
+module _ {A C D S : Type 0} (see : Seen D A C) (held : S → Option Holding) (on : (first second third : D) → see.disk.lasts first second → see.disk.lasts second third → see.disk.lasts first third) (old new : Lent D A C)
+    (file : FileAsked) (result : Result Outcome SendStop) (h : HasCarried see old new file.terms [] (download_of file) result) where
+  -- the shelf keeps what was fetched, or can't; it isn't touched where the download stopped
+  pub fetch-ends : (shelf shelf_n : S) (octets : List ℕ) → octets ≡ got_of h.end.notes.lists file.terms.server file.number → (last : Result ⊤ SendStop) → KeepsBy held shelf shelf_n file.name octets result last
+      → Fetches see held old new shelf shelf_n file last
+  unfolding carries
+  fetch-ends shelf shelf_n octets octets_are last keeps = record {
+    start = h.made.notes.lists;
+    came = result;
+    carries = carries see on old new file.terms [] (download_of file) result h;
+    octets = octets;
+    got = if-ok result (λ _. octets ≡ got_of (after_all h.made.notes.lists h.out.run.done) file.terms.server file.number) (λ answer is.
+        octets_are
+        ∙ ap (λ (l : Lists). got_of l file.terms.server file.number)
+        (lists-at-end see on old new file.terms [] (download_of file) result h (outcome-fine see on old new file.terms [] (download_of file) result h answer is)));
+    fetched = if-ok result (λ reached. (reached ≡ outcome.Fetched file.number) × (fault_code octets ≡ None)) (λ answer is.
+        let came =
+        download-reached h.end.notes.lists (new_download file.terms.server file.number) (listing_in h.end.attempt) h.out.run.ended h.out.run.reached answer h.out.became.promises (sym h.out.answer ∙ is) in
+        (came.0, ap fault_code octets_are ∙ came.1));
+    keeps = keeps;
+  }
+
+module _ {A C D O : Type 0} (see : Seen D A C) (shown : O → Option (List ℕ)) (on : (first second third : D) → see.disk.lasts first second → see.disk.lasts second third → see.disk.lasts first third) (old new : Lent D A C)
+    (files : FilesAsked) (result : Result Outcome SendStop) (h : HasCarried see old new files.terms [] (directory_of files.tokens) result) where
+  -- the lines of a list that came whole are shown, or can't be; where it stopped the output isn't touched
+  pub list-ends : (out out_n : O) (last : Result ⊤ SendStop) → ShowsBy shown out out_n (listing_in h.end.attempt) result last → ListsFiles see shown old new out out_n files last
+  unfolding carries
+  list-ends out out_n last shows = record {
+    start = h.made.notes.lists;
+    came = result;
+    carries = carries see on old new files.terms [] (directory_of files.tokens) result h;
+    listed = if-ok result (λ reached. (reached ≡ outcome.Listed) × (are_short_headers (listing_in h.end.attempt) ≡ true)) (λ answer is.
+        list-reached h.end.notes.lists (new_directory files.tokens) (listing_in h.end.attempt) h.out.run.ended h.out.run.reached answer h.out.became.promises (sym h.out.answer ∙ is));
+    shows = shows;
+  }

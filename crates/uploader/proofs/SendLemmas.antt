@@ -1,4 +1,5 @@
 -- How `send` ends.
+use Rattle.std.proofs.lemmas.Grind.{common_steps}
 use Rattle.std.proofs.Common.{◌≡◌, ◌⊎◌, ⊎_elim, inl, inr, ℕ, Bool, true, false, List, [], ◌∷◌, length, refl, sym, ap, ◌∙◌, subst, arith, Some, Option, IfSome, Result, Ok, Err, IfErr, IfOk, IsErr, IsErrOf, IsTrue, MatchResult}
 use Rattle.px_base.specs.CallSign.{CallSign}
 use Rattle.px_base.specs.Shelves.{Holding, content_of}
@@ -40,24 +41,17 @@ use Rattle.uploader.specs.OnDisk.{RefusesNotes}
 use Rattle.uploader.specs.Ready.{RecoversClient, UploadsJob}
 use Rattle.uploader.specs.Sending.{EndsAtStart, IsLastAcked, IsTaskFor, IsUnstarted, SendEnds, Uploads, first_command, last_answer, upload_of}
 use Rattle.uploader.specs.Stops.{stop_of_start}
-use Rattle.uploader.proofs.CarryLemmas.{HasCarried, carries, causes, causes-err, causes-ok, causes-still, images-at-end, never, of_answer, of_turns, outcome-fine, recovered_exactly}
-use Rattle.uploader.proofs.OutcomeLemmas.{acked-in, never-bad, upload-reached}
+use Rattle.uploader.proofs.CarryLemmas.{acked-in, carries, causes, causes-err, causes-late, causes-still, HasCarried, images-at-end, never, never-bad, of_answer, of_turns, outcome-fine, recovered_exactly, upload-reached}
 use Rattle.uploader.proofs.StartLemmas.{cut_of, refused-start}
 
 -- nothing is called
 pub runs_still : {D : Type 0} (g : Ghosts D) (P : Type 0) (disk : D) → ¬ P → g.lasts disk disk → Runs g P disk disk
-runs_still g P disk fine same = record {
-  told = alike_same (g.content disk) (g.content disk) refl;
-  faults = record { reads = omega arith; writes = omega arith; rose = λ p. absurd (fine p); same = λ q. (refl, refl) };
-  stops = stops_none g disk same;
-  lasts = same;
-}
+runs_still g P disk fine same = grind (arith, common_steps, alike_same, stops_none)
 
 -- the upload that was made, by what was begun
 pub made-upload : (made : JobState) (task number one other : ℕ) (file : List ℕ) → made ≡ upload_of one other file → one ≡ task → other ≡ number
     → made ≡ upload_of task number file
-made-upload made task number one other file is same same_number =
-    is ∙ ap (λ (t : ℕ). upload_of t other file) same ∙ ap (λ (n : ℕ). upload_of task n file) same_number
+made-upload made task number one other file is same same_number = cc
 
 -- the content of a name stops the command by what it may alone
 pub unfit-never : (held : Option Holding) (name : List ℕ) (why other : SendStop) → IsUnfit held name why → ¬ IsUnfit held name other → ¬ IsErrOf {T = Sent} (Err why) other
@@ -332,7 +326,7 @@ module _ {A C D : Type 0} (see : Seen D A C) (lasts : (disk : D) → see.disk.la
 
     causes-of : (r : Result Sent SendStop) → Answered r → HasCauses see old new r
     causes-of (Ok sent) is =
-        causes-ok see old new (outcome.Acked sent.number) sent (subst (λ (r : Result Outcome SendStop). HasCauses see old new r) is (causes see on old new terms first job uploads.came h))
+        causes-late see old new (outcome.Acked sent.number) (Ok sent) tt (subst (λ (r : Result Outcome SendStop). HasCauses see old new r) is (causes see on old new terms first job uploads.came h))
     causes-of (Err why) is = causes-err see old new Outcome Sent why (subst (λ (r : Result Outcome SendStop). HasCauses see old new r) is (causes see on old new terms first job uploads.came h))
 
     past-of : (r : Result Sent SendStop) → Answered r → IfErr r (λ why. is_past why ≡ true)

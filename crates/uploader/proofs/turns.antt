@@ -1,4 +1,2 @@
 mod CarriedLemmas
 pub mod CourseLemmas
-mod SayingLemmas
-mod StopsLemmas

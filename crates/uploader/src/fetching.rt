@@ -1,6 +1,7 @@
 //! A file is fetched.
 
-ghost use Rattle.std.specs.Prelude.{◌≤◌, IsErrOf};
+ghost use Rattle.std.specs.Prelude.{◌≡◌, ◌≤◌, IsErrOf, MatchResult};
+ghost use Rattle.px_base.specs.Shelves.{Keeps, KeepsOthers};
 ghost use Rattle.ftl0_client.specs.Window.{IsGoodK};
 ghost use Rattle.client_notes.specs.Calls.{CountsFault};
 ghost use Rattle.node.specs.Lent.{lent, seen};
@@ -57,10 +58,19 @@ pub fn fetch<D: Disk, A: Air, S: Shelf, C: Clock>(
     let job = Job::download(terms.server, number);
     let (client, came) = carry_out(alloc, client, job, disk, air, clock, terms.polls);
     match came {
-        Ok(_fetched) => match shelf.keep(name, client.notes().got_octets(terms.server, number)) {
-            Ok(()) => Ok(()),
-            Err(_down) => Err(SendStop::Shelf),
-        },
+        Ok(_fetched) => keep_file(shelf, name, client.notes().got_octets(terms.server, number)),
         Err(stop) => Err(stop),
+    }
+}
+
+/// Keeps a file on the shelf under this name. Takes no memory.
+fn keep_file<S: Shelf>(shelf: &mut S, name: &str, octets: &[u8]) -> Result<(), SendStop>
+    ensures keeps { MatchResult result (λ _. Keeps (S.held shelf.old) (S.held shelf.new) name.now octets.now)
+        (λ why. (why ≡ SendStop.Shelf) × KeepsOthers (S.held shelf.old) (S.held shelf.new) name.now) }
+    ensures shelf { CountsFault (S.faults shelf.old) (S.faults shelf.new) (IsErrOf result SendStop.Shelf) }
+{
+    match shelf.keep(name, octets) {
+        Ok(()) => Ok(()),
+        Err(_down) => Err(SendStop::Shelf),
     }
 }

@@ -1,6 +1,6 @@
 //! The files of a selection are listed.
 
-ghost use Rattle.std.specs.Prelude.{◌≤◌, length, IsErrOf, OnErr, OnOk};
+ghost use Rattle.std.specs.Prelude.{◌≡◌, ◌≤◌, length, IsErrOf, MatchResult, OnErr, OnOk};
 ghost use Rattle.px_base.specs.Outside.{Gains, GainsPrefix, HasCause};
 ghost use Rattle.ftl0_client.specs.Window.{IsGoodK};
 ghost use Rattle.client_notes.specs.Calls.{CountsFault};
@@ -59,11 +59,20 @@ pub fn list<D: Disk, A: Air, O: Out, C: Clock>(
     let job = Job::list(alloc, tokens);
     let (client, came) = carry_out(alloc, client, job, disk, air, clock, terms.polls);
     match came {
-        Ok(_listed) => match show_lines(client.listing(), out) {
-            Ok(()) => Ok(()),
-            Err(_down) => Err(SendStop::Out),
-        },
+        Ok(_listed) => show_listing(client.listing(), out),
         Err(stop) => Err(stop),
+    }
+}
+
+/// Shows a line for each short header of a list. Takes no memory.
+fn show_listing<O: Out>(listing: &[u8], out: &mut O) -> Result<(), SendStop>
+    ensures shows { MatchResult result (λ _. Gains (O.shown out.old) (O.shown out.new) (listing_lines listing.now))
+        (λ why. (why ≡ SendStop.Out) × GainsPrefix (O.shown out.old) (O.shown out.new) (listing_lines listing.now)) }
+    ensures out { CountsFault (O.faults out.old) (O.faults out.new) (IsErrOf result SendStop.Out) }
+{
+    match show_lines(listing, out) {
+        Ok(()) => Ok(()),
+        Err(_down) => Err(SendStop::Out),
     }
 }
 

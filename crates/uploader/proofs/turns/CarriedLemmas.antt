@@ -34,10 +34,8 @@ use Rattle.uploader.specs.Turns.Carried.{CarriesOut, ClientRan, CountsWhere, End
 use Rattle.uploader.specs.Turns.Carrying.{StopsBehind, StopsOver, TakesAll}
 use Rattle.uploader.specs.Turns.Course.{CameOf, CameToSome, Past, StoppedAt, client_course, further}
 use Rattle.uploader.specs.declared.turns.station.ClientStation.{ClientStation}
-use Rattle.uploader.proofs.turns.CourseLemmas.{came-silent, came-whole, closed-done, goes-alike, owes-more, promised}
+use Rattle.uploader.proofs.turns.CourseLemmas.{came-silent, came-whole, closed-done, closed-over, goes-alike, no-split, owes-more, promised, tells-of}
 use Rattle.client_notes.proofs.Offered.{cuts-none, does-nothing}
-use Rattle.uploader.proofs.turns.StopsLemmas.{no-split}
-use Rattle.uploader.proofs.turns.SayingLemmas.{closed-over, tells-of}
 
 -- ---- the turns but the last
 

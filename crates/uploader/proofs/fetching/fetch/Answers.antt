@@ -1,6 +1,6 @@
 -- The recovery is refused; or the download stops, or is fetched, and the file is kept.
-use Rattle.std.proofs.Common.{inr, [], length, refl, ap, ◌∙◌, subst, ◌≡◌, rules}
-use Rattle.std.specs.Prelude.{Result, Ok, Err, ⊤}
+use Rattle.std.proofs.Common.{sym, inr, [], length, refl, ap, ◌∙◌, subst, ◌≡◌, rules}
+use Rattle.std.specs.Prelude.{Result, Err, ⊤}
 use Rattle.client_notes.proofs.Offered.{counts_none}
 use Rattle.client_notes.specs.Notes.{got_of}
 use Rattle.client_notes.specs.State.{NotesState}
@@ -9,9 +9,8 @@ use Rattle.ftl0_client.specs.declared.outcome.Outcome.{Outcome}
 use Rattle.uploader.specs.declared.stop.SendStop.{SendStop}
 use Rattle.uploader.specs.declared.stop.SendStop.TheVariants as stop
 use Rattle.uploader.specs.Causes.{HasCauses}
-use Rattle.uploader.specs.Fetching.{download_of, file_asked}
-use Rattle.uploader.proofs.CarryLemmas.{carried, causes, causes-err, causes-ok, causes-shelf, is_carried, just-asked, never, recovered_exactly}
-use Rattle.uploader.proofs.OutcomeLemmas.{download-goes, fetch-keeps, fetch-stops}
+use Rattle.uploader.specs.Fetching.{KeepsBy, download_of, file_asked}
+use Rattle.uploader.proofs.CarryLemmas.{carried, causes, causes-err, causes-late, download-goes, fetch-ends, is_carried, is_late, just-asked, late-by, never, recovered_exactly}
 use Rattle.uploader.proofs.StartLemmas.{refused_exactly}
 use Rattle.uploader.proofs.fetching.fetch.Goals as goal
 
@@ -31,26 +30,11 @@ returns g c =
     let carried_ = carried see g.met.D.Disk.lasts_on (lent c.args.disk.now c.args.air.now c.args.clock.now) (lent c.carry_out-client.new.disk c.carry_out-client.new.air c.carry_out-client.new.clock) c.args.terms.now [] (download_of (file_asked c.args.terms.now c.args.number c.args.name.now)) c.carry_out-client.result.1 h why c.in-Err.is in
     record {
       notes = recovered_exactly is_carried (λ found. refl) (λ at. refl) (g.D.Disk.content c.args.disk.now) c.in_ok-client.client.notes.lists (Err why) ready.recovers.recovered.content carried_;
-      ends = inr (fetch-stops see g.S.Shelf.held g.met.D.Disk.lasts_on (lent c.args.disk.now c.args.air.now c.args.clock.now) (lent c.carry_out-client.new.disk c.carry_out-client.new.air c.carry_out-client.new.clock) (file_asked c.args.terms.now c.args.number c.args.name.now) c.carry_out-client.result.1 h why c.in-Err.is c.args.shelf.now);
+      ends = inr (fetch-ends see g.S.Shelf.held g.met.D.Disk.lasts_on (lent c.args.disk.now c.args.air.now c.args.clock.now) (lent c.carry_out-client.new.disk c.carry_out-client.new.air c.carry_out-client.new.clock) (file_asked c.args.terms.now c.args.number c.args.name.now) c.carry_out-client.result.1 h c.args.shelf.now c.args.shelf.now (got_of c.carry_out-client.result.0.notes.lists c.args.terms.now.server c.args.number) refl (Err why)
+          (subst (λ (r : Result Outcome SendStop). KeepsBy g.S.Shelf.held c.args.shelf.now c.args.shelf.now c.args.name.now (got_of c.carry_out-client.result.0.notes.lists c.args.terms.now.server c.args.number) r (Err why)) (sym c.in-Err.is) (refl, refl)));
       shelf = counts_none _ _ (never {T = ⊤} is_carried (Err why) carried_ stop.Shelf refl);
       causes =
           causes-err see (lent c.args.disk.now c.args.air.now c.args.clock.now) (lent c.carry_out-client.new.disk c.carry_out-client.new.air c.carry_out-client.new.clock) Outcome ⊤ why (subst (λ (r : Result Outcome SendStop). HasCauses see (lent c.args.disk.now c.args.air.now c.args.clock.now) (lent c.carry_out-client.new.disk c.carry_out-client.new.air c.carry_out-client.new.clock) r) c.in-Err.is
-          (causes see g.met.D.Disk.lasts_on (lent c.args.disk.now c.args.air.now c.args.clock.now) (lent c.carry_out-client.new.disk c.carry_out-client.new.air c.carry_out-client.new.clock) c.args.terms.now [] (download_of (file_asked c.args.terms.now c.args.number c.args.name.now)) c.carry_out-client.result.1 h));
-    }
-
-pub returns-in-Ok-keep : goal.returns-in-Ok-keep
-returns-in-Ok-keep g c =
-    let see = seen g.D.Disk g.A.Air g.C.Clock.given in
-    let ready = c.in_ok-client.ensures.recovers in
-    let h = just-asked see g.met.D.Disk.lasts_same (lent c.args.disk.now c.args.air.now c.args.clock.now) (lent c.carry_out-client.new.disk c.carry_out-client.new.air c.carry_out-client.new.clock) c.recover_client.new.disk c.args.terms.now
-    c.in_ok-client.client c.carry_out-client.result.0 c.download-job.result (download_of (file_asked c.args.terms.now c.args.number c.args.name.now)) c.carry_out-client.result.1 c.download-job.ensures ready (c.carry_out-client.ensures.carried _ ready.is) in
-    record {
-      notes = search rules;
-      ends = inr (fetch-keeps see g.S.Shelf.held g.met.D.Disk.lasts_on (lent c.args.disk.now c.args.air.now c.args.clock.now) (lent c.carry_out-client.new.disk c.carry_out-client.new.air c.carry_out-client.new.clock) (file_asked c.args.terms.now c.args.number c.args.name.now) c.carry_out-client.result.1 h c.in-Ok._fetched c.in-Ok.is c.args.shelf.now c.keep.new.self c.got_octets.result.now
-          (c.got_octets.ensures.octets ∙ ap (λ (n : NotesState). got_of n.lists c.args.terms.now.server c.args.number) c.notes-in-Ok.ensures) (Ok tt) c.in-Ok-keep.ensures.ok);
-      shelf = search rules;
-      causes = causes-ok see (lent c.args.disk.now c.args.air.now c.args.clock.now) (lent c.carry_out-client.new.disk c.carry_out-client.new.air c.carry_out-client.new.clock) c.in-Ok._fetched tt
-          (subst (λ (r : Result Outcome SendStop). HasCauses see (lent c.args.disk.now c.args.air.now c.args.clock.now) (lent c.carry_out-client.new.disk c.carry_out-client.new.air c.carry_out-client.new.clock) r) c.in-Ok.is
           (causes see g.met.D.Disk.lasts_on (lent c.args.disk.now c.args.air.now c.args.clock.now) (lent c.carry_out-client.new.disk c.carry_out-client.new.air c.carry_out-client.new.clock) c.args.terms.now [] (download_of (file_asked c.args.terms.now c.args.number c.args.name.now)) c.carry_out-client.result.1 h));
     }
 
@@ -60,12 +44,14 @@ returns-in-Ok g c =
     let ready = c.in_ok-client.ensures.recovers in
     let h = just-asked see g.met.D.Disk.lasts_same (lent c.args.disk.now c.args.air.now c.args.clock.now) (lent c.carry_out-client.new.disk c.carry_out-client.new.air c.carry_out-client.new.clock) c.recover_client.new.disk c.args.terms.now
     c.in_ok-client.client c.carry_out-client.result.0 c.download-job.result (download_of (file_asked c.args.terms.now c.args.number c.args.name.now)) c.carry_out-client.result.1 c.download-job.ensures ready (c.carry_out-client.ensures.carried _ ready.is) in
+    let late = late-by c.keep_file.result _ _ stop.Shelf refl c.keep_file.ensures.keeps in
     record {
-      notes = search rules;
-      ends = inr (fetch-keeps see g.S.Shelf.held g.met.D.Disk.lasts_on (lent c.args.disk.now c.args.air.now c.args.clock.now) (lent c.carry_out-client.new.disk c.carry_out-client.new.air c.carry_out-client.new.clock) (file_asked c.args.terms.now c.args.number c.args.name.now) c.carry_out-client.result.1 h c.in-Ok._fetched c.in-Ok.is c.args.shelf.now c.keep.new.self c.got_octets.result.now
-          (c.got_octets.ensures.octets ∙ ap (λ (n : NotesState). got_of n.lists c.args.terms.now.server c.args.number) c.notes-in-Ok.ensures) (Err stop.Shelf) (refl, c.in-Err-keep.ensures.err));
-      shelf = search rules;
-      causes = causes-shelf see (lent c.args.disk.now c.args.air.now c.args.clock.now) (lent c.carry_out-client.new.disk c.carry_out-client.new.air c.carry_out-client.new.clock) c.in-Ok._fetched
+      notes = recovered_exactly is_late (λ found. refl) (λ at. refl) (g.D.Disk.content c.args.disk.now) c.in_ok-client.client.notes.lists c.keep_file.result ready.recovers.recovered.content late;
+      ends = inr (fetch-ends see g.S.Shelf.held g.met.D.Disk.lasts_on (lent c.args.disk.now c.args.air.now c.args.clock.now) (lent c.carry_out-client.new.disk c.carry_out-client.new.air c.carry_out-client.new.clock) (file_asked c.args.terms.now c.args.number c.args.name.now) c.carry_out-client.result.1 h c.args.shelf.now c.keep_file.new.shelf c.got_octets.result.now
+          (c.got_octets.ensures.octets ∙ ap (λ (n : NotesState). got_of n.lists c.args.terms.now.server c.args.number) c.notes-in-Ok.ensures) c.keep_file.result
+          (subst (λ (r : Result Outcome SendStop). KeepsBy g.S.Shelf.held c.args.shelf.now c.keep_file.new.shelf c.args.name.now c.got_octets.result.now r c.keep_file.result) (sym c.in-Ok.is) c.keep_file.ensures.keeps));
+      shelf = c.keep_file.ensures.shelf;
+      causes = causes-late see (lent c.args.disk.now c.args.air.now c.args.clock.now) (lent c.carry_out-client.new.disk c.carry_out-client.new.air c.carry_out-client.new.clock) c.in-Ok._fetched c.keep_file.result late
           (subst (λ (r : Result Outcome SendStop). HasCauses see (lent c.args.disk.now c.args.air.now c.args.clock.now) (lent c.carry_out-client.new.disk c.carry_out-client.new.air c.carry_out-client.new.clock) r) c.in-Ok.is
           (causes see g.met.D.Disk.lasts_on (lent c.args.disk.now c.args.air.now c.args.clock.now) (lent c.carry_out-client.new.disk c.carry_out-client.new.air c.carry_out-client.new.clock) c.args.terms.now [] (download_of (file_asked c.args.terms.now c.args.number c.args.name.now)) c.carry_out-client.result.1 h));
     }

@@ -1,18 +1,16 @@
 -- The recovery is refused, or there was no memory for the tokens; or the list stops, or came whole and is shown.
-use Rattle.std.proofs.Common.{inl, inr, ℕ, List, [], refl, ap, ◌∙◌, subst, ◌≡◌, rules}
+use Rattle.std.proofs.Common.{sym, inl, inr, ℕ, List, [], refl, ap, ◌∙◌, subst, ◌≡◌, rules}
 use Rattle.std.specs.Prelude.{Result, Ok, Err, ⊤}
-use Rattle.px_base.specs.Outside.{Gains, GainsPrefix}
 use Rattle.client_notes.proofs.Offered.{counts_none}
 use Rattle.client_notes.specs.StoreFault.TheVariants as fault
 use Rattle.node.specs.Lent.{lent, seen}
+use Rattle.ftl0_client.specs.ClientState.{listing_in}
 use Rattle.ftl0_client.specs.declared.outcome.Outcome.{Outcome}
 use Rattle.uploader.specs.declared.stop.SendStop.{SendStop}
 use Rattle.uploader.specs.declared.stop.SendStop.TheVariants as stop
 use Rattle.uploader.specs.Causes.{HasCauses}
-use Rattle.uploader.specs.Lines.{listing_lines}
-use Rattle.uploader.specs.Listing.{directory_of, files_asked}
-use Rattle.uploader.proofs.CarryLemmas.{carried, causes, causes-err, causes-ok, causes-out, is_carried, just-asked, never, recovered_exactly}
-use Rattle.uploader.proofs.OutcomeLemmas.{list-shows, list-stops}
+use Rattle.uploader.specs.Listing.{ShowsBy, directory_of, files_asked}
+use Rattle.uploader.proofs.CarryLemmas.{carried, causes, causes-err, causes-late, is_carried, is_late, just-asked, late-by, list-ends, never, recovered_exactly}
 use Rattle.uploader.proofs.StartLemmas.{refused_exactly, unmade_leaves}
 use Rattle.uploader.proofs.listing.list.Goals as goal
 
@@ -39,26 +37,11 @@ returns g c =
     let carried_ = carried see g.met.D.Disk.lasts_on (lent c.args.disk.now c.args.air.now c.args.clock.now) (lent c.carry_out-client.new.disk c.carry_out-client.new.air c.carry_out-client.new.clock) c.args.terms.now [] (directory_of c.args.tokens.now) c.carry_out-client.result.1 h why c.in-Err.is in
     record {
       notes = recovered_exactly is_carried (λ found. refl) (λ at. refl) (g.D.Disk.content c.args.disk.now) c.in_ok-client.client.notes.lists (Err why) ready.recovers.recovered.content carried_;
-      ends = inr (list-stops see g.O.Out.shown g.met.D.Disk.lasts_on (lent c.args.disk.now c.args.air.now c.args.clock.now) (lent c.carry_out-client.new.disk c.carry_out-client.new.air c.carry_out-client.new.clock) (files_asked c.args.terms.now c.args.tokens.now) c.carry_out-client.result.1 h why c.in-Err.is c.args.out.now);
+      ends = inr (list-ends see g.O.Out.shown g.met.D.Disk.lasts_on (lent c.args.disk.now c.args.air.now c.args.clock.now) (lent c.carry_out-client.new.disk c.carry_out-client.new.air c.carry_out-client.new.clock) (files_asked c.args.terms.now c.args.tokens.now) c.carry_out-client.result.1 h c.args.out.now c.args.out.now (Err why)
+          (subst (λ (r : Result Outcome SendStop). ShowsBy g.O.Out.shown c.args.out.now c.args.out.now (listing_in c.carry_out-client.result.0.attempt) r (Err why)) (sym c.in-Err.is) (refl, refl)));
       out = counts_none _ _ (never {T = ⊤} is_carried (Err why) carried_ stop.Out refl);
       causes =
           causes-err see (lent c.args.disk.now c.args.air.now c.args.clock.now) (lent c.carry_out-client.new.disk c.carry_out-client.new.air c.carry_out-client.new.clock) Outcome ⊤ why (subst (λ (r : Result Outcome SendStop). HasCauses see (lent c.args.disk.now c.args.air.now c.args.clock.now) (lent c.carry_out-client.new.disk c.carry_out-client.new.air c.carry_out-client.new.clock) r) c.in-Err.is
-          (causes see g.met.D.Disk.lasts_on (lent c.args.disk.now c.args.air.now c.args.clock.now) (lent c.carry_out-client.new.disk c.carry_out-client.new.air c.carry_out-client.new.clock) c.args.terms.now [] (directory_of c.args.tokens.now) c.carry_out-client.result.1 h));
-    }
-
-pub returns-in-Ok-show_lines : goal.returns-in-Ok-show_lines
-returns-in-Ok-show_lines g c =
-    let see = seen g.D.Disk g.A.Air g.C.Clock.given in
-    let ready = c.in_ok-client.ensures.recovers in
-    let h = just-asked see g.met.D.Disk.lasts_same (lent c.args.disk.now c.args.air.now c.args.clock.now) (lent c.carry_out-client.new.disk c.carry_out-client.new.air c.carry_out-client.new.clock) c.recover_client.new.disk c.args.terms.now
-    c.in_ok-client.client c.carry_out-client.result.0 c.list-job.result (directory_of c.args.tokens.now) c.carry_out-client.result.1 (c.list-job.ensures ∙ ap (λ (t : List ℕ). directory_of t) c.in-Ok.ensures) ready (c.carry_out-client.ensures.carried _ ready.is) in
-    record {
-      notes = search rules;
-      ends = inr (list-shows see g.O.Out.shown g.met.D.Disk.lasts_on (lent c.args.disk.now c.args.air.now c.args.clock.now) (lent c.carry_out-client.new.disk c.carry_out-client.new.air c.carry_out-client.new.clock) (files_asked c.args.terms.now c.args.tokens.now) c.carry_out-client.result.1 h c.in-Ok-came._listed c.in-Ok-came.is c.args.out.now c.show_lines.new.out (Ok tt)
-          (subst (Gains (g.O.Out.shown c.args.out.now) (g.O.Out.shown c.show_lines.new.out)) (ap listing_lines c.listing.ensures) c.in-Ok-show_lines.ensures.ok));
-      out = search rules;
-      causes = causes-ok see (lent c.args.disk.now c.args.air.now c.args.clock.now) (lent c.carry_out-client.new.disk c.carry_out-client.new.air c.carry_out-client.new.clock) c.in-Ok-came._listed tt
-          (subst (λ (r : Result Outcome SendStop). HasCauses see (lent c.args.disk.now c.args.air.now c.args.clock.now) (lent c.carry_out-client.new.disk c.carry_out-client.new.air c.carry_out-client.new.clock) r) c.in-Ok-came.is
           (causes see g.met.D.Disk.lasts_on (lent c.args.disk.now c.args.air.now c.args.clock.now) (lent c.carry_out-client.new.disk c.carry_out-client.new.air c.carry_out-client.new.clock) c.args.terms.now [] (directory_of c.args.tokens.now) c.carry_out-client.result.1 h));
     }
 
@@ -68,12 +51,14 @@ returns-in-Ok-came g c =
     let ready = c.in_ok-client.ensures.recovers in
     let h = just-asked see g.met.D.Disk.lasts_same (lent c.args.disk.now c.args.air.now c.args.clock.now) (lent c.carry_out-client.new.disk c.carry_out-client.new.air c.carry_out-client.new.clock) c.recover_client.new.disk c.args.terms.now
     c.in_ok-client.client c.carry_out-client.result.0 c.list-job.result (directory_of c.args.tokens.now) c.carry_out-client.result.1 (c.list-job.ensures ∙ ap (λ (t : List ℕ). directory_of t) c.in-Ok.ensures) ready (c.carry_out-client.ensures.carried _ ready.is) in
+    let late = late-by c.show_listing.result _ _ stop.Out refl c.show_listing.ensures.shows in
+    let shows = subst (λ (l : List ℕ). ShowsBy g.O.Out.shown c.args.out.now c.show_listing.new.out l (Ok c.in-Ok-came._listed) c.show_listing.result) c.listing.ensures c.show_listing.ensures.shows in
     record {
-      notes = search rules;
-      ends = inr (list-shows see g.O.Out.shown g.met.D.Disk.lasts_on (lent c.args.disk.now c.args.air.now c.args.clock.now) (lent c.carry_out-client.new.disk c.carry_out-client.new.air c.carry_out-client.new.clock) (files_asked c.args.terms.now c.args.tokens.now) c.carry_out-client.result.1 h c.in-Ok-came._listed c.in-Ok-came.is c.args.out.now c.show_lines.new.out (Err stop.Out)
-          (refl, subst (GainsPrefix (g.O.Out.shown c.args.out.now) (g.O.Out.shown c.show_lines.new.out)) (ap listing_lines c.listing.ensures) c.in-Err-show_lines.ensures.err));
-      out = search rules;
-      causes = causes-out see (lent c.args.disk.now c.args.air.now c.args.clock.now) (lent c.carry_out-client.new.disk c.carry_out-client.new.air c.carry_out-client.new.clock) c.in-Ok-came._listed
+      notes = recovered_exactly is_late (λ found. refl) (λ at. refl) (g.D.Disk.content c.args.disk.now) c.in_ok-client.client.notes.lists c.show_listing.result ready.recovers.recovered.content late;
+      ends = inr (list-ends see g.O.Out.shown g.met.D.Disk.lasts_on (lent c.args.disk.now c.args.air.now c.args.clock.now) (lent c.carry_out-client.new.disk c.carry_out-client.new.air c.carry_out-client.new.clock) (files_asked c.args.terms.now c.args.tokens.now) c.carry_out-client.result.1 h c.args.out.now c.show_listing.new.out c.show_listing.result
+          (subst (λ (r : Result Outcome SendStop). ShowsBy g.O.Out.shown c.args.out.now c.show_listing.new.out (listing_in c.carry_out-client.result.0.attempt) r c.show_listing.result) (sym c.in-Ok-came.is) shows));
+      out = c.show_listing.ensures.out;
+      causes = causes-late see (lent c.args.disk.now c.args.air.now c.args.clock.now) (lent c.carry_out-client.new.disk c.carry_out-client.new.air c.carry_out-client.new.clock) c.in-Ok-came._listed c.show_listing.result late
           (subst (λ (r : Result Outcome SendStop). HasCauses see (lent c.args.disk.now c.args.air.now c.args.clock.now) (lent c.carry_out-client.new.disk c.carry_out-client.new.air c.carry_out-client.new.clock) r) c.in-Ok-came.is
           (causes see g.met.D.Disk.lasts_on (lent c.args.disk.now c.args.air.now c.args.clock.now) (lent c.carry_out-client.new.disk c.carry_out-client.new.air c.carry_out-client.new.clock) c.args.terms.now [] (directory_of c.args.tokens.now) c.carry_out-client.result.1 h));
     }

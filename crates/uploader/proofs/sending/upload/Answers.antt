@@ -1,7 +1,7 @@
 -- The upload stops; or it comes to an outcome, which is that the file was acknowledged.
 use Rattle.std.proofs.Common.{sym, ◌∙◌}
 use Rattle.ftl0_client.specs.ClientState.{listing_in}
-use Rattle.uploader.proofs.OutcomeLemmas.{acked-alone}
+use Rattle.uploader.proofs.CarryLemmas.{acked-alone}
 use Rattle.uploader.proofs.sending.upload.Goals as goal
 
 pub unreachable-requires : goal.unreachable-requires

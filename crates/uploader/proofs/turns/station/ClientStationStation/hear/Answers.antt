@@ -4,8 +4,7 @@ use Rattle.ax25_frames.specs.Values.{value_of}
 use Rattle.node.specs.Course.{at}
 use Rattle.node.specs.Events.{hears}
 use Rattle.uploader.specs.declared.turns.station.ClientStation.{ClientStation}
-use Rattle.uploader.proofs.turns.CourseLemmas.{event-taken}
-use Rattle.uploader.proofs.turns.StopsLemmas.{event-halted}
+use Rattle.uploader.proofs.turns.CourseLemmas.{event-halted, event-taken}
 use Rattle.uploader.proofs.turns.station.ClientStationStation.hear.Goals as goal
 
 pub returns-in-Ok-clause-takes : goal.returns-in-Ok-clause-takes

@@ -4,7 +4,7 @@ use Rattle.node.specs.Course.{GaveAll, at}
 use Rattle.ftl0_client.specs.ClientState.{ClientState}
 use Rattle.uploader.specs.Turns.Course.{client_course}
 use Rattle.uploader.specs.declared.turns.station.ClientStation.{ClientStation}
-use Rattle.uploader.proofs.turns.SayingLemmas.{gave-all, gives-next, hands-none}
+use Rattle.uploader.proofs.turns.CourseLemmas.{gave-all, gives-next, hands-none}
 use Rattle.uploader.proofs.turns.station.ClientStationStation.next_out.Goals as goal
 
 pub returns-clause-next : goal.returns-clause-next
