@@ -1,12 +1,13 @@
 -- What each step of an end keeps.
 use Rattle.std.proofs.Common.{◌≡◌, ℕ, ◌-◌, ◌≤◌, ◌⊎◌, Option, Some, None, refl, sym, ap, arith, inl, inr}
 use Rattle.std.specs.Prelude.{◌==◌, nat_le, nat_lt, ◌||◌, ⊤}
-use Rattle.std.proofs.lemmas.Bool.{cond_both, cases_Bool, leb-true, ltb-false, or_parts}
+use Rattle.std.proofs.lemmas.Bool.Decides.{nat_tests}
+use Rattle.std.proofs.lemmas.Bool.{cond_both, leb-true}
 use Rattle.ax25_link.specs.Window.{Window}
 use Rattle.ax25_link.specs.Ends.{LinkEnd, Reply, IsEnd, high, oldest}
 use Rattle.ax25_link.specs.Acknowledging.{Meaning, good, stale, bad, meaning_at, meaning_of, distance, acknowledging, applying}
 use Rattle.ax25_link.specs.Rows.{unless_oldest}
-use Rattle.ax25_link.specs.Sending.{IsQuiet, sending_after, later_sending, sends_again}
+use Rattle.ax25_link.specs.Sending.{IsQuiet, sending_after, later_sending}
 
 -- what an end that has nothing to send has
 pub record Quiet (end : LinkEnd) : Type 0 where
@@ -18,11 +19,7 @@ no_reply w end None h = (refl, h)
 no_reply w end (Some reply) h = absurd (let bad : ⊥ = cc in bad)
 
 none_again : (w : Window) (end : LinkEnd) → later_sending w end ≡ None → end.again ≡ 0
-none_again w end h =
-    elim (cases_Bool (nat_lt 0 end.again)) [
-      | inl some ↦ absurd (let e : later_sending w end ≡ Some (sends_again w end) = rw some refl in let bad : ⊥ = cc in bad)
-      | inr none ↦ let low : end.again ≤ 0 = ltb-false 0 end.again none in omega arith
-    ]
+none_again w end h = grind (arith, nat_tests)
 
 pub quiet : (w : Window) (end : LinkEnd) → IsQuiet w end → Quiet end
 quiet w end h =
@@ -48,10 +45,7 @@ acknowledging-keeps end x =
     (λ e. record { state = refl; pushed = refl; queued = refl; sent = refl; taken = refl; reply = refl; again = refl; busy = refl; farewell = refl })
 
 pub acknowledging-acked : (end : LinkEnd) (x : ℕ) → end.acked ≤ x → (acknowledging end x).acked ≡ x
-acknowledging-acked end x least =
-    cond_both (nat_lt end.acked x || (x == high end)) _ _ (λ (after : LinkEnd). after.acked ≡ x)
-    (λ e. refl)
-    (λ e. let low : x ≤ end.acked = ltb-false end.acked x (or_parts (nat_lt end.acked x) (x == high end) e).0 in omega arith)
+acknowledging-acked end x least = grind (arith, nat_tests)
 
 -- what is acknowledged after an N(R) was applied
 pub record Applied (end after : LinkEnd) : Type 0 where

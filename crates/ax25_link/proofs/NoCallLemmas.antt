@@ -1,18 +1,19 @@
 -- Only an end that is calling sends a SABM, when its timer runs out.
-use Rattle.std.proofs.Common.{◌≡◌, ℕ, List, [], ◌∷◌, Option, Some, None, Bool, true, false, refl, sym, ◌∙◌, ap, subst}
-use Rattle.std.specs.Prelude.{◌==◌, ◌&&◌, ◌||◌, if◌then◌else◌}
+use Rattle.std.proofs.Common.{◌≡◌, ℕ, List, [], ◌∷◌, Option, Some, None, Bool, true, false, refl, sym, ◌∙◌, ap, subst, arith}
+use Rattle.std.specs.Prelude.{◌==◌, if◌then◌else◌}
 use Rattle.std.proofs.lemmas.Bool.{cond_both}
+use Rattle.std.proofs.lemmas.Bool.Decides.{nat_tests}
 use Rattle.ax25_frames.specs.declared.control.Control.{Control}
 use Rattle.ax25_frames.specs.declared.control.Control.TheVariants.{I, Rr, Rnr, Rej, Sabm, Disc, Dm, Ua, Frmr}
 use Rattle.ax25_frames.specs.FrameText.{FrameValue}
 use Rattle.ax25_link.specs.declared.state.LinkState.{LinkState}
 use Rattle.ax25_link.specs.declared.state.LinkState.TheVariants.{Calling, Up, Ending, Down}
 use Rattle.ax25_link.specs.Window.{Window}
-use Rattle.ax25_link.specs.Ends.{LinkEnd, Reply, Farewell, outstanding, ready, reject, accept, refuse, call, enquire, oldest, goodbye, gone}
+use Rattle.ax25_link.specs.Ends.{LinkEnd, Reply, Farewell, outstanding, ready, reject, accept, refuse, call, oldest, goodbye, gone}
 use Rattle.ax25_link.specs.Acknowledging.{Meaning, good, stale, bad, meaning_of, applying, is_good, is_bad}
-use Rattle.ax25_link.specs.Frames.{receive_number, frame_of_reply}
+use Rattle.ax25_link.specs.Frames.{frame_of_reply}
 use Rattle.ax25_link.specs.Rows.{Outcome, unless_oldest, information_row, supervisory_row, with_busy, sending_again, numbered_row, up_row, calling_row, ending_row, down_row, row_of_state, is_call}
-use Rattle.ax25_link.specs.Timer.{is_down, runs_out, is_spent, asking, timer_reply, after_tick}
+use Rattle.ax25_link.specs.Timer.{asking, timer_reply, after_tick}
 use Rattle.ax25_link.specs.Calls.{Doing, push, hang_up, abandon, after_doing, DoesAll}
 use Rattle.ax25_link.specs.Sending.{Sending, next_sending, sends_farewell, sends_new, Drains}
 use Rattle.ax25_link.specs.LinkStep.{Coming, frame, tick, after_coming}
@@ -87,16 +88,10 @@ sequence-other true poll h = let x : ⊥ = cc in x
 sequence-other false poll h = let x : ⊥ = cc in x
 
 information-other : (w : Window) (end : LinkEnd) (f : FrameValue) (ns : ℕ) → CallsNot (information_row w end f ns).after
-information-other w end f ns =
-    cond_both (ns == receive_number w end) _ _ (λ (o : Outcome). CallsNot o.after)
-    (λ same (x : Some (ready f.poll) ≡ Some call). (let y : ⊥ = cc in y))
-    (λ other. sequence-other end.rejecting f.poll)
+information-other w end f ns = λ x. grind (arith, nat_tests)
 
 supervisory-other : (end : LinkEnd) (f : FrameValue) → end.reply ≡ None → CallsNot (supervisory_row end f).after
-supervisory-other end f none =
-    cond_both (f.command && f.poll) _ _ CallsNot
-    (λ asks (x : Some (ready true) ≡ Some call). (let y : ⊥ = cc in y))
-    (λ other. quiet-other end none)
+supervisory-other end f none = λ x. grind (arith, nat_tests)
 
 numbered-other : (w : Window) (end : LinkEnd) (f : FrameValue) (nr : ℕ) (row : LinkEnd → Outcome)
     → CallsNot (row (applying end (meaning_of w end nr))).after → CallsNot (numbered_row w end f nr row).after
@@ -143,10 +138,7 @@ ending-other end f Disc none = λ (x : Some (accept f.poll) ≡ Some call). (let
 ending-other end f control none = quiet-other end none
 
 down-other : (end : LinkEnd) (f : FrameValue) → end.reply ≡ None → CallsNot (down_row end f).after
-down-other end f none =
-    cond_both (is_call f.kind.control || (f.command && f.poll)) _ _ CallsNot
-    (λ asks (x : Some (refuse f.poll) ≡ Some call). (let y : ⊥ = cc in y))
-    (λ other. quiet-other end none)
+down-other end f none = λ x. grind (arith, nat_tests)
 
 row-other : (w : Window) (end : LinkEnd) (f : FrameValue) (state : LinkState) → end.reply ≡ None → CallsNot (row_of_state state w end f).after
 row-other w end f Calling none = calling-other end f f.kind.control none
@@ -156,10 +148,7 @@ row-other w end f Down none = down-other end f none
 
 -- what the timer sends
 asking-other : (end : LinkEnd) → Some (asking end) ≡ Some call → ⊥
-asking-other end =
-    cond_both (outstanding end == 0) enquire oldest (λ (reply : Reply). Some reply ≡ Some call → ⊥)
-    (λ e x. (let y : ⊥ = cc in y))
-    (λ e x. (let y : ⊥ = cc in y))
+asking-other end = λ x. grind (arith, nat_tests)
 
 timer-other : (state : LinkState) (end : LinkEnd) → (state ≡ Calling → ⊥) → Some (timer_reply state end) ≡ Some call → ⊥
 timer-other Calling end never x = never refl
@@ -167,13 +156,7 @@ timer-other Up end never x = asking-other end x
 timer-other state end never x = let y : ⊥ = cc in y
 
 tick-other : (end : LinkEnd) → end.reply ≡ None → (end.state ≡ Calling → ⊥) → CallsNot (after_tick end)
-tick-other end none never =
-    cond_both (is_down end.state) _ _ CallsNot (λ e. quiet-other end none)
-    (λ e. cond_both (runs_out end) _ _ CallsNot
-    (λ f. cond_both (is_spent end) _ _ CallsNot
-    (λ g. unless-other end.reply (quiet-other end none))
-    (λ g. timer-other end.state end never))
-    (λ f. quiet-other end none))
+tick-other end none never = λ x. grind (arith, nat_tests, timer-other end.state end never, unless-other end.reply (quiet-other end none))
 
 coming-other : (w : Window) (end : LinkEnd) (coming : Coming) → end.reply ≡ None → (coming ≡ tick → end.state ≡ Calling → ⊥)
     → CallsNot (after_coming w end coming)

@@ -1,8 +1,9 @@
 -- An end stays of its two stations, and its frames are of them.
 use Rattle.std.proofs.Common.{◌≡◌, ℕ, ◌%◌, ◌<◌, List, [], ◌∷◌, Bool, true, false, cond, refl, sym, ◌∙◌, ap, subst, arith}
-use Rattle.std.specs.Prelude.{◌+◌, ◌==◌, ◌&&◌, ◌||◌, nat_lt, if◌then◌else◌, Some}
+use Rattle.std.specs.Prelude.{◌+◌, ◌==◌, ◌&&◌, ◌||◌, if◌then◌else◌, Some}
 use Rattle.std.specs.List.{AllByRecursion}
 use Rattle.std.proofs.lemmas.Bool.{cond_both}
+use Rattle.std.proofs.lemmas.Bool.Decides.{nat_tests}
 use Rattle.px_base.specs.CallSign.{CallSign}
 use Rattle.ax25_frames.specs.declared.control.Control.{Control}
 use Rattle.ax25_frames.specs.declared.control.Control.TheVariants.{I, Rr, Rnr, Rej, Sabm, Ua}
@@ -11,9 +12,9 @@ use Rattle.ax25_link.specs.declared.state.LinkState.{LinkState}
 use Rattle.ax25_link.specs.declared.state.LinkState.TheVariants.{Calling, Up, Ending, Down}
 use Rattle.ax25_link.specs.Window.{Window, IsWindow}
 use Rattle.ax25_link.specs.Ends.{LinkEnd, Reply, Farewell, high, outstanding, taken_count, ready, reject, refuse, enquire, oldest, goodbye, gone}
-use Rattle.ax25_link.specs.Acknowledging.{Meaning, good, stale, bad, meaning_of, acknowledging, applying, is_good, is_bad, with_timer_anew}
+use Rattle.ax25_link.specs.Acknowledging.{Meaning, good, stale, bad, meaning_of, acknowledging, applying, is_good, with_timer_anew}
 use Rattle.ax25_link.specs.Frames.{receive_number}
-use Rattle.ax25_link.specs.Rows.{Outcome, accepting, out_of_sequence, entering, passed_over, refusing, replying, information_row, supervisory_row, with_busy, sending_again, numbered_row, up_row, calling_row, ending_row, row_of_state, is_call}
+use Rattle.ax25_link.specs.Rows.{Outcome, accepting, out_of_sequence, entering, passed_over, replying, information_row, supervisory_row, with_busy, sending_again, numbered_row, up_row, calling_row, ending_row, row_of_state, is_call}
 use Rattle.ax25_link.specs.Timer.{is_down, runs_out, is_spent, trying, after_count}
 use Rattle.ax25_link.specs.Calls.{Doing, push, after_doing, DoesAll}
 use Rattle.ax25_link.specs.Sending.{Sending, Drains, next_sending, sends_reply, sends_farewell, with_piece}
@@ -34,8 +35,7 @@ abbrev stations : Bool → CallSign → CallSign → Stations
 stations called me peer = record { called = called; me = me; peer = peer }
 
 acknowledging-stations : (end : LinkEnd) (x : ℕ) → stations_of (acknowledging end x) ≡ stations_of end
-acknowledging-stations end x =
-    either stations_of (nat_lt end.acked x || (x == high end)) (with_timer_anew (record end { acked = x })) end (stations_of end) refl refl
+acknowledging-stations end x = grind (arith, nat_tests)
 
 applying-stations : (end : LinkEnd) (meaning : Meaning) → stations_of (applying end meaning) ≡ stations_of end
 applying-stations end (good x) = acknowledging-stations end x
@@ -44,12 +44,10 @@ applying-stations end bad = refl
 
 numbered-stations : (w : Window) (end : LinkEnd) (f : FrameValue) (nr : ℕ) (row : LinkEnd → Outcome)
     → ((e : LinkEnd) → left (row e) ≡ stations_of e) → left (numbered_row w end f nr row) ≡ stations_of end
-numbered-stations w end f nr row same =
-    let e = applying end (meaning_of w end nr) in
-    either left (is_bad (meaning_of w end nr)) (refusing w end f) (row e) (stations_of end) refl (same e ∙ applying-stations end (meaning_of w end nr))
+numbered-stations w end f nr row same = grind (arith, nat_tests, same (applying end (meaning_of w end nr)), applying-stations end (meaning_of w end nr))
 
 supervisory-stations : (end : LinkEnd) (f : FrameValue) → left (supervisory_row end f) ≡ stations_of end
-supervisory-stations end f = either stations_of (f.command && f.poll) (replying end (ready true)) end (stations_of end) refl refl
+supervisory-stations end f = grind (arith, nat_tests)
 
 up-stations : (w : Window) (end : LinkEnd) (f : FrameValue) (control : Control) → left (up_row w end f control) ≡ stations_of end
 up-stations w end f (I ns nr) =
