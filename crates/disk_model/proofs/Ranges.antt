@@ -184,11 +184,6 @@ closed_now first calls synced is = record {
     nothing : drop (length calls) calls ≡ []
     nothing = search (rules, places)
 
--- the octets that were synced
-pub synced_is : (first : List ℕ) (calls : List DiskCall) (synced : List ℕ) (closed : ℕ) → IsClosed first calls synced closed → (surface_after first calls).synced ≡ synced
-synced_is first calls synced closed is =
-    ap (λ (s : Surface). s.synced) (sym is.since) ∙ synced_kept (quiet_surface synced) (drop closed calls) is.open_calls
-
 -- what was synced, and what may be left, are the same but in the open ranges
 pub synced_same_but : (synced : List ℕ) (calls : List DiskCall) (image : List ℕ) → AllLeaveOpen calls → IsImage (surface_after synced calls) image → SameBut (length synced) (open_ranges calls) synced image
 synced_same_but synced calls image open_calls is = λ place below shut.

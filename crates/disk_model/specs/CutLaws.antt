@@ -96,30 +96,21 @@ lasts_longer first second third early late = record {
       (late.uses (early.plain.1 plain) memory);
 }
 
-stays_by :
+-- Where the count of failed writes and syncs stayed, and isn't at its last number, that of failed reads stayed too, unless
+-- a call had failed by the arming before.
+abbrev pub ReadsStayLaw : Type 0
+ReadsStayLaw =
     (arming : Arming) (old new : Use)
     → UsesUp arming old new
     → (arming ≡ Failed → ⊥)
     → old.write_faults < 18446744073709551615
     → new.write_faults ≡ old.write_faults
     → new.read_faults ≡ old.read_faults
-stays_by Unarmed old new used not_failed below same = used.1.reads
-stays_by (Passes calls) old new used not_failed below same = elim used [
+
+pub reads_stay : ReadsStayLaw
+reads_stay Unarmed old new used not_failed below same = used.1.reads
+reads_stay (Passes calls) old new used not_failed below same = elim used [
   | inl on ↦ on.faults.reads
   | inr fails ↦ absurd (let rose = fails.rose below in omega (arith, rose, same))
 ]
-stays_by Failed old new used not_failed below same = absurd (not_failed refl)
-
--- Where the count of failed writes and syncs stayed, and isn't at its last number, that of failed reads stayed too: of a
--- plain disk that has memory, of which no call had failed by the arming.
-pub reads_stay :
-    (old new : CutState)
-    → LastsSo old new
-    → old.plain
-    → new.starved ≡ false
-    → (old.use_of.arming ≡ Failed → ⊥)
-    → old.use_of.write_faults < 18446744073709551615
-    → new.use_of.write_faults ≡ old.use_of.write_faults
-    → new.use_of.read_faults ≡ old.use_of.read_faults
-reads_stay old new lasts plain memory not_failed below same =
-    stays_by old.use_of.arming old.use_of new.use_of (lasts.uses plain memory) not_failed below same
+reads_stay Failed old new used not_failed below same = absurd (not_failed refl)

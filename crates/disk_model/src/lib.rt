@@ -8,6 +8,7 @@ mod disk_call;
 mod fuse_disk;
 mod halt;
 mod history;
+pub mod laws;
 mod limits;
 mod log_disk;
 mod memory_disk;
