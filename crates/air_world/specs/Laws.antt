@@ -6,16 +6,16 @@ use Rattle.file_store.specs.OnDisk.{after_first}
 use Rattle.file_store.specs.Store.{Entry, entry_of, partial}
 use Rattle.ftl0_session.specs.Table.{receiving}
 use Rattle.node.specs.Events.{NodeEvent}
-use Rattle.air_world.specs.Cuts.{IsRun, WorldStep, party_cut, server_commands}
+use Rattle.client_notes.specs.Several as notes
+use Rattle.air_world.specs.Cuts.{IsRun, WorldStep, client_commands, server_commands}
 use Rattle.air_world.specs.Events.{ClientPart, ClientTakes, ServerTakes}
 use Rattle.air_world.specs.Headline.{HeadlineIn}
-use Rattle.air_world.specs.Kept.{HoldsAck, IsTaskKept}
 use Rattle.air_world.specs.Lawful.{IsAllowed}
 use Rattle.air_world.specs.Parts.{HasParts}
 use Rattle.air_world.specs.Party.{EachSide, Party}
 use Rattle.air_world.specs.Schedule.{Event, IsNoCut, IsSchedule, Schedule}
 use Rattle.air_world.specs.Sound.{Sound}
-use Rattle.air_world.specs.World.{PartyAt, World, first_world}
+use Rattle.air_world.specs.World.{PartyAt, World, first_world, with_party}
 
 -- The first world of a schedule is sound, and each event that may come keeps that, with a cut at any place.
 pub record SoundLaw : Type 0 where
@@ -27,14 +27,19 @@ pub record PartsLaw : Type 0 where
   pub parts : (world : World) → Sound world → HasParts world
   pub headline : (world : World) → Sound world → HeadlineIn world world.server.store
 
--- where the client's notes are those after the first so many commands of an event, what was acknowledged is kept
-abbrev pub AckedIsKept : World → ClientPart → ℕ → Type 0
-AckedIsKept world part count =
-    (task number : ℕ) → HoldsAck (party_cut part count) task number
-    → IsTaskKept world.files world.server.store (party_cut part count) task number
+-- the world whose client at this place has noted the first so many commands of its event
+abbrev pub noted_first : World → ℕ → ClientPart → ℕ → World
+noted_first world c part count =
+    with_party world c
+    (record part.party {
+      client =
+          record part.party.client {
+            lists = notes.after_first count part.party.client.lists (client_commands part);
+          };
+    })
 
--- What is promised holds also after the first so many commands of the event under way: of a server's event in the
--- store after them, and of a client's by the notes after them.
+-- What is promised holds also after the first so many commands of the event under way: of a server's event in the store
+-- after them, and of a client's with the notes after them.
 pub record PrefixesLaw : Type 0 where
   pub server :
       (world delivered : World) (event : Event) (coming : NodeEvent) (count : ℕ) → Sound world → IsAllowed world event
@@ -42,7 +47,7 @@ pub record PrefixesLaw : Type 0 where
       → HeadlineIn world (after_first count world.server.store (server_commands world coming))
   pub client :
       (world : World) (event : Event) (c : ℕ) (part : ClientPart) (count : ℕ) → Sound world → IsAllowed world event
-      → ClientTakes world event c part → AckedIsKept world part count
+      → ClientTakes world event c part → HeadlineIn (noted_first world c part count) world.server.store
 
 -- what is promised of uploads and downloads holds in each world
 abbrev pub HoldsInEach : List World → Type 0
