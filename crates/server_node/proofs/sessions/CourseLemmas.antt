@@ -152,8 +152,7 @@ module _ {D : Type 0} (g : Ghosts D) (lasts : (disk : D) → g.lasts disk disk) 
 -- its caller and its store stay
 pub filled : (a : ServerState) (caller : CallSign) (store : StoreState) (state : State) → caller ≡ a.caller → store ≡ a.store
     → record a { caller = caller; store = store; state = state } ≡ record a { state = state }
-filled a caller store state h k =
-    ap (λ c. record a { caller = c; store = store; state = state }) h ∙ ap (λ s. record a { store = s; state = state }) k
+filled a caller store state h k = grind (arith, common_steps)
 
 pub server-filled : (a : Inside) (store : StoreState) (session : SessionState) → store ≡ a.store → session.uploads ≡ a.session.uploads → IsDueIn (store_in store) session.downloads → IsServer a
     → IsServer (record a { session = session; store = store })
@@ -219,9 +218,7 @@ module _ {D : Type 0} (g : Ghosts D) (lasts : (disk : D) → g.lasts disk disk) 
     halts-cut None h = (h.hears.are_octets, by (events_to start.it inputs) refl h.answered)
       where
         does : (missed : ℕ) (commands : List Command) → failed_reads_told h.said ≡ missed → h.commands ≡ commands → DoesAmongReads g ⊥ missed start.it.store now.it.store start.disk now.disk commands
-        does missed commands same these =
-            among-at g ⊥ missed start.it.store now.it.store start.disk now.disk h.commands commands these
-            (among-same g ⊥ ⊥ (failed_reads_told h.said) missed start.it.store now.it.store start.disk now.disk h.commands (λ p. p) (λ p. p) same h.does)
+        does missed commands same these = grind (arith, common_steps, among-at, among-same)
 
         by : (events : List Event) → events_to start.it inputs ≡ events → IsAnswered start.it now.it.store now.it.lists now.it.state events h.said h.commands
             → IsUnsaidFirst g start stop.AirWrite (said ++ front) now ⊎ IsStopped g start inputs stop.AirWrite true (said ++ front) now
@@ -267,8 +264,7 @@ module _ {D : Type 0} (g : Ghosts D) (lasts : (disk : D) → g.lasts disk disk) 
       ran : (events : List Event) (met : List MetEvent) → map heard_of met ≡ events
           → RunsOver start.it.caller (session_over (store_in start.it.store) start.it.lists start.it.state) met h.said h.commands (session_over (store_in now.it.store) now.it.lists now.it.state)
           → RunsOn g (session_steps start.it.caller) (session_at start) (session_at now) events (texts h.said)
-      ran events met heard runs =
-          record { done = h.commands; missed = failed_reads_told h.said; goes = record { met = met; heard = heard; said = h.said; text_is = refl; missed_is = refl; runs = runs }; does = h.does }
+      ran events met heard runs = grind (arith, common_steps)
 
       by : (events : List Event) → IsAnswered start.it now.it.store now.it.lists now.it.state events h.said h.commands
           → RunsOn g (session_steps start.it.caller) (session_at start) (session_at now) events (texts h.said)
