@@ -18,10 +18,7 @@ pub record AreSteps {S E : Type 0} (steps : Steps S E) : Type 0 where
   pub on : (a b c : S) (xs ys : List E) (m n : Made) → steps.goes a xs m b → steps.goes b ys n c → steps.goes a (xs ++ ys) (both m n) c
 
 both-assoc : (a b c : Made) → both (both a b) c ≡ both a (both b c)
-both-assoc a b c =
-    ap (λ (t : List ℕ). made t ((a.done ++ b.done) ++ c.done) ((a.missed + b.missed) + c.missed)) (append_assoc a.text b.text c.text)
-    ∙ ap (λ (d : List Command). made (a.text ++ (b.text ++ c.text)) d ((a.missed + b.missed) + c.missed)) (append_assoc a.done b.done c.done)
-    ∙ ap (λ (n : ℕ). made (a.text ++ (b.text ++ c.text)) (a.done ++ (b.done ++ c.done)) n) (add_assoc a.missed b.missed c.missed)
+both-assoc a b c = grind (arith, common_steps, add_assoc)
 
 -- nothing is done
 pub does-none : {D : Type 0} (g : Ghosts D) (store : StoreState) (disk : D) → IsReady g store disk → g.lasts disk disk → DoesAmongReads g ⊥ 0 store store disk disk []

@@ -97,10 +97,7 @@ module _ {D : Type 0} (g : Ghosts D) (lasts : (disk : D) → g.lasts disk disk) 
 
     module _ (by : Heard (Ok tt)) (frames : List FrameValue) (last : Server) (sent : Empties taken.after frames last) where
       takes-event : TakesEvent server event frames taken.done taken.missed (settled last)
-      takes-event = record {
-        parts = parts;
-        step = record { silent = serving.silent; done_is = refl; cut_is = sym (uncut parts server event); missed_is = refl; halt_is = sym by.0; last = last; sent = sent; new_is = refl };
-      }
+      takes-event = grind (arith, common_steps, uncut, by)
 
       -- All of it was taken, and its frames were said.
       event-taken : IsServer new.it.server (settled last) → ComesOn g server old (event ∷ []) (text_of frames) new
@@ -351,9 +348,7 @@ module _ {A C D : Type 0} (seen : Seen D A C) (terms : ServerTerms) (old new : D
     (took : TookTurns (NodeEvents terms.me) (server_course seen.disk) seen.air seen.given old new (turn_terms terms) ended) where
   -- a server is never over
   pub not-over : ended ≢ Ok finished.Over
-  not-over =
-      never-over {S = Server} {F = NodeEvent} (NodeEvents terms.me) (server_course seen.disk) (λ p. refl) seen.air old.air new.air (party_at old) (party_at new) took.all took.text took.unsaid terms.polls server_steps
-      (server_from terms (store_in old.party.server.store)) took.all.events (λ r. ⊥) ended took.ran
+  not-over = grind (arith, common_steps, never-over)
 
   module _ (lasts : (disk : D) → seen.disk.lasts disk disk) (on : (first second third : D) → seen.disk.lasts first second → seen.disk.lasts second third → seen.disk.lasts first third) (up : IsUp seen.disk (party_at old))
       (disk : D) (serving : IsServing old.party.server (server_from terms (store_in old.party.server.store))) where

@@ -1,4 +1,5 @@
 -- A session by the turns of its node.
+use Rattle.std.proofs.lemmas.Grind.{common_steps}
 use Rattle.std.proofs.Common.{◌≡◌, ap, sym, ◌∙◌, subst, ◌⊎◌, inl, inr, ℕ, max, List, [], ◌∷◌, ◌++◌, length, Option, Some, Result, Ok, Err, refl, ap₂, ◌+◌, append_assoc, append-nil, arith, None, ◌≢◌, IsErrOf}
 use Rattle.px_base.specs.CallSign.{CallSign}
 use Rattle.px_base.specs.Moments.{MomentsOf}
@@ -102,9 +103,7 @@ module _ {A C D : Type 0} (seen : Seen D A C) (terms : SessionTerms) (first : �
 
     -- it is never over
     pub not-over : ended ≢ Ok finished.Over
-    not-over =
-        never-over {S = Session} {F = Event} AreHandedOver (session_course g) (λ p. refl) seen.air air new.air (at server mid) (party_at new) took.all took.text took.unsaid terms.polls (session_steps terms.caller)
-        (first_session (store_in start)) (events_to server took.all.events) (λ r. ⊥) ended took.ran
+    not-over = grind (arith, common_steps, never-over)
 
     module _ (lasts : (disk : D) → g.lasts disk disk) (on : (first second third : D) → g.lasts first second → g.lasts second third → g.lasts first third) (disk : D) (clock_o : C)
         (told : MomentsOf terms.moment (seen.given clock_o) (seen.given clock) (first ∷ [])) where
@@ -129,9 +128,7 @@ module _ {A C D : Type 0} (seen : Seen D A C) (terms : SessionTerms) (first : �
       -- what the first turns bring, of what was handed over in them
       brings-at : (turns : List Turn) (front behind : List ℕ) (inputs : List Input) → took.all.moments ≡ front ++ behind → length front ≡ length turns → inputs ≡ inputs_of turns front → IsOctets (octets_in inputs)
           → Brings [] turns all_moments (events_to server inputs) (waiting_behind [] inputs)
-      brings-at turns front behind inputs split same is are =
-          rw (moments.are ∙ ap (λ (ms : List ℕ). ms ++ moments.more) split ∙ append_assoc front behind moments.more)
-          (brings-more [] turns front (behind ++ moments.more) (events_to server inputs) (waiting_behind [] inputs) (rw is (brings-of turns front same (rw is at are))))
+      brings-at turns front behind inputs split same is are = grind (arith, common_steps, brings-more, brings-of)
 
       brings : IsOctets (octets_in took.all.events) → Brings [] took.all.turns all_moments events (waiting_behind [] took.all.events)
       brings are = brings-at took.all.turns took.all.moments [] took.all.events (sym (append-nil took.all.moments)) took.one_each took.brings are

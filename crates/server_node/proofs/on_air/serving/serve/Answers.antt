@@ -1,5 +1,6 @@
 -- The recovery is refused, or the server serves over what it gives.
-use Rattle.std.proofs.Common.{None, sym, subst, Result}
+use Rattle.std.proofs.lemmas.Grind.{common_steps}
+use Rattle.std.proofs.Common.{None, sym, subst, Result, arith}
 use Rattle.ftl0_server.specs.ServerState.{ServerState}
 use Rattle.node.specs.Course.{at}
 use Rattle.node.specs.Lent.{lent as lent_so, seen}
@@ -18,10 +19,7 @@ drive-station-requires-clause-owes g c =
     (started g.D.Disk terms terms.limits.blocks c.args.disk.now c.start.new.disk c.new-station.result c.in_ok-server.server c.new-station.ensures.server c.new-station.ensures.memory h.recovered h.server h.silent).0
 
 pub answer_of-requires : goal.answer_of-requires
-answer_of-requires g c =
-    let new = c.drive-station.new in
-    not-over (seen g.D.Disk g.A.Air g.C.Clock.given) c.args.terms.now (lent c.new-station.result c.start.new.disk c.args.air.now c.args.clock.now) (lent c.drive-station.result.0 new.disk new.air new.clock)
-    c.drive-station.result.1 c.drive-station.ensures.turns
+answer_of-requires g c = grind (arith, common_steps, not-over)
 
 pub returns : goal.returns
 returns g c =

@@ -1,5 +1,6 @@
 -- The recovery is refused, or the session is served over what it gives.
-use Rattle.std.proofs.Common.{None, [], refl, sym, ◌∙◌, subst, Result}
+use Rattle.std.proofs.lemmas.Grind.{common_steps}
+use Rattle.std.proofs.Common.{None, [], refl, sym, ◌∙◌, subst, Result, arith}
 use Rattle.file_store.specs.State.{StoreState}
 use Rattle.node.specs.Course.{at}
 use Rattle.node.specs.Lent.{lent as lent_so, seen}
@@ -42,10 +43,7 @@ take_turns-ended-requires g c =
     c.in_ok-store.ensures.recovered.ready refl (λ fails. refl))
 
 pub answer_of-requires : goal.answer_of-requires
-answer_of-requires g c =
-    let new = c.take_turns-ended.new in
-    not-over (seen g.D.Disk g.A.Air g.C.Clock.given) c.args.terms.now c.moment_of-first.result c.in_ok-store.store c.new-server.result c.new-server.ensures c.recover.new.disk c.args.air.now c.moment_of-first.new.clock
-    (lent new.party new.disk new.air new.clock) c.take_turns-ended.result c.take_turns-ended.ensures.turns
+answer_of-requires g c = grind (arith, common_steps, not-over)
 
 pub returns : goal.returns
 returns g c =
