@@ -1,18 +1,17 @@
 -- What a store's commands do to its disk: what file_journal proves of a state that is kept, at the store's form.
-use Rattle.std.proofs.Common.{◌≡◌, ℕ, ◌+◌, ◌*◌, ◌≤◌, Bool, true, false, List, [], ◌++◌, length, refl, sym, ◌∙◌, subst}
+use Rattle.std.proofs.Common.{◌≡◌, ℕ, ◌+◌, ◌≤◌, Bool, true, false, List, [], ◌++◌, length, refl, sym, ◌∙◌, subst}
 use Rattle.std.proofs.Math.Nat.{add-zero}
 use Rattle.disk_model.specs.AtDisk.{AtDisk}
-use Rattle.disk_model.specs.Moments.{LeavesOnly}
 use Rattle.disk_model.specs.declared.disk.Disk.{Ghosts}
 use Rattle.file_journal.specs.AmongReads as among
 use Rattle.file_journal.specs.Calls.{Reads}
 use Rattle.file_journal.specs.Kept as kept
 use Rattle.file_journal.specs.Kept.{KeptOn}
-use Rattle.file_journal.proofs.Offered.{among_does, among_same, among_then, does_longer, does_none, does_same, does_then, first_all, first_then, makes_first, makes_second, makes_within, puts_among, puts_among_then, reads_only, same_on, stay_then}
+use Rattle.file_journal.proofs.Offered.{among_does, among_same, among_then, does_longer, does_none, does_same, does_then, first_all, first_then, makes_first, makes_within, puts_among, puts_among_then, reads_only, same_on}
 use Rattle.file_entries.specs.Command.{AreAllowed, Command, after_all}
 use Rattle.file_entries.specs.Records.{store_form}
 use Rattle.file_entries.specs.Store.{Store}
-use Rattle.file_store.specs.OnDisk.{Does, MakesBetween, MakesFirst, StayDone, after_first, kept_at}
+use Rattle.file_store.specs.OnDisk.{Does, MakesBetween, after_first, kept_at}
 use Rattle.file_store.specs.State.{IsReady, StoreState, store_in}
 use Rattle.file_store.specs.Working.{CutsOffAmongReads, DoesAmongReads, PutsAmongReads, one_if}
 
@@ -31,16 +30,7 @@ pub makes-within : (low high least most : ℕ) (store : Store) (commands : List 
     → MakesBetween least most store commands image
 makes-within = makes_within store_form
 
-pub makes-second : (low high least most : ℕ) (store middle : Store) (a b : List Command) (image : List ℕ) → middle ≡ after_all store a → least ≤ length a + low → length a + high ≤ most
-    → MakesBetween low high middle b image → MakesBetween least most store (a ++ b) image
-makes-second = makes_second store_form
-
 module _ {D : Type 0} (g : Ghosts D) where
-  pub stay-on : (start done : ℕ) (store middle : Store) (a b : List Command) (disk_mid disk_now : D) → middle ≡ after_all store a → g.moment disk_mid ≡ start + 4 * length a
-      → StayDone g start (length a) store a disk_mid → LeavesOnly g.moment g.images_since disk_mid disk_now (MakesFirst middle b) → StayDone g (g.moment disk_mid) done middle b disk_now
-      → StayDone g start (length a + done) store (a ++ b) disk_now
-  stay-on = stay_then store_form g
-
   -- a store that is the same, with the same journal
   at-same : (self other : StoreState) (disk : D) → store_in other ≡ store_in self → other.journal ≡ self.journal → kept_at self disk ≡ kept_at other disk
   at-same self other disk store journal = same_on (store_in self) (store_in other) self.journal other.journal disk (sym store) (sym journal)

@@ -1,7 +1,6 @@
 -- What a packet does whose row has no command of the store: one of downloading, or error 1.
 use Rattle.std.proofs.Common.{◌≡◌, ℕ, List, [], ◌∷◌, refl, ap, sym, ◌∙◌, subst, append-nil, Bool, true, false, Option, None, Some}
 use Rattle.std.specs.Prelude.{⊤, Result, Ok, IsErrOf, IsSomeAnd, IsTrue}
-use Rattle.px_base.specs.CallSign.{CallSign}
 use Rattle.disk_model.specs.declared.disk.Disk.{Ghosts}
 use Rattle.ftl0_packets.specs.Items.{kind_of_item, texts}
 use Rattle.ftl0_packets.specs.Layout.{Item, dl_error_resp, packet_text}
@@ -21,7 +20,7 @@ use Rattle.ftl0_session.specs.Downloads.Table.{DownloadRow, DownloadState}
 use Rattle.ftl0_session.specs.Downloads.Taking.{IsRow, Made, TakesByRow, made, made_by}
 use Rattle.disk_model.specs.declared.halt.Halt.{Halt}
 use Rattle.disk_model.specs.declared.halt.Halt.TheVariants as stop
-use Rattle.ftl0_session.specs.SessionState.{DoesOne, MayTake, SessionState, caller_of, session_of, state_in, working_on}
+use Rattle.ftl0_session.specs.SessionState.{MayTake, SessionState, caller_of, session_of, state_in, working_on}
 use Rattle.ftl0_session.specs.Table.{Row, by_download, download_row, downloading, error_by, error_row, state_by, upload_row}
 use Rattle.ftl0_session.specs.Taking.{Taken, download_row_of, row_over, working}
 use Rattle.ftl0_session.specs.Uploads.Events.{packet_of}
@@ -128,14 +127,3 @@ module _ {D : Type 0} (g : Ghosts D) where
         (ap (λ (m : Made). m.lists) none_of.1) (ap (λ (m : Made). state_in store (session_of uploads m.state)) none_of.1)
         (text ∙ ap (λ (b : Bool). packet_text (error_by b)) kind ∙ sym (append-nil (packet_text (error_by (is_upload_kind (kind_of_item item))))))
         (λ failed. absurd (subst (λ (o : Option DownloadRow). IsSomeAnd o (λ r. r.replies ≡ dl_error_resp 3 ∷ [])) none_of.0 (takes.told failed))) takes.reads refl may lasts
-
--- while a file is received, or the end of one is waited for, nothing of downloading is done by any packet
-pub one-download : {D : Type 0} (caller : CallSign) (files : StoreState) (lists lists_now : List CallerList) (here : Phase) (part part_now : DownloadState) (item : Item) (fails taken : Bool)
-    (disk disk_now : D) (said replies : List ℕ) → DoesOne here part
-    → IsRow (download_row caller (store_in files) lists (state_by (state_of files here) part) item fails) taken disk disk_now (made part lists said) (made part_now lists_now replies) → DoesOne here part_now
-one-download caller files lists lists_now here part part_now item fails true disk disk_now said replies one is =
-    let has = row-taken (download_row caller (store_in files) lists (state_by (state_of files here) part) item fails) disk disk_now (made part lists said) (made part_now lists_now replies) is in
-    subst (λ (p : Phase). DoesOne p part_now) (sym (download-command caller files lists here part item fails has.0 has.1)) tt
-one-download caller files lists lists_now here part part_now item fails false disk disk_now said replies one is =
-    let none = row-passed (download_row caller (store_in files) lists (state_by (state_of files here) part) item fails) disk disk_now (made part lists said) (made part_now lists_now replies) is in
-    subst (λ (p : DownloadState). DoesOne here p) (sym (ap (λ (m : Made). m.state) none.1)) one

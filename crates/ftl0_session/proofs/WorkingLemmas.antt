@@ -18,7 +18,7 @@ use Rattle.ftl0_session.specs.Downloads.Sending as due
 use Rattle.disk_model.specs.declared.halt.Halt.{Halt}
 use Rattle.disk_model.specs.declared.halt.Halt.TheVariants as stop
 use Rattle.ftl0_session.specs.Filling.{IsDue, PutsDue}
-use Rattle.ftl0_session.specs.Table.{DuePacket, Row, State, download_part, due_at, in_session, next_due, row_at, failed_reads_told, tells_failed_read}
+use Rattle.ftl0_session.specs.Table.{DuePacket, Row, State, download_part, in_session, next_due, row_at, failed_reads_told, tells_failed_read}
 use Rattle.ftl0_session.specs.Taking.{TakesPacket, Working, row_over}
 use Rattle.ftl0_session.specs.Downloads.Filling.{filled}
 use Rattle.ftl0_session.specs.Uploads.Events.{packet_of}
@@ -166,6 +166,3 @@ write-unread number part = or-false ((number == part) && false) ∙ and-false (n
 pub row-at : (caller : CallSign) (moment : ℕ) (item : Item) (before : Working) (failures : List Failure) (part : ℕ) (fails : Bool) → read_fails failures part ≡ fails
     → row_over caller moment before item fails ≡ row_at caller moment (store_in before.store) before.lists before.state item failures part
 row-at caller moment item before failures part fails is = ap (λ (b : Bool). row_over caller moment before item b) (sym is)
-
-pub due-at : (store : Store) (state : State) (failures : List Failure) (part : ℕ) (fails : Bool) → read_fails failures part ≡ fails → next_due store state fails ≡ due_at store state failures part
-due-at store state failures part fails is = ap (λ (b : Bool). next_due store state b) (sym is)

@@ -154,9 +154,7 @@ module _ {A C D T : Type 0} (seen : Seen D A C) (blocks : ℕ) (given : Option �
   -- it gave this, and there was no memory behind it
   pub unlisted : (value : T) → Runs seen.disk (IsErrOf {T = T} (Ok value) fault.Disk) old.disk disk_n → Leaves seen.disk old.disk disk_n (StandsAlike blocks)
       → LeavesAlikeSinceSync {T = T} seen.disk blocks (Ok value) old.disk disk_n → Serves seen blocks given Ran old (lent disk_n old.air old.clock) (Err stop.OutOfMemory)
-  unlisted value runs since_start since_sync =
-      unserved seen blocks given Ran old disk_n (Ok value) fault.OutOfMemory (λ e. absurd (cc e)) (λ e. absurd (cc e)) runs since_start since_sync (λ found e. absurd (cc e)) (λ at e. absurd (cc e))
-      (λ no_disk no_memory. absurd (no_memory refl))
+  unlisted value runs since_start since_sync = grind (arith, common_steps, runs, since_start, since_sync, unserved)
 
 -- ---- a recovery that gave a store
 

@@ -25,7 +25,7 @@ use Rattle.ftl0_session.specs.Uploads.Events.{packet_of}
 use Rattle.ftl0_session.proofs.WorkingLemmas.{taken-among, taken-cut, taken-none}
 use Rattle.ftl0_server.specs.declared.connection.fate.Fate.{Fate}
 use Rattle.ftl0_server.specs.declared.connection.fate.Fate.TheVariants.{Stays, Ends}
-use Rattle.ftl0_server.specs.Connection.ConnectionState.{ConnectionState, HearsBy, is_over, without_rest}
+use Rattle.ftl0_server.specs.Connection.ConnectionState.{ConnectionState, HearsBy, is_over, none_left}
 use Rattle.ftl0_server.specs.Connection.Feeding.{IsAmong, TakesPackets, session_on, taking_some}
 use Rattle.ftl0_server.specs.Connection.Hearing.{progressed}
 use Rattle.ftl0_server.specs.Connection.Taking.{Progress, fits, replied, resting, taking}
@@ -59,11 +59,11 @@ module _ {D : Type 0} (g : Ghosts D) (on : (first second third : D) → g.lasts 
 
   abbrev Made : Fate × Result ⊤ Stop → Type 0
   Made told =
-      TakesPackets g w (taking_some moment session before end (item ∷ []) first) (IsAmong first 1) (at before.store before.disk) now (without_rest new.link new.session) told
+      TakesPackets g w (taking_some moment session before end (item ∷ []) first) (IsAmong first 1) (at before.store before.disk) now (none_left new.link new.session) told
 
   -- what came of these parts
   abbrev By : Progress → Fate → Result ⊤ Stop → Type 0
-  By p fate result = HearsBy g w (λ failures. progressed [] p) (at before.store before.disk) now (without_rest new.link new.session) fate result
+  By p fate result = HearsBy g w (λ failures. progressed [] p) (at before.store before.disk) now (none_left new.link new.session) fate result
 
   -- the packet's row was taken, and its replies queued or the link given up
   row-done : (row : Row) (enough : Bool) (fate : Fate) → is_over fate ≡ not enough → StandsFor w new.link (if enough then after_push end (texts row.replies) else after_abandon end)

@@ -24,7 +24,7 @@ use Rattle.disk_model.specs.AtDisk.{AtDisk, at}
 use Rattle.ftl0_session.specs.Run.{Session}
 use Rattle.ftl0_server.specs.declared.connection.fate.Fate.{Fate}
 use Rattle.ftl0_server.specs.declared.connection.fate.Fate.TheVariants.{Ends, Stays}
-use Rattle.ftl0_server.specs.Connection.ConnectionState.{ConnectionState, HearsBy, StandsAfter, without_rest, with_reads}
+use Rattle.ftl0_server.specs.Connection.ConnectionState.{ConnectionState, HearsBy, StandsAfter, none_left, with_reads}
 use Rattle.ftl0_server.specs.Connection.Feeding.{HearsParts, IsAmong, IsGoing, TakesPackets, session_on, taking_some}
 use Rattle.ftl0_server.specs.Connection.Hearing.{Happened, progressed}
 use Rattle.ftl0_server.specs.Connection.Taking.{Halt, Progress, fails, goes_on, taking}
@@ -77,7 +77,7 @@ module _ {D : Type 0} (g : Ghosts D) (on : (first second third : D) → g.lasts 
   -- ---- packets, and then others
 
   module _ (moment : ℕ) (old mid new : ConnectionState) (before between now : WorkingOn D) (end : LinkEnd) (items others : List Item) (first : ℕ) (callers : caller_of mid.session ≡ caller_of old.session)
-      (one : TakesPackets g w (taking_some moment old.session before end items first) (IsAmong first (length items)) (at before.store before.disk) between (without_rest mid.link mid.session) (Stays, Ok tt)) where
+      (one : TakesPackets g w (taking_some moment old.session before end items first) (IsAmong first (length items)) (at before.store before.disk) between (none_left mid.link mid.session) (Stays, Ok tt)) where
     -- the parts behind them begin here
     abbrev next : ℕ
     next = first + length items
@@ -124,11 +124,11 @@ module _ {D : Type 0} (g : Ghosts D) (on : (first second third : D) → g.lasts 
         same (failed_write part) parts (one-writes part) (λ n low. other-part part n (λ here. omega (arith, same-part part there.0 parts there.2, here, there.1))) later
 
     abbrev By : Fate → Result ⊤ Stop → Progress → Type 0
-    By fate result p = HearsBy g w (λ failures. progressed [] p) (at before.store before.disk) now (without_rest new.link new.session) fate result
+    By fate result p = HearsBy g w (λ failures. progressed [] p) (at before.store before.disk) now (none_left new.link new.session) fate result
 
     by-then : (parts : List ℕ) → All (λ part. next ≤ part) parts → (fate : Fate) (result : Result ⊤ Stop)
-        → HearsBy g w (λ writes. progressed [] (part_of (writes ++ failed_reads parts))) (at between.store between.disk) now (without_rest new.link new.session) fate result
-        → HearsBy g w (λ writes. progressed [] (whole (writes ++ failed_reads (one.parts ++ parts)))) (at before.store before.disk) now (without_rest new.link new.session) fate result
+        → HearsBy g w (λ writes. progressed [] (part_of (writes ++ failed_reads parts))) (at between.store between.disk) now (none_left new.link new.session) fate result
+        → HearsBy g w (λ writes. progressed [] (whole (writes ++ failed_reads (one.parts ++ parts)))) (at before.store before.disk) now (none_left new.link new.session) fate result
     by-then parts later fate (Ok done) h =
         let part : Progress = part_of ([] ++ failed_reads parts) in
         subst (By fate (Ok done)) (sym (same [] parts none-writes (λ n low. refl) later))
@@ -150,8 +150,8 @@ module _ {D : Type 0} (g : Ghosts D) (on : (first second third : D) → g.lasts 
 
     -- packets were taken, and then the others
     pub takes-then : (told : Fate × Result ⊤ Stop)
-        → ((there : LinkEnd) → StandsFor w mid.link there → TakesPackets g w (taking_some moment mid.session between there others next) (IsAmong next (length others)) (at between.store between.disk) now (without_rest new.link new.session) told)
-        → TakesPackets g w (taking_some moment old.session before end (items ++ others) first) (IsAmong first (length (items ++ others))) (at before.store before.disk) now (without_rest new.link new.session) told
+        → ((there : LinkEnd) → StandsFor w mid.link there → TakesPackets g w (taking_some moment mid.session between there others next) (IsAmong next (length others)) (at between.store between.disk) now (none_left new.link new.session) told)
+        → TakesPackets g w (taking_some moment old.session before end (items ++ others) first) (IsAmong first (length (items ++ others))) (at before.store before.disk) now (none_left new.link new.session) told
     takes-then told more =
         let two = more made.end one.by.1.1.1.link in
         let sum : length (items ++ others) ≡ length items + length others = length-append items others in
@@ -183,12 +183,12 @@ module _ {D : Type 0} (g : Ghosts D) (on : (first second third : D) → g.lasts 
 
       -- a session that is over isn't carried on
       after-over : (fate : Fate) (over : Bool) (at_end : LinkEnd) (state : State) → over ≡ true
-          → StandsAfter w now.store (without_rest new.link new.session) over (record { end = at_end; rest = []; state = state }) fate → StandsAfter w now.store new over (record { end = at_end; rest = left; state = state }) fate
+          → StandsAfter w now.store (none_left new.link new.session) over (record { end = at_end; rest = []; state = state }) fate → StandsAfter w now.store new over (record { end = at_end; rest = left; state = state }) fate
       after-over Stays over at_end state is h = absurd (let e : false ≡ true = sym h.0 ∙ is in cc)
       after-over Ends over at_end state is h = h
 
       by-ended : (parts : List ℕ) (fate : Fate) (result : Result ⊤ Stop) → IsStop (fate, result)
-          → HearsBy g w (λ writes. progressed [] (of_items (writes ++ failed_reads parts))) (at before.store before.disk) now (without_rest new.link new.session) fate result
+          → HearsBy g w (λ writes. progressed [] (of_items (writes ++ failed_reads parts))) (at before.store before.disk) now (none_left new.link new.session) fate result
           → HearsBy g w (λ writes. progressed left (of_all (writes ++ failed_reads parts))) (at before.store before.disk) now new fate result
       by-ended parts fate (Ok done) stops h = grind (arith, common_steps, ended, going-over, taking-failed, going-halted)
       by-ended parts fate (Err stop.Disk) stops h =
@@ -200,7 +200,7 @@ module _ {D : Type 0} (g : Ghosts D) (on : (first second third : D) → g.lasts 
 
       -- whatever comes behind packets that stopped the connection isn't taken
       pub parts-stopped : (told : Fate × Result ⊤ Stop) → IsStop told
-          → TakesPackets g w (taking_some moment session before end items 0) (IsAmong 0 (length items)) (at before.store before.disk) now (without_rest new.link new.session) told
+          → TakesPackets g w (taking_some moment session before end items 0) (IsAmong 0 (length items)) (at before.store before.disk) now (none_left new.link new.session) told
           → HearsParts g w left of_all (at before.store before.disk) now new told
       parts-stopped told stops takes =
           let by = by-ended takes.parts told.0 told.1 stops takes.by in
@@ -218,7 +218,7 @@ module _ {D : Type 0} (g : Ghosts D) (on : (first second third : D) → g.lasts 
           }
 
     -- all packets were taken, and these octets are left
-    pub parts-whole : new.octets ≡ left → TakesPackets g w (taking_some moment session before end items 0) (IsAmong 0 (length items)) (at before.store before.disk) now (without_rest new.link new.session) (Stays, Ok tt)
+    pub parts-whole : new.octets ≡ left → TakesPackets g w (taking_some moment session before end items 0) (IsAmong 0 (length items)) (at before.store before.disk) now (none_left new.link new.session) (Stays, Ok tt)
         → HearsParts g w left of_items (at before.store before.disk) now new (Stays, Ok tt)
     parts-whole octets takes =
         let h = takes.by in

@@ -84,5 +84,5 @@ pub record Hears {D : Type 0} (g : Ghosts D) (w : Window) (event : List Failure 
       Leaves g before.disk now.disk (λ _. MakesFirst (store_in before.it) (with_reads event parts []).done)
 
 -- the connection of this link and session, with no octets left
-abbrev pub without_rest : Kept → SessionState → ConnectionState
-without_rest link session = record { link = link; octets = []; session = session }
+abbrev pub none_left : Kept → SessionState → ConnectionState
+none_left link session = record { link = link; octets = []; session = session }

@@ -32,7 +32,7 @@ use Rattle.ftl0_server.specs.declared.connection.fate.Fate.{Fate}
 use Rattle.ftl0_server.specs.declared.connection.fate.Fate.TheVariants.{Stays}
 use Rattle.ftl0_server.specs.Connection.Connected.{Connected}
 use Rattle.ftl0_server.specs.Connection.ConnectionState.{ConnectionState, Hears, HearsBy, IsConnection, with_reads}
-use Rattle.ftl0_server.specs.Connection.ConnectionState.{without_rest}
+use Rattle.ftl0_server.specs.Connection.ConnectionState.{none_left}
 use Rattle.ftl0_server.specs.Connection.Hearing.{Happened, hearing, parts_of_frame, progressed, rest_of_frame}
 use Rattle.ftl0_server.specs.Connection.Taking.{Progress, fails, queuing, taking}
 
@@ -106,7 +106,7 @@ abbrev pub TakesSome :
 TakesSome g moment old before items now new told =
     (w : Window) (end : LinkEnd) (first : ℕ) → StandsFor w old.link end
     → TakesPackets g w (taking_some moment old.session before end items first) (IsAmong first (length items))
-    (at before.store before.disk) now (without_rest new.link new.session) told
+    (at before.store before.disk) now (none_left new.link new.session) told
 
 -- So this one was.
 abbrev pub TakesOne :

@@ -16,7 +16,7 @@ ghost use Rattle.ftl0_session.specs.Uploads.SessionState.{IsHeld, IsOnlyOut, NoO
 ghost use Rattle.ftl0_session.specs.SessionState.{caller_of, new_session, working_on};
 ghost use Rattle.ftl0_server.specs.Connection.Connected.{Connected, answering, beginning, greeted};
 ghost use Rattle.ftl0_server.specs.Connection.ConnectionState.{ConnectionState as Carried, IsConnection};
-ghost use Rattle.ftl0_server.specs.Connection.ConnectionState.{StandsAfter, without_rest};
+ghost use Rattle.ftl0_server.specs.Connection.ConnectionState.{StandsAfter, none_left};
 ghost use Rattle.ftl0_server.specs.Connection.ConnectionState.{is_over};
 ghost use Rattle.ftl0_server.specs.Connection.Feeding.{FeedsAll, HearsFrame, HearsFrameParts, IsGoing, KeepsFit};
 ghost use Rattle.ftl0_server.specs.Connection.Feeding.{LeavesFit, MayHear, MayQueue, MayTake, QueuesDue, QueuesNext};
@@ -310,7 +310,7 @@ fn answer<D: Disk>(
     requires whole { IsTrue (is_whole link.old.reader) }
     requires may { MayTake D.Disk store.old disk.old lists.old link.old.link session.old }
     ensures takes { TakesOne D.Disk moment (read_item link.old.reader)
-        (without_rest link.old.link session.old) (without_rest link.new.link session.new)
+        (none_left link.old.link session.old) (none_left link.new.link session.new)
         (working_on store.old lists.old disk.old) (working_on store.new lists.new disk.new) result }
     ensures fit { LeavesFit D.Disk (at store.old disk.old) (working_on store.new lists.new disk.new)
         link.old.link link.new.link session.old session.new result }

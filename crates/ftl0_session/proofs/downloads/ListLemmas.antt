@@ -1,12 +1,10 @@
 -- The lists of all callers, whose numbers are those of complete files.
-use Rattle.std.proofs.Common.{◌≡◌, ℕ, ◌==◌, ◌≤◌, List, [], ◌∷◌, ◌++◌, length, drop, Bool, true, false, not, cond, Some, arith}
-use Rattle.std.specs.Prelude.{find}
-use Rattle.std.specs.List.{AllByRecursion}
+use Rattle.std.proofs.Common.{◌≡◌, ℕ, ◌==◌, ◌≤◌, List, [], ◌∷◌, ◌++◌, length, drop, Bool, true, false, not, cond, arith}
 use Rattle.std.proofs.lemmas.Bool.Decides.{nat_tests}
 use Rattle.std.proofs.lemmas.List.{length-take}
-use Rattle.std.proofs.lemmas.List.Elements.{All-append, All-cons, All-drop, All-filter, All-map, All-nil, All-weaker, recursion_from_All}
+use Rattle.std.proofs.lemmas.List.Elements.{All-append, All-cons, All-drop, All-filter, All-map, All-nil, All-weaker}
 use Rattle.px_base.specs.CallSign.{CallSign}
-use Rattle.ftl0_session.specs.Lists.Lists.{CallerList, after_taking, is_of, left_of, lists_of_others, numbers_or_none, selected, shortened}
+use Rattle.ftl0_session.specs.Lists.Lists.{CallerList, after_taking, is_of, left_of, lists_of_others, selected, shortened}
 use Rattle.file_store.specs.Info.{IsCompleteIn}
 use Rattle.file_store.specs.EntriesKept.{KeepsComplete}
 use Rattle.file_store.specs.Store.{Store}
@@ -17,18 +15,6 @@ use Rattle.ftl0_session.proofs.downloads.DueLemmas.{complete-kept}
 -- the list's numbers are those of complete files
 abbrev pub IsOfFiles : Store → CallerList → Type 0
 IsOfFiles store list = AreFiles store list.numbers
-
--- so are those that are left to a caller
-pub left-files : (store : Store) (lists : List CallerList) (caller : CallSign) → AreComplete store lists → AreFiles store (left_of lists caller)
-left-files store lists caller are = by lists (recursion_from_All (IsOfFiles store) lists are)
-  where
-    either : (list : CallerList) (rest : List CallerList) (b : Bool) → IsOfFiles store list → AreFiles store (numbers_or_none (find (is_of caller) rest)) → AreFiles store (numbers_or_none (cond b (Some list) (find (is_of caller) rest)))
-    either list rest true here later = here
-    either list rest false here later = later
-
-    by : (all : List CallerList) → AllByRecursion (IsOfFiles store) all → AreFiles store (numbers_or_none (find (is_of caller) all))
-    by [] of = All-nil (IsCompleteIn store)
-    by (list ∷ rest) of = either list rest (is_of caller list) of.0 (by rest of.1)
 
 shortened-files : (store : Store) (caller : CallSign) (count : ℕ) (list : CallerList) → IsOfFiles store list → IsOfFiles store (shortened caller count list)
 shortened-files store caller count list of = by (is_of caller list)

@@ -1,5 +1,5 @@
 -- The tree of a SELECT_CMD's tokens, or their fault.
-use Rattle.std.proofs.Common.{◌≡◌, ◌≤◌, ◌<◌, ℕ, List, length, true, false, Result, Ok, Err, refl, ap, arith}
+use Rattle.std.proofs.Common.{◌≡◌, ◌≤◌, ℕ, List, length, false, Result, Ok, Err, refl, ap, arith}
 use Rattle.std.specs.Prelude.{IfNone, IfOk, IfSome, nat_lt, ◌↔◌}
 use Rattle.std.specs.Result.{result_ok}
 use Rattle.std.proofs.lemmas.Bool.Decides.{nat_tests}
@@ -14,11 +14,6 @@ use Rattle.ftl0_session.specs.Downloads.Taking.{SelectsBy, SelectsNone}
 
 within : (tokens : List ℕ) → length tokens ≤ 2047 → nat_lt 2047 (length tokens) ≡ false
 within tokens few = grind (arith, nat_tests)
-
-pub selects-many : (tokens : List ℕ) → 2047 < length tokens → SelectsNone tokens
-selects-many tokens many caller store lists fails =
-    let test : nat_lt 2047 (length tokens) ≡ true = grind (arith, nat_tests) in
-    rw test refl
 
 module _ (tokens : List ℕ) (octets : IsOctets tokens) (few : length tokens ≤ 2047) where
   pub selects-some : (r : Result (List ℕ) SelFault) → IfOk r (λ s. Postfix (tree_of s) tokens) → IfSome (result_ok r) (λ s. SelectsBy tokens (tree_of s))

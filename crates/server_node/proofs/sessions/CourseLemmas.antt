@@ -256,10 +256,7 @@ module _ {D : Type 0} (g : Ghosts D) (lasts : (disk : D) → g.lasts disk disk) 
 
   settled : (text : List ℕ) → now.it.replies ≡ [] → ((fails : Bool) → next_due (store_in now.it.store) now.it.state fails ≡ None) → IsUnderWay g start inputs text now
       → GoesOver g start inputs text now × AwaitsInput g now
-  settled text silent none_due h = (
-    record { hears = h.hears; silent = silent; replies = texts h.said; text_is = h.text_is; runs = by (events_to start.it inputs) h.answered },
-    record { up = record { healthy = (h.does.done (λ never. never)).1; stands_on = h.does.stands_on }; goes_on = h.goes_on; silent = silent; none_due = none_due },
-  )
+  settled text silent none_due h = grind (arith, common_steps, by)
     where
       ran : (events : List Event) (met : List MetEvent) → map heard_of met ≡ events
           → RunsOver start.it.caller (session_over (store_in start.it.store) start.it.lists start.it.state) met h.said h.commands (session_over (store_in now.it.store) now.it.lists now.it.state)
