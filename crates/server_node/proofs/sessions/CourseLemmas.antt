@@ -32,8 +32,7 @@ use Rattle.ftl0_packets.specs.Layout.{PacketValue, packet_text, Item, PacketText
 use Rattle.file_store.specs.Command.{Command}
 use Rattle.file_store.specs.Working.{CutsOffAmongReads, DoesAmongReads, one_if}
 use Rattle.file_store.proofs.Offered.{among-at, among-same, among-store, among-then, cuts-among-none, cuts-among-same}
-use Rattle.ftl0_session.specs.Uploads.SessionState.{IsHeld, IsOnlyOut}
-use Rattle.ftl0_session.specs.Downloads.Needs.{AreComplete, IsDueIn}
+use Rattle.ftl0_session.specs.Downloads.Needs.{IsDueIn}
 use Rattle.ftl0_session.specs.Filling.{PutsDue}
 use Rattle.ftl0_session.specs.SessionState.{SessionState, state_in}
 use Rattle.ftl0_session.specs.Taking.{row_over, TakesPacket, Working}
@@ -57,21 +56,21 @@ are_steps caller = grind (arith, common_steps, map-append, runs-trans, texts-app
 
 -- a front of a text's end, behind the rest of it
 front-behind : (said text front all : List ℕ) → IsFront front text → said ++ text ≡ all → IsFront (said ++ front) all
-front-behind said text front all h is = (h.0, sym is ∙ ap (λ (t : List ℕ). said ++ t) h.1 ∙ sym (append_assoc said front h.0))
+front-behind said text front all h is = grind (arith, common_steps, append_assoc)
 
 -- a text behind none
 said-behind : (replies text more : List ℕ) → replies ≡ [] → text ≡ replies ++ more → text ≡ more
-said-behind replies text more silent is = is ∙ ap (λ (t : List ℕ). t ++ more) silent
+said-behind replies text more silent is = grind (arith, common_steps)
 
 texts-last : (sent : List PacketValue) (packet : PacketValue) → texts (sent ++ packet ∷ []) ≡ texts sent ++ packet_text packet
-texts-last sent packet = texts-append sent (packet ∷ []) ∙ ap (λ (text : List ℕ). texts sent ++ text) (append-nil (packet_text packet))
+texts-last sent packet = grind (arith, common_steps, texts-append, append-nil)
 
 -- no items are none
 pub is-nil : {X : Type 0} (xs : List X) → (length xs == 0) ≡ true → xs ≡ []
 is-nil xs e = nil_from_length xs (grind (arith, nat_tests))
 
 pub not-nil : {X : Type 0} (xs : List X) → (length xs == 0) ≡ false → xs ≡ [] → ⊥
-not-nil xs some none = let e : true ≡ false = sym (ap (λ ys. length ys == 0) none) ∙ some in absurd (cc e)
+not-nil xs some none = grind (arith, common_steps)
 
 -- ---- the course is lawful
 
@@ -81,18 +80,12 @@ module _ {D : Type 0} (g : Ghosts D) (lasts : (disk : D) → g.lasts disk disk) 
   owes-first a up going none_due = grind (arith, common_steps, IsOctets-nil, does-none)
 
   goes-none : (a : AtDisk ServerState D) → AwaitsInput g a → GoesOver g a [] [] a
-  goes-none a ready = record {
-    hears = hears-none a.it;
-    silent = ready.silent;
-    replies = [];
-    text_is = sym (append-nil a.it.replies ∙ ready.silent);
-    runs = runs-none (session_steps a.it.caller) (are_steps a.it.caller) g (session_in a.it) a.it.store a.disk ready.up (lasts a.disk);
-  }
+  goes-none a ready = grind (arith, common_steps, hears-none, runs-none (session_steps a.it.caller) (are_steps a.it.caller) g (session_in a.it) a.it.store a.disk ready.up (lasts a.disk), append-nil)
 
   module _ (a b c : AtDisk ServerState D) (xs ys : List Input) (text more : List ℕ) (h : GoesOver g a xs text b) where
     -- the text of both
     text-then : (replies : List ℕ) → more ≡ b.it.replies ++ replies → text ++ more ≡ a.it.replies ++ (h.replies ++ replies)
-    text-then replies is = ap₂ (λ (t u : List ℕ). t ++ u) h.text_is (said-behind b.it.replies more replies h.silent is) ∙ append_assoc a.it.replies h.replies replies
+    text-then replies is = grind (arith, common_steps, said-behind, append_assoc)
 
     goes-on : GoesOver g b ys more c → GoesOver g a (xs ++ ys) (text ++ more) c
     goes-on k = record {
@@ -156,13 +149,7 @@ filled a caller store state h k = grind (arith, common_steps)
 
 pub server-filled : (a : Inside) (store : StoreState) (session : SessionState) → store ≡ a.store → session.uploads ≡ a.session.uploads → IsDueIn (store_in store) session.downloads → IsServer a
     → IsServer (record a { session = session; store = store })
-server-filled a store session h k due is = record {
-  held = subst (λ (s : StoreState). IsHeld s session.uploads) (sym h) (subst (IsHeld a.store) (sym k) is.held);
-  only = subst (λ (s : StoreState). IsOnlyOut s session.uploads) (sym h) (subst (IsOnlyOut a.store) (sym k) is.only);
-  due = due;
-  complete = subst (λ (s : StoreState). AreComplete (store_in s) a.lists) (sym h) is.complete;
-  waiting = is.waiting;
-}
+server-filled a store session h k due is = record { held = rw (h, k) is.held; only = rw (h, k) is.only; due = due; complete = rw h is.complete; waiting = is.waiting }
 
 -- ---- a stop at the one packet that was taken
 
@@ -171,17 +158,7 @@ module _ {D : Type 0} (g : Ghosts D) (old : AtDisk ServerState D) (new : AtDisk 
   stop-at : (done cut : List Command) (missed : ℕ) → StopsAt why unsaid (session_in old.it) (met_with event parts) row (made text done missed) cut
       → CutsOffAmongReads g (why ≡ stop.Disk) missed (at old.it.store old.disk) new done cut → (why ≡ stop.OutOfMemory → unsaid ≡ false)
       → StopsOn g (session_steps old.it.caller) (session_at old) new events why unsaid text
-  stop-at done cut missed stops cuts kept = record {
-    done = done;
-    cut = cut;
-    missed = missed;
-    stops =
-        rw only
-        (stop-one (session_steps old.it.caller) (are_steps old.it.caller) why unsaid (session_in old.it) event (made text done missed) cut
-        (record { met = met_with event parts; heard = refl; stops = rw is_row stops }));
-    cuts = cuts;
-    kept = kept;
-  }
+  stop-at done cut missed stops cuts kept = record { done = done; cut = cut; missed = missed; stops = rw only (stop-one _ (are_steps old.it.caller) why unsaid _ event _ cut (record { met = met_with event parts; heard = refl; stops = rw is_row stops })); cuts = cuts; kept = kept }
 
 module _ {D : Type 0} (g : Ghosts D) (lasts : (disk : D) → g.lasts disk disk) (start : AtDisk ServerState D) (inputs : List Input) (now : AtDisk ServerState D) where
   -- ---- it halts, and its last reply was said whole, or a put of it failed
@@ -279,14 +256,14 @@ module _ {D : Type 0} (g : Ghosts D) (lasts : (disk : D) → g.lasts disk disk) 
 
   -- it goes on, and one that halted doesn't
   not-both : (b : Bool) → b ≡ true → b ≡ false → ⊥
-  not-both b is not = absurd (let e : true ≡ false = sym is ∙ not in cc e)
+  not-both b is not = grind (arith, common_steps)
 
   abbrev replying : List ℕ → AtDisk ServerState D
   replying replies = at (record a { replies = replies }) disk
 
   -- all was said
   ended : (start : AtDisk ServerState D) (inputs : List Input) (why : Option Halt) (text : List ℕ) → Owes g start inputs why text (replying []) → OwesAll g start inputs why text (replying [])
-  ended start inputs why text h = subst (λ (t : List ℕ). OwesAll g start inputs why t (replying [])) (append-nil text) h
+  ended start inputs why text h = rw append-nil at h
 
   pub gave-all : a.replies ≡ [] → ((fails : Bool) → next_due (store_in a.store) a.state fails ≡ None) → a.halted ≡ false → GaveAll (session_course g) now now
   gave-all silent none_due going = subst (λ (r : List ℕ). GaveAll (session_course g) (replying r) (replying r)) (sym silent) by
@@ -322,7 +299,7 @@ module _ {D : Type 0} (g : Ghosts D) (lasts : (disk : D) → g.lasts disk disk) 
 
     module _ (start : AtDisk ServerState D) (inputs : List Input) (text : List ℕ) (h : IsUnderWay g start inputs text (replying [])) where
       packet : Sent g a.store disk disk_n a.state state_n out_n puts.fails
-      packet = due-among g a.store disk disk_n a.state state_n out out_n puts (record { healthy = (h.does.done (λ never. never)).1; stands_on = h.does.stands_on })
+      packet = due-among g a.store disk disk_n a.state state_n out out_n puts grind (arith, common_steps)
 
       abbrev said_n : List PacketValue
       said_n = h.said ++ packet.next.packet ∷ []
@@ -393,17 +370,16 @@ module _ {D : Type 0} (g : Ghosts D) (lasts : (disk : D) → g.lasts disk disk) 
   a = server_state inside
 
   ready : AwaitsInput g (at a disk)
-  ready = subst (λ (s : ServerState). AwaitsInput g (at s disk)) (sym is) fit
+  ready = rw is fit
 
   of_self : (why : Option Halt) (now : AtDisk ServerState D) → Owes g (at a disk) inputs why [] now → Owes g (at self disk) inputs why [] now
-  of_self why now h = subst (λ (s : ServerState). Owes g (at s disk) inputs why [] now) is h
+  of_self why now h = rw (sym is) h
 
   heard : (items : List Item) → Stream reader items (under_way reader) → (events_to a inputs ≡ at_moment moment items) × (waiting_behind a.octets inputs ≡ under_way reader)
-  heard items stream =
-      events-of moment a.octets (take taken piece) items (under_way reader) holds.waiting (IsOctets-take taken piece are) (subst (λ (o : List ℕ). Stream o items (under_way reader)) fed stream)
+  heard items stream = events-of moment a.octets (take taken piece) items (under_way reader) holds.waiting (IsOctets-take taken piece are) (rw (sym fed) stream)
 
   inputs-octets : IsOctets (octets_in inputs)
-  inputs-octets = subst (λ (o : List ℕ). IsOctets o) (sym (octets_in-at moment (take taken piece))) (IsOctets-take taken piece are)
+  inputs-octets = rw octets_in-at (IsOctets-take taken piece are)
 
   -- no packet is whole
   pub owes-more : IsPartial reader → under_way reader ≡ reader → Owes g (at self disk) inputs None [] (at (record a { octets = under_way reader }) disk)

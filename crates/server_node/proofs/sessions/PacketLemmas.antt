@@ -34,17 +34,17 @@ waiting-append waiting (octet o moment ∷ xs) ys = waiting-append (rest_of (wai
 waiting-append waiting (tick moment ∷ xs) ys = waiting-append waiting xs ys
 
 pub both-octets : (xs ys : List Input) → IsOctets (octets_in xs) → IsOctets (octets_in ys) → IsOctets (octets_in (xs ++ ys))
-both-octets xs ys h k = subst (λ (o : List ℕ). IsOctets o) (sym (octets_in-append xs ys)) (IsOctets-append (octets_in xs) (octets_in ys) h k)
+both-octets xs ys h k = grind (arith, common_steps, octets_in-append, IsOctets-append)
 
 pub hears-none : (a : ServerState) → Hears a [] a
-hears-none a = record { caller = refl; are_octets = IsOctets-nil; waits = refl }
+hears-none a = grind (arith, common_steps, IsOctets-nil)
 
 module _ (a b : ServerState) (xs : List Input) (h : Hears a xs b) where
   pub hears-then : (c : ServerState) (ys : List Input) → Hears b ys c → Hears a (xs ++ ys) c
   hears-then c ys k = grind (arith, common_steps, both-octets, waiting-append)
 
   pub events-then : (ys : List Input) → events_to a (xs ++ ys) ≡ events_to a xs ++ events_to b ys
-  events-then ys = events-append a.octets xs ys ∙ ap (λ o. events_to a xs ++ events_behind o ys) (sym h.waits)
+  events-then ys = grind (arith, common_steps, events-append)
 
 -- ---- octets that are heard at one moment
 

@@ -99,7 +99,7 @@ module _ {A C D : Type 0} (seen : Seen D A C) (terms : SessionTerms) (first : â„
 
   module _ (took_so : Took made_so) where
     took : Took server
-    took = subst Took is took_so
+    took = grind (arith, common_steps)
 
     -- it is never over
     pub not-over : ended â‰¢ Ok finished.Over
@@ -120,7 +120,7 @@ module _ {A C D : Type 0} (seen : Seen D A C) (terms : SessionTerms) (first : â„
       DidSo result = Did seen terms.moment (Ran terms result) (lent disk air clock_o) (lent new.disk new.air new.clock) mid start new.party.store terms.polls result
 
       moments : FirstOf terms.moment (seen.given clock) (seen.given new.clock) first took.all.moments (length took.all.turns)
-      moments = first-of terms.moment (seen.given clock) (seen.given new.clock) first took.all.moments (length took.all.turns) took.moments_given took.one_each
+      moments = grind (arith, common_steps, first-of, took)
 
       abbrev all_moments : List â„•
       all_moments = first âˆ· moments.later
