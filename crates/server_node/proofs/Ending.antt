@@ -61,17 +61,11 @@ fault_of : NodeStop → StoreFault
 fault_of (stop.NotAStore found) = fault.NotAStore found
 fault_of (stop.Damaged at) = fault.Damaged at
 fault_of stop.Disk = fault.Disk
-fault_of stop.AirRead = fault.OutOfMemory
-fault_of stop.AirWrite = fault.OutOfMemory
-fault_of stop.Spent = fault.OutOfMemory
-fault_of stop.OutOfMemory = fault.OutOfMemory
+fault_of why = fault.OutOfMemory
 
 of_stop : (why : StoreFault) → fault_of (stop_of_fault why) ≡ why
 unfolding fault_of
-of_stop (fault.NotAStore found) = refl
-of_stop (fault.Damaged at) = refl
-of_stop fault.Disk = refl
-of_stop fault.OutOfMemory = refl
+of_stop why = grind (arith, common_steps)
 
 same_fault : (why other : StoreFault) → stop_of_fault why ≡ stop_of_fault other → why ≡ other
 same_fault why other is = sym (of_stop why) ∙ ap fault_of is ∙ of_stop other
@@ -81,10 +75,7 @@ error_of : {T E : Type 0} (a b : E) → IsErrOf {T = T} (Err a) b → a ≡ b
 error_of a b is = cc is
 
 refused_counts : {A : Type 0} (reads writes : A → ℕ) (air : A) (why : StoreFault) → HasAirCause {T = Served} reads writes air air (Err (stop_of_fault why))
-refused_counts reads writes air (fault.NotAStore found) = (refl, refl)
-refused_counts reads writes air (fault.Damaged at) = (refl, refl)
-refused_counts reads writes air fault.Disk = (refl, omega arith)
-refused_counts reads writes air fault.OutOfMemory = (refl, refl)
+refused_counts reads writes air why = grind (arith, common_steps)
 
 -- The answer of the recovery fails by the disk exactly where this fault is the disk's: it is that fault, or there was no
 -- memory behind it.
@@ -98,8 +89,7 @@ module _ {A C D T : Type 0} (seen : Seen D A C) (blocks : ℕ) (given : Option �
   Refused = Err (stop_of_fault why)
 
   refused_runs : Runs seen.disk (IsErrOf Refused stop.Disk) old.disk disk_n
-  refused_runs =
-      runs_same seen.disk _ _ old.disk disk_n (λ is. ap (λ (f : StoreFault). Err (stop_of_fault f)) (there is)) (λ is. back (same_fault why fault.Disk (error_of (stop_of_fault why) stop.Disk is))) runs
+  refused_runs = runs_same seen.disk _ _ old.disk disk_n (λ is. rw (there is) refl) (λ is. back (same_fault why fault.Disk (error_of (stop_of_fault why) stop.Disk is))) runs
 
   pub unserved : Serves seen blocks given Ran old (lent disk_n old.air old.clock) Refused
   unserved = record {
@@ -111,10 +101,7 @@ module _ {A C D T : Type 0} (seen : Seen D A C) (blocks : ℕ) (given : Option �
       clock = refl;
       leaves =
           record {
-            since_sync = told_weaker (seen.disk.content old.disk) _ _ (λ before told left. ⊎_elim
-                (λ (synced : IsSyncedFirst seen.disk old.disk disk_n (StandsAlike blocks before)). inl synced)
-                (λ (failed : IsErrOf answer fault.Disk × IsFailedSync seen.disk old.disk disk_n). inr (there failed.0, failed.1))
-                left) since_sync;
+            since_sync = told_weaker (seen.disk.content old.disk) _ _ (λ before told left. grind (arith, common_steps, there, left)) since_sync;
             since_start = since_start;
             not_a_store = untouched;
             damaged = damage;
@@ -139,10 +126,10 @@ module _ {A C D T : Type 0} (seen : Seen D A C) (blocks : ℕ) (given : Option �
       (λ found e. untouched found (ap Err e)) (λ at e. damage at (ap Err e)) refuses_so)
     where
       there : (other : StoreFault) → IsErrOf {T = T} (Err why) other → IsErrOf {T = Served} (Err (stop_of_fault why)) (stop_of_fault other)
-      there other e = ap (λ (f : StoreFault). Err (stop_of_fault f)) (error_of why other e)
+      there other e = grind (arith, common_steps)
 
       back : (other : StoreFault) → IsErrOf {T = Served} (Err (stop_of_fault why)) (stop_of_fault other) → IsErrOf {T = T} (Err why) other
-      back other e = ap Err (same_fault why other (error_of (stop_of_fault why) (stop_of_fault other) e))
+      back other e = grind (arith, common_steps, same_fault)
 
       refuses_so : RefusesSession {T = Served} blocks (seen.disk.content old.disk) (Err (stop_of_fault why))
       refuses_so no_disk no_memory =
@@ -181,7 +168,7 @@ but_last (next ∷ turns) = by (but_last turns).0 (but_last turns).1
 pub disk-stop : {D : Type 0} (g : Ghosts D) (why : NodeStop) (missed : ℕ) (old now : AtDisk StoreState D) (done cut : List Command) → CutsOffAmongReads g (why ≡ stop.Disk) missed old now done cut
     → CutsOffAmongReads g (IsErrOf {T = Served} (Err why) stop.Disk) missed old now done cut
 disk-stop g why missed old now done cut cuts =
-    cuts-among-same g (why ≡ stop.Disk) _ missed missed old now done cut (ap Err) (error_of why stop.Disk) refl cuts
+    cuts-among-same g _ _ missed missed old now done cut (ap Err) (error_of why stop.Disk) refl cuts
 
 -- ---- by how the turns ended: all that they bring was taken, or it stopped at an event of the last one
 
@@ -203,9 +190,7 @@ module _ {P D A E S F : Type 0} (Brings : List Turn → List ℕ → List E → 
       → StoppedInLast Brings course start all why text unsaid then_is → Did (Err why)
 
   pub never-over : (ended : Result Finished NodeStop) → RanBy Brings course start all ended text unsaid then_is → ended ≢ Ok finished.Over
-  never-over (Ok finished.Over) ran is = let e : true ≡ false = sym ran.2 ∙ is_over then_is.it in absurd (cc e)
-  never-over (Ok (finished.Closed count)) ran is = absurd (cc is)
-  never-over (Err why) ran is = absurd (cc is)
+  never-over ended ran is = let over = rw is at ran in absurd (cc (sym over.2 ∙ is_over then_is.it))
 
   pub did-by : Taken → Stopped → (ended : Result Finished NodeStop) → NodeTurnsBy ended polls all.turns → NodeHasCause air before now ended → RanBy Brings course start all ended text unsaid then_is → Did (served_by ended)
   did-by taken stopped (Ok finished.Over) ends counts ran = absurd (never-over (Ok finished.Over) ran refl)
@@ -253,13 +238,10 @@ module _ {A C D T : Type 0} (seen : Seen D A C) (on : (first second third : D) �
   fine is = cc is
 
   synced : IfSome (g.content old.disk) (λ octets. IsSyncedFirst g old.disk mid (StandsAlike blocks octets))
-  synced = told_weaker (g.content old.disk) _ _ (λ octets told left. ⊎_elim
-      (λ (s : IsSyncedFirst g old.disk mid (StandsAlike blocks octets)). s)
-      (λ (failed : IsErrOf {T = T} (Ok value) fault.Disk × IsFailedSync g old.disk mid). absurd (fine failed.0)) left) h.since_sync
+  synced = told_weaker (g.content old.disk) _ _ (λ octets told left. grind (arith, common_steps, left, fine)) h.since_sync
 
   standing : (stands : StandsThrough g store_form Failed (store_in start) run.all.done run.cut old.disk new.disk) × (stands.ready ≡ g.moment mid)
-  standing =
-      stands-through g on Failed blocks old.disk mid new.disk start store run.all.done run.cut run.all.missed h.runs.told h.recovered.content h.since_start synced h.magic_is did.cuts
+  standing = stands-through g on Failed blocks old.disk mid new.disk start store run.all.done run.cut run.all.missed h.runs.told h.recovered.content h.since_start synced h.magic_is did.cuts
 
   puts : PutsAmongReads g Failed old.disk new.disk
   puts = runs_among g on _ Failed old.disk mid new.disk fine h.runs (cuts-among-puts g on Failed run.all.missed (at start mid) (at store new.disk) run.all.done run.cut did.cuts)
@@ -270,10 +252,7 @@ module _ {A C D T : Type 0} (seen : Seen D A C) (on : (first second third : D) �
 
   pub served : Serves seen blocks given Ran old new result
   served = record {
-    refuses = λ no_disk no_memory. told_weaker (g.content old.disk) _ _ (λ octets told stood. record {
-      not_a_store = λ found. (λ is. absurd (never_refused (stop.NotAStore found) (λ turns e. e) is), λ none. absurd (cc (sym stood ∙ none)));
-      damaged = λ at. (λ is. absurd (never_refused (stop.Damaged at) (λ turns e. e) is), λ none. absurd (cc (sym stood ∙ none)));
-    }) h.recovered.content;
+    refuses = λ no_disk no_memory. told_weaker (g.content old.disk) _ _ (λ octets told stood. grind (arith, common_steps, never_refused, stood)) h.recovered.content;
     ends = inr (record {
       start = store_in start;
       rules = h.rules;
@@ -290,9 +269,7 @@ module _ {A C D T : Type 0} (seen : Seen D A C) (on : (first second third : D) �
       reads = runs_missed g on _ Failed old.disk mid new.disk fine h.runs run.all.missed (cuts-among-all g on Failed run.all.missed (at start mid) (at store new.disk) run.all.done run.cut did.cuts).reads;
       stands = standing.0;
       ready = standing.1;
-      none = λ none.
-          let both = append-none run.all.done run.cut none in
-          subst (λ (d : D). ChangesReads g mid d) (sym (did.cuts.second.none both.1)) (did.cuts.first.none both.0);
+      none = λ none. let both = append-none run.all.done run.cut none in rw (did.cuts.second.none both.1) (did.cuts.first.none both.0);
     });
     counts = did.counts;
     runs = node_runs g Failed old.disk new.disk puts;

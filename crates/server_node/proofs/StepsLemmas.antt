@@ -28,16 +28,8 @@ module _ {S E : Type 0} (steps : Steps S E) (laws : AreSteps steps) (why : NodeS
   -- a stop at the one event
   pub stop-one : (s : S) (event : E) (all : Made) (cut : List Command) → steps.stops why unsaid s event all cut → StopsOver steps s (event ∷ []) why unsaid all cut
   stop-one s event all cut h = record {
-    before = [];
-    next = event;
-    later = [];
-    events_are = refl;
-    earlier = made [] [] 0;
-    then_is = s;
-    goes = laws.none s;
-    last = all;
-    stops = h;
-    all_is = ap (λ (n : ℕ). made all.text all.done n) (sym (zero-add all.missed));
+    before = []; next = event; later = []; events_are = refl; earlier = made [] [] 0; then_is = s; goes = laws.none s; last = all; stops = h;
+    all_is = grind (arith, common_steps);
   }
 
   -- events that were taken, and a stop at one of others
@@ -48,7 +40,7 @@ module _ {S E : Type 0} (steps : Steps S E) (laws : AreSteps steps) (why : NodeS
           before = xs ++ k.before;
           next = k.next;
           later = k.later;
-          events_are = ap (λ (es : List E). xs ++ es) k.events_are ∙ sym (append_assoc xs k.before (k.next ∷ k.later));
+          events_are = rw (k.events_are, append_assoc) refl;
           earlier = both m k.earlier;
           then_is = k.then_is;
           goes = laws.on a b k.then_is xs k.before m k.earlier h k.goes;

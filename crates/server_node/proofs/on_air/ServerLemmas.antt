@@ -81,7 +81,7 @@ module _ {D : Type 0} (g : Ghosts D) (lasts : (disk : D) → g.lasts disk disk) 
     taken = happening server event (failed_reads parts)
 
     moved : (missed : ℕ) (done : List Command) → DoesAmongReads g ⊥ missed old.it.server.store made_so.store old.disk new.disk done → DoesAmongReads g ⊥ missed old.it.server.store new.it.server.store old.disk new.disk done
-    moved missed done does = subst (λ (store : StoreState). DoesAmongReads g ⊥ missed old.it.server.store store old.disk new.disk done) (sym same) does
+    moved missed done does = rw same does
 
     -- It stopped at the event.
     stopped : (why : NodeStop) (unsaid : Bool) (text : List ℕ) (done cut : List Command) (missed : ℕ) → StopsAt why unsaid server event (made text done missed) cut
@@ -118,7 +118,7 @@ module _ {D : Type 0} (g : Ghosts D) (lasts : (disk : D) → g.lasts disk disk) 
         record { silent = serving.silent; done_is = refl; cut_is = refl; missed_is = refl; halt_is = sym by.1; last = last; sent = sent; new_is = refl } in
         stopped stop.Disk unsaid text failed.done failed.cut failed.missed (by.0, parts, frames, settled last, step, said)
         (cuts-among-same g ⊤ (stop.Disk ≡ stop.Disk) failed.missed failed.missed (store_at old) (store_at new) failed.done failed.cut (λ _. refl) (λ _. tt) refl
-        (subst (λ (store : StoreState). CutsOffAmongReads g ⊤ failed.missed (store_at old) (at store new.disk) failed.done failed.cut) (sym same) by.3)) (λ is. cc is)
+        (rw same by.3)) (λ is. cc is)
 
     -- There was no memory for it.
     event-unmade : Heard (Err halt.OutOfMemory) → HaltsOn g server old (event ∷ []) stop.OutOfMemory false [] new
@@ -211,12 +211,7 @@ module _ {D : Type 0} (g : Ghosts D) (lasts : (disk : D) → g.lasts disk disk) 
       -- One frame more is given.
       module _ (is : answer ≡ true) (why : Option Halt) (h : Rest why said old) where
         next : (sends : ServerSends) × (server_next h.made ≡ Some sends) × StandsBy why server_n sends.after × (out_n ≡ canonical sends.frame)
-        next = by (server_next h.made) refl (hands why h.made h.stands)
-          where
-            by : (sends : Option ServerSends) → server_next h.made ≡ sends → HandsOut (StandsBy why) sends old.it.server server_n out out_n answer
-                → (sends : ServerSends) × (server_next h.made ≡ Some sends) × StandsBy why server_n sends.after × (out_n ≡ canonical sends.frame)
-            by None same out = absurd (true≢false (sym is ∙ out.0))
-            by (Some sends) same out = (sends, same, out.1, out.2)
+        next = grind (arith, common_steps, hands why h.made h.stands)
 
         rest-on : Rest why (said ++ kiss_text out_n) new
         rest-on = record {
@@ -224,15 +219,12 @@ module _ {D : Type 0} (g : Ghosts D) (lasts : (disk : D) → g.lasts disk disk) 
           stands = next.2;
           memory = fine;
           whole = λ frames last self sent same.
-              subst (λ (t : List ℕ). WholeBy g server start events why last t (with_server old self))
-              (ap (λ (o : List ℕ). said ++ (kiss_text o ++ text_of frames)) (sym next.3) ∙ sym (append_assoc said (kiss_text out_n) (text_of frames)))
-              (h.whole (next.0.frame ∷ frames) last self (next.0, next.1, refl, sent) (same ∙ store));
+              rw (append_assoc, next.3) (h.whole (next.0.frame ∷ frames) last self (next.0, next.1, refl, sent) (same ∙ store));
           front = λ frames last self text sent same some is_front.
-              subst (λ (t : List ℕ). HaltsOn g server start events (stop_at_put why) true t (with_server old self)) (sym (append_assoc said (kiss_text out_n) text))
+              rw append_assoc
               (h.front (next.0.frame ∷ frames) last self (kiss_text out_n ++ text) (next.0, next.1, refl, sent) (same ∙ store) (λ e. cc e) (
                 is_front.0,
-                ap (λ (t : List ℕ). kiss_text (canonical next.0.frame) ++ t) is_front.1 ∙ ap (λ (o : List ℕ). kiss_text o ++ (text ++ is_front.0)) (sym next.3)
-                    ∙ sym (append_assoc (kiss_text out_n) text is_front.0),
+                grind (arith, common_steps, is_front.1, next.3),
               ));
         }
 
@@ -249,14 +241,10 @@ module _ {D : Type 0} (g : Ghosts D) (lasts : (disk : D) → g.lasts disk disk) 
       -- All was given.
       module _ (is : answer ≡ false) (why : Option Halt) (h : Rest why said old) where
         no-next : Empties h.made [] h.made × (server_n ≡ old.it.server)
-        no-next = by (server_next h.made) refl (hands why h.made h.stands)
-          where
-            by : (sends : Option ServerSends) → server_next h.made ≡ sends → HandsOut (StandsBy why) sends old.it.server server_n out out_n answer → Empties h.made [] h.made × (server_n ≡ old.it.server)
-            by None same out = ((same, refl), out.1)
-            by (Some sends) same out = absurd (true≢false (sym out.0 ∙ is))
+        no-next = grind (arith, common_steps, hands why h.made h.stands)
 
         rest-whole : WholeBy g server start events why h.made said new
-        rest-whole = subst (λ (t : List ℕ). WholeBy g server start events why h.made t new) (append-nil said) (h.whole [] h.made server_n no-next.0 store)
+        rest-whole = rw append-nil at (h.whole [] h.made server_n no-next.0 store)
 
     module _ (is : answer ≡ true) (ends : (then_is : Server) → SendsFor server_n then_is → (frames : List FrameValue) × (last : Server) × Empties then_is frames last) where
       ends-by : (why : Option Halt) (then_is : Server) → StandsBy why server_n then_is → (frames : List FrameValue) × (last : Server) × Empties then_is frames last
@@ -324,7 +312,7 @@ module _ {D : Type 0} (g : Ghosts D) (lasts : (disk : D) → g.lasts disk disk) 
           let first = h server serving in
           stops-on server_steps are_steps why unsaid g on (serving_at server start) (serving_at first.next mid) (at now.it.server.store now.disk) events others text more first.runs (k first.next first.serving);
       halts_before = λ start now events others text why unsaid any h server serving.
-          stops-more server_steps are_steps why unsaid g (serving_at server start) (at now.it.server.store now.disk) events others text (h server serving);
+          grind (arith, common_steps, stops-more, are_steps, h server serving);
     }
 
 -- what the node of a server is driven by
@@ -340,9 +328,7 @@ pub started : {D : Type 0} (g : Ghosts D) (terms : ServerTerms) (blocks : ℕ) (
     → IsRecovered g blocks old mid server.store → IsServer server (server_from terms (store_in server.store)) → server_pending server ≡ false
     → IsUp g (at station mid) × IsServing station.server (server_from terms (store_in station.server.store))
 started g terms blocks old mid station server same memory recovered is silent =
-    let serving = subst (λ (s : ServerState). IsServing s (server_from terms (store_in s.store))) (sym same) (record { is = is; silent = refl }) in
-    let there = subst (λ (s : ServerState). IsRecovered g blocks old mid s.store) (sym same) recovered in
-    (record { awaits = record { silent = ap server_pending same ∙ silent; ready = there.ready }; memory = memory; server = server_from terms (store_in station.server.store); serving = serving }, serving)
+    rw same (record { awaits = record { silent = silent; ready = recovered.ready }; memory = memory; server = server_from terms (store_in server.store); serving = record { is = is; silent = refl } }, record { is = is; silent = refl })
 
 module _ {A C D : Type 0} (seen : Seen D A C) (terms : ServerTerms) (old new : Driven ServerStation D A C) (ended : Result Finished NodeStop)
     (took : TookTurns (NodeEvents terms.me) (server_course seen.disk) seen.air seen.given old new (turn_terms terms) ended) where
@@ -374,7 +360,7 @@ module _ {A C D : Type 0} (seen : Seen D A C) (terms : ServerTerms) (old new : D
     least_by : (earlier : List Turn) → IsButLast took.all.turns earlier → Least
     least_by earlier (inl none) = record { earlier = []; but_last = inl (none.0, refl); before = []; behind = took.all.moments; split = refl; least = []; brought = (refl, refl) }
     least_by earlier (inr some) =
-        let few : length earlier + 1 ≡ length took.all.turns = sym (ap length some.1 ∙ length-append earlier (some.0 ∷ [])) in
+        let few : length earlier + 1 ≡ length took.all.turns = simp length-append at (sym (ap length some.1)) in
         let before = take (length earlier) took.all.moments in
         let behind = drop (length earlier) took.all.moments in
         let split : took.all.moments ≡ before ++ behind = sym (take-append-drop (length earlier) took.all.moments) in
@@ -437,7 +423,7 @@ module _ {A C D : Type 0} (seen : Seen D A C) (terms : ServerTerms) (old new : D
         let then_is = serving_at comes.next from.0 in
         let end = at new.party.server.store new.disk in
         let behind = behind-all server_steps are_steps why took.unsaid g on (serving_at server (party_at old)) then_is end h.least h.more h.first h.last comes.runs halts in
-        did (Err why) all.done halts.cut all.missed ends (counts (λ is. subst (λ b. IsUnsaid b (seen.air.write_faults old.air) (seen.air.write_faults new.air)) (halts.kept is) took.is_unsaid))
+        did (Err why) all.done halts.cut all.missed ends (counts (λ is. rw (halts.kept is) at took.is_unsaid))
         (record { earlier = h.earlier; but_last = h.but_last; before = h.before; behind = h.behind; split = h.split; least = h.least; brought = h.brought })
         (subst (λ (t : List ℕ). EndsOver (Err why) h.least server_steps server took.all.events took.unsaid (made t all.done all.missed) halts.cut) (sym h.text_is)
         (over h.least all halts.cut (subst (λ (es : List NodeEvent). StopsBehind h.least server_steps server es why took.unsaid all halts.cut) (sym h.events_are) behind)))

@@ -34,12 +34,12 @@ returns g c =
     let old = lent_so c.args.disk.now c.args.air.now c.args.clock.now in
     let now = lent_so new.disk new.air new.clock in
     let up = started g.D.Disk terms blocks c.args.disk.now mid station c.in_ok-server.server c.new-station.ensures.server c.new-station.ensures.memory h.recovered h.server h.silent in
-    let recovers = subst (λ (s : ServerState). Recovers g.D.Disk blocks c.args.disk.now mid c.in_ok-server.server s.store) (sym c.new-station.ensures.server)
+    let recovers : Recovers g.D.Disk blocks c.args.disk.now mid c.in_ok-server.server station.server.store = rw c.new-station.ensures.server
     (record { recovered = h.recovered; magic_is = h.magic; rules = h.rules; runs = h.runs; octets = h.octets; since_start = h.since_start; since_sync = h.since_sync }) in
     let did = server-did all terms (lent station mid c.args.air.now c.args.clock.now) (lent last new.disk new.air new.clock) c.drive-station.result.1 c.drive-station.ensures.turns g.met.D.Disk.lasts_same
     g.met.D.Disk.lasts_on up.0 c.args.disk.now up.1 in
     let serves = served all g.met.D.Disk.lasts_on blocks None (Ran terms) old now mid c.in_ok-server.server station.server.store last.server.store terms.polls c.answer_of.result recovers
-    (subst (λ (r : Result Served NodeStop). Did all None (Ran terms r) old now mid station.server.store last.server.store terms.polls r) (sym c.answer_of.ensures) did) in
+    (rw c.answer_of.ensures did) in
     record { refuses = serves.refuses; ends = serves.ends; counts = serves.counts; runs = serves.runs }
 
 pub returns-in_err-server : goal.returns-in_err-server
