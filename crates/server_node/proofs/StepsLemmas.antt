@@ -28,7 +28,15 @@ module _ {S E : Type 0} (steps : Steps S E) (laws : AreSteps steps) (why : NodeS
   -- a stop at the one event
   pub stop-one : (s : S) (event : E) (all : Made) (cut : List Command) → steps.stops why unsaid s event all cut → StopsOver steps s (event ∷ []) why unsaid all cut
   stop-one s event all cut h = record {
-    before = []; next = event; later = []; events_are = refl; earlier = made [] [] 0; then_is = s; goes = laws.none s; last = all; stops = h;
+    before = [];
+    next = event;
+    later = [];
+    events_are = refl;
+    earlier = made [] [] 0;
+    then_is = s;
+    goes = laws.none s;
+    last = all;
+    stops = h;
     all_is = grind (arith, common_steps);
   }
 
