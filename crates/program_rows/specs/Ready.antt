@@ -21,11 +21,10 @@ pub record IsReadyClient {D : Type 0} (g : Ghosts D) (side : ClientSide D) : Typ
   pub theirs : IsTheirs g side
   pub quiet : client_pending side.client ≡ false
 
--- the server is this station, and its store stands on its disk
+-- the server is this station, and its store is ready on its disk
 pub record IsUp {D : Type 0} (g : Ghosts D) (side : ServerSide D) : Type 0 where
   pub me : side.server.me ≡ side.me
-  pub healthy : side.server.store.journal.failed ≡ false
-  pub stands_on : store.StandsOn g side.server.store side.disk
+  pub ready : store.IsReady g side.server.store side.disk
 
 -- and has nothing to send
 pub record IsReadyServer {D : Type 0} (g : Ghosts D) (side : ServerSide D) : Type 0 where

@@ -4,7 +4,7 @@ ghost use Rattle.std.specs.Prelude.{◌≡◌, Some, false, true};
 ghost use Rattle.std.specs.Option.{option_map};
 ghost use Rattle.file_entries.specs.Info.{info_of};
 ghost use Rattle.file_entries.specs.Store.{entry_of};
-ghost use Rattle.file_store.specs.State.{StandsOn, store_in};
+ghost use Rattle.file_store.specs.State.{IsReady, store_in};
 
 use crate::air::exchange::Got;
 use crate::air::server_side::LIMITS;
@@ -80,8 +80,7 @@ fn stored<D: Disk>(
     disk: &mut D,
     number: u32,
 ) -> Result<Vec<u8>>
-    requires healthy { store.old.journal.failed ≡ false }
-    requires stands_on { StandsOn D.Disk store.old disk.old }
+    requires { IsReady D.Disk store.old disk.old }
 {
     match store.info(number) {
         Some(info) if info.complete => octets_of(alloc, store, disk, number, info),
@@ -97,8 +96,7 @@ fn octets_of<D: Disk>(
     number: u32,
     info: Info,
 ) -> Result<Vec<u8>>
-    requires healthy { store.old.journal.failed ≡ false }
-    requires stands_on { StandsOn D.Disk store.old disk.old }
+    requires ready { IsReady D.Disk store.old disk.old }
     requires there { option_map info_of (entry_of (store_in store.old) number) ≡ Some info }
     requires complete { info.complete ≡ true }
 {

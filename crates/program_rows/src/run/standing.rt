@@ -4,7 +4,8 @@ ghost use Rattle.std.specs.Prelude.{◌≡◌, Some, false, true};
 ghost use Rattle.std.specs.Option.{option_map};
 ghost use Rattle.file_entries.specs.Info.{info_of};
 ghost use Rattle.file_entries.specs.Store.{entry_of};
-ghost use Rattle.file_store.specs.State.{StandsOn, store_in};
+ghost use Rattle.file_store.specs.Reads.{StaysReady};
+ghost use Rattle.file_store.specs.State.{IsReady, store_in};
 
 use anyhow::Result;
 use disk_model::{Disk, MemoryDisk};
@@ -28,8 +29,7 @@ pub fn standing_text(alloc: Global, octets: &[u8]) -> Result<String> {
 
 /// What a store holds: the number that the next file gets, and each entry.
 fn store_text<D: Disk>(alloc: Global, store: &mut FileStore, disk: &mut D) -> Result<String>
-    requires healthy { store.old.journal.failed ≡ false }
-    requires stands_on { StandsOn D.Disk store.old disk.old }
+    requires { IsReady D.Disk store.old disk.old }
 {
     let next = store.next_number();
     let mut text = format!(in alloc; "next {next}")?;
@@ -47,10 +47,8 @@ fn entry_text<D: Disk>(
     disk: &mut D,
     number: u32,
 ) -> Result<String>
-    requires healthy { store.old.journal.failed ≡ false }
-    requires stands_on { StandsOn D.Disk store.old disk.old }
-    ensures store { store.new ≡ store.old }
-    ensures stands_on { StandsOn D.Disk store.new disk.new }
+    requires ready { IsReady D.Disk store.old disk.old }
+    ensures { StaysReady D.Disk store.old store.new disk.new }
 {
     match store.info(number) {
         None => Ok(String::new(alloc)),
@@ -66,11 +64,9 @@ fn info_text<D: Disk>(
     number: u32,
     info: Info,
 ) -> Result<String>
-    requires healthy { store.old.journal.failed ≡ false }
-    requires stands_on { StandsOn D.Disk store.old disk.old }
+    requires ready { IsReady D.Disk store.old disk.old }
     requires there { option_map info_of (entry_of (store_in store.old) number) ≡ Some info }
-    ensures store { store.new ≡ store.old }
-    ensures stands_on { StandsOn D.Disk store.new disk.new }
+    ensures { StaysReady D.Disk store.old store.new disk.new }
 {
     let caller = info.caller.text();
     let call = caller.as_str();
@@ -91,12 +87,10 @@ fn sum_of<D: Disk>(
     number: u32,
     info: Info,
 ) -> Result<u16>
-    requires healthy { store.old.journal.failed ≡ false }
-    requires stands_on { StandsOn D.Disk store.old disk.old }
+    requires ready { IsReady D.Disk store.old disk.old }
     requires there { option_map info_of (entry_of (store_in store.old) number) ≡ Some info }
     requires complete { info.complete ≡ true }
-    ensures store { store.new ≡ store.old }
-    ensures stands_on { StandsOn D.Disk store.new disk.new }
+    ensures { StaysReady D.Disk store.old store.new disk.new }
 {
     let mut octets = Vec::new(alloc);
     octets.resize(info.held as usize, 0)?;
