@@ -1,6 +1,6 @@
 -- The course of a session's server: that it is lawful, what the server owes by what it hears, and what it gives.
 use Rattle.std.proofs.lemmas.Grind.{common_steps}
-use Rattle.std.proofs.Common.{◌≡◌, inl, inr, ℕ, Bool, false, None, List, [], ◌++◌, refl, ap, ap₂, sym, ◌∙◌, subst, append_assoc, append-nil, ◌⊎◌, ◌==◌, ◌<◌, ◌∷◌, length, true, Option, Some, arith, take, map}
+use Rattle.std.proofs.Common.{◌≡◌, inl, inr, ℕ, Bool, false, None, List, [], ◌++◌, refl, ap, sym, ◌∙◌, subst, append_assoc, append-nil, ◌⊎◌, ◌==◌, ◌<◌, ◌∷◌, length, true, Option, Some, arith, take, map}
 use Rattle.std.specs.List.{AllByRecursion}
 use Rattle.px_base.specs.CallSign.{CallSign}
 use Rattle.disk_model.specs.declared.disk.Disk.{Ghosts}
@@ -98,10 +98,8 @@ module _ {D : Type 0} (g : Ghosts D) (lasts : (disk : D) → g.lasts disk disk) 
         | inr stopped ↦ inr (record {
           replies = h.replies ++ stopped.replies;
           text_is = text-then stopped.replies stopped.text_is;
-          stops =
-              rw (events-then a.it b.it xs h.hears ys)
-              (stops-on (session_steps a.it.caller) (are_steps a.it.caller) why unsaid g on (session_at a) (session_at b) (at c.it.store c.disk) (events_to a.it xs) (events_to b.it ys) h.replies stopped.replies h.runs
-              (rw h.hears.caller at stopped.stops));
+          stops = rw (events-then a.it b.it xs h.hears ys)
+              (stops-on _ (are_steps a.it.caller) why unsaid g on (session_at a) (session_at b) (at c.it.store c.disk) (events_to a.it xs) (events_to b.it ys) h.replies stopped.replies h.runs (rw h.hears.caller at stopped.stops));
         })
       ],
     )
@@ -115,9 +113,8 @@ module _ {D : Type 0} (g : Ghosts D) (lasts : (disk : D) → g.lasts disk disk) 
       | inr stopped ↦ inr (record {
         replies = stopped.replies;
         text_is = stopped.text_is;
-        stops =
-            rw (events-append a.it.octets xs ys)
-            (stops-more (session_steps a.it.caller) (are_steps a.it.caller) why unsaid g (session_at a) (at c.it.store c.disk) (events_to a.it xs) (events_behind (waiting_behind a.it.octets xs) ys) _ stopped.stops);
+        stops = rw (events-append a.it.octets xs ys)
+            (stops-more _ (are_steps a.it.caller) why unsaid g (session_at a) (at c.it.store c.disk) (events_to a.it xs) (events_behind (waiting_behind a.it.octets xs) ys) _ stopped.stops);
       })
     ],
   )
@@ -155,10 +152,8 @@ module _ {D : Type 0} (g : Ghosts D) (lasts : (disk : D) → g.lasts disk disk) 
     inr (record {
       replies = said;
       text_is = ap (λ (t : List ℕ). t ++ said) (sym h.silent);
-      stops =
-          let missed : ℕ = failed_reads_told h.row.replies in
-          stop-at g start (at now.it.store now.disk) (events_to start.it inputs) h.event h.only h.parts h.row h.is_row (stop_of why) unsaid said [] h.cut missed stops
-          (cuts-among-same g (why ≡ halt.Disk) (stop_of why ≡ stop.Disk) missed missed (at start.it.store start.disk) (at now.it.store now.disk) [] h.cut (ap stop_of) (by-disk why) refl h.cuts) kept;
+      stops = stop-at g start (at now.it.store now.disk) (events_to start.it inputs) h.event h.only h.parts h.row h.is_row (stop_of why) unsaid said [] h.cut _ stops
+          (cuts-among-same g (why ≡ halt.Disk) (stop_of why ≡ stop.Disk) _ (failed_reads_told h.row.replies) (at start.it.store start.disk) (at now.it.store now.disk) [] h.cut (ap stop_of) (by-disk why) refl h.cuts) kept;
     }),
   )
     where
@@ -258,10 +253,8 @@ module _ {D : Type 0} (g : Ghosts D) (lasts : (disk : D) → g.lasts disk disk) 
 
   -- the replies are given
   pub gives-replies : (a.replies ≡ [] → ⊥) → GivesNext (session_course g) now a.replies (replying [])
-  gives-replies some = record {
-    goes_on = λ start inputs why text h. subst (λ (t : List ℕ). OwesAll g start inputs why t (replying [])) (sym (append-nil (text ++ a.replies))) h;
-    cut_off = λ start inputs why text front is_front h. halts-cut g lasts start inputs (replying []) text a.replies front some is_front why h;
-  }
+  gives-replies some =
+      record { goes_on = λ start inputs why text h. rw append-nil h; cut_off = λ start inputs why text front is_front h. halts-cut g lasts start inputs (replying []) text a.replies front some is_front why h }
 
   -- ---- a packet that is due
 
@@ -277,15 +270,11 @@ module _ {D : Type 0} (g : Ghosts D) (lasts : (disk : D) → g.lasts disk disk) 
       said_n = h.said ++ packet.next.packet ∷ []
 
       answered-more : (events : List Event) → IsAnswered start.it a.store a.lists a.state events h.said h.commands → IsAnswered start.it a.store a.lists state_n events said_n h.commands
-      answered-more [] none =
-          let is : next_due (store_in start.it.store) start.it.state puts.fails ≡ Some packet.next =
-          ap₂ (λ s st. next_due (store_in s) st puts.fails) (sym none.2) (sym none.4) ∙ packet.is_next in
-          let e : None ≡ Some packet.next = sym (none.5 puts.fails) ∙ is in absurd (cc e)
+      answered-more [] none = absurd (cc (none.2, none.4, packet.is_next, none.5 puts.fails))
       answered-more (event ∷ []) an = (
         an.0,
-        subst (λ (s : State). IsAnswering start.it.caller (session_in start.it) event said_n h.commands a.lists s) (sym packet.state_is)
-            (answer-more start.it.caller (session_in start.it) event h.said h.commands a.lists a.state an.1 puts.fails packet.next
-            (ap (λ s. next_due s a.state puts.fails) (sym (among-store g (failed_reads_told h.said) start.it.store a.store start.disk disk h.commands h.does)) ∙ packet.is_next)),
+        subst (λ (s : State). IsAnswering start.it.caller (session_in start.it) event said_n h.commands a.lists s) (sym packet.state_is) (answer-more start.it.caller (session_in start.it) event h.said h.commands a.lists a.state an.1 puts.fails packet.next
+            (rw (sym (among-store g (failed_reads_told h.said) start.it.store a.store start.disk disk h.commands h.does)) packet.is_next)),
       )
       answered-more (event ∷ next ∷ events) never = absurd never
 
@@ -310,8 +299,7 @@ module _ {D : Type 0} (g : Ghosts D) (lasts : (disk : D) → g.lasts disk disk) 
             → HaltsOver g start inputs (stop_at_put why) true (text ++ front) (given [])
         cut start inputs None text front is_front h =
             let under_way = ended start inputs None text h in
-            let p = packet start inputs text under_way in
-            let some : out_n ≡ [] → ⊥ = λ none. let e : packet_text p.next.packet ≡ [] = sym p.text_is ∙ none in absurd (cc e) in
+            let some : out_n ≡ [] → ⊥ = λ none. let e = sym (packet start inputs text under_way).text_is ∙ none in absurd (cc e) in
             halts-cut g lasts start inputs (given []) text out_n front some is_front None (goes-due start inputs text under_way)
         cut start inputs (Some why) text front is_front h = absurd (cc (h.halted, going))
 

@@ -167,7 +167,7 @@ module _ {A C D : Type 0} (seen : Seen D A C) (terms : SessionTerms) (first : �
                     let is_air : IsErrOf {T = Served} (Err why) stop.AirWrite = ap Err unsaid.why_is in
                     did (Err why) [] [] 0 ends (counts (λ memory. absurd (cc (memory, unsaid.why_is)))) (subst (λ (is : List Input). IsOctets (octets_in is)) (no_more ∙ sym no_inputs) halts.0)
                     (inl (record { why = is_air; no_turn = no_turn; front = rw (h.text_is, none_first) unsaid.front; none_done = refl; none_cut = refl; none_missed = refl }))
-                    (cuts-among-none g (IsErrOf {T = Served} (Err why) stop.Disk) 0 (at start mid) (at new.party.store new.disk) [] (λ failed. absurd (cc (is_air, failed))) (lasts new.disk) unsaid.does)
+                    (cuts-among-none g (IsErrOf {T = Served} (Err why) stop.Disk) 0 (at start mid) (at new.party.store new.disk) [] (λ failed. absurd (cc failed)) (lasts new.disk) unsaid.does)
                     )
                 | inr stopped ↦ absurd (let e = (append-none stopped.stops.stops.before _ (sym stopped.stops.stops.events_are ∙ ap (events_to server) no_more)).1 in cc e)
               ]
