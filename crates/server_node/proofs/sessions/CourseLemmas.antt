@@ -28,7 +28,7 @@ use Rattle.std.proofs.Math.Nat.{add-zero}
 use Rattle.std.proofs.lemmas.Bool.Decides.{nat_tests}
 use Rattle.px_base.specs.Octets.{IsFront, IsOctets}
 use Rattle.ftl0_packets.specs.Items.{texts}
-use Rattle.ftl0_packets.specs.Layout.{PacketValue, packet_text, Item, PacketText}
+use Rattle.ftl0_packets.specs.Layout.{PacketValue, Item, PacketText}
 use Rattle.file_store.specs.Command.{Command}
 use Rattle.file_store.specs.Working.{CutsOffAmongReads, DoesAmongReads, one_if}
 use Rattle.file_store.proofs.Offered.{among-at, among-same, among-store, among-then, cuts-among-none, cuts-among-same}
@@ -58,13 +58,6 @@ are_steps caller = grind (arith, common_steps, map-append, runs-trans, texts-app
 front-behind : (said text front all : List ℕ) → IsFront front text → said ++ text ≡ all → IsFront (said ++ front) all
 front-behind said text front all h is = grind (arith, common_steps, append_assoc)
 
--- a text behind none
-said-behind : (replies text more : List ℕ) → replies ≡ [] → text ≡ replies ++ more → text ≡ more
-said-behind replies text more silent is = grind (arith, common_steps)
-
-texts-last : (sent : List PacketValue) (packet : PacketValue) → texts (sent ++ packet ∷ []) ≡ texts sent ++ packet_text packet
-texts-last sent packet = grind (arith, common_steps, texts-append, append-nil)
-
 -- no items are none
 pub is-nil : {X : Type 0} (xs : List X) → (length xs == 0) ≡ true → xs ≡ []
 is-nil xs e = nil_from_length xs (grind (arith, nat_tests))
@@ -85,7 +78,7 @@ module _ {D : Type 0} (g : Ghosts D) (lasts : (disk : D) → g.lasts disk disk) 
   module _ (a b c : AtDisk ServerState D) (xs ys : List Input) (text more : List ℕ) (h : GoesOver g a xs text b) where
     -- the text of both
     text-then : (replies : List ℕ) → more ≡ b.it.replies ++ replies → text ++ more ≡ a.it.replies ++ (h.replies ++ replies)
-    text-then replies is = grind (arith, common_steps, said-behind, append_assoc)
+    text-then replies is = grind (arith, common_steps, append_assoc)
 
     goes-on : GoesOver g b ys more c → GoesOver g a (xs ++ ys) (text ++ more) c
     goes-on k = record { hears = hears-then a.it b.it xs h.hears c.it ys k.hears; silent = k.silent; replies = h.replies ++ k.replies; text_is = text-then k.replies k.text_is; runs = rw (events-then a.it b.it xs h.hears ys) (runs-on _ (are_steps a.it.caller) g on (session_at a) (session_at b) (session_at c) (events_to a.it xs) (events_to b.it ys) h.replies k.replies h.runs (rw h.hears.caller at k.runs)) }
@@ -185,7 +178,7 @@ module _ {D : Type 0} (g : Ghosts D) (lasts : (disk : D) → g.lasts disk disk) 
         by (event ∷ []) is an =
             let row : Row = an.1.row in
             let answer : List PacketValue = row.replies ++ an.1.sent in
-            let whole : said ++ text ≡ texts answer = said-behind start.it.replies (said ++ text) (texts h.said) an.0 h.text_is ∙ ap texts an.1.said_is in
+            let whole : said ++ text ≡ texts answer = grind (arith, common_steps) in
             inr (record {
               replies = said ++ front;
               text_is = ap (λ (t : List ℕ). t ++ (said ++ front)) (sym an.0);
@@ -279,7 +272,7 @@ module _ {D : Type 0} (g : Ghosts D) (lasts : (disk : D) → g.lasts disk disk) 
       answered-more (event ∷ next ∷ events) never = absurd never
 
       goes-due : IsUnderWay g start inputs (text ++ out_n) (given [])
-      goes-due = record { hears = record { caller = h.hears.caller; are_octets = h.hears.are_octets; waits = h.hears.waits }; goes_on = h.goes_on; said = said_n; text_is = grind (arith, common_steps, packet.text_is, texts-last, append_assoc); commands = h.commands; answered = answered-more (events_to start.it inputs) h.answered; does = rw (told-append, add-zero) (rw append-nil at (among-then g on ⊥ ⊥ (failed_reads_told h.said) (one_if (tells_failed_read packet.next.packet)) start.it.store a.store a.store start.disk disk disk_n h.commands [] (λ never. never) h.does packet.does)) }
+      goes-due = record { hears = record { caller = h.hears.caller; are_octets = h.hears.are_octets; waits = h.hears.waits }; goes_on = h.goes_on; said = said_n; text_is = grind (arith, common_steps, packet.text_is, texts-append, append-nil, append_assoc); commands = h.commands; answered = answered-more (events_to start.it inputs) h.answered; does = rw (told-append, add-zero) (rw append-nil at (among-then g on ⊥ ⊥ (failed_reads_told h.said) (one_if (tells_failed_read packet.next.packet)) start.it.store a.store a.store start.disk disk disk_n h.commands [] (λ never. never) h.does packet.does)) }
 
     -- and less is left
     pub less-left : (session : SessionState) → a.state ≡ state_in a.store session → IsDueIn (store_in a.store) session.downloads → IsReady g a.store disk → most_left (record a { state = state_n }) < most_left a
@@ -292,7 +285,7 @@ module _ {D : Type 0} (g : Ghosts D) (lasts : (disk : D) → g.lasts disk disk) 
     gives-due silent = subst (λ (r : List ℕ). GivesNext (session_course g) (replying r) out_n (given r)) (sym silent) (record { goes_on = goes; cut_off = cut })
       where
         goes : (start : AtDisk ServerState D) (inputs : List Input) (why : Option Halt) (text : List ℕ) → Owes g start inputs why text (replying []) → Owes g start inputs why (text ++ out_n) (given [])
-        goes start inputs None text h = subst (λ (t : List ℕ). IsUnderWay g start inputs t (given [])) (sym (append-nil (text ++ out_n))) (goes-due start inputs text (ended start inputs None text h))
+        goes start inputs None text h = rw append-nil (goes-due start inputs text (ended start inputs None text h))
         goes start inputs (Some why) text h = absurd (cc (h.halted, going))
 
         cut : (start : AtDisk ServerState D) (inputs : List Input) (why : Option Halt) (text front : List ℕ) → IsFront front out_n → Owes g start inputs why text (replying [])
