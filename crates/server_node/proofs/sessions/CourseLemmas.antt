@@ -1,6 +1,6 @@
 -- The course of a session's server: that it is lawful, what the server owes by what it hears, and what it gives.
 use Rattle.std.proofs.lemmas.Grind.{common_steps}
-use Rattle.std.proofs.Common.{◌≡◌, inl, inr, ℕ, Bool, false, None, List, [], ◌++◌, refl, ap, ap₂, sym, ◌∙◌, subst, append_assoc, append-nil, ◌⊎◌, ◌+◌, ◌==◌, ◌<◌, ◌∷◌, length, true, Option, Some, arith, take, map}
+use Rattle.std.proofs.Common.{◌≡◌, inl, inr, ℕ, Bool, false, None, List, [], ◌++◌, refl, ap, sym, ◌∙◌, subst, append_assoc, append-nil, ◌⊎◌, ◌==◌, ◌<◌, ◌∷◌, length, true, Option, Some, arith, take, map}
 use Rattle.std.specs.List.{AllByRecursion}
 use Rattle.px_base.specs.CallSign.{CallSign}
 use Rattle.disk_model.specs.declared.disk.Disk.{Ghosts}
@@ -28,7 +28,7 @@ use Rattle.std.proofs.Math.Nat.{add-zero}
 use Rattle.std.proofs.lemmas.Bool.Decides.{nat_tests}
 use Rattle.px_base.specs.Octets.{IsFront, IsOctets}
 use Rattle.ftl0_packets.specs.Items.{texts}
-use Rattle.ftl0_packets.specs.Layout.{PacketValue, packet_text, Item, PacketText}
+use Rattle.ftl0_packets.specs.Layout.{PacketValue, Item, PacketText}
 use Rattle.file_store.specs.Command.{Command}
 use Rattle.file_store.specs.Working.{CutsOffAmongReads, DoesAmongReads, one_if}
 use Rattle.file_store.proofs.Offered.{among-at, among-same, among-store, among-then, cuts-among-none, cuts-among-same}
@@ -58,13 +58,6 @@ are_steps caller = grind (arith, common_steps, map-append, runs-trans, texts-app
 front-behind : (said text front all : List ℕ) → IsFront front text → said ++ text ≡ all → IsFront (said ++ front) all
 front-behind said text front all h is = grind (arith, common_steps, append_assoc)
 
--- a text behind none
-said-behind : (replies text more : List ℕ) → replies ≡ [] → text ≡ replies ++ more → text ≡ more
-said-behind replies text more silent is = grind (arith, common_steps)
-
-texts-last : (sent : List PacketValue) (packet : PacketValue) → texts (sent ++ packet ∷ []) ≡ texts sent ++ packet_text packet
-texts-last sent packet = grind (arith, common_steps, texts-append, append-nil)
-
 -- no items are none
 pub is-nil : {X : Type 0} (xs : List X) → (length xs == 0) ≡ true → xs ≡ []
 is-nil xs e = nil_from_length xs (grind (arith, nat_tests))
@@ -85,19 +78,10 @@ module _ {D : Type 0} (g : Ghosts D) (lasts : (disk : D) → g.lasts disk disk) 
   module _ (a b c : AtDisk ServerState D) (xs ys : List Input) (text more : List ℕ) (h : GoesOver g a xs text b) where
     -- the text of both
     text-then : (replies : List ℕ) → more ≡ b.it.replies ++ replies → text ++ more ≡ a.it.replies ++ (h.replies ++ replies)
-    text-then replies is = grind (arith, common_steps, said-behind, append_assoc)
+    text-then replies is = grind (arith, common_steps, append_assoc)
 
     goes-on : GoesOver g b ys more c → GoesOver g a (xs ++ ys) (text ++ more) c
-    goes-on k = record {
-      hears = hears-then a.it b.it xs h.hears c.it ys k.hears;
-      silent = k.silent;
-      replies = h.replies ++ k.replies;
-      text_is = text-then k.replies k.text_is;
-      runs =
-          rw (events-then a.it b.it xs h.hears ys)
-          (runs-on (session_steps a.it.caller) (are_steps a.it.caller) g on (session_at a) (session_at b) (session_at c) (events_to a.it xs) (events_to b.it ys) h.replies k.replies h.runs
-          (rw h.hears.caller at k.runs));
-    }
+    goes-on k = record { hears = hears-then a.it b.it xs h.hears c.it ys k.hears; silent = k.silent; replies = h.replies ++ k.replies; text_is = text-then k.replies k.text_is; runs = rw (events-then a.it b.it xs h.hears ys) (runs-on _ (are_steps a.it.caller) g on (session_at a) (session_at b) (session_at c) (events_to a.it xs) (events_to b.it ys) h.replies k.replies h.runs (rw h.hears.caller at k.runs)) }
 
     halts-behind : (why : NodeStop) (unsaid : Bool) → HaltsOver g b ys why unsaid more c → HaltsOver g a (xs ++ ys) why unsaid (text ++ more) c
     halts-behind why unsaid k = (
@@ -107,10 +91,8 @@ module _ {D : Type 0} (g : Ghosts D) (lasts : (disk : D) → g.lasts disk disk) 
         | inr stopped ↦ inr (record {
           replies = h.replies ++ stopped.replies;
           text_is = text-then stopped.replies stopped.text_is;
-          stops =
-              rw (events-then a.it b.it xs h.hears ys)
-              (stops-on (session_steps a.it.caller) (are_steps a.it.caller) why unsaid g on (session_at a) (session_at b) (at c.it.store c.disk) (events_to a.it xs) (events_to b.it ys) h.replies stopped.replies h.runs
-              (rw h.hears.caller at stopped.stops));
+          stops = rw (events-then a.it b.it xs h.hears ys)
+              (stops-on _ (are_steps a.it.caller) why unsaid g on (session_at a) (session_at b) (at c.it.store c.disk) (events_to a.it xs) (events_to b.it ys) h.replies stopped.replies h.runs (rw h.hears.caller at stopped.stops));
         })
       ],
     )
@@ -124,21 +106,14 @@ module _ {D : Type 0} (g : Ghosts D) (lasts : (disk : D) → g.lasts disk disk) 
       | inr stopped ↦ inr (record {
         replies = stopped.replies;
         text_is = stopped.text_is;
-        stops =
-            rw (events-append a.it.octets xs ys)
-            (stops-more (session_steps a.it.caller) (are_steps a.it.caller) why unsaid g (session_at a) (at c.it.store c.disk) (events_to a.it xs) (events_behind (waiting_behind a.it.octets xs) ys) _ stopped.stops);
+        stops = rw (events-append a.it.octets xs ys)
+            (stops-more _ (are_steps a.it.caller) why unsaid g (session_at a) (at c.it.store c.disk) (events_to a.it xs) (events_behind (waiting_behind a.it.octets xs) ys) _ stopped.stops);
       })
     ],
   )
 
   pub lawful : IsLawful (session_course g) IsInput
-  lawful = record {
-    owes_none = λ a ready. owes-first a ready.up ready.goes_on ready.none_due;
-    goes_none = goes-none;
-    goes_on = λ a b c xs ys text more h k. goes-on a b c xs ys text more h k;
-    halts_behind = λ a b c xs ys text more why unsaid h k. halts-behind a b c xs ys text more h why unsaid k;
-    halts_before = halts-before;
-  }
+  lawful = record { owes_none = λ a ready. owes-first a ready.up ready.goes_on ready.none_due; goes_none = goes-none; goes_on = goes-on; halts_behind = λ a b c xs ys text more why unsaid h k. halts-behind a b c xs ys text more h why unsaid k; halts_before = halts-before }
 
 -- ---- a server whose session was asked for what is due
 
@@ -170,10 +145,8 @@ module _ {D : Type 0} (g : Ghosts D) (lasts : (disk : D) → g.lasts disk disk) 
     inr (record {
       replies = said;
       text_is = ap (λ (t : List ℕ). t ++ said) (sym h.silent);
-      stops =
-          let missed : ℕ = failed_reads_told h.row.replies in
-          stop-at g start (at now.it.store now.disk) (events_to start.it inputs) h.event h.only h.parts h.row h.is_row (stop_of why) unsaid said [] h.cut missed stops
-          (cuts-among-same g (why ≡ halt.Disk) (stop_of why ≡ stop.Disk) missed missed (at start.it.store start.disk) (at now.it.store now.disk) [] h.cut (ap stop_of) (by-disk why) refl h.cuts) kept;
+      stops = stop-at g start (at now.it.store now.disk) (events_to start.it inputs) h.event h.only h.parts h.row h.is_row (stop_of why) unsaid said [] h.cut _ stops
+          (cuts-among-same g (why ≡ halt.Disk) (stop_of why ≡ stop.Disk) _ (failed_reads_told h.row.replies) (at start.it.store start.disk) (at now.it.store now.disk) [] h.cut (ap stop_of) (by-disk why) refl h.cuts) kept;
     }),
   )
     where
@@ -200,30 +173,18 @@ module _ {D : Type 0} (g : Ghosts D) (lasts : (disk : D) → g.lasts disk disk) 
         by : (events : List Event) → events_to start.it inputs ≡ events → IsAnswered start.it now.it.store now.it.lists now.it.state events h.said h.commands
             → IsUnsaidFirst g start stop.AirWrite (said ++ front) now ⊎ IsStopped g start inputs stop.AirWrite true (said ++ front) now
         by [] is none =
-            let first : said ++ text ≡ start.it.replies = h.text_is ∙ ap (λ (ps : List PacketValue). start.it.replies ++ texts ps) none.0 ∙ append-nil start.it.replies in
-            inl (record {
-              some = λ empty. some (append-none said text (first ∙ empty)).1;
-              front = front-behind said text front start.it.replies is_front first;
-              why_is = refl;
-              does = does 0 [] (ap failed_reads_told none.0) none.1;
-            })
+            let first : said ++ text ≡ start.it.replies = grind (arith, common_steps, append-nil) in
+            inl (record { some = λ empty. some (append-none said text (first ∙ empty)).1; front = front-behind said text front start.it.replies is_front first; why_is = refl; does = does 0 [] (ap failed_reads_told none.0) none.1 })
         by (event ∷ []) is an =
             let row : Row = an.1.row in
             let answer : List PacketValue = row.replies ++ an.1.sent in
-            let whole : said ++ text ≡ texts answer = said-behind start.it.replies (said ++ text) (texts h.said) an.0 h.text_is ∙ ap texts an.1.said_is in
+            let whole : said ++ text ≡ texts answer = grind (arith, common_steps) in
             inr (record {
               replies = said ++ front;
               text_is = ap (λ (t : List ℕ). t ++ (said ++ front)) (sym an.0);
               stops =
-                  stop-at g start (at now.it.store now.disk) (events_to start.it inputs) event is an.1.parts row an.1.is_row stop.AirWrite true (said ++ front) row.commands [] (failed_reads_told answer) (
-                    an.1.sent,
-                    answer-some start.it.caller (session_in start.it) event h.said h.commands now.it.lists now.it.state an.1,
-                    (λ none. some (append-none said text (whole ∙ none)).1),
-                    front-behind said text front (texts answer) is_front whole,
-                    refl,
-                    refl,
-                    refl,
-                  )
+                  stop-at g start (at now.it.store now.disk) (events_to start.it inputs) event is an.1.parts row an.1.is_row stop.AirWrite true (said ++ front) row.commands [] (failed_reads_told answer)
+                  (an.1.sent, answer-some start.it.caller (session_in start.it) event h.said h.commands now.it.lists now.it.state an.1, (λ none. some (append-none said text (whole ∙ none)).1), front-behind said text front (texts answer) is_front whole, refl, refl, refl)
                   (cuts-among-none g (stop.AirWrite ≡ stop.Disk) (failed_reads_told answer) (at start.it.store start.disk) (at now.it.store now.disk) row.commands (λ e. cc e) (lasts now.disk)
                   (does (failed_reads_told answer) row.commands (ap failed_reads_told an.1.said_is) an.1.commands_are)) (λ memory. absurd (cc memory));
             })
@@ -254,10 +215,6 @@ module _ {D : Type 0} (g : Ghosts D) (lasts : (disk : D) → g.lasts disk disk) 
   abbrev now : AtDisk ServerState D
   now = at a disk
 
-  -- it goes on, and one that halted doesn't
-  not-both : (b : Bool) → b ≡ true → b ≡ false → ⊥
-  not-both b is not = grind (arith, common_steps)
-
   abbrev replying : List ℕ → AtDisk ServerState D
   replying replies = at (record a { replies = replies }) disk
 
@@ -270,26 +227,24 @@ module _ {D : Type 0} (g : Ghosts D) (lasts : (disk : D) → g.lasts disk disk) 
     where
       by : GaveAll (session_course g) (replying []) (replying [])
       by start inputs None text h = settled g lasts start inputs (replying []) text refl none_due (ended start inputs None text h)
-      by start inputs (Some why) text h = absurd (not-both a.halted h.halted going)
+      by start inputs (Some why) text h = absurd (cc (h.halted, going))
 
   pub gave-last : a.replies ≡ [] → a.halted ≡ true → GaveAll (session_course g) now now
   gave-last silent halted = subst (λ (r : List ℕ). GaveAll (session_course g) (replying r) (replying r)) (sym silent) by
     where
       by : GaveAll (session_course g) (replying []) (replying [])
-      by start inputs None text h = absurd (not-both a.halted halted h.goes_on)
+      by start inputs None text h = absurd (cc (halted, h.goes_on))
       by start inputs (Some why) text h = halts-whole g lasts start inputs (replying []) why text (ended start inputs (Some why) text h)
 
   -- while it goes on its store is up
   pub owes-up : a.halted ≡ false → OwesSome (session_course g) now → IsReady g a.store disk
   owes-up going (start, inputs, None, text, h) = record { healthy = (h.does.done (λ never. never)).1; stands_on = h.does.stands_on }
-  owes-up going (start, inputs, Some why, text, h) = absurd (not-both a.halted h.halted going)
+  owes-up going (start, inputs, Some why, text, h) = absurd (cc (h.halted, going))
 
   -- the replies are given
   pub gives-replies : (a.replies ≡ [] → ⊥) → GivesNext (session_course g) now a.replies (replying [])
-  gives-replies some = record {
-    goes_on = λ start inputs why text h. subst (λ (t : List ℕ). OwesAll g start inputs why t (replying [])) (sym (append-nil (text ++ a.replies))) h;
-    cut_off = λ start inputs why text front is_front h. halts-cut g lasts start inputs (replying []) text a.replies front some is_front why h;
-  }
+  gives-replies some =
+      record { goes_on = λ start inputs why text h. rw append-nil h; cut_off = λ start inputs why text front is_front h. halts-cut g lasts start inputs (replying []) text a.replies front some is_front why h }
 
   -- ---- a packet that is due
 
@@ -305,35 +260,16 @@ module _ {D : Type 0} (g : Ghosts D) (lasts : (disk : D) → g.lasts disk disk) 
       said_n = h.said ++ packet.next.packet ∷ []
 
       answered-more : (events : List Event) → IsAnswered start.it a.store a.lists a.state events h.said h.commands → IsAnswered start.it a.store a.lists state_n events said_n h.commands
-      answered-more [] none =
-          let is : next_due (store_in start.it.store) start.it.state puts.fails ≡ Some packet.next =
-          ap₂ (λ s st. next_due (store_in s) st puts.fails) (sym none.2) (sym none.4) ∙ packet.is_next in
-          let e : None ≡ Some packet.next = sym (none.5 puts.fails) ∙ is in absurd (cc e)
+      answered-more [] none = absurd (cc (none.2, none.4, packet.is_next, none.5 puts.fails))
       answered-more (event ∷ []) an = (
         an.0,
-        subst (λ (s : State). IsAnswering start.it.caller (session_in start.it) event said_n h.commands a.lists s) (sym packet.state_is)
-            (answer-more start.it.caller (session_in start.it) event h.said h.commands a.lists a.state an.1 puts.fails packet.next
-            (ap (λ s. next_due s a.state puts.fails) (sym (among-store g (failed_reads_told h.said) start.it.store a.store start.disk disk h.commands h.does)) ∙ packet.is_next)),
+        subst (λ (s : State). IsAnswering start.it.caller (session_in start.it) event said_n h.commands a.lists s) (sym packet.state_is) (answer-more start.it.caller (session_in start.it) event h.said h.commands a.lists a.state an.1 puts.fails packet.next
+            (rw (sym (among-store g (failed_reads_told h.said) start.it.store a.store start.disk disk h.commands h.does)) packet.is_next)),
       )
       answered-more (event ∷ next ∷ events) never = absurd never
 
       goes-due : IsUnderWay g start inputs (text ++ out_n) (given [])
-      goes-due = record {
-        hears = record { caller = h.hears.caller; are_octets = h.hears.are_octets; waits = h.hears.waits };
-        goes_on = h.goes_on;
-        said = said_n;
-        text_is =
-            ap₂ (λ (t u : List ℕ). t ++ u) h.text_is packet.text_is ∙ append_assoc start.it.replies (texts h.said) (packet_text packet.next.packet)
-            ∙ ap (λ (t : List ℕ). start.it.replies ++ t) (sym (texts-last h.said packet.next.packet));
-        commands = h.commands;
-        answered = answered-more (events_to start.it inputs) h.answered;
-        does =
-            let one : ℕ = one_if (tells_failed_read packet.next.packet) in
-            let told : failed_reads_told h.said + one ≡ failed_reads_told said_n = ap (λ (n : ℕ). failed_reads_told h.said + n) (sym (add-zero one)) ∙ sym (told-append h.said (packet.next.packet ∷ [])) in
-            among-at g ⊥ (failed_reads_told said_n) start.it.store a.store start.disk disk_n (h.commands ++ []) h.commands (append-nil h.commands)
-            (among-same g ⊥ ⊥ (failed_reads_told h.said + one) (failed_reads_told said_n) start.it.store a.store start.disk disk_n (h.commands ++ []) (λ p. p) (λ p. p) told
-            (among-then g on ⊥ ⊥ (failed_reads_told h.said) one start.it.store a.store a.store start.disk disk disk_n h.commands [] (λ never. never) h.does packet.does));
-      }
+      goes-due = record { hears = record { caller = h.hears.caller; are_octets = h.hears.are_octets; waits = h.hears.waits }; goes_on = h.goes_on; said = said_n; text_is = grind (arith, common_steps, packet.text_is, texts-append, append-nil, append_assoc); commands = h.commands; answered = answered-more (events_to start.it inputs) h.answered; does = rw (told-append, add-zero) (rw append-nil at (among-then g on ⊥ ⊥ (failed_reads_told h.said) (one_if (tells_failed_read packet.next.packet)) start.it.store a.store a.store start.disk disk disk_n h.commands [] (λ never. never) h.does packet.does)) }
 
     -- and less is left
     pub less-left : (session : SessionState) → a.state ≡ state_in a.store session → IsDueIn (store_in a.store) session.downloads → IsReady g a.store disk → most_left (record a { state = state_n }) < most_left a
@@ -346,17 +282,16 @@ module _ {D : Type 0} (g : Ghosts D) (lasts : (disk : D) → g.lasts disk disk) 
     gives-due silent = subst (λ (r : List ℕ). GivesNext (session_course g) (replying r) out_n (given r)) (sym silent) (record { goes_on = goes; cut_off = cut })
       where
         goes : (start : AtDisk ServerState D) (inputs : List Input) (why : Option Halt) (text : List ℕ) → Owes g start inputs why text (replying []) → Owes g start inputs why (text ++ out_n) (given [])
-        goes start inputs None text h = subst (λ (t : List ℕ). IsUnderWay g start inputs t (given [])) (sym (append-nil (text ++ out_n))) (goes-due start inputs text (ended start inputs None text h))
-        goes start inputs (Some why) text h = absurd (not-both a.halted h.halted going)
+        goes start inputs None text h = rw append-nil (goes-due start inputs text (ended start inputs None text h))
+        goes start inputs (Some why) text h = absurd (cc (h.halted, going))
 
         cut : (start : AtDisk ServerState D) (inputs : List Input) (why : Option Halt) (text front : List ℕ) → IsFront front out_n → Owes g start inputs why text (replying [])
             → HaltsOver g start inputs (stop_at_put why) true (text ++ front) (given [])
         cut start inputs None text front is_front h =
             let under_way = ended start inputs None text h in
-            let p = packet start inputs text under_way in
-            let some : out_n ≡ [] → ⊥ = λ none. let e : packet_text p.next.packet ≡ [] = sym p.text_is ∙ none in absurd (cc e) in
+            let some : out_n ≡ [] → ⊥ = λ none. let e = sym (packet start inputs text under_way).text_is ∙ none in absurd (cc e) in
             halts-cut g lasts start inputs (given []) text out_n front some is_front None (goes-due start inputs text under_way)
-        cut start inputs (Some why) text front is_front h = absurd (not-both a.halted h.halted going)
+        cut start inputs (Some why) text front is_front h = absurd (cc (h.halted, going))
 
 -- ---- what it owes by what it hears
 
@@ -384,16 +319,8 @@ module _ {D : Type 0} (g : Ghosts D) (lasts : (disk : D) → g.lasts disk disk) 
   -- no packet is whole
   pub owes-more : IsPartial reader → under_way reader ≡ reader → Owes g (at self disk) inputs None [] (at (record a { octets = under_way reader }) disk)
   owes-more partial same =
-      let h = heard [] (sym same, subst (λ (o : List ℕ). IsPartial o) (sym same) partial) in
-      of_self None _ (record {
-        hears = record { caller = refl; are_octets = inputs-octets; waits = sym h.1 };
-        goes_on = ready.goes_on;
-        said = [];
-        text_is = sym (append-nil a.replies);
-        commands = [];
-        answered = subst (λ (es : List Event). IsAnswered a a.store a.lists a.state es [] []) (sym h.0) (refl, refl, refl, refl, refl, ready.none_due);
-        does = does-none g a.store disk ready.up (lasts disk);
-      })
+      let h = heard [] (sym same, rw same partial) in
+      of_self None _ (record { hears = record { caller = refl; are_octets = inputs-octets; waits = sym h.1 }; goes_on = ready.goes_on; said = []; text_is = sym (append-nil a.replies); commands = []; answered = rw h.0 (refl, refl, refl, refl, refl, ready.none_due); does = does-none g a.store disk ready.up (lasts disk) })
 
   -- this packet is whole
   module _ (item : Item) (packet : PacketText item reader) (whole : IsTrue (is_whole reader)) where
@@ -401,9 +328,7 @@ module _ {D : Type 0} (g : Ghosts D) (lasts : (disk : D) → g.lasts disk disk) 
     event = record { moment = moment; packet = item }
 
     only : (events_to a inputs ≡ event ∷ []) × (waiting_behind a.octets inputs ≡ under_way reader)
-    only =
-        let none = under-way-whole reader whole in
-        heard (item ∷ []) (reader, [], packet, sym (append-nil reader), (sym none, subst (λ (o : List ℕ). IsPartial o) (sym none) nothing_partial))
+    only = let none = under-way-whole reader whole in heard (item ∷ []) (reader, [], packet, sym (append-nil reader), (sym none, rw none nothing_partial))
 
     abbrev before : Working
     before = record { store = a.store; lists = a.lists; state = a.state }
@@ -421,34 +346,14 @@ module _ {D : Type 0} (g : Ghosts D) (lasts : (disk : D) → g.lasts disk disk) 
       row fails = row_over a.caller moment before item fails
 
       pub owes-taken : (caller : CallSign) (halted : Bool) → caller ≡ a.caller → halted ≡ false → Takes (Ok tt) → Owes g (at self disk) inputs None [] (at (server_n caller halted) disk_n)
-      owes-taken caller halted same going takes = of_self None _ (record {
-        hears = record { caller = same; are_octets = inputs-octets; waits = sym only.1 };
-        goes_on = going;
-        said = (row takes.fails).replies;
-        text_is = takes.answers.3 ∙ sym (ap (λ (t : List ℕ). t ++ texts (row takes.fails).replies) ready.silent);
-        commands = (row takes.fails).commands;
-        answered =
-            subst (λ (es : List Event). IsAnswered a now.store now.lists now.state es (row takes.fails).replies (row takes.fails).commands) (sym only.0)
-            (ready.silent, answer-first a.caller (session_in a) event takes.fails now.lists now.state takes.answers.1 takes.answers.2);
-        does = taken-among g on a.caller moment item before now disk disk_n replies ready.up tt takes;
-      })
+      owes-taken caller halted same going takes =
+          of_self None _ (record { hears = record { caller = same; are_octets = inputs-octets; waits = sym only.1 }; goes_on = going; said = (row takes.fails).replies; text_is = rw ready.silent takes.answers.3; commands = (row takes.fails).commands; answered = rw only.0 (ready.silent, answer-first a.caller (session_in a) event takes.fails now.lists now.state takes.answers.1 takes.answers.2); does = taken-among g on a.caller moment item before now disk disk_n replies ready.up tt takes })
 
       -- the session stopped at it
       halting : (caller : CallSign) (why : Halt) (fails : Bool) (cut : List Command) → LastOf why a.state (met_with event (with_part fails 0 [])) (row fails) replies cut
           → CutsOffAmongReads g (why ≡ halt.Disk) (failed_reads_told (row fails).replies) (at a.store disk) (at now.store disk_n) [] cut → Owes g (at self disk) inputs (Some why) [] (at (server_n caller true) disk_n)
-      halting caller why fails cut last cuts = of_self (Some why) _ (record {
-        are_octets = inputs-octets;
-        halted = refl;
-        silent = ready.silent;
-        event = event;
-        only = only.0;
-        parts = with_part fails 0 [];
-        row = row fails;
-        is_row = row-first a.caller (session_in a) event fails;
-        cut = cut;
-        last = last;
-        cuts = cuts;
-      })
+      halting caller why fails cut last cuts =
+          of_self (Some why) _ (record { are_octets = inputs-octets; halted = refl; silent = ready.silent; event = event; only = only.0; parts = with_part fails 0 []; row = row fails; is_row = row-first a.caller (session_in a) event fails; cut = cut; last = last; cuts = cuts })
 
       pub owes-last : (caller : CallSign) (stop : Halt) → Takes (Err stop) → Owes g (at self disk) inputs (Some stop) [] (at (server_n caller true) disk_n)
       owes-last caller halt.Disk takes =
@@ -457,7 +362,5 @@ module _ {D : Type 0} (g : Ghosts D) (lasts : (disk : D) → g.lasts disk disk) 
           (λ _. refl) (λ _. tt) refl (taken-cut g on a.caller moment item before now disk disk_n replies ready.up takes))
       owes-last caller halt.OutOfMemory takes =
           let none = taken-none g on a.caller moment item before now disk disk_n replies ready.up takes in
-          let missed : ℕ = failed_reads_told (row takes.fails).replies in
           halting caller halt.OutOfMemory takes.fails [] (takes.answers.0, takes.answers.2, refl)
-          (cuts-among-none g (halt.OutOfMemory ≡ halt.Disk) missed (at a.store disk) (at now.store disk_n) [] (λ e. cc e) (lasts disk_n)
-          (subst (λ (s : StoreState). DoesAmongReads g ⊥ missed a.store s disk disk_n []) (sym none.0) none.1))
+          (cuts-among-none g (halt.OutOfMemory ≡ halt.Disk) (failed_reads_told (row takes.fails).replies) (at a.store disk) (at now.store disk_n) [] (λ e. cc e) (lasts disk_n) (rw none.0 none.1))

@@ -62,10 +62,7 @@ events-at moment waiting (o ∷ octets) waits are =
     let mid_are = IsOctets-append waiting (o ∷ []) waits.are_octets (octets_front (o ∷ []) octets are) in
     let rest = events-at moment (rest_of mid) octets (waits-left mid mid_are) others in
     let read = read-append mid octets (IsOctets-append mid octets mid_are others) in
-    let same : mid ++ octets ≡ waiting ++ o ∷ octets = append_assoc waiting (o ∷ []) octets in (
-      ap (λ es. at_moment moment (packets_of mid) ++ es) rest.0 ∙ sym (map-append _ (packets_of mid) (packets_of (rest_of mid ++ octets))) ∙ ap (at_moment moment) (sym read.0 ∙ ap packets_of same),
-      rest.1 ∙ sym read.1 ∙ ap rest_of same,
-    )
+    rw (sym (append_assoc waiting (o ∷ []) octets), read.0, read.1, rest.0, rest.1) (sym (map-append _ (packets_of mid) (packets_of (rest_of mid ++ octets))), refl)
 
 -- and so they do where the stream is known
 pub events-of : (moment : ℕ) (waiting octets : List ℕ) (items : List Item) (rest : List ℕ) → IsWaiting waiting → IsOctets octets → Stream (waiting ++ octets) items rest

@@ -1,9 +1,8 @@
 -- A session by the turns of its node.
 use Rattle.std.proofs.lemmas.Grind.{common_steps}
 use Rattle.std.proofs.Common.{◌≡◌, ap, sym, ◌∙◌, subst, ◌⊎◌, inl, inr, ℕ, max, List, [], ◌∷◌, ◌++◌, length, Option, Some, Result, Ok, Err, refl, ap₂, ◌+◌, append_assoc, append-nil, arith, None, ◌≢◌, IsErrOf}
-use Rattle.px_base.specs.CallSign.{CallSign}
 use Rattle.px_base.specs.Moments.{MomentsOf}
-use Rattle.px_base.specs.Octets.{IsFront, IsOctets}
+use Rattle.px_base.specs.Octets.{IsOctets}
 use Rattle.px_base.specs.declared.air.Turn.{Turn}
 use Rattle.px_base.proofs.Told.{Grows-trans}
 use Rattle.disk_model.specs.declared.disk.Disk.{Ghosts}
@@ -52,20 +51,9 @@ record FirstOf (given : Option ℕ) (before now : Option (List ℕ)) (first : �
 
 first-of : (given : Option ℕ) (before now : Option (List ℕ)) (first : ℕ) (moments : List ℕ) (count : ℕ) → MomentsFrom (Some first) given before now moments → length moments ≡ count
     → FirstOf given before now first moments count
-first-of given before now first moments count (inl none) counted = record {
-  later = [];
-  told = none.1;
-  more = first ∷ [];
-  are = ap (λ (ms : List ℕ). ms ++ first ∷ []) (sym none.0);
-  one_each = omega (arith, counted, ap (λ (ms : List ℕ). length ms) none.0);
-}
-first-of given before now first moments count (inr some) counted = record {
-  later = some.0;
-  told = some.2;
-  more = [];
-  are = sym (append-nil moments ∙ some.1);
-  one_each = omega (arith, counted, ap (λ (ms : List ℕ). length ms) some.1);
-}
+first-of given before now first moments count (inl none) counted =
+    record { later = []; told = none.1; more = first ∷ []; are = ap (λ (ms : List ℕ). ms ++ first ∷ []) (sym none.0); one_each = omega (arith, counted, ap (λ (ms : List ℕ). length ms) none.0) }
+first-of given before now first moments count (inr some) counted = record { later = some.0; told = some.2; more = []; are = sym (append-nil moments ∙ some.1); one_each = omega (arith, counted, ap (λ (ms : List ℕ). length ms) some.1) }
 
 -- the first moment and those since
 moments-first : (given : Option ℕ) (a m n : Option (List ℕ)) (first : ℕ) (later : List ℕ) → MomentsOf given a m (first ∷ []) → MomentsOf given m n later → MomentsOf given a n (first ∷ later)
@@ -139,27 +127,18 @@ module _ {A C D : Type 0} (seen : Seen D A C) (terms : SessionTerms) (first : �
       did : (result : Result Served NodeStop) (done cut : List Command) (missed : ℕ) → TurnsBy result terms.polls took.all.turns → HasAirCause seen.air.read_faults seen.air.write_faults air new.air result
           → IsOctets (octets_in took.all.events) → IsUngreeted first (run done cut missed) result ⊎ IsGreeted terms (store_in start) (run done cut missed) events result
           → CutsOffAmongReads g (IsErrOf result stop.Disk) missed (at start mid) (at new.party.store new.disk) done cut → DidSo result
-      did result done cut missed ends counts are said cuts = record {
-        run = run done cut missed;
-        turns_heard = took.turns_heard;
-        moments_given = moments-first terms.moment (seen.given clock_o) (seen.given clock) (seen.given new.clock) first moments.later told moments.told;
-        text_said = took.text_said;
-        is_unsaid = took.is_unsaid;
-        ran =
-            record {
-              one_each = moments.one_each;
-              events = events;
-              rest = waiting_behind [] took.all.events;
-              brings = brings are;
-              stream = brings-stream [] took.all.turns all_moments events (waiting_behind [] took.all.events) nothing_partial (brings are);
-              bound = took.bound;
-              ends = ends;
-              said = said;
-            };
-        ends = ends;
-        counts = counts;
-        cuts = cuts;
-      }
+      did result done cut missed ends counts are said cuts =
+          record {
+            run = run done cut missed;
+            turns_heard = took.turns_heard;
+            moments_given = moments-first terms.moment (seen.given clock_o) (seen.given clock) (seen.given new.clock) first moments.later told moments.told;
+            text_said = took.text_said;
+            is_unsaid = took.is_unsaid;
+            ends = ends;
+            counts = counts;
+            cuts = cuts;
+            ran = record { one_each = moments.one_each; events = events; rest = waiting_behind [] took.all.events; brings = brings are; bound = took.bound; ends = ends; said = said; stream = brings-stream [] took.all.turns all_moments events (waiting_behind [] took.all.events) nothing_partial (brings are) };
+          }
 
       taken : Taken AreHandedOver (session_course g) (λ p. refl) seen.air air new.air (at server mid) (party_at new) took.all took.text took.unsaid terms.polls steps from events DidSo
       taken result ends counts fine over h =
@@ -168,16 +147,7 @@ module _ {A C D : Type 0} (seen : Seen D A C) (terms : SessionTerms) (first : �
           let last = but_last took.all.turns in
           let init = init-of took.all.turns last.0 all_moments events (waiting_behind [] took.all.events) last.1 (brings goes.hears.are_octets) in
           did result runs.done [] runs.missed ends counts goes.hears.are_octets
-          (inr (record {
-            replies = goes.replies;
-            text_is = goes.text_is;
-            earlier = last.0;
-            but_last = last.1;
-            least = init.0;
-            left = init.1;
-            brought = init.2;
-            ends_over = over init.0 (made goes.replies runs.done runs.missed) (_, runs.goes, refl);
-          }))
+          (inr (record { replies = goes.replies; text_is = goes.text_is; earlier = last.0; but_last = last.1; least = init.0; left = init.1; brought = init.2; ends_over = over init.0 (made goes.replies runs.done runs.missed) (_, runs.goes, refl) }))
           (cuts-among-none g (IsErrOf result stop.Disk) runs.missed (at start mid) (at new.party.store new.disk) runs.done fine (lasts new.disk) runs.does)
 
       stopped : Stopped AreHandedOver (session_course g) (λ p. refl) seen.air air new.air (at server mid) (party_at new) took.all took.text took.unsaid terms.polls steps from events DidSo
@@ -195,50 +165,40 @@ module _ {A C D : Type 0} (seen : Seen D A C) (terms : SessionTerms) (first : �
               elim halts.1 [
                 | inl unsaid ↦ (
                     let is_air : IsErrOf {T = Served} (Err why) stop.AirWrite = ap Err unsaid.why_is in
-                    did (Err why) [] [] 0 ends (counts (λ memory. absurd (let e = sym memory ∙ unsaid.why_is in cc e))) (subst (λ (is : List Input). IsOctets (octets_in is)) (no_more ∙ sym no_inputs) halts.0)
-                    (inl (record {
-                      why = is_air;
-                      no_turn = no_turn;
-                      front = subst (λ (t : List ℕ). IsFront t (login_text first)) (sym (h.text_is ∙ ap (λ (t : List ℕ). t ++ h.last) none_first)) unsaid.front;
-                      none_done = refl;
-                      none_cut = refl;
-                      none_missed = refl;
-                    }))
-                    (cuts-among-none g (IsErrOf {T = Served} (Err why) stop.Disk) 0 (at start mid) (at new.party.store new.disk) [] (λ failed. absurd (let e = sym is_air ∙ failed in cc e)) (lasts new.disk) unsaid.does)
+                    did (Err why) [] [] 0 ends (counts (λ memory. absurd (cc (memory, unsaid.why_is)))) (subst (λ (is : List Input). IsOctets (octets_in is)) (no_more ∙ sym no_inputs) halts.0)
+                    (inl (record { why = is_air; no_turn = no_turn; front = rw (h.text_is, none_first) unsaid.front; none_done = refl; none_cut = refl; none_missed = refl }))
+                    (cuts-among-none g (IsErrOf {T = Served} (Err why) stop.Disk) 0 (at start mid) (at new.party.store new.disk) [] (λ failed. absurd (cc failed)) (lasts new.disk) unsaid.does)
                     )
                 | inr stopped ↦ absurd (let e = (append-none stopped.stops.stops.before _ (sym stopped.stops.stops.events_are ∙ ap (events_to server) no_more)).1 in cc e)
               ]
 
           -- in the last turn
           later : (then_is : AtDisk ServerState D) → GoesOver g (at server mid) h.least h.first then_is → HaltsOver g then_is h.more why took.unsaid h.last (party_at new) → DidSo (Err why)
-          later then_is goes halts = elim halts.1 [
-            | inl unsaid ↦ absurd (unsaid.some goes.silent)
-            | inr stopped ↦ (
-                let stops : StopsOn g steps (session_at then_is) (at new.party.store new.disk) (events_to then_is.it h.more) why took.unsaid stopped.replies =
-                subst (λ (call : CallSign). StopsOn g (session_steps call) (session_at then_is) (at new.party.store new.disk) (events_to then_is.it h.more) why took.unsaid stopped.replies) goes.hears.caller stopped.stops in
-                let least : List Event = events_to server h.least in
-                let runs = goes.runs in
-                let all : Made = made (goes.replies ++ stopped.replies) (runs.done ++ stops.done) (runs.missed + stops.missed) in
-                let there = at new.party.store new.disk in
-                let behind = behind-all steps (are_steps terms.caller) why took.unsaid g on (session_at (at server mid)) (session_at then_is) there least (events_to then_is.it h.more) goes.replies stopped.replies runs stops in
-                did (Err why) all.done stops.cut all.missed ends (counts (λ is. subst (λ b. IsUnsaid b (seen.air.write_faults air) (seen.air.write_faults new.air)) (stops.kept is) took.is_unsaid))
-                (subst (λ (is : List Input). IsOctets (octets_in is)) (sym h.events_are) (both-octets h.least h.more goes.hears.are_octets halts.0))
-                (inr (record {
-                  replies = all.text;
-                  text_is =
-                      h.text_is ∙ ap₂ (λ (t u : List ℕ). t ++ u) goes.text_is (stopped.text_is ∙ ap (λ (t : List ℕ). t ++ stopped.replies) goes.silent)
-                      ∙ append_assoc (login_text first) goes.replies stopped.replies;
-                  earlier = h.earlier;
-                  but_last = h.but_last;
-                  least = least;
-                  left = waiting_behind [] h.least;
-                  brought = brings-at h.earlier h.before h.behind h.least h.split h.one_each h.brought goes.hears.are_octets;
-                  ends_over = over least all stops.cut (subst (λ (es : List Event). StopsBehind least steps from es why took.unsaid all stops.cut) (sym (ap (events_to server) h.events_are ∙ events-then server then_is.it h.least goes.hears h.more)) behind);
-                }))
-                (disk-stop g why all.missed (at start mid) (at new.party.store new.disk) all.done stops.cut
-                (cuts-all steps (are_steps terms.caller) why took.unsaid g on (session_at (at server mid)) (session_at then_is) there least (events_to then_is.it h.more) goes.replies stopped.replies runs stops))
-                )
-          ]
+          later then_is goes halts =
+              elim halts.1 [
+                | inl unsaid ↦ absurd (unsaid.some goes.silent)
+                | inr stopped ↦ (
+                    let stops : StopsOn g steps (session_at then_is) (at new.party.store new.disk) (events_to then_is.it h.more) why took.unsaid stopped.replies = rw goes.hears.caller at stopped.stops in
+                    let least : List Event = events_to server h.least in
+                    let runs = goes.runs in
+                    let all : Made = made (goes.replies ++ stopped.replies) (runs.done ++ stops.done) (runs.missed + stops.missed) in
+                    let there = at new.party.store new.disk in
+                    let behind = behind-all steps (are_steps terms.caller) why took.unsaid g on (session_at (at server mid)) (session_at then_is) there least (events_to then_is.it h.more) goes.replies stopped.replies runs stops in
+                    did (Err why) all.done stops.cut all.missed ends (counts (λ is. subst (λ b. IsUnsaid b (seen.air.write_faults air) (seen.air.write_faults new.air)) (stops.kept is) took.is_unsaid)) (rw h.events_are (both-octets h.least h.more goes.hears.are_octets halts.0))
+                    (inr (record {
+                      replies = all.text;
+                      text_is = h.text_is ∙ ap₂ (λ (t u : List ℕ). t ++ u) goes.text_is (stopped.text_is ∙ ap (λ (t : List ℕ). t ++ stopped.replies) goes.silent) ∙ append_assoc (login_text first) goes.replies stopped.replies;
+                      earlier = h.earlier;
+                      but_last = h.but_last;
+                      least = least;
+                      left = waiting_behind [] h.least;
+                      brought = brings-at h.earlier h.before h.behind h.least h.split h.one_each h.brought goes.hears.are_octets;
+                      ends_over = over least all stops.cut (subst (λ (es : List Event). StopsBehind least steps from es why took.unsaid all stops.cut) (sym (ap (events_to server) h.events_are ∙ events-then server then_is.it h.least goes.hears h.more)) behind);
+                    }))
+                    (disk-stop g why all.missed (at start mid) (at new.party.store new.disk) all.done stops.cut
+                    (cuts-all steps (are_steps terms.caller) why took.unsaid g on (session_at (at server mid)) (session_at then_is) there least (events_to then_is.it h.more) goes.replies stopped.replies runs stops))
+                    )
+              ]
 
       pub session-did : DidSo (served_by ended)
       session-did =

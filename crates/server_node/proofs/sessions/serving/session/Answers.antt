@@ -1,14 +1,13 @@
 -- The recovery is refused, or the session is served over what it gives.
 use Rattle.std.proofs.lemmas.Grind.{common_steps}
-use Rattle.std.proofs.Common.{None, [], refl, sym, ◌∙◌, subst, Result, arith}
+use Rattle.std.proofs.Common.{refl, sym, ◌∙◌, subst, Result, arith}
 use Rattle.file_store.specs.State.{StoreState}
 use Rattle.node.specs.Course.{at}
 use Rattle.node.specs.Lent.{lent as lent_so, seen}
 use Rattle.node.specs.Turns.{lent}
 use Rattle.node.specs.declared.stop.NodeStop.{NodeStop}
 use Rattle.server_node.specs.declared.terms.Served.{Served}
-use Rattle.server_node.specs.Sessions.Course.{Owes}
-use Rattle.server_node.specs.Sessions.ServerState.{ServerState, new_server}
+use Rattle.server_node.specs.Sessions.ServerState.{new_server}
 use Rattle.server_node.specs.Sessions.SessionRan.{login_text}
 use Rattle.server_node.proofs.Ending.{Did, refused, served, unlisted}
 use Rattle.server_node.proofs.sessions.CourseLemmas.{owes-first}
@@ -35,12 +34,8 @@ returns-in_default g c =
 -- LOGIN_RESP is what the server has to say first
 pub take_turns-ended-requires : goal.take_turns-ended-requires
 take_turns-ended-requires g c =
-    let disk = c.recover.new.disk in
-    let store = c.in_ok-store.store in
-    let server = new_server c.args.terms.now.caller store (login_text c.moment_of-first.result) in
-    subst (λ (s : ServerState). Owes g.D.Disk (at s disk) [] None [] (at s disk)) (sym c.new-server.ensures)
-    (owes-first g.D.Disk g.met.D.Disk.lasts_same g.met.D.Disk.lasts_on (at server disk)
-    c.in_ok-store.ensures.recovered.ready refl (λ fails. refl))
+    let server = new_server c.args.terms.now.caller c.in_ok-store.store (login_text c.moment_of-first.result) in
+    rw c.new-server.ensures (owes-first g.D.Disk g.met.D.Disk.lasts_same g.met.D.Disk.lasts_on (at server c.recover.new.disk) c.in_ok-store.ensures.recovered.ready refl (λ fails. refl))
 
 pub answer_of-requires : goal.answer_of-requires
 answer_of-requires g c = grind (arith, common_steps, not-over)

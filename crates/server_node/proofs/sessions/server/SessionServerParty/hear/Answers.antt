@@ -1,10 +1,9 @@
 -- A whole packet is taken, and less than one waits.
-use Rattle.std.proofs.Common.{ap, ◌∙◌, take, sym, subst}
+use Rattle.std.proofs.Common.{ap, ◌∙◌}
 use Rattle.disk_model.proofs.Writes.{octets_from_fits}
 use Rattle.ftl0_packets.specs.Reading.{under_way}
 use Rattle.ftl0_packets.specs.Values.{item_of}
 use Rattle.ftl0_packets.proofs.OctetLemmas.{IsOctets-append, IsOctets-take}
-use Rattle.px_base.specs.Octets.{IsOctets}
 use Rattle.ftl0_session.specs.SessionState.{caller_of}
 use Rattle.ftl0_session.specs.Taking.{working}
 use Rattle.server_node.specs.Sessions.ServerState.{ServerState}
@@ -15,22 +14,10 @@ use Rattle.server_node.proofs.sessions.server.SessionServerParty.hear.Goals as g
 pub invariant_of-self-in_default : goal.invariant_of-self-in_default
 invariant_of-self-in_default g c =
     let i = c.self.invariant in
-    let reader = c.feed-taken.new.self in
-    record {
-      held = i.held;
-      only = i.only;
-      due = i.due;
-      complete = i.complete;
-      waiting =
-          record {
-            none = c.feed-taken.ensures.none;
-            left = c.feed-taken.ensures.left;
-            are_octets =
-                octets_under_way reader (subst IsOctets (sym c.feed-taken.ensures.octets)
-                (IsOctets-append (under_way c.self.inside.reader) (take c.feed-taken.result.0 c.args.piece.now) i.waiting.are_octets
-                (IsOctets-take c.feed-taken.result.0 c.args.piece.now (octets_from_fits c.args.piece.now c.type_inv.piece))));
-          };
-    }
+    let fed = c.feed-taken.ensures in
+    let piece_are = IsOctets-take c.feed-taken.result.0 c.args.piece.now (octets_from_fits c.args.piece.now c.type_inv.piece) in
+    let are = octets_under_way c.feed-taken.new.self (rw fed.octets (IsOctets-append (under_way c.self.inside.reader) _ i.waiting.are_octets piece_are)) in
+    record { held = i.held; only = i.only; due = i.due; complete = i.complete; waiting = record { none = fed.none; left = fed.left; are_octets = are } }
 
 pub returns-in_default-clause-takes : goal.returns-in_default-clause-takes
 returns-in_default-clause-takes g c =
