@@ -1,11 +1,11 @@
 -- A session or a server from the recovery of its store, which is refused or gives one, to its end by the turns of its
 -- node; what it does to its disk, and what stands there.
 use Rattle.std.proofs.lemmas.Grind.{common_steps}
-use Rattle.std.proofs.Common.{◌≡◌, inl, inr, ⊎_elim, ◌⊎◌, ℕ, ◌+◌, ◌≤◌, List, ◌++◌, refl, ◌∙◌, ap, subst, arith, IfSome, [], ◌∷◌, Bool, true, false, sym, ◌≢◌, Result, Ok, Err, IsErrAnd, IsErrOf, Option}
+use Rattle.std.proofs.Common.{◌≡◌, inl, inr, ℕ, ◌+◌, List, ◌++◌, refl, ◌∙◌, ap, subst, arith, IfSome, [], ◌∷◌, Bool, false, sym, ◌≢◌, Result, Ok, Err, IsErrAnd, IsErrOf, Option}
 use Rattle.disk_model.specs.AtDisk.{AtDisk, at}
 use Rattle.disk_model.specs.declared.disk.Disk.{Ghosts}
 use Rattle.file_journal.specs.Through.{StandsThrough}
-use Rattle.file_store.specs.Calls.{Runs, ChangesReads, Becomes, Leaves, TakesStep}
+use Rattle.file_store.specs.Calls.{Runs, Becomes, Leaves, TakesStep}
 use Rattle.file_store.specs.Command.{Command}
 use Rattle.file_store.specs.Records.{store_form, store_magic}
 use Rattle.file_store.specs.Store.{Store}
@@ -19,7 +19,7 @@ use Rattle.px_base.specs.Outside.{Gains}
 use Rattle.px_base.specs.Polling.{HearsAll, IsButLast}
 use Rattle.px_base.specs.declared.air.Air.{Ghosts as AirGhosts}
 use Rattle.px_base.specs.declared.air.Turn.{Turn}
-use Rattle.file_store.specs.JournalRecovery.{IsFailedSync, IsSyncedFirst}
+use Rattle.file_store.specs.JournalRecovery.{IsSyncedFirst}
 use Rattle.file_store.specs.Recovery.{StandsAlike, IsRecovered, LeavesAlikeSinceSync, RefusesRecovery}
 use Rattle.file_store.specs.State.{StoreState, store_in}
 use Rattle.node.specs.Course.{AtDisk, Course}
@@ -57,18 +57,8 @@ pub record Serves {A C D : Type 0} (seen : Seen D A C) (blocks : ℕ) (given : O
 -- ---- a recovery that is refused, whatever it would have given
 
 -- one fault is one stop
-fault_of : NodeStop → StoreFault
-fault_of (stop.NotAStore found) = fault.NotAStore found
-fault_of (stop.Damaged at) = fault.Damaged at
-fault_of stop.Disk = fault.Disk
-fault_of why = fault.OutOfMemory
-
-of_stop : (why : StoreFault) → fault_of (stop_of_fault why) ≡ why
-unfolding fault_of
-of_stop why = grind (arith, common_steps)
-
 same_fault : (why other : StoreFault) → stop_of_fault why ≡ stop_of_fault other → why ≡ other
-same_fault why other is = sym (of_stop why) ∙ ap fault_of is ∙ of_stop other
+same_fault why other is = grind (arith, common_steps)
 
 -- the error of an answer
 error_of : {T E : Type 0} (a b : E) → IsErrOf {T = T} (Err a) b → a ≡ b

@@ -1,7 +1,7 @@
 -- Events one after another, and a stop at one of them, whatever serves them.
 use Rattle.std.proofs.lemmas.Grind.{common_steps}
 use Rattle.std.proofs.Common.{◌≡◌, ℕ, ◌+◌, List, [], ◌∷◌, ◌++◌, Bool, refl, ap, sym, ◌∙◌, append_assoc, arith}
-use Rattle.std.proofs.Math.Nat.{add_assoc, zero-add}
+use Rattle.std.proofs.Math.Nat.{add_assoc}
 use Rattle.disk_model.specs.declared.disk.Disk.{Ghosts}
 use Rattle.file_store.specs.Command.{Command}
 use Rattle.file_store.specs.State.{IsReady, StoreState}

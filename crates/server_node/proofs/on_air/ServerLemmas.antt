@@ -17,7 +17,7 @@ use Rattle.node.specs.declared.stop.NodeStop.{NodeStop}
 use Rattle.ftl0_server.specs.Failures.{failed_reads, failed_write}
 use Rattle.ftl0_server.specs.Connection.Taking.{fails}
 use Rattle.ftl0_server.specs.Connection.ConnectionState.{with_reads}
-use Rattle.ftl0_server.specs.Calls.{HandsOut, HandsOutNext, Hears, HearsBy}
+use Rattle.ftl0_server.specs.Calls.{HandsOutNext, Hears, HearsBy}
 use Rattle.ftl0_server.specs.Server.{IsSilent, Server, ServerHappened, ServerSends, server_next, settled}
 use Rattle.ftl0_server.specs.ServerState.{IsServer, SendsFor, ServerState, server_pending}
 use Rattle.ftl0_server.specs.ServerStep.{Empties, ServerStep, happening, stepped}
@@ -35,7 +35,7 @@ use Rattle.px_base.specs.declared.air.Turn.{Turn}
 use Rattle.file_store.specs.Store.{Store}
 use Rattle.node.specs.Lent.{Seen, lent}
 use Rattle.px_base.specs.Polling.{IsButLast}
-use Rattle.node.specs.Turns.{IsUnsaid, Lent as Driven, StoppedInLast, TookTurns, party_at}
+use Rattle.node.specs.Turns.{Lent as Driven, StoppedInLast, TookTurns, party_at}
 use Rattle.node.specs.declared.finished.Finished.{Finished}
 use Rattle.node.specs.declared.terms.TurnTerms.{TurnTerms}
 use Rattle.file_store.specs.Recovery.{IsRecovered}
@@ -114,11 +114,8 @@ module _ {D : Type 0} (g : Ghosts D) (lasts : (disk : D) → g.lasts disk disk) 
         → IsSaid unsaid (text_of frames) text → HaltsOn g server old (event ∷ []) stop.Disk unsaid text new
     event-failed by frames last sent text unsaid said =
         let failed : ServerHappened = failing server event by.0 parts in
-        let step : ServerStep server event (failed_write by.0 ++ failed_reads parts) (stepped failed.done failed.cut failed.missed fails frames (settled last)) =
-        record { silent = serving.silent; done_is = refl; cut_is = refl; missed_is = refl; halt_is = sym by.1; last = last; sent = sent; new_is = refl } in
-        stopped stop.Disk unsaid text failed.done failed.cut failed.missed (by.0, parts, frames, settled last, step, said)
-        (cuts-among-same g ⊤ (stop.Disk ≡ stop.Disk) failed.missed failed.missed (store_at old) (store_at new) failed.done failed.cut (λ _. refl) (λ _. tt) refl
-        (rw same by.3)) (λ is. cc is)
+        stopped stop.Disk unsaid text failed.done failed.cut failed.missed (by.0, parts, frames, settled last, grind (arith, common_steps, by.1, sent, serving.silent), said)
+        (cuts-among-same g ⊤ _ _ _ (store_at old) (store_at new) failed.done failed.cut (λ _. refl) (λ _. tt) refl (rw same by.3)) (λ is. cc is)
 
     -- There was no memory for it.
     event-unmade : Heard (Err halt.OutOfMemory) → HaltsOn g server old (event ∷ []) stop.OutOfMemory false [] new
@@ -271,19 +268,8 @@ module _ {D : Type 0} (g : Ghosts D) (lasts : (disk : D) → g.lasts disk disk) 
           let rest = h.1 server serving in
           rest-whole start events said server is None rest (rw (no-next start events said server is None rest).1 rest.stands) (settles rest.made rest.stands) in
           let runs = runs-on h.0.server h.0.serving in
-          let same = (no-next start events said h.0.server is None (h.1 h.0.server h.0.serving)).1 in (
-            runs-on,
-            record {
-              awaits =
-                  record {
-                    silent = ap server_pending same ∙ sym pending ∙ is;
-                    ready = record { healthy = (runs.runs.does.done (λ never. never)).1; stands_on = runs.runs.does.stands_on };
-                  };
-              memory = fine;
-              server = runs.next;
-              serving = runs.serving;
-            },
-          )
+          let same = (no-next start events said h.0.server is None (h.1 h.0.server h.0.serving)).1 in
+          (runs-on, grind (arith, common_steps, same, runs, runs.runs.does.done (λ never. never)))
       gave-all start events (Some halt.Disk) said h = λ server serving. rest-whole start events said server is (Some halt.Disk) (h.1 server serving)
       gave-all start events (Some halt.OutOfMemory) said h = λ server serving. not-silenced (h.1 server serving).0
 
@@ -400,8 +386,7 @@ module _ {A C D : Type 0} (seen : Seen D A C) (terms : ServerTerms) (old new : D
     all-taken : Taken (NodeEvents terms.me) (server_course g) (λ p. refl) seen.air old.air new.air (party_at old) (party_at new) took.all took.text took.unsaid terms.polls server_steps server took.all.events DidSo
     all-taken result ends counts fine over h =
         let comes : ComesOn g server (party_at old) took.all.events took.text (party_at new) = h.0 server serving in
-        let runs = comes.runs in
-        let l = least_by (but_last took.all.turns).0 (but_last took.all.turns).1 in
+        let runs = comes.runs in let l = least_by (but_last took.all.turns).0 (but_last took.all.turns).1 in
         did result runs.done [] runs.missed ends counts l (over l.least (made took.text runs.done runs.missed) (comes.next, runs.goes, refl))
         (cuts-among-none g _ runs.missed (store_at (party_at old)) (store_at (party_at new)) runs.done fine (lasts new.disk) runs.does)
 

@@ -1,13 +1,11 @@
 -- The recovery is refused, or the server serves over what it gives.
 use Rattle.std.proofs.lemmas.Grind.{common_steps}
-use Rattle.std.proofs.Common.{None, sym, subst, Result, arith}
+use Rattle.std.proofs.Common.{None, arith}
 use Rattle.ftl0_server.specs.ServerState.{ServerState}
 use Rattle.node.specs.Course.{at}
 use Rattle.node.specs.Lent.{lent as lent_so, seen}
 use Rattle.node.specs.Turns.{lent}
-use Rattle.node.specs.declared.stop.NodeStop.{NodeStop}
-use Rattle.server_node.specs.declared.terms.Served.{Served}
-use Rattle.server_node.proofs.Ending.{Did, Recovers, refused, served}
+use Rattle.server_node.proofs.Ending.{Recovers, refused, served}
 use Rattle.server_node.proofs.on_air.ServerLemmas.{owes-none, Ran, not-over, server-did, started}
 use Rattle.server_node.proofs.on_air.serving.serve.Goals as goal
 
@@ -40,7 +38,7 @@ returns g c =
     g.met.D.Disk.lasts_on up.0 c.args.disk.now up.1 in
     let serves = served all g.met.D.Disk.lasts_on blocks None (Ran terms) old now mid c.in_ok-server.server station.server.store last.server.store terms.polls c.answer_of.result recovers
     (rw c.answer_of.ensures did) in
-    record { refuses = serves.refuses; ends = serves.ends; counts = serves.counts; runs = serves.runs }
+    grind (arith, common_steps, serves)
 
 pub returns-in_err-server : goal.returns-in_err-server
 returns-in_err-server g c =
