@@ -85,18 +85,12 @@ module _ {A C D T : Type 0} (seen : Seen D A C) (blocks : ℕ) (given : Option �
   unserved = record {
     refuses = refuses;
     ends = inl (record {
-      fault = why;
-      answer = refl;
-      air = refl;
-      clock = refl;
+      fault = why; answer = refl; air = refl; clock = refl; runs = refused_runs;
       leaves =
           record {
             since_sync = told_weaker (seen.disk.content old.disk) _ _ (λ before told left. grind (arith, common_steps, there, left)) since_sync;
-            since_start = since_start;
-            not_a_store = untouched;
-            damaged = damage;
+            since_start = since_start; not_a_store = untouched; damaged = damage;
           };
-      runs = refused_runs;
     });
     counts = refused_counts seen.air.read_faults seen.air.write_faults old.air why;
     runs = runs_refused seen.disk _ old.disk disk_n refused_runs;
@@ -244,21 +238,10 @@ module _ {A C D T : Type 0} (seen : Seen D A C) (on : (first second third : D) �
   served = record {
     refuses = λ no_disk no_memory. told_weaker (g.content old.disk) _ _ (λ octets told stood. grind (arith, common_steps, never_refused, stood)) h.recovered.content;
     ends = inr (record {
-      start = store_in start;
-      rules = h.rules;
-      stood = h.recovered.content;
-      recovered = mid;
-      octets = h.octets;
-      run = run;
-      turns_heard = did.turns_heard;
-      moments_given = did.moments_given;
-      text_said = did.text_said;
-      is_unsaid = did.is_unsaid;
-      ran = did.ran;
-      puts = puts;
+      start = store_in start; rules = h.rules; stood = h.recovered.content; recovered = mid; octets = h.octets; run = run;
+      turns_heard = did.turns_heard; moments_given = did.moments_given; text_said = did.text_said; is_unsaid = did.is_unsaid; ran = did.ran; puts = puts;
       reads = runs_missed g on _ Failed old.disk mid new.disk fine h.runs run.all.missed (cuts-among-all g on Failed run.all.missed (at start mid) (at store new.disk) run.all.done run.cut did.cuts).reads;
-      stands = standing.0;
-      ready = standing.1;
+      stands = standing.0; ready = standing.1;
       none = λ none. let both = append-none run.all.done run.cut none in rw (did.cuts.second.none both.1) (did.cuts.first.none both.0);
     });
     counts = did.counts;

@@ -38,14 +38,11 @@ module _ {S E : Type 0} (steps : Steps S E) (laws : AreSteps steps) (why : NodeS
     stops =
         record {
           before = xs ++ k.before;
-          next = k.next;
-          later = k.later;
+          next = k.next; later = k.later; last = k.last; stops = k.stops;
           events_are = rw (k.events_are, append_assoc) refl;
           earlier = both m k.earlier;
           then_is = k.then_is;
           goes = laws.on a b k.then_is xs k.before m k.earlier h k.goes;
-          last = k.last;
-          stops = k.stops;
           all_is = ap (both m) k.all_is ∙ sym (both-assoc m k.earlier k.last);
         };
     between = k.before;

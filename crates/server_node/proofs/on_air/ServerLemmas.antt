@@ -14,13 +14,12 @@ use Rattle.node.specs.Course.{AtDisk, GaveAll, GivesNext, IsLawful, at, stop_at_
 use Rattle.node.specs.Events.{NodeEvent, NodeEvents}
 use Rattle.disk_model.specs.declared.halt.Halt.{Halt}
 use Rattle.node.specs.declared.stop.NodeStop.{NodeStop}
-use Rattle.ftl0_server.specs.Failures.{failed_reads, failed_write}
-use Rattle.ftl0_server.specs.Connection.Taking.{fails}
+use Rattle.ftl0_server.specs.Failures.{failed_reads}
 use Rattle.ftl0_server.specs.Connection.ConnectionState.{with_reads}
 use Rattle.ftl0_server.specs.Calls.{HandsOutNext, Hears, HearsBy}
 use Rattle.ftl0_server.specs.Server.{IsSilent, Server, ServerHappened, ServerSends, server_next, settled}
 use Rattle.ftl0_server.specs.ServerState.{IsServer, SendsFor, ServerState, server_pending}
-use Rattle.ftl0_server.specs.ServerStep.{Empties, ServerStep, happening, stepped}
+use Rattle.ftl0_server.specs.ServerStep.{Empties, happening}
 use Rattle.ftl0_server.specs.Serving.{TakesEvent}
 use Rattle.ftl0_server.proofs.Offered.{empties-silent, serves-append, serves-one, silent-settled, uncut}
 use Rattle.server_node.specs.Sessions.Running.{IsSaid}
@@ -122,8 +121,7 @@ module _ {D : Type 0} (g : Ghosts D) (lasts : (disk : D) → g.lasts disk disk) 
     event-unmade (inl does) = stopped stop.OutOfMemory false [] [] [] 0 (inl (refl, refl), refl, refl) (none-cut stop.OutOfMemory (λ e. cc e) [] 0 does) (λ is. refl)
     event-unmade (inr by) =
         let failed : ServerHappened = failing server event by.0 parts in
-        stopped stop.OutOfMemory false [] failed.done [] failed.missed (inr (by.0, parts, by.1, refl, refl), refl, refl)
-        (none-cut stop.OutOfMemory (λ e. cc e) failed.done failed.missed by.2) (λ is. refl)
+        stopped stop.OutOfMemory false [] failed.done [] failed.missed (inr (by.0, parts, by.1, refl, refl), refl, refl) (none-cut stop.OutOfMemory (λ e. cc e) failed.done failed.missed by.2) (λ is. refl)
 
   -- It came, and its frames are to be said.
   module _ (old : AtDisk ServerStation D) (made : ServerState) (disk : D) (event : NodeEvent) (up : IsUp g old) where
@@ -133,20 +131,14 @@ module _ {D : Type 0} (g : Ghosts D) (lasts : (disk : D) → g.lasts disk disk) 
     owes-by : (why : Option Halt) (server : Server) (serving : IsServing old.it.server server) (parts : List ℕ) → HearsBy g (with_reads (happening server event) parts) old.it.server made old.disk disk (answer_by why)
         → OwesOver g server old (event ∷ []) why [] (heard why)
     owes-by None server serving parts by = record {
-      made = (happening server event (failed_reads parts)).after;
-      stands = by.1;
-      memory = up.memory;
+      made = (happening server event (failed_reads parts)).after; stands = by.1; memory = up.memory;
       whole = λ frames last self sent same stands settles. event-taken old (with_server (heard None) self) event server serving made parts same by frames last sent settles;
       front = λ frames last self text sent same some is_front. event-unsaid old (with_server (heard None) self) event server serving made parts same by frames last sent text some is_front;
     }
     owes-by (Some halt.Disk) server serving parts by = record {
-      made = (failing server event by.0 parts).after;
-      stands = by.2;
-      memory = up.memory;
-      whole = λ frames last self sent same.
-          event-failed old (with_server (heard (Some halt.Disk)) self) event server serving made parts same by frames last sent (text_of frames) false refl;
-      front = λ frames last self text sent same some is_front.
-          event-failed old (with_server (heard (Some halt.Disk)) self) event server serving made parts same by frames last sent text true is_front;
+      made = (failing server event by.0 parts).after; stands = by.2; memory = up.memory;
+      whole = λ frames last self sent same. event-failed old (with_server (heard (Some halt.Disk)) self) event server serving made parts same by frames last sent (text_of frames) false refl;
+      front = λ frames last self text sent same some is_front. event-failed old (with_server (heard (Some halt.Disk)) self) event server serving made parts same by frames last sent text true is_front;
     }
     owes-by (Some halt.OutOfMemory) server serving parts by = (refl, event-unmade old (heard (Some halt.OutOfMemory)) event server serving made parts refl by)
 
@@ -171,12 +163,9 @@ module _ {D : Type 0} (g : Ghosts D) (lasts : (disk : D) → g.lasts disk disk) 
   owes-none start up = (
     up,
     λ server serving. record {
-      made = server;
-      stands = serving.is;
-      memory = up.memory;
+      made = server; stands = serving.is; memory = up.memory;
       whole = λ frames last self sent same stands settles.
-          let none = none-sent server frames last serving.silent sent in
-          rw none.0 (comes-none start self server up same (record { is = rw none.1 at stands; silent = serving.silent }));
+          let none = none-sent server frames last serving.silent sent in rw none.0 (comes-none start self server up same (record { is = rw none.1 at stands; silent = serving.silent }));
       front = λ frames last self text sent same some. absurd (some (none-sent server frames last serving.silent sent).0);
     },
   )
@@ -212,17 +201,10 @@ module _ {D : Type 0} (g : Ghosts D) (lasts : (disk : D) → g.lasts disk disk) 
 
         rest-on : Rest why (said ++ kiss_text out_n) new
         rest-on = record {
-          made = next.0.after;
-          stands = next.2;
-          memory = fine;
-          whole = λ frames last self sent same.
-              rw (append_assoc, next.3) (h.whole (next.0.frame ∷ frames) last self (next.0, next.1, refl, sent) (same ∙ store));
-          front = λ frames last self text sent same some is_front.
-              rw append_assoc
-              (h.front (next.0.frame ∷ frames) last self (kiss_text out_n ++ text) (next.0, next.1, refl, sent) (same ∙ store) (λ e. cc e) (
-                is_front.0,
-                grind (arith, common_steps, is_front.1, next.3),
-              ));
+          made = next.0.after; stands = next.2; memory = fine;
+          whole = λ frames last self sent same. rw (append_assoc, next.3) (h.whole (next.0.frame ∷ frames) last self (next.0, next.1, refl, sent) (same ∙ store));
+          front = λ frames last self text sent same some is_front. rw append_assoc
+              (h.front (next.0.frame ∷ frames) last self (kiss_text out_n ++ text) (next.0, next.1, refl, sent) (same ∙ store) (λ e. cc e) (is_front.0, grind (arith, common_steps, is_front.1, next.3)));
         }
 
         -- Saying it failed.
@@ -287,11 +269,9 @@ module _ {D : Type 0} (g : Ghosts D) (lasts : (disk : D) → g.lasts disk disk) 
       owes_none = owes-none;
       goes_none = goes-none;
       goes_on = λ start mid now events others text more h k server serving.
-          let first = h server serving in
-          let second = k first.next first.serving in
+          let first = h server serving in let second = k first.next first.serving in
           record {
-            next = second.next;
-            serving = second.serving;
+            next = second.next; serving = second.serving;
             runs = runs-on server_steps are_steps g on (serving_at server start) (serving_at first.next mid) (serving_at second.next now) events others text more first.runs second.runs;
           };
       halts_behind = λ start mid now events others text more why unsaid h k server serving.
@@ -347,8 +327,7 @@ module _ {A C D : Type 0} (seen : Seen D A C) (terms : ServerTerms) (old new : D
     least_by earlier (inl none) = record { earlier = []; but_last = inl (none.0, refl); before = []; behind = took.all.moments; split = refl; least = []; brought = (refl, refl) }
     least_by earlier (inr some) =
         let few : length earlier + 1 ≡ length took.all.turns = simp length-append at (sym (ap length some.1)) in
-        let before = take (length earlier) took.all.moments in
-        let behind = drop (length earlier) took.all.moments in
+        let before = take (length earlier) took.all.moments in let behind = drop (length earlier) took.all.moments in
         let split : took.all.moments ≡ before ++ behind = sym (take-append-drop (length earlier) took.all.moments) in
         let left = took.open_before earlier some.0 [] before behind some.1 split (length-take-le (length earlier) took.all.moments (omega (arith, few, took.one_each))) in
         record { earlier = earlier; but_last = inr some; before = before; behind = behind; split = split; least = left.0; brought = left.1 }
@@ -358,29 +337,9 @@ module _ {A C D : Type 0} (seen : Seen D A C) (terms : ServerTerms) (old new : D
         → CutsOffAmongReads g (IsErrOf result stop.Disk) missed (store_at (party_at old)) (store_at (party_at new)) done cut → DidSo result
     did result done cut missed ends counts l over cuts = record {
       run = record { turns = took.all.turns; moments = took.all.moments; all = made took.text done missed; cut = cut; unsaid = took.unsaid };
-      turns_heard = took.turns_heard;
-      moments_given = took.moments_given;
-      text_said = took.text_said;
-      is_unsaid = took.is_unsaid;
-      ran =
-          record {
-            one_each = took.one_each;
-            events = took.all.events;
-            brings = took.brings;
-            bound = took.bound;
-            ends = ends;
-            earlier = l.earlier;
-            but_last = l.but_last;
-            before = l.before;
-            behind = l.behind;
-            split = l.split;
-            least = l.least;
-            brought = l.brought;
-            ends_over = over;
-          };
-      ends = ends;
-      counts = counts;
-      cuts = cuts;
+      turns_heard = took.turns_heard; moments_given = took.moments_given; text_said = took.text_said; is_unsaid = took.is_unsaid;
+      ran = grind (arith, common_steps, over, l.brought, l.split, l.but_last);
+      ends = ends; counts = counts; cuts = cuts;
     }
 
     all-taken : Taken (NodeEvents terms.me) (server_course g) (λ p. refl) seen.air old.air new.air (party_at old) (party_at new) took.all took.text took.unsaid terms.polls server_steps server took.all.events DidSo
@@ -401,12 +360,10 @@ module _ {A C D : Type 0} (seen : Seen D A C) (terms : ServerTerms) (old new : D
 
     stopped-last : Stopped (NodeEvents terms.me) (server_course g) (λ p. refl) seen.air old.air new.air (party_at old) (party_at new) took.all took.text took.unsaid terms.polls server_steps server took.all.events DidSo
     stopped-last why ends counts over h =
-        let from = began why h h.ends in
-        let comes : ComesOn g server (party_at old) h.least h.first from.0 = from.1 server serving in
+        let from = began why h h.ends in let comes : ComesOn g server (party_at old) h.least h.first from.0 = from.1 server serving in
         let halts : HaltsOn g comes.next from.0 h.more why took.unsaid h.last (party_at new) = from.2 comes.next comes.serving in
         let all : Made = made (h.first ++ h.last) (comes.runs.done ++ halts.done) (comes.runs.missed + halts.missed) in
-        let then_is = serving_at comes.next from.0 in
-        let end = at new.party.server.store new.disk in
+        let then_is = serving_at comes.next from.0 in let end = at new.party.server.store new.disk in
         let behind = behind-all server_steps are_steps why took.unsaid g on (serving_at server (party_at old)) then_is end h.least h.more h.first h.last comes.runs halts in
         did (Err why) all.done halts.cut all.missed ends (counts (λ is. rw (halts.kept is) at took.is_unsaid))
         (record { earlier = h.earlier; but_last = h.but_last; before = h.before; behind = h.behind; split = h.split; least = h.least; brought = h.brought })

@@ -32,8 +32,7 @@ returns g c =
     let old = lent_so c.args.disk.now c.args.air.now c.args.clock.now in
     let now = lent_so new.disk new.air new.clock in
     let up = started g.D.Disk terms blocks c.args.disk.now mid station c.in_ok-server.server c.new-station.ensures.server c.new-station.ensures.memory h.recovered h.server h.silent in
-    let recovers : Recovers g.D.Disk blocks c.args.disk.now mid c.in_ok-server.server station.server.store = rw c.new-station.ensures.server
-    (record { recovered = h.recovered; magic_is = h.magic; rules = h.rules; runs = h.runs; octets = h.octets; since_start = h.since_start; since_sync = h.since_sync }) in
+    let recovers : Recovers g.D.Disk blocks c.args.disk.now mid c.in_ok-server.server station.server.store = grind (arith, common_steps, h, c.new-station.ensures.server) in
     let did = server-did all terms (lent station mid c.args.air.now c.args.clock.now) (lent last new.disk new.air new.clock) c.drive-station.result.1 c.drive-station.ensures.turns g.met.D.Disk.lasts_same
     g.met.D.Disk.lasts_on up.0 c.args.disk.now up.1 in
     let serves = served all g.met.D.Disk.lasts_on blocks None (Ran terms) old now mid c.in_ok-server.server station.server.store last.server.store terms.polls c.answer_of.result recovers
@@ -45,5 +44,4 @@ returns-in_err-server g c =
     let h = c.in_err-server.ensures in
     let terms = c.args.terms.now in
     let serves = refused {T = ServerState} (seen g.D.Disk g.A.Air g.C.Clock.given) terms.limits.blocks None (Ran terms) (lent_so c.args.disk.now c.args.air.now c.args.clock.now) c.start.new.disk c.in_err-server.field-0.0
-    c.from_residual.result c.from_residual.ensures.1 h.refuses h.runs h.since_start h.since_sync h.untouched h.untouched_damage in
-    record { refuses = serves.refuses; ends = serves.ends; counts = serves.counts; runs = serves.runs }
+    c.from_residual.result c.from_residual.ensures.1 h.refuses h.runs h.since_start h.since_sync h.untouched h.untouched_damage in grind (arith, common_steps, serves)
