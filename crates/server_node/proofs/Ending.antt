@@ -64,9 +64,6 @@ same_fault why other is = grind (arith, common_steps)
 error_of : {T E : Type 0} (a b : E) → IsErrOf {T = T} (Err a) b → a ≡ b
 error_of a b is = cc is
 
-refused_counts : {A : Type 0} (reads writes : A → ℕ) (air : A) (why : StoreFault) → HasAirCause {T = Served} reads writes air air (Err (stop_of_fault why))
-refused_counts reads writes air why = grind (arith, common_steps)
-
 -- The answer of the recovery fails by the disk exactly where this fault is the disk's: it is that fault, or there was no
 -- memory behind it.
 module _ {A C D T : Type 0} (seen : Seen D A C) (blocks : ℕ) (given : Option ℕ) (Ran : Result Served NodeStop → Store → Run → Type 0) (old : Lent D A C) (disk_n : D) (answer : Result T StoreFault)
@@ -92,7 +89,7 @@ module _ {A C D T : Type 0} (seen : Seen D A C) (blocks : ℕ) (given : Option �
             since_start = since_start; not_a_store = untouched; damaged = damage;
           };
     });
-    counts = refused_counts seen.air.read_faults seen.air.write_faults old.air why;
+    counts = grind (arith, common_steps);
     runs = runs_refused seen.disk _ old.disk disk_n refused_runs;
   }
 
@@ -118,8 +115,8 @@ module _ {A C D T : Type 0} (seen : Seen D A C) (blocks : ℕ) (given : Option �
       refuses_so : RefusesSession {T = Served} blocks (seen.disk.content old.disk) (Err (stop_of_fault why))
       refuses_so no_disk no_memory =
           told_weaker (seen.disk.content old.disk) _ _ (λ before told exact. record {
-            not_a_store = λ found. (λ e. (exact.not_a_store found).0 (back (fault.NotAStore found) e), λ stood. there (fault.NotAStore found) ((exact.not_a_store found).1 stood));
-            damaged = λ at. (λ e. (exact.damaged at).0 (back (fault.Damaged at) e), λ stood. there (fault.Damaged at) ((exact.damaged at).1 stood));
+            not_a_store = λ found. grind (arith, common_steps, exact.not_a_store found, back (fault.NotAStore found), there (fault.NotAStore found));
+            damaged = λ at. grind (arith, common_steps, exact.damaged at, back (fault.Damaged at), there (fault.Damaged at));
           }) (refuses (λ e. no_disk (there fault.Disk e)) (λ e. no_memory (there fault.OutOfMemory e)))
 
   -- it gave this, and there was no memory behind it

@@ -32,23 +32,6 @@ module _ {S E : Type 0} (steps : Steps S E) (laws : AreSteps steps) (why : NodeS
     all_is = grind (arith, common_steps);
   }
 
-  -- events that were taken, and a stop at one of others
-  stop-behind : (a b : S) (xs ys : List E) (m n : Made) (cut : List Command) → steps.goes a xs m b → StopsOver steps b ys why unsaid n cut → StopsBehind xs steps a (xs ++ ys) why unsaid (both m n) cut
-  stop-behind a b xs ys m n cut h k = record {
-    stops =
-        record {
-          before = xs ++ k.before;
-          next = k.next; later = k.later; last = k.last; stops = k.stops;
-          events_are = rw (k.events_are, append_assoc) refl;
-          earlier = both m k.earlier;
-          then_is = k.then_is;
-          goes = laws.on a b k.then_is xs k.before m k.earlier h k.goes;
-          all_is = ap (both m) k.all_is ∙ sym (both-assoc m k.earlier k.last);
-        };
-    between = k.before;
-    in_order = refl;
-  }
-
   -- ---- on the disk
 
   module _ {D : Type 0} (g : Ghosts D) where
@@ -60,7 +43,15 @@ module _ {S E : Type 0} (steps : Steps S E) (laws : AreSteps steps) (why : NodeS
     module _ (on : (first second third : D) → g.lasts first second → g.lasts second third → g.lasts first third) (a b : WithStore S D) (c : AtDisk StoreState D) (xs ys : List E) (text more : List ℕ)
         (h : RunsOn g steps a b xs text) (k : StopsOn g steps b c ys why unsaid more) where
       pub behind-all : StopsBehind xs steps a.it (xs ++ ys) why unsaid (made (text ++ more) (h.done ++ k.done) (h.missed + k.missed)) k.cut
-      behind-all = stop-behind a.it b.it xs ys (made text h.done h.missed) (made more k.done k.missed) k.cut h.goes k.stops
+      behind-all = let m = made text h.done h.missed in let stop = k.stops in record {
+        stops = record {
+          before = xs ++ stop.before; next = stop.next; later = stop.later; last = stop.last; stops = stop.stops; earlier = both m stop.earlier; then_is = stop.then_is;
+          events_are = rw (stop.events_are, append_assoc) refl;
+          goes = laws.on a.it b.it stop.then_is xs stop.before m stop.earlier h.goes stop.goes;
+          all_is = ap (both m) stop.all_is ∙ sym (both-assoc m stop.earlier stop.last);
+        };
+        between = stop.before; in_order = refl;
+      }
 
       pub cuts-all : CutsOffAmongReads g (why ≡ stop.Disk) (h.missed + k.missed) (at a.store a.disk) c (h.done ++ k.done) k.cut
       cuts-all = cuts-among-then g on (why ≡ stop.Disk) h.missed k.missed (at a.store a.disk) (at b.store b.disk) c h.done k.done k.cut h.does k.cuts

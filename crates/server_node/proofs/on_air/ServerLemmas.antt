@@ -79,9 +79,6 @@ module _ {D : Type 0} (g : Ghosts D) (lasts : (disk : D) → g.lasts disk disk) 
     abbrev taken : ServerHappened
     taken = happening server event (failed_reads parts)
 
-    moved : (missed : ℕ) (done : List Command) → DoesAmongReads g ⊥ missed old.it.server.store made_so.store old.disk new.disk done → DoesAmongReads g ⊥ missed old.it.server.store new.it.server.store old.disk new.disk done
-    moved missed done does = rw same does
-
     -- It stopped at the event.
     stopped : (why : NodeStop) (unsaid : Bool) (text : List ℕ) (done cut : List Command) (missed : ℕ) → StopsAt why unsaid server event (made text done missed) cut
         → CutsOffAmongReads g (why ≡ stop.Disk) missed (store_at old) (store_at new) done cut → (why ≡ stop.OutOfMemory → unsaid ≡ false)
@@ -92,7 +89,7 @@ module _ {D : Type 0} (g : Ghosts D) (lasts : (disk : D) → g.lasts disk disk) 
     -- Not by the disk.
     none-cut : (why : NodeStop) → ¬ (why ≡ stop.Disk) → (done : List Command) (missed : ℕ) → DoesAmongReads g ⊥ missed old.it.server.store made_so.store old.disk new.disk done
         → CutsOffAmongReads g (why ≡ stop.Disk) missed (store_at old) (store_at new) done []
-    none-cut why fine done missed does = cuts-among-none g _ missed (store_at old) (store_at new) done fine (lasts new.disk) (moved missed done does)
+    none-cut why fine done missed does = cuts-among-none g _ missed (store_at old) (store_at new) done fine (lasts new.disk) (rw same does)
 
     module _ (by : Heard (Ok tt)) (frames : List FrameValue) (last : Server) (sent : Empties taken.after frames last) where
       takes-event : TakesEvent server event frames taken.done taken.missed (settled last)
@@ -100,7 +97,7 @@ module _ {D : Type 0} (g : Ghosts D) (lasts : (disk : D) → g.lasts disk disk) 
 
       -- All of it was taken, and its frames were said.
       event-taken : IsServer new.it.server (settled last) → ComesOn g server old (event ∷ []) (text_of frames) new
-      event-taken stands = grind (arith, common_steps, empties-silent, moved, serves-one, silent-settled, takes-event)
+      event-taken stands = grind (arith, common_steps, empties-silent, by.2, serves-one, silent-settled, takes-event)
 
       -- All of it was taken, and saying its frames failed.
       event-unsaid : (text : List ℕ) → frames ≢ [] → IsFront text (text_of frames) → HaltsOn g server old (event ∷ []) stop.AirWrite true text new
@@ -177,10 +174,6 @@ module _ {D : Type 0} (g : Ghosts D) (lasts : (disk : D) → g.lasts disk disk) 
     abbrev new : AtDisk ServerStation D
     new = with_server old server_n
 
-    -- there was memory
-    not-silenced : {X : Type 0} → old.it.is_out_of_memory ≡ true → X
-    not-silenced is = absurd (true≢false (sym is ∙ fine))
-
     hands : (why : Option Halt) → HandsOutNext (StandsBy why) old.it.server server_n out out_n answer
     hands None = serves
     hands (Some why) = sends
@@ -192,7 +185,7 @@ module _ {D : Type 0} (g : Ghosts D) (lasts : (disk : D) → g.lasts disk disk) 
       rest : (why : Option Halt) → OwesOver g server start events why said old → Rest why said old
       rest None h = h
       rest (Some halt.Disk) h = h
-      rest (Some halt.OutOfMemory) h = not-silenced h.0
+      rest (Some halt.OutOfMemory) h = absurd (cc (h.0, fine))
 
       -- One frame more is given.
       module _ (is : answer ≡ true) (why : Option Halt) (h : Rest why said old) where
@@ -212,10 +205,8 @@ module _ {D : Type 0} (g : Ghosts D) (lasts : (disk : D) → g.lasts disk disk) 
             → HaltsOn g server start events (stop_at_put why) true (said ++ front) new
         rest-cut ends front is_front =
             let later = ends next.0.after next.2 in
-            h.front (next.0.frame ∷ later.0) later.1 server_n front (next.0, next.1, refl, later.2) store (λ e. cc e) (
-              is_front.0 ++ text_of later.0,
-              ap (λ (o : List ℕ). kiss_text o ++ text_of later.0) (sym next.3) ∙ ap (λ (t : List ℕ). t ++ text_of later.0) is_front.1 ∙ append_assoc front is_front.0 (text_of later.0),
-            )
+            h.front (next.0.frame ∷ later.0) later.1 server_n front (next.0, next.1, refl, later.2) store (λ e. cc e)
+              (is_front.0 ++ text_of later.0, cc (next.3, is_front.1, append_assoc front is_front.0 (text_of later.0)))
 
       -- All was given.
       module _ (is : answer ≡ false) (why : Option Halt) (h : Rest why said old) where
@@ -234,7 +225,7 @@ module _ {D : Type 0} (g : Ghosts D) (lasts : (disk : D) → g.lasts disk disk) 
           → OwesOver g server start events why (said ++ kiss_text out_n) new
       goes-on start events None said server h = rest-on start events said server is None h
       goes-on start events (Some halt.Disk) said server h = rest-on start events said server is (Some halt.Disk) h
-      goes-on start events (Some halt.OutOfMemory) said server h = not-silenced h.0
+      goes-on start events (Some halt.OutOfMemory) said server h = absurd (cc (h.0, fine))
 
       pub gives-next : GivesNext (server_course g) old (kiss_text out_n) new
       gives-next = record {
@@ -253,7 +244,7 @@ module _ {D : Type 0} (g : Ghosts D) (lasts : (disk : D) → g.lasts disk disk) 
           let same = (no-next start events said h.0.server is None (h.1 h.0.server h.0.serving)).1 in
           (runs-on, grind (arith, common_steps, same, runs, runs.runs.does.done (λ never. never)))
       gave-all start events (Some halt.Disk) said h = λ server serving. rest-whole start events said server is (Some halt.Disk) (h.1 server serving)
-      gave-all start events (Some halt.OutOfMemory) said h = λ server serving. not-silenced (h.1 server serving).0
+      gave-all start events (Some halt.OutOfMemory) said h = λ server serving. absurd (cc ((h.1 server serving).0, fine))
 
   -- After want of memory nothing is said.
   pub gave-none : (old : AtDisk ServerStation D) → old.it.is_out_of_memory ≡ true → GaveAll (server_course g) old old
@@ -270,15 +261,11 @@ module _ {D : Type 0} (g : Ghosts D) (lasts : (disk : D) → g.lasts disk disk) 
       goes_none = goes-none;
       goes_on = λ start mid now events others text more h k server serving.
           let first = h server serving in let second = k first.next first.serving in
-          record {
-            next = second.next; serving = second.serving;
-            runs = runs-on server_steps are_steps g on (serving_at server start) (serving_at first.next mid) (serving_at second.next now) events others text more first.runs second.runs;
-          };
+          let runs = runs-on server_steps are_steps g on (serving_at server start) (serving_at first.next mid) (serving_at second.next now) events others text more first.runs second.runs in
+          record { next = second.next; serving = second.serving; runs = runs };
       halts_behind = λ start mid now events others text more why unsaid h k server serving.
-          let first = h server serving in
-          stops-on server_steps are_steps why unsaid g on (serving_at server start) (serving_at first.next mid) (at now.it.server.store now.disk) events others text more first.runs (k first.next first.serving);
-      halts_before = λ start now events others text why unsaid any h server serving.
-          grind (arith, common_steps, stops-more, are_steps, h server serving);
+          let first = h server serving in stops-on server_steps are_steps why unsaid g on (serving_at server start) (serving_at first.next mid) (at now.it.server.store now.disk) events others text more first.runs (k first.next first.serving);
+      halts_before = λ start now events others text why unsaid any h server serving. grind (arith, common_steps, stops-more, are_steps, h server serving);
     }
 
 -- what the node of a server is driven by

@@ -22,13 +22,10 @@ answer_of-requires g c = grind (arith, common_steps, not-over)
 pub returns : goal.returns
 returns g c =
     let h = c.in_ok-server.ensures in
-    let new = c.drive-station.new in
-    let terms = c.args.terms.now in
-    let blocks = terms.limits.blocks in
-    let mid = c.start.new.disk in
+    let new = c.drive-station.new in let mid = c.start.new.disk in
+    let terms = c.args.terms.now in let blocks = terms.limits.blocks in
     let all = seen g.D.Disk g.A.Air g.C.Clock.given in
-    let station = c.new-station.result in
-    let last = c.drive-station.result.0 in
+    let station = c.new-station.result in let last = c.drive-station.result.0 in
     let old = lent_so c.args.disk.now c.args.air.now c.args.clock.now in
     let now = lent_so new.disk new.air new.clock in
     let up = started g.D.Disk terms blocks c.args.disk.now mid station c.in_ok-server.server c.new-station.ensures.server c.new-station.ensures.memory h.recovered h.server h.silent in
