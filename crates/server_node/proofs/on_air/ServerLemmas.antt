@@ -102,8 +102,7 @@ module _ {D : Type 0} (g : Ghosts D) (lasts : (disk : D) → g.lasts disk disk) 
       -- All of it was taken, and saying its frames failed.
       event-unsaid : (text : List ℕ) → frames ≢ [] → IsFront text (text_of frames) → HaltsOn g server old (event ∷ []) stop.AirWrite true text new
       event-unsaid text some is_front =
-          stopped stop.AirWrite true text taken.done [] taken.missed (frames, settled last, takes-event, some, is_front, refl)
-          (none-cut stop.AirWrite (λ e. cc e) taken.done taken.missed by.2) (λ is. cc is)
+          stopped stop.AirWrite true text taken.done [] taken.missed (frames, settled last, takes-event, some, is_front, refl) (none-cut stop.AirWrite (λ e. cc e) taken.done taken.missed by.2) (λ is. cc is)
 
     -- The disk failed in it, and the frames of that step were said, or a front of them.
     event-failed : (by : Heard (Err halt.Disk)) (frames : List FrameValue) (last : Server) → Empties (failing server event by.0 parts).after frames last → (text : List ℕ) (unsaid : Bool)
@@ -240,8 +239,7 @@ module _ {D : Type 0} (g : Ghosts D) (lasts : (disk : D) → g.lasts disk disk) 
           let runs-on : (server_course g).goes start events said new = λ server serving.
           let rest = h.1 server serving in
           rest-whole start events said server is None rest (rw (no-next start events said server is None rest).1 rest.stands) (settles rest.made rest.stands) in
-          let runs = runs-on h.0.server h.0.serving in
-          let same = (no-next start events said h.0.server is None (h.1 h.0.server h.0.serving)).1 in
+          let runs = runs-on h.0.server h.0.serving in let same = (no-next start events said h.0.server is None (h.1 h.0.server h.0.serving)).1 in
           (runs-on, grind (arith, common_steps, same, runs, runs.runs.does.done (λ never. never)))
       gave-all start events (Some halt.Disk) said h = λ server serving. rest-whole start events said server is (Some halt.Disk) (h.1 server serving)
       gave-all start events (Some halt.OutOfMemory) said h = λ server serving. absurd (cc ((h.1 server serving).0, fine))
