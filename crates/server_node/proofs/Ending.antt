@@ -98,17 +98,11 @@ module _ {A C D T : Type 0} (seen : Seen D A C) (blocks : ℕ) (given : Option �
       let error = err_from_is_err_and result is in rw (error.1, error.2) (unserved seen blocks given Ran old disk_n (Err why) why (λ e. error_of why fault.Disk e) (λ e. ap Err e) runs since_start since_sync
       (λ found e. untouched found (ap Err e)) (λ at e. damage at (ap Err e)) refuses_so)
     where
-      there : (other : StoreFault) → IsErrOf {T = T} (Err why) other → IsErrOf {T = Served} (Err (stop_of_fault why)) (stop_of_fault other)
-      there other e = grind (arith, common_steps)
-
-      back : (other : StoreFault) → IsErrOf {T = Served} (Err (stop_of_fault why)) (stop_of_fault other) → IsErrOf {T = T} (Err why) other
-      back other e = grind (arith, common_steps, same_fault)
-
       refuses_so : RefusesSession {T = Served} blocks (seen.disk.content old.disk) (Err (stop_of_fault why))
       refuses_so no_disk no_memory =
           told_weaker (seen.disk.content old.disk) _ _ (λ before told exact. record {
             not_a_store = λ found. grind (arith, common_steps, exact.not_a_store found, same_fault why (fault.NotAStore found)); damaged = λ at. grind (arith, common_steps, exact.damaged at, same_fault why (fault.Damaged at));
-          }) (refuses (λ e. no_disk (there fault.Disk e)) (λ e. no_memory (there fault.OutOfMemory e)))
+          }) (refuses (λ e. no_disk (rw (error_of why fault.Disk e) refl)) (λ e. no_memory (rw (error_of why fault.OutOfMemory e) refl)))
 
   -- it gave this, and there was no memory behind it
   pub unlisted : (value : T) → Runs seen.disk (IsErrOf {T = T} (Ok value) fault.Disk) old.disk disk_n → Leaves seen.disk old.disk disk_n (StandsAlike blocks)

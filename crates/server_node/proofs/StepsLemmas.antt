@@ -27,10 +27,7 @@ does-none g store disk ready lasts = does-among g ⊥ store store disk disk [] (
 module _ {S E : Type 0} (steps : Steps S E) (laws : AreSteps steps) (why : NodeStop) (unsaid : Bool) where
   -- a stop at the one event
   pub stop-one : (s : S) (event : E) (all : Made) (cut : List Command) → steps.stops why unsaid s event all cut → StopsOver steps s (event ∷ []) why unsaid all cut
-  stop-one s event all cut h = record {
-    before = []; next = event; later = []; events_are = refl; earlier = made [] [] 0; then_is = s; goes = laws.none s; last = all; stops = h;
-    all_is = grind (arith, common_steps);
-  }
+  stop-one s event all cut h = record { before = []; next = event; later = []; events_are = refl; earlier = made [] [] 0; then_is = s; goes = laws.none s; last = all; stops = h; all_is = grind (arith, common_steps) }
 
   -- ---- on the disk
 
@@ -60,15 +57,13 @@ module _ {S E : Type 0} (steps : Steps S E) (laws : AreSteps steps) (why : NodeS
       stops-on = record { done = h.done ++ k.done; cut = k.cut; missed = h.missed + k.missed; stops = behind-all.stops; cuts = cuts-all; kept = k.kept }
 
 module _ {S E D : Type 0} (steps : Steps S E) (laws : AreSteps steps) (g : Ghosts D) where
-  pub runs-none : (s : S) (store : StoreState) (disk : D) → IsReady g store disk → g.lasts disk disk
-      → RunsOn g steps (with_store s store disk) (with_store s store disk) [] []
+  pub runs-none : (s : S) (store : StoreState) (disk : D) → IsReady g store disk → g.lasts disk disk → RunsOn g steps (with_store s store disk) (with_store s store disk) [] []
   runs-none s store disk ready lasts = record { done = []; missed = 0; goes = laws.none s; does = does-none g store disk ready lasts }
 
   pub runs-on : ((first second third : D) → g.lasts first second → g.lasts second third → g.lasts first third) → (a b c : WithStore S D) (xs ys : List E) (text more : List ℕ)
       → RunsOn g steps a b xs text → RunsOn g steps b c ys more → RunsOn g steps a c (xs ++ ys) (text ++ more)
   runs-on on a b c xs ys text more h k = record {
-    done = h.done ++ k.done;
-    missed = h.missed + k.missed;
+    done = h.done ++ k.done; missed = h.missed + k.missed;
     goes = laws.on a.it b.it c.it xs ys (made text h.done h.missed) (made more k.done k.missed) h.goes k.goes;
     does = among-then g on ⊥ ⊥ h.missed k.missed a.store b.store c.store a.disk b.disk c.disk h.done k.done (λ never. never) h.does k.does;
   }

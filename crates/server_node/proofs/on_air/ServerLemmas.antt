@@ -311,9 +311,8 @@ module _ {A C D : Type 0} (seen : Seen D A C) (terms : ServerTerms) (old new : D
     least_by : (earlier : List Turn) → IsButLast took.all.turns earlier → Least
     least_by earlier (inl none) = record { earlier = []; but_last = inl (none.0, refl); before = []; behind = took.all.moments; split = refl; least = []; brought = (refl, refl) }
     least_by earlier (inr some) =
-        let few : length earlier + 1 ≡ length took.all.turns = simp length-append at (sym (ap length some.1)) in
-        let before = take (length earlier) took.all.moments in let behind = drop (length earlier) took.all.moments in
-        let split : took.all.moments ≡ before ++ behind = sym (take-append-drop (length earlier) took.all.moments) in
+        let few : length earlier + 1 ≡ length took.all.turns = simp length-append at (sym (ap length some.1)) in let before = take (length earlier) took.all.moments in
+        let behind = drop (length earlier) took.all.moments in let split : took.all.moments ≡ before ++ behind = sym (take-append-drop (length earlier) took.all.moments) in
         let left = took.open_before earlier some.0 [] before behind some.1 split (length-take-le (length earlier) took.all.moments (omega (arith, few, took.one_each))) in
         record { earlier = earlier; but_last = inr some; before = before; behind = behind; split = split; least = left.0; brought = left.1 }
 

@@ -30,8 +30,7 @@ returns g c =
     let now = lent_so new.disk new.air new.clock in
     let up = started g.D.Disk terms blocks c.args.disk.now mid station c.in_ok-server.server c.new-station.ensures.server c.new-station.ensures.memory h.recovered h.server h.silent in
     let recovers : Recovers g.D.Disk blocks c.args.disk.now mid c.in_ok-server.server station.server.store = grind (arith, common_steps, h, c.new-station.ensures.server) in
-    let did = server-did all terms (lent station mid c.args.air.now c.args.clock.now) (lent last new.disk new.air new.clock) c.drive-station.result.1 c.drive-station.ensures.turns g.met.D.Disk.lasts_same
-    g.met.D.Disk.lasts_on up.0 c.args.disk.now up.1 in
+    let did = server-did all terms (lent station mid c.args.air.now c.args.clock.now) (lent last new.disk new.air new.clock) c.drive-station.result.1 c.drive-station.ensures.turns g.met.D.Disk.lasts_same g.met.D.Disk.lasts_on up.0 c.args.disk.now up.1 in
     let serves = served all g.met.D.Disk.lasts_on blocks None (Ran terms) old now mid c.in_ok-server.server station.server.store last.server.store terms.polls c.answer_of.result recovers
     (rw c.answer_of.ensures did) in
     grind (arith, common_steps, serves)
