@@ -81,10 +81,15 @@ module _ {A C D T : Type 0} (seen : Seen D A C) (blocks : ℕ) (given : Option �
   unserved = record {
     refuses = refuses;
     ends = inl (record {
-      fault = why; answer = refl; air = refl; clock = refl; runs = refused_runs;
+      fault = why;
+      answer = refl;
+      air = refl;
+      clock = refl;
+      runs = refused_runs;
       leaves = record { since_sync = told_weaker (seen.disk.content old.disk) _ _ (λ before told left. grind (arith, common_steps, there, left)) since_sync; since_start = since_start; not_a_store = untouched; damaged = damage };
     });
-    counts = grind (arith, common_steps); runs = runs_refused seen.disk _ old.disk disk_n refused_runs;
+    counts = grind (arith, common_steps);
+    runs = runs_refused seen.disk _ old.disk disk_n refused_runs;
   }
 
 module _ {A C D T : Type 0} (seen : Seen D A C) (blocks : ℕ) (given : Option ℕ) (Ran : Result Served NodeStop → Store → Run → Type 0) (old : Lent D A C) (disk_n : D) where
@@ -101,7 +106,8 @@ module _ {A C D T : Type 0} (seen : Seen D A C) (blocks : ℕ) (given : Option �
       refuses_so : RefusesSession {T = Served} blocks (seen.disk.content old.disk) (Err (stop_of_fault why))
       refuses_so no_disk no_memory =
           told_weaker (seen.disk.content old.disk) _ _ (λ before told exact. record {
-            not_a_store = λ found. grind (arith, common_steps, exact.not_a_store found, same_fault why (fault.NotAStore found)); damaged = λ at. grind (arith, common_steps, exact.damaged at, same_fault why (fault.Damaged at));
+            not_a_store = λ found. grind (arith, common_steps, exact.not_a_store found, same_fault why (fault.NotAStore found));
+            damaged = λ at. grind (arith, common_steps, exact.damaged at, same_fault why (fault.Damaged at));
           }) (refuses (λ e. no_disk (rw (error_of why fault.Disk e) refl)) (λ e. no_memory (rw (error_of why fault.OutOfMemory e) refl)))
 
   -- it gave this, and there was no memory behind it
@@ -213,10 +219,21 @@ module _ {A C D T : Type 0} (seen : Seen D A C) (on : (first second third : D) �
   served = record {
     refuses = λ no_disk no_memory. told_weaker (g.content old.disk) _ _ (λ octets told stood. grind (arith, common_steps, did.ends, stood)) h.recovered.content;
     ends = inr (record {
-      start = store_in start; rules = h.rules; stood = h.recovered.content; recovered = mid; octets = h.octets; run = run;
-      turns_heard = did.turns_heard; moments_given = did.moments_given; text_said = did.text_said; is_unsaid = did.is_unsaid; ran = did.ran; puts = puts;
+      start = store_in start;
+      rules = h.rules;
+      stood = h.recovered.content;
+      recovered = mid;
+      octets = h.octets;
+      run = run;
+      turns_heard = did.turns_heard;
+      moments_given = did.moments_given;
+      text_said = did.text_said;
+      is_unsaid = did.is_unsaid;
+      ran = did.ran;
+      puts = puts;
       reads = runs_missed g on _ Failed old.disk mid new.disk fine h.runs run.all.missed (cuts-among-all g on Failed run.all.missed (at start mid) (at store new.disk) run.all.done run.cut did.cuts).reads;
-      stands = standing.0; ready = standing.1;
+      stands = standing.0;
+      ready = standing.1;
       none = λ none. let both = append-none run.all.done run.cut none in rw (did.cuts.second.none both.1) (did.cuts.first.none both.0);
     });
     counts = did.counts;

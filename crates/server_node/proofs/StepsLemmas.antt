@@ -42,12 +42,19 @@ module _ {S E : Type 0} (steps : Steps S E) (laws : AreSteps steps) (why : NodeS
       pub behind-all : StopsBehind xs steps a.it (xs ++ ys) why unsaid (made (text ++ more) (h.done ++ k.done) (h.missed + k.missed)) k.cut
       behind-all = let m = made text h.done h.missed in let stop = k.stops in record {
         stops = record {
-          before = xs ++ stop.before; next = stop.next; later = stop.later; last = stop.last; stops = stop.stops; earlier = both m stop.earlier; then_is = stop.then_is;
+          before = xs ++ stop.before;
+          next = stop.next;
+          later = stop.later;
+          last = stop.last;
+          stops = stop.stops;
+          earlier = both m stop.earlier;
+          then_is = stop.then_is;
           events_are = rw (stop.events_are, append_assoc) refl;
           goes = laws.on a.it b.it stop.then_is xs stop.before m stop.earlier h.goes stop.goes;
           all_is = ap (both m) stop.all_is ∙ sym (both-assoc m stop.earlier stop.last);
         };
-        between = stop.before; in_order = refl;
+        between = stop.before;
+        in_order = refl;
       }
 
       pub cuts-all : CutsOffAmongReads g (why ≡ stop.Disk) (h.missed + k.missed) (at a.store a.disk) c (h.done ++ k.done) k.cut
@@ -63,7 +70,8 @@ module _ {S E D : Type 0} (steps : Steps S E) (laws : AreSteps steps) (g : Ghost
   pub runs-on : ((first second third : D) → g.lasts first second → g.lasts second third → g.lasts first third) → (a b c : WithStore S D) (xs ys : List E) (text more : List ℕ)
       → RunsOn g steps a b xs text → RunsOn g steps b c ys more → RunsOn g steps a c (xs ++ ys) (text ++ more)
   runs-on on a b c xs ys text more h k = record {
-    done = h.done ++ k.done; missed = h.missed + k.missed;
+    done = h.done ++ k.done;
+    missed = h.missed + k.missed;
     goes = laws.on a.it b.it c.it xs ys (made text h.done h.missed) (made more k.done k.missed) h.goes k.goes;
     does = among-then g on ⊥ ⊥ h.missed k.missed a.store b.store c.store a.disk b.disk c.disk h.done k.done (λ never. never) h.does k.does;
   }

@@ -127,12 +127,16 @@ module _ {D : Type 0} (g : Ghosts D) (lasts : (disk : D) → g.lasts disk disk) 
     owes-by : (why : Option Halt) (server : Server) (serving : IsServing old.it.server server) (parts : List ℕ) → HearsBy g (with_reads (happening server event) parts) old.it.server made old.disk disk (answer_by why)
         → OwesOver g server old (event ∷ []) why [] (heard why)
     owes-by None server serving parts by = record {
-      made = (happening server event (failed_reads parts)).after; stands = by.1; memory = up.memory;
+      made = (happening server event (failed_reads parts)).after;
+      stands = by.1;
+      memory = up.memory;
       whole = λ frames last self sent same stands settles. event-taken old (with_server (heard None) self) event server serving made parts same by frames last sent settles;
       front = λ frames last self text sent same some is_front. event-unsaid old (with_server (heard None) self) event server serving made parts same by frames last sent text some is_front;
     }
     owes-by (Some halt.Disk) server serving parts by = record {
-      made = (failing server event by.0 parts).after; stands = by.2; memory = up.memory;
+      made = (failing server event by.0 parts).after;
+      stands = by.2;
+      memory = up.memory;
       whole = λ frames last self sent same. event-failed old (with_server (heard (Some halt.Disk)) self) event server serving made parts same by frames last sent (text_of frames) false refl;
       front = λ frames last self text sent same some is_front. event-failed old (with_server (heard (Some halt.Disk)) self) event server serving made parts same by frames last sent text true is_front;
     }
@@ -159,7 +163,9 @@ module _ {D : Type 0} (g : Ghosts D) (lasts : (disk : D) → g.lasts disk disk) 
   owes-none start up = (
     up,
     λ server serving. record {
-      made = server; stands = serving.is; memory = up.memory;
+      made = server;
+      stands = serving.is;
+      memory = up.memory;
       whole = λ frames last self sent same stands settles.
           let none = none-sent server frames last serving.silent sent in rw none.0 (comes-none start self server up same (record { is = rw none.1 at stands; silent = serving.silent }));
       front = λ frames last self text sent same some. absurd (some (none-sent server frames last serving.silent sent).0);
@@ -193,7 +199,9 @@ module _ {D : Type 0} (g : Ghosts D) (lasts : (disk : D) → g.lasts disk disk) 
 
         rest-on : Rest why (said ++ kiss_text out_n) new
         rest-on = record {
-          made = next.0.after; stands = next.2; memory = fine;
+          made = next.0.after;
+          stands = next.2;
+          memory = fine;
           whole = λ frames last self sent same. rw (append_assoc, next.3) (h.whole (next.0.frame ∷ frames) last self (next.0, next.1, refl, sent) (same ∙ store));
           front = λ frames last self text sent same some is_front. rw append_assoc
               (h.front (next.0.frame ∷ frames) last self (kiss_text out_n ++ text) (next.0, next.1, refl, sent) (same ∙ store) (λ e. cc e) (is_front.0, grind (arith, common_steps, is_front.1, next.3)));
@@ -205,7 +213,7 @@ module _ {D : Type 0} (g : Ghosts D) (lasts : (disk : D) → g.lasts disk disk) 
         rest-cut ends front is_front =
             let later = ends next.0.after next.2 in
             h.front (next.0.frame ∷ later.0) later.1 server_n front (next.0, next.1, refl, later.2) store (λ e. cc e)
-              (is_front.0 ++ text_of later.0, cc (next.3, is_front.1, append_assoc front is_front.0 (text_of later.0)))
+            (is_front.0 ++ text_of later.0, cc (next.3, is_front.1, append_assoc front is_front.0 (text_of later.0)))
 
       -- All was given.
       module _ (is : answer ≡ false) (why : Option Halt) (h : Rest why said old) where
@@ -321,9 +329,14 @@ module _ {A C D : Type 0} (seen : Seen D A C) (terms : ServerTerms) (old new : D
         → CutsOffAmongReads g (IsErrOf result stop.Disk) missed (store_at (party_at old)) (store_at (party_at new)) done cut → DidSo result
     did result done cut missed ends counts l over cuts = record {
       run = record { turns = took.all.turns; moments = took.all.moments; all = made took.text done missed; cut = cut; unsaid = took.unsaid };
-      turns_heard = took.turns_heard; moments_given = took.moments_given; text_said = took.text_said; is_unsaid = took.is_unsaid;
+      turns_heard = took.turns_heard;
+      moments_given = took.moments_given;
+      text_said = took.text_said;
+      is_unsaid = took.is_unsaid;
       ran = grind (arith, common_steps, over, l.brought, l.split, l.but_last);
-      ends = ends; counts = counts; cuts = cuts;
+      ends = ends;
+      counts = counts;
+      cuts = cuts;
     }
 
     all-taken : Taken (NodeEvents terms.me) (server_course g) (λ p. refl) seen.air old.air new.air (party_at old) (party_at new) took.all took.text took.unsaid terms.polls server_steps server took.all.events DidSo
