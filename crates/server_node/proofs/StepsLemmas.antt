@@ -69,9 +69,6 @@ module _ {S E D : Type 0} (steps : Steps S E) (laws : AreSteps steps) (g : Ghost
 
   pub runs-on : ((first second third : D) → g.lasts first second → g.lasts second third → g.lasts first third) → (a b c : WithStore S D) (xs ys : List E) (text more : List ℕ)
       → RunsOn g steps a b xs text → RunsOn g steps b c ys more → RunsOn g steps a c (xs ++ ys) (text ++ more)
-  runs-on on a b c xs ys text more h k = record {
-    done = h.done ++ k.done;
-    missed = h.missed + k.missed;
-    goes = laws.on a.it b.it c.it xs ys (made text h.done h.missed) (made more k.done k.missed) h.goes k.goes;
-    does = among-then g on ⊥ ⊥ h.missed k.missed a.store b.store c.store a.disk b.disk c.disk h.done k.done (λ never. never) h.does k.does;
-  }
+  runs-on on a b c xs ys text more h k =
+      let does = among-then g on ⊥ ⊥ h.missed k.missed a.store b.store c.store a.disk b.disk c.disk h.done k.done (λ never. never) h.does k.does in
+      record { done = h.done ++ k.done; missed = h.missed + k.missed; goes = laws.on a.it b.it c.it xs ys (made text h.done h.missed) (made more k.done k.missed) h.goes k.goes; does = does }
