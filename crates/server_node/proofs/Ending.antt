@@ -1,11 +1,11 @@
 -- A session or a server from the recovery of its store, which is refused or gives one, to its end by the turns of its
 -- node; what it does to its disk, and what stands there.
 use Rattle.std.proofs.lemmas.Grind.{common_steps}
-use Rattle.std.proofs.Common.{◌≡◌, inl, inr, ⊎_elim, ◌⊎◌, ℕ, ◌+◌, ◌≤◌, List, ◌++◌, refl, ◌∙◌, ap, subst, arith, IfSome, [], ◌∷◌, Bool, true, false, sym, ◌≢◌, Result, Ok, Err, IsErrAnd, IsErrOf, Option}
+use Rattle.std.proofs.Common.{◌≡◌, inl, inr, ℕ, ◌+◌, List, ◌++◌, refl, ◌∙◌, ap, arith, [], ◌∷◌, Bool, false, sym, ◌≢◌, Result, Ok, Err, IsErrAnd, IsErrOf, Option}
 use Rattle.disk_model.specs.AtDisk.{AtDisk, at}
 use Rattle.disk_model.specs.declared.disk.Disk.{Ghosts}
 use Rattle.file_journal.specs.Through.{StandsThrough}
-use Rattle.file_store.specs.Calls.{Runs, ChangesReads, Becomes, Leaves, TakesStep}
+use Rattle.file_store.specs.Calls.{Runs, Becomes, Leaves, TakesStep}
 use Rattle.file_store.specs.Command.{Command}
 use Rattle.file_store.specs.Records.{store_form, store_magic}
 use Rattle.file_store.specs.Store.{Store}
@@ -19,7 +19,6 @@ use Rattle.px_base.specs.Outside.{Gains}
 use Rattle.px_base.specs.Polling.{HearsAll, IsButLast}
 use Rattle.px_base.specs.declared.air.Air.{Ghosts as AirGhosts}
 use Rattle.px_base.specs.declared.air.Turn.{Turn}
-use Rattle.file_store.specs.JournalRecovery.{IsFailedSync, IsSyncedFirst}
 use Rattle.file_store.specs.Recovery.{StandsAlike, IsRecovered, LeavesAlikeSinceSync, RefusesRecovery}
 use Rattle.file_store.specs.State.{StoreState, store_in}
 use Rattle.node.specs.Course.{AtDisk, Course}
@@ -57,25 +56,12 @@ pub record Serves {A C D : Type 0} (seen : Seen D A C) (blocks : ℕ) (given : O
 -- ---- a recovery that is refused, whatever it would have given
 
 -- one fault is one stop
-fault_of : NodeStop → StoreFault
-fault_of (stop.NotAStore found) = fault.NotAStore found
-fault_of (stop.Damaged at) = fault.Damaged at
-fault_of stop.Disk = fault.Disk
-fault_of why = fault.OutOfMemory
-
-of_stop : (why : StoreFault) → fault_of (stop_of_fault why) ≡ why
-unfolding fault_of
-of_stop why = grind (arith, common_steps)
-
 same_fault : (why other : StoreFault) → stop_of_fault why ≡ stop_of_fault other → why ≡ other
-same_fault why other is = sym (of_stop why) ∙ ap fault_of is ∙ of_stop other
+same_fault why other is = grind (arith, common_steps)
 
 -- the error of an answer
 error_of : {T E : Type 0} (a b : E) → IsErrOf {T = T} (Err a) b → a ≡ b
 error_of a b is = cc is
-
-refused_counts : {A : Type 0} (reads writes : A → ℕ) (air : A) (why : StoreFault) → HasAirCause {T = Served} reads writes air air (Err (stop_of_fault why))
-refused_counts reads writes air why = grind (arith, common_steps)
 
 -- The answer of the recovery fails by the disk exactly where this fault is the disk's: it is that fault, or there was no
 -- memory behind it.
@@ -99,16 +85,10 @@ module _ {A C D T : Type 0} (seen : Seen D A C) (blocks : ℕ) (given : Option �
       answer = refl;
       air = refl;
       clock = refl;
-      leaves =
-          record {
-            since_sync = told_weaker (seen.disk.content old.disk) _ _ (λ before told left. grind (arith, common_steps, there, left)) since_sync;
-            since_start = since_start;
-            not_a_store = untouched;
-            damaged = damage;
-          };
       runs = refused_runs;
+      leaves = record { since_sync = told_weaker (seen.disk.content old.disk) _ _ (λ before told left. grind (arith, common_steps, there, left)) since_sync; since_start = since_start; not_a_store = untouched; damaged = damage };
     });
-    counts = refused_counts seen.air.read_faults seen.air.write_faults old.air why;
+    counts = grind (arith, common_steps);
     runs = runs_refused seen.disk _ old.disk disk_n refused_runs;
   }
 
@@ -120,23 +100,15 @@ module _ {A C D T : Type 0} (seen : Seen D A C) (blocks : ℕ) (given : Option �
       → ((at : ℕ) → IsErrOf {T = T} (Err why) (fault.Damaged at) → seen.disk.content disk_n ≡ seen.disk.content old.disk)
       → Serves seen blocks given Ran old (lent disk_n old.air old.clock) result
   refused why result is refuses runs since_start since_sync untouched damage =
-      let error = err_from_is_err_and result is in
-      subst (Serves seen blocks given Ran old (lent disk_n old.air old.clock)) (sym (error.1 ∙ ap Err error.2))
-      (unserved seen blocks given Ran old disk_n (Err why) why (λ e. error_of why fault.Disk e) (λ e. ap Err e) runs since_start since_sync
+      let error = err_from_is_err_and result is in rw (error.1, error.2) (unserved seen blocks given Ran old disk_n (Err why) why (λ e. error_of why fault.Disk e) (λ e. ap Err e) runs since_start since_sync
       (λ found e. untouched found (ap Err e)) (λ at e. damage at (ap Err e)) refuses_so)
     where
-      there : (other : StoreFault) → IsErrOf {T = T} (Err why) other → IsErrOf {T = Served} (Err (stop_of_fault why)) (stop_of_fault other)
-      there other e = grind (arith, common_steps)
-
-      back : (other : StoreFault) → IsErrOf {T = Served} (Err (stop_of_fault why)) (stop_of_fault other) → IsErrOf {T = T} (Err why) other
-      back other e = grind (arith, common_steps, same_fault)
-
       refuses_so : RefusesSession {T = Served} blocks (seen.disk.content old.disk) (Err (stop_of_fault why))
       refuses_so no_disk no_memory =
           told_weaker (seen.disk.content old.disk) _ _ (λ before told exact. record {
-            not_a_store = λ found. (λ e. (exact.not_a_store found).0 (back (fault.NotAStore found) e), λ stood. there (fault.NotAStore found) ((exact.not_a_store found).1 stood));
-            damaged = λ at. (λ e. (exact.damaged at).0 (back (fault.Damaged at) e), λ stood. there (fault.Damaged at) ((exact.damaged at).1 stood));
-          }) (refuses (λ e. no_disk (there fault.Disk e)) (λ e. no_memory (there fault.OutOfMemory e)))
+            not_a_store = λ found. grind (arith, common_steps, exact.not_a_store found, same_fault why (fault.NotAStore found));
+            damaged = λ at. grind (arith, common_steps, exact.damaged at, same_fault why (fault.Damaged at));
+          }) (refuses (λ e. no_disk (rw (error_of why fault.Disk e) refl)) (λ e. no_memory (rw (error_of why fault.OutOfMemory e) refl)))
 
   -- it gave this, and there was no memory behind it
   pub unlisted : (value : T) → Runs seen.disk (IsErrOf {T = T} (Ok value) fault.Disk) old.disk disk_n → Leaves seen.disk old.disk disk_n (StandsAlike blocks)
@@ -161,14 +133,13 @@ but_last [] = ([], inl (refl, refl))
 but_last (next ∷ turns) = by (but_last turns).0 (but_last turns).1
   where
     by : (earlier : List Turn) → IsButLast turns earlier → (all : List Turn) × IsButLast (next ∷ turns) all
-    by earlier (inl none) = ([], inr (next, ap (λ (ts : List Turn). next ∷ ts) none.0))
-    by earlier (inr some) = (next ∷ earlier, inr (some.0, ap (λ (ts : List Turn). next ∷ ts) some.1))
+    by earlier (inl none) = ([], inr (next, cc none.0))
+    by earlier (inr some) = (next ∷ earlier, inr (some.0, cc some.1))
 
 -- the disk is why it stopped
 pub disk-stop : {D : Type 0} (g : Ghosts D) (why : NodeStop) (missed : ℕ) (old now : AtDisk StoreState D) (done cut : List Command) → CutsOffAmongReads g (why ≡ stop.Disk) missed old now done cut
     → CutsOffAmongReads g (IsErrOf {T = Served} (Err why) stop.Disk) missed old now done cut
-disk-stop g why missed old now done cut cuts =
-    cuts-among-same g _ _ missed missed old now done cut (ap Err) (error_of why stop.Disk) refl cuts
+disk-stop g why missed old now done cut cuts = cuts-among-same g _ _ missed missed old now done cut (ap Err) (error_of why stop.Disk) refl cuts
 
 -- ---- by how the turns ended: all that they bring was taken, or it stopped at an event of the last one
 
@@ -237,22 +208,16 @@ module _ {A C D T : Type 0} (seen : Seen D A C) (on : (first second third : D) �
   fine : ¬ IsErrOf {T = T} (Ok value) fault.Disk
   fine is = cc is
 
-  synced : IfSome (g.content old.disk) (λ octets. IsSyncedFirst g old.disk mid (StandsAlike blocks octets))
-  synced = told_weaker (g.content old.disk) _ _ (λ octets told left. grind (arith, common_steps, left, fine)) h.since_sync
-
   standing : (stands : StandsThrough g store_form Failed (store_in start) run.all.done run.cut old.disk new.disk) × (stands.ready ≡ g.moment mid)
-  standing = stands-through g on Failed blocks old.disk mid new.disk start store run.all.done run.cut run.all.missed h.runs.told h.recovered.content h.since_start synced h.magic_is did.cuts
+  standing = stands-through g on Failed blocks old.disk mid new.disk start store run.all.done run.cut run.all.missed h.runs.told h.recovered.content h.since_start
+      (told_weaker (g.content old.disk) _ _ (λ octets told left. grind (arith, common_steps, left, fine)) h.since_sync) h.magic_is did.cuts
 
   puts : PutsAmongReads g Failed old.disk new.disk
   puts = runs_among g on _ Failed old.disk mid new.disk fine h.runs (cuts-among-puts g on Failed run.all.missed (at start mid) (at store new.disk) run.all.done run.cut did.cuts)
 
-  -- it isn't refused
-  never_refused : (why : NodeStop) → ((turns : List Turn) → TurnsBy (Err why) polls turns → ⊥) → IsErrOf result why → ⊥
-  never_refused why never is = never run.turns (subst (λ (r : Result Served NodeStop). TurnsBy r polls run.turns) is did.ends)
-
   pub served : Serves seen blocks given Ran old new result
   served = record {
-    refuses = λ no_disk no_memory. told_weaker (g.content old.disk) _ _ (λ octets told stood. grind (arith, common_steps, never_refused, stood)) h.recovered.content;
+    refuses = λ no_disk no_memory. told_weaker (g.content old.disk) _ _ (λ octets told stood. grind (arith, common_steps, did.ends, stood)) h.recovered.content;
     ends = inr (record {
       start = store_in start;
       rules = h.rules;

@@ -1,7 +1,7 @@
 -- Events one after another, and a stop at one of them, whatever serves them.
 use Rattle.std.proofs.lemmas.Grind.{common_steps}
 use Rattle.std.proofs.Common.{◌≡◌, ℕ, ◌+◌, List, [], ◌∷◌, ◌++◌, Bool, refl, ap, sym, ◌∙◌, append_assoc, arith}
-use Rattle.std.proofs.Math.Nat.{add_assoc, zero-add}
+use Rattle.std.proofs.Math.Nat.{add_assoc}
 use Rattle.disk_model.specs.declared.disk.Disk.{Ghosts}
 use Rattle.file_store.specs.Command.{Command}
 use Rattle.file_store.specs.State.{IsReady, StoreState}
@@ -27,38 +27,7 @@ does-none g store disk ready lasts = does-among g ⊥ store store disk disk [] (
 module _ {S E : Type 0} (steps : Steps S E) (laws : AreSteps steps) (why : NodeStop) (unsaid : Bool) where
   -- a stop at the one event
   pub stop-one : (s : S) (event : E) (all : Made) (cut : List Command) → steps.stops why unsaid s event all cut → StopsOver steps s (event ∷ []) why unsaid all cut
-  stop-one s event all cut h = record {
-    before = [];
-    next = event;
-    later = [];
-    events_are = refl;
-    earlier = made [] [] 0;
-    then_is = s;
-    goes = laws.none s;
-    last = all;
-    stops = h;
-    all_is = grind (arith, common_steps);
-  }
-
-  -- events that were taken, and a stop at one of others
-  stop-behind : (a b : S) (xs ys : List E) (m n : Made) (cut : List Command) → steps.goes a xs m b → StopsOver steps b ys why unsaid n cut → StopsBehind xs steps a (xs ++ ys) why unsaid (both m n) cut
-  stop-behind a b xs ys m n cut h k = record {
-    stops =
-        record {
-          before = xs ++ k.before;
-          next = k.next;
-          later = k.later;
-          events_are = rw (k.events_are, append_assoc) refl;
-          earlier = both m k.earlier;
-          then_is = k.then_is;
-          goes = laws.on a b k.then_is xs k.before m k.earlier h k.goes;
-          last = k.last;
-          stops = k.stops;
-          all_is = ap (both m) k.all_is ∙ sym (both-assoc m k.earlier k.last);
-        };
-    between = k.before;
-    in_order = refl;
-  }
+  stop-one s event all cut h = record { before = []; next = event; later = []; events_are = refl; earlier = made [] [] 0; then_is = s; goes = laws.none s; last = all; stops = h; all_is = grind (arith, common_steps) }
 
   -- ---- on the disk
 
@@ -71,7 +40,22 @@ module _ {S E : Type 0} (steps : Steps S E) (laws : AreSteps steps) (why : NodeS
     module _ (on : (first second third : D) → g.lasts first second → g.lasts second third → g.lasts first third) (a b : WithStore S D) (c : AtDisk StoreState D) (xs ys : List E) (text more : List ℕ)
         (h : RunsOn g steps a b xs text) (k : StopsOn g steps b c ys why unsaid more) where
       pub behind-all : StopsBehind xs steps a.it (xs ++ ys) why unsaid (made (text ++ more) (h.done ++ k.done) (h.missed + k.missed)) k.cut
-      behind-all = stop-behind a.it b.it xs ys (made text h.done h.missed) (made more k.done k.missed) k.cut h.goes k.stops
+      behind-all = let m = made text h.done h.missed in let stop = k.stops in record {
+        stops = record {
+          before = xs ++ stop.before;
+          next = stop.next;
+          later = stop.later;
+          last = stop.last;
+          stops = stop.stops;
+          earlier = both m stop.earlier;
+          then_is = stop.then_is;
+          events_are = rw (stop.events_are, append_assoc) refl;
+          goes = laws.on a.it b.it stop.then_is xs stop.before m stop.earlier h.goes stop.goes;
+          all_is = ap (both m) stop.all_is ∙ sym (both-assoc m stop.earlier stop.last);
+        };
+        between = stop.before;
+        in_order = refl;
+      }
 
       pub cuts-all : CutsOffAmongReads g (why ≡ stop.Disk) (h.missed + k.missed) (at a.store a.disk) c (h.done ++ k.done) k.cut
       cuts-all = cuts-among-then g on (why ≡ stop.Disk) h.missed k.missed (at a.store a.disk) (at b.store b.disk) c h.done k.done k.cut h.does k.cuts
@@ -80,15 +64,11 @@ module _ {S E : Type 0} (steps : Steps S E) (laws : AreSteps steps) (why : NodeS
       stops-on = record { done = h.done ++ k.done; cut = k.cut; missed = h.missed + k.missed; stops = behind-all.stops; cuts = cuts-all; kept = k.kept }
 
 module _ {S E D : Type 0} (steps : Steps S E) (laws : AreSteps steps) (g : Ghosts D) where
-  pub runs-none : (s : S) (store : StoreState) (disk : D) → IsReady g store disk → g.lasts disk disk
-      → RunsOn g steps (with_store s store disk) (with_store s store disk) [] []
+  pub runs-none : (s : S) (store : StoreState) (disk : D) → IsReady g store disk → g.lasts disk disk → RunsOn g steps (with_store s store disk) (with_store s store disk) [] []
   runs-none s store disk ready lasts = record { done = []; missed = 0; goes = laws.none s; does = does-none g store disk ready lasts }
 
   pub runs-on : ((first second third : D) → g.lasts first second → g.lasts second third → g.lasts first third) → (a b c : WithStore S D) (xs ys : List E) (text more : List ℕ)
       → RunsOn g steps a b xs text → RunsOn g steps b c ys more → RunsOn g steps a c (xs ++ ys) (text ++ more)
-  runs-on on a b c xs ys text more h k = record {
-    done = h.done ++ k.done;
-    missed = h.missed + k.missed;
-    goes = laws.on a.it b.it c.it xs ys (made text h.done h.missed) (made more k.done k.missed) h.goes k.goes;
-    does = among-then g on ⊥ ⊥ h.missed k.missed a.store b.store c.store a.disk b.disk c.disk h.done k.done (λ never. never) h.does k.does;
-  }
+  runs-on on a b c xs ys text more h k =
+      let does = among-then g on ⊥ ⊥ h.missed k.missed a.store b.store c.store a.disk b.disk c.disk h.done k.done (λ never. never) h.does k.does in
+      record { done = h.done ++ k.done; missed = h.missed + k.missed; goes = laws.on a.it b.it c.it xs ys (made text h.done h.missed) (made more k.done k.missed) h.goes k.goes; does = does }

@@ -14,13 +14,12 @@ use Rattle.node.specs.Course.{AtDisk, GaveAll, GivesNext, IsLawful, at, stop_at_
 use Rattle.node.specs.Events.{NodeEvent, NodeEvents}
 use Rattle.disk_model.specs.declared.halt.Halt.{Halt}
 use Rattle.node.specs.declared.stop.NodeStop.{NodeStop}
-use Rattle.ftl0_server.specs.Failures.{failed_reads, failed_write}
-use Rattle.ftl0_server.specs.Connection.Taking.{fails}
+use Rattle.ftl0_server.specs.Failures.{failed_reads}
 use Rattle.ftl0_server.specs.Connection.ConnectionState.{with_reads}
-use Rattle.ftl0_server.specs.Calls.{HandsOut, HandsOutNext, Hears, HearsBy}
+use Rattle.ftl0_server.specs.Calls.{HandsOutNext, Hears, HearsBy}
 use Rattle.ftl0_server.specs.Server.{IsSilent, Server, ServerHappened, ServerSends, server_next, settled}
 use Rattle.ftl0_server.specs.ServerState.{IsServer, SendsFor, ServerState, server_pending}
-use Rattle.ftl0_server.specs.ServerStep.{Empties, ServerStep, happening, stepped}
+use Rattle.ftl0_server.specs.ServerStep.{Empties, happening}
 use Rattle.ftl0_server.specs.Serving.{TakesEvent}
 use Rattle.ftl0_server.proofs.Offered.{empties-silent, serves-append, serves-one, silent-settled, uncut}
 use Rattle.server_node.specs.Sessions.Running.{IsSaid}
@@ -35,7 +34,7 @@ use Rattle.px_base.specs.declared.air.Turn.{Turn}
 use Rattle.file_store.specs.Store.{Store}
 use Rattle.node.specs.Lent.{Seen, lent}
 use Rattle.px_base.specs.Polling.{IsButLast}
-use Rattle.node.specs.Turns.{IsUnsaid, Lent as Driven, StoppedInLast, TookTurns, party_at}
+use Rattle.node.specs.Turns.{Lent as Driven, StoppedInLast, TookTurns, party_at}
 use Rattle.node.specs.declared.finished.Finished.{Finished}
 use Rattle.node.specs.declared.terms.TurnTerms.{TurnTerms}
 use Rattle.file_store.specs.Recovery.{IsRecovered}
@@ -80,9 +79,6 @@ module _ {D : Type 0} (g : Ghosts D) (lasts : (disk : D) → g.lasts disk disk) 
     abbrev taken : ServerHappened
     taken = happening server event (failed_reads parts)
 
-    moved : (missed : ℕ) (done : List Command) → DoesAmongReads g ⊥ missed old.it.server.store made_so.store old.disk new.disk done → DoesAmongReads g ⊥ missed old.it.server.store new.it.server.store old.disk new.disk done
-    moved missed done does = rw same does
-
     -- It stopped at the event.
     stopped : (why : NodeStop) (unsaid : Bool) (text : List ℕ) (done cut : List Command) (missed : ℕ) → StopsAt why unsaid server event (made text done missed) cut
         → CutsOffAmongReads g (why ≡ stop.Disk) missed (store_at old) (store_at new) done cut → (why ≡ stop.OutOfMemory → unsaid ≡ false)
@@ -93,7 +89,7 @@ module _ {D : Type 0} (g : Ghosts D) (lasts : (disk : D) → g.lasts disk disk) 
     -- Not by the disk.
     none-cut : (why : NodeStop) → ¬ (why ≡ stop.Disk) → (done : List Command) (missed : ℕ) → DoesAmongReads g ⊥ missed old.it.server.store made_so.store old.disk new.disk done
         → CutsOffAmongReads g (why ≡ stop.Disk) missed (store_at old) (store_at new) done []
-    none-cut why fine done missed does = cuts-among-none g _ missed (store_at old) (store_at new) done fine (lasts new.disk) (moved missed done does)
+    none-cut why fine done missed does = cuts-among-none g _ missed (store_at old) (store_at new) done fine (lasts new.disk) (rw same does)
 
     module _ (by : Heard (Ok tt)) (frames : List FrameValue) (last : Server) (sent : Empties taken.after frames last) where
       takes-event : TakesEvent server event frames taken.done taken.missed (settled last)
@@ -101,32 +97,27 @@ module _ {D : Type 0} (g : Ghosts D) (lasts : (disk : D) → g.lasts disk disk) 
 
       -- All of it was taken, and its frames were said.
       event-taken : IsServer new.it.server (settled last) → ComesOn g server old (event ∷ []) (text_of frames) new
-      event-taken stands = grind (arith, common_steps, empties-silent, moved, serves-one, silent-settled, takes-event)
+      event-taken stands = grind (arith, common_steps, empties-silent, by.2, serves-one, silent-settled, takes-event)
 
       -- All of it was taken, and saying its frames failed.
       event-unsaid : (text : List ℕ) → frames ≢ [] → IsFront text (text_of frames) → HaltsOn g server old (event ∷ []) stop.AirWrite true text new
       event-unsaid text some is_front =
-          stopped stop.AirWrite true text taken.done [] taken.missed (frames, settled last, takes-event, some, is_front, refl)
-          (none-cut stop.AirWrite (λ e. cc e) taken.done taken.missed by.2) (λ is. cc is)
+          stopped stop.AirWrite true text taken.done [] taken.missed (frames, settled last, takes-event, some, is_front, refl) (none-cut stop.AirWrite (λ e. cc e) taken.done taken.missed by.2) (λ is. cc is)
 
     -- The disk failed in it, and the frames of that step were said, or a front of them.
     event-failed : (by : Heard (Err halt.Disk)) (frames : List FrameValue) (last : Server) → Empties (failing server event by.0 parts).after frames last → (text : List ℕ) (unsaid : Bool)
         → IsSaid unsaid (text_of frames) text → HaltsOn g server old (event ∷ []) stop.Disk unsaid text new
     event-failed by frames last sent text unsaid said =
         let failed : ServerHappened = failing server event by.0 parts in
-        let step : ServerStep server event (failed_write by.0 ++ failed_reads parts) (stepped failed.done failed.cut failed.missed fails frames (settled last)) =
-        record { silent = serving.silent; done_is = refl; cut_is = refl; missed_is = refl; halt_is = sym by.1; last = last; sent = sent; new_is = refl } in
-        stopped stop.Disk unsaid text failed.done failed.cut failed.missed (by.0, parts, frames, settled last, step, said)
-        (cuts-among-same g ⊤ (stop.Disk ≡ stop.Disk) failed.missed failed.missed (store_at old) (store_at new) failed.done failed.cut (λ _. refl) (λ _. tt) refl
-        (rw same by.3)) (λ is. cc is)
+        stopped stop.Disk unsaid text failed.done failed.cut failed.missed (by.0, parts, frames, settled last, grind (arith, common_steps, by.1, sent, serving.silent), said)
+        (cuts-among-same g ⊤ _ _ _ (store_at old) (store_at new) failed.done failed.cut (λ _. refl) (λ _. tt) refl (rw same by.3)) (λ is. cc is)
 
     -- There was no memory for it.
     event-unmade : Heard (Err halt.OutOfMemory) → HaltsOn g server old (event ∷ []) stop.OutOfMemory false [] new
     event-unmade (inl does) = stopped stop.OutOfMemory false [] [] [] 0 (inl (refl, refl), refl, refl) (none-cut stop.OutOfMemory (λ e. cc e) [] 0 does) (λ is. refl)
     event-unmade (inr by) =
         let failed : ServerHappened = failing server event by.0 parts in
-        stopped stop.OutOfMemory false [] failed.done [] failed.missed (inr (by.0, parts, by.1, refl, refl), refl, refl)
-        (none-cut stop.OutOfMemory (λ e. cc e) failed.done failed.missed by.2) (λ is. refl)
+        stopped stop.OutOfMemory false [] failed.done [] failed.missed (inr (by.0, parts, by.1, refl, refl), refl, refl) (none-cut stop.OutOfMemory (λ e. cc e) failed.done failed.missed by.2) (λ is. refl)
 
   -- It came, and its frames are to be said.
   module _ (old : AtDisk ServerStation D) (made : ServerState) (disk : D) (event : NodeEvent) (up : IsUp g old) where
@@ -146,10 +137,8 @@ module _ {D : Type 0} (g : Ghosts D) (lasts : (disk : D) → g.lasts disk disk) 
       made = (failing server event by.0 parts).after;
       stands = by.2;
       memory = up.memory;
-      whole = λ frames last self sent same.
-          event-failed old (with_server (heard (Some halt.Disk)) self) event server serving made parts same by frames last sent (text_of frames) false refl;
-      front = λ frames last self text sent same some is_front.
-          event-failed old (with_server (heard (Some halt.Disk)) self) event server serving made parts same by frames last sent text true is_front;
+      whole = λ frames last self sent same. event-failed old (with_server (heard (Some halt.Disk)) self) event server serving made parts same by frames last sent (text_of frames) false refl;
+      front = λ frames last self text sent same some is_front. event-failed old (with_server (heard (Some halt.Disk)) self) event server serving made parts same by frames last sent text true is_front;
     }
     owes-by (Some halt.OutOfMemory) server serving parts by = (refl, event-unmade old (heard (Some halt.OutOfMemory)) event server serving made parts refl by)
 
@@ -178,8 +167,7 @@ module _ {D : Type 0} (g : Ghosts D) (lasts : (disk : D) → g.lasts disk disk) 
       stands = serving.is;
       memory = up.memory;
       whole = λ frames last self sent same stands settles.
-          let none = none-sent server frames last serving.silent sent in
-          rw none.0 (comes-none start self server up same (record { is = rw none.1 at stands; silent = serving.silent }));
+          let none = none-sent server frames last serving.silent sent in rw none.0 (comes-none start self server up same (record { is = rw none.1 at stands; silent = serving.silent }));
       front = λ frames last self text sent same some. absurd (some (none-sent server frames last serving.silent sent).0);
     },
   )
@@ -190,10 +178,6 @@ module _ {D : Type 0} (g : Ghosts D) (lasts : (disk : D) → g.lasts disk disk) 
       (sends : HandsOutNext SendsFor old.it.server server_n out out_n answer) (serves : HandsOutNext IsServer old.it.server server_n out out_n answer) (store : server_n.store ≡ old.it.server.store) where
     abbrev new : AtDisk ServerStation D
     new = with_server old server_n
-
-    -- there was memory
-    not-silenced : {X : Type 0} → old.it.is_out_of_memory ≡ true → X
-    not-silenced is = absurd (true≢false (sym is ∙ fine))
 
     hands : (why : Option Halt) → HandsOutNext (StandsBy why) old.it.server server_n out out_n answer
     hands None = serves
@@ -206,7 +190,7 @@ module _ {D : Type 0} (g : Ghosts D) (lasts : (disk : D) → g.lasts disk disk) 
       rest : (why : Option Halt) → OwesOver g server start events why said old → Rest why said old
       rest None h = h
       rest (Some halt.Disk) h = h
-      rest (Some halt.OutOfMemory) h = not-silenced h.0
+      rest (Some halt.OutOfMemory) h = absurd (cc (h.0, fine))
 
       -- One frame more is given.
       module _ (is : answer ≡ true) (why : Option Halt) (h : Rest why said old) where
@@ -218,14 +202,9 @@ module _ {D : Type 0} (g : Ghosts D) (lasts : (disk : D) → g.lasts disk disk) 
           made = next.0.after;
           stands = next.2;
           memory = fine;
-          whole = λ frames last self sent same.
-              rw (append_assoc, next.3) (h.whole (next.0.frame ∷ frames) last self (next.0, next.1, refl, sent) (same ∙ store));
-          front = λ frames last self text sent same some is_front.
-              rw append_assoc
-              (h.front (next.0.frame ∷ frames) last self (kiss_text out_n ++ text) (next.0, next.1, refl, sent) (same ∙ store) (λ e. cc e) (
-                is_front.0,
-                grind (arith, common_steps, is_front.1, next.3),
-              ));
+          whole = λ frames last self sent same. rw (append_assoc, next.3) (h.whole (next.0.frame ∷ frames) last self (next.0, next.1, refl, sent) (same ∙ store));
+          front = λ frames last self text sent same some is_front. rw append_assoc
+              (h.front (next.0.frame ∷ frames) last self (kiss_text out_n ++ text) (next.0, next.1, refl, sent) (same ∙ store) (λ e. cc e) (is_front.0, grind (arith, common_steps, is_front.1, next.3)));
         }
 
         -- Saying it failed.
@@ -233,10 +212,8 @@ module _ {D : Type 0} (g : Ghosts D) (lasts : (disk : D) → g.lasts disk disk) 
             → HaltsOn g server start events (stop_at_put why) true (said ++ front) new
         rest-cut ends front is_front =
             let later = ends next.0.after next.2 in
-            h.front (next.0.frame ∷ later.0) later.1 server_n front (next.0, next.1, refl, later.2) store (λ e. cc e) (
-              is_front.0 ++ text_of later.0,
-              ap (λ (o : List ℕ). kiss_text o ++ text_of later.0) (sym next.3) ∙ ap (λ (t : List ℕ). t ++ text_of later.0) is_front.1 ∙ append_assoc front is_front.0 (text_of later.0),
-            )
+            h.front (next.0.frame ∷ later.0) later.1 server_n front (next.0, next.1, refl, later.2) store (λ e. cc e)
+            (is_front.0 ++ text_of later.0, cc (next.3, is_front.1, append_assoc front is_front.0 (text_of later.0)))
 
       -- All was given.
       module _ (is : answer ≡ false) (why : Option Halt) (h : Rest why said old) where
@@ -255,7 +232,7 @@ module _ {D : Type 0} (g : Ghosts D) (lasts : (disk : D) → g.lasts disk disk) 
           → OwesOver g server start events why (said ++ kiss_text out_n) new
       goes-on start events None said server h = rest-on start events said server is None h
       goes-on start events (Some halt.Disk) said server h = rest-on start events said server is (Some halt.Disk) h
-      goes-on start events (Some halt.OutOfMemory) said server h = not-silenced h.0
+      goes-on start events (Some halt.OutOfMemory) said server h = absurd (cc (h.0, fine))
 
       pub gives-next : GivesNext (server_course g) old (kiss_text out_n) new
       gives-next = record {
@@ -270,22 +247,10 @@ module _ {D : Type 0} (g : Ghosts D) (lasts : (disk : D) → g.lasts disk disk) 
           let runs-on : (server_course g).goes start events said new = λ server serving.
           let rest = h.1 server serving in
           rest-whole start events said server is None rest (rw (no-next start events said server is None rest).1 rest.stands) (settles rest.made rest.stands) in
-          let runs = runs-on h.0.server h.0.serving in
-          let same = (no-next start events said h.0.server is None (h.1 h.0.server h.0.serving)).1 in (
-            runs-on,
-            record {
-              awaits =
-                  record {
-                    silent = ap server_pending same ∙ sym pending ∙ is;
-                    ready = record { healthy = (runs.runs.does.done (λ never. never)).1; stands_on = runs.runs.does.stands_on };
-                  };
-              memory = fine;
-              server = runs.next;
-              serving = runs.serving;
-            },
-          )
+          let runs = runs-on h.0.server h.0.serving in let same = (no-next start events said h.0.server is None (h.1 h.0.server h.0.serving)).1 in
+          (runs-on, grind (arith, common_steps, same, runs, runs.runs.does.done (λ never. never)))
       gave-all start events (Some halt.Disk) said h = λ server serving. rest-whole start events said server is (Some halt.Disk) (h.1 server serving)
-      gave-all start events (Some halt.OutOfMemory) said h = λ server serving. not-silenced (h.1 server serving).0
+      gave-all start events (Some halt.OutOfMemory) said h = λ server serving. absurd (cc ((h.1 server serving).0, fine))
 
   -- After want of memory nothing is said.
   pub gave-none : (old : AtDisk ServerStation D) → old.it.is_out_of_memory ≡ true → GaveAll (server_course g) old old
@@ -301,18 +266,12 @@ module _ {D : Type 0} (g : Ghosts D) (lasts : (disk : D) → g.lasts disk disk) 
       owes_none = owes-none;
       goes_none = goes-none;
       goes_on = λ start mid now events others text more h k server serving.
-          let first = h server serving in
-          let second = k first.next first.serving in
-          record {
-            next = second.next;
-            serving = second.serving;
-            runs = runs-on server_steps are_steps g on (serving_at server start) (serving_at first.next mid) (serving_at second.next now) events others text more first.runs second.runs;
-          };
+          let first = h server serving in let second = k first.next first.serving in
+          let runs = runs-on server_steps are_steps g on (serving_at server start) (serving_at first.next mid) (serving_at second.next now) events others text more first.runs second.runs in
+          record { next = second.next; serving = second.serving; runs = runs };
       halts_behind = λ start mid now events others text more why unsaid h k server serving.
-          let first = h server serving in
-          stops-on server_steps are_steps why unsaid g on (serving_at server start) (serving_at first.next mid) (at now.it.server.store now.disk) events others text more first.runs (k first.next first.serving);
-      halts_before = λ start now events others text why unsaid any h server serving.
-          grind (arith, common_steps, stops-more, are_steps, h server serving);
+          let first = h server serving in stops-on server_steps are_steps why unsaid g on (serving_at server start) (serving_at first.next mid) (at now.it.server.store now.disk) events others text more first.runs (k first.next first.serving);
+      halts_before = λ start now events others text why unsaid any h server serving. grind (arith, common_steps, stops-more, are_steps, h server serving);
     }
 
 -- what the node of a server is driven by
@@ -360,10 +319,8 @@ module _ {A C D : Type 0} (seen : Seen D A C) (terms : ServerTerms) (old new : D
     least_by : (earlier : List Turn) → IsButLast took.all.turns earlier → Least
     least_by earlier (inl none) = record { earlier = []; but_last = inl (none.0, refl); before = []; behind = took.all.moments; split = refl; least = []; brought = (refl, refl) }
     least_by earlier (inr some) =
-        let few : length earlier + 1 ≡ length took.all.turns = simp length-append at (sym (ap length some.1)) in
-        let before = take (length earlier) took.all.moments in
-        let behind = drop (length earlier) took.all.moments in
-        let split : took.all.moments ≡ before ++ behind = sym (take-append-drop (length earlier) took.all.moments) in
+        let few : length earlier + 1 ≡ length took.all.turns = simp length-append at (sym (ap length some.1)) in let before = take (length earlier) took.all.moments in
+        let behind = drop (length earlier) took.all.moments in let split : took.all.moments ≡ before ++ behind = sym (take-append-drop (length earlier) took.all.moments) in
         let left = took.open_before earlier some.0 [] before behind some.1 split (length-take-le (length earlier) took.all.moments (omega (arith, few, took.one_each))) in
         record { earlier = earlier; but_last = inr some; before = before; behind = behind; split = split; least = left.0; brought = left.1 }
 
@@ -376,22 +333,7 @@ module _ {A C D : Type 0} (seen : Seen D A C) (terms : ServerTerms) (old new : D
       moments_given = took.moments_given;
       text_said = took.text_said;
       is_unsaid = took.is_unsaid;
-      ran =
-          record {
-            one_each = took.one_each;
-            events = took.all.events;
-            brings = took.brings;
-            bound = took.bound;
-            ends = ends;
-            earlier = l.earlier;
-            but_last = l.but_last;
-            before = l.before;
-            behind = l.behind;
-            split = l.split;
-            least = l.least;
-            brought = l.brought;
-            ends_over = over;
-          };
+      ran = grind (arith, common_steps, over, l.brought, l.split, l.but_last);
       ends = ends;
       counts = counts;
       cuts = cuts;
@@ -400,8 +342,7 @@ module _ {A C D : Type 0} (seen : Seen D A C) (terms : ServerTerms) (old new : D
     all-taken : Taken (NodeEvents terms.me) (server_course g) (λ p. refl) seen.air old.air new.air (party_at old) (party_at new) took.all took.text took.unsaid terms.polls server_steps server took.all.events DidSo
     all-taken result ends counts fine over h =
         let comes : ComesOn g server (party_at old) took.all.events took.text (party_at new) = h.0 server serving in
-        let runs = comes.runs in
-        let l = least_by (but_last took.all.turns).0 (but_last took.all.turns).1 in
+        let runs = comes.runs in let l = least_by (but_last took.all.turns).0 (but_last took.all.turns).1 in
         did result runs.done [] runs.missed ends counts l (over l.least (made took.text runs.done runs.missed) (comes.next, runs.goes, refl))
         (cuts-among-none g _ runs.missed (store_at (party_at old)) (store_at (party_at new)) runs.done fine (lasts new.disk) runs.does)
 
@@ -416,12 +357,10 @@ module _ {A C D : Type 0} (seen : Seen D A C) (terms : ServerTerms) (old new : D
 
     stopped-last : Stopped (NodeEvents terms.me) (server_course g) (λ p. refl) seen.air old.air new.air (party_at old) (party_at new) took.all took.text took.unsaid terms.polls server_steps server took.all.events DidSo
     stopped-last why ends counts over h =
-        let from = began why h h.ends in
-        let comes : ComesOn g server (party_at old) h.least h.first from.0 = from.1 server serving in
+        let from = began why h h.ends in let comes : ComesOn g server (party_at old) h.least h.first from.0 = from.1 server serving in
         let halts : HaltsOn g comes.next from.0 h.more why took.unsaid h.last (party_at new) = from.2 comes.next comes.serving in
         let all : Made = made (h.first ++ h.last) (comes.runs.done ++ halts.done) (comes.runs.missed + halts.missed) in
-        let then_is = serving_at comes.next from.0 in
-        let end = at new.party.server.store new.disk in
+        let then_is = serving_at comes.next from.0 in let end = at new.party.server.store new.disk in
         let behind = behind-all server_steps are_steps why took.unsaid g on (serving_at server (party_at old)) then_is end h.least h.more h.first h.last comes.runs halts in
         did (Err why) all.done halts.cut all.missed ends (counts (λ is. rw (halts.kept is) at took.is_unsaid))
         (record { earlier = h.earlier; but_last = h.but_last; before = h.before; behind = h.behind; split = h.split; least = h.least; brought = h.brought })

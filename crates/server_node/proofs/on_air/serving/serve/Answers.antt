@@ -1,13 +1,11 @@
 -- The recovery is refused, or the server serves over what it gives.
 use Rattle.std.proofs.lemmas.Grind.{common_steps}
-use Rattle.std.proofs.Common.{None, sym, subst, Result, arith}
+use Rattle.std.proofs.Common.{None, arith}
 use Rattle.ftl0_server.specs.ServerState.{ServerState}
 use Rattle.node.specs.Course.{at}
 use Rattle.node.specs.Lent.{lent as lent_so, seen}
 use Rattle.node.specs.Turns.{lent}
-use Rattle.node.specs.declared.stop.NodeStop.{NodeStop}
-use Rattle.server_node.specs.declared.terms.Served.{Served}
-use Rattle.server_node.proofs.Ending.{Did, Recovers, refused, served}
+use Rattle.server_node.proofs.Ending.{Recovers, refused, served}
 use Rattle.server_node.proofs.on_air.ServerLemmas.{owes-none, Ran, not-over, server-did, started}
 use Rattle.server_node.proofs.on_air.serving.serve.Goals as goal
 
@@ -24,28 +22,22 @@ answer_of-requires g c = grind (arith, common_steps, not-over)
 pub returns : goal.returns
 returns g c =
     let h = c.in_ok-server.ensures in
-    let new = c.drive-station.new in
-    let terms = c.args.terms.now in
-    let blocks = terms.limits.blocks in
-    let mid = c.start.new.disk in
+    let new = c.drive-station.new in let mid = c.start.new.disk in
+    let terms = c.args.terms.now in let blocks = terms.limits.blocks in
     let all = seen g.D.Disk g.A.Air g.C.Clock.given in
-    let station = c.new-station.result in
-    let last = c.drive-station.result.0 in
+    let station = c.new-station.result in let last = c.drive-station.result.0 in
     let old = lent_so c.args.disk.now c.args.air.now c.args.clock.now in
     let now = lent_so new.disk new.air new.clock in
     let up = started g.D.Disk terms blocks c.args.disk.now mid station c.in_ok-server.server c.new-station.ensures.server c.new-station.ensures.memory h.recovered h.server h.silent in
-    let recovers : Recovers g.D.Disk blocks c.args.disk.now mid c.in_ok-server.server station.server.store = rw c.new-station.ensures.server
-    (record { recovered = h.recovered; magic_is = h.magic; rules = h.rules; runs = h.runs; octets = h.octets; since_start = h.since_start; since_sync = h.since_sync }) in
-    let did = server-did all terms (lent station mid c.args.air.now c.args.clock.now) (lent last new.disk new.air new.clock) c.drive-station.result.1 c.drive-station.ensures.turns g.met.D.Disk.lasts_same
-    g.met.D.Disk.lasts_on up.0 c.args.disk.now up.1 in
+    let recovers : Recovers g.D.Disk blocks c.args.disk.now mid c.in_ok-server.server station.server.store = grind (arith, common_steps, h, c.new-station.ensures.server) in
+    let did = server-did all terms (lent station mid c.args.air.now c.args.clock.now) (lent last new.disk new.air new.clock) c.drive-station.result.1 c.drive-station.ensures.turns g.met.D.Disk.lasts_same g.met.D.Disk.lasts_on up.0 c.args.disk.now up.1 in
     let serves = served all g.met.D.Disk.lasts_on blocks None (Ran terms) old now mid c.in_ok-server.server station.server.store last.server.store terms.polls c.answer_of.result recovers
     (rw c.answer_of.ensures did) in
-    record { refuses = serves.refuses; ends = serves.ends; counts = serves.counts; runs = serves.runs }
+    grind (arith, common_steps, serves)
 
 pub returns-in_err-server : goal.returns-in_err-server
 returns-in_err-server g c =
     let h = c.in_err-server.ensures in
     let terms = c.args.terms.now in
     let serves = refused {T = ServerState} (seen g.D.Disk g.A.Air g.C.Clock.given) terms.limits.blocks None (Ran terms) (lent_so c.args.disk.now c.args.air.now c.args.clock.now) c.start.new.disk c.in_err-server.field-0.0
-    c.from_residual.result c.from_residual.ensures.1 h.refuses h.runs h.since_start h.since_sync h.untouched h.untouched_damage in
-    record { refuses = serves.refuses; ends = serves.ends; counts = serves.counts; runs = serves.runs }
+    c.from_residual.result c.from_residual.ensures.1 h.refuses h.runs h.since_start h.since_sync h.untouched h.untouched_damage in grind (arith, common_steps, serves)
