@@ -3,6 +3,7 @@ use Rattle.std.specs.Prelude.{◌≡◌, ℕ, ◌<◌, ◌≤◌, List, ◌++◌
 use Rattle.std.specs.Prelude.{IfSome}
 use Rattle.px_base.specs.Octets.{IsFront}
 use Rattle.ax25_link.specs.Linked.{NumbersFit, OctetsFit}
+use Rattle.ax25_link.specs.Sending.{IsQuiet}
 use Rattle.pfh_items.specs.Faults.{fault_code}
 use Rattle.file_store.specs.Info.{IsCompleteIn}
 use Rattle.file_store.specs.Store.{Entry, entry_of, partial}
@@ -16,7 +17,7 @@ use Rattle.air_world.specs.Kept.{HoldsAck, IsTaskAt, IsTaskKept, Offered, WhereS
 use Rattle.air_world.specs.Party.{EachAttempt, EachSide, IsFileOf, Party, newest}
 use Rattle.air_world.specs.Said.{AsksUpload, Grants, SaysComplete, said_behind_server}
 use Rattle.air_world.specs.Sides.{IsJob, IsSession, ServerSide}
-use Rattle.air_world.specs.Sound.{AreGrantedOnce, IsSoundStore}
+use Rattle.air_world.specs.Sound.{AreGrantedOnce, ArePlaces, IsLinkOf, IsSoundStore}
 use Rattle.air_world.specs.UploadDialogue.{GoesOnWith}
 use Rattle.air_world.specs.World.{PartyAt, World}
 
@@ -49,11 +50,13 @@ pub record AreAcknowledged (world : World) : Type 0 where
       (λ party. (task number : ℕ) → HoldsAck party task number
       → IsTaskKept world.files world.server.store party task number)
 
--- The numbers of the two ends of a current attempt fit one another and their transmissions.
-abbrev pub DoNumbersFit : Attempt → ServerSide → Type 0
-DoNumbersFit a side =
-    NumbersFit a.window (client_station a) (server_station a side)
-    × NumbersFit a.window (server_station a side) (client_station a)
+-- The numbers of the two ends of a current attempt fit one another and their transmissions. Neither end has anything to
+-- send, so no reply is owed for what was accepted.
+pub record DoNumbersFit (a : Attempt) (side : ServerSide) : Type 0 where
+  pub of_client : NumbersFit a.window (client_station a) (server_station a side)
+  pub of_server : NumbersFit a.window (server_station a side) (client_station a)
+  pub client_quiet : IsQuiet a.window a.client.attempted.end
+  pub server_quiet : IsQuiet a.window side.connected.end
 
 -- Their octets do: what each accepted are the first pieces that the other one sent.
 abbrev pub DoOctetsFit : Attempt → ServerSide → Type 0
@@ -135,8 +138,11 @@ pub record AreGot (world : World) : Type 0 where
       (λ party. (number : ℕ) → outcome_by party.client.attempt ≡ outcome.Fetched number
       → fault_code (got party number) ≡ None)
 
--- All parts.
+-- All parts. What they say of sides of attempts they say of the server's sessions and of the clients' jobs: these are
+-- sides of attempts.
 pub record HasParts (world : World) : Type 0 where
+  pub places : ArePlaces world
+  pub links : EachParty world (λ party. IsLinkOf (newest party) party.client.attempt)
   pub store : IsSoundStore world.server.store
   pub numbered : AreNumbered world
   pub acknowledged : AreAcknowledged world
