@@ -17,6 +17,7 @@ use Rattle.ftl0_job.specs.declared.phases.DownloadPhase.TheVariants as fetch
 use Rattle.ftl0_job.specs.declared.work.Work.{Work}
 use Rattle.ftl0_job.specs.declared.work.Work.TheVariants as work
 use Rattle.ftl0_job.specs.Download.{Download}
+use Rattle.ftl0_job.specs.JobState.{IsCheckedIn}
 use Rattle.ftl0_client.specs.Attempt.Attempted.{outcome_of}
 use Rattle.ftl0_client.specs.declared.attempt.outcome.AttemptOutcome.TheVariants.{Reached}
 use Rattle.ftl0_client.specs.Entries as job
@@ -134,8 +135,10 @@ FetchesIn fetch.Login store party a at = at.rest ≡ []
 FetchesIn fetch.Fetching store party a at = Fetches store party a at
 FetchesIn fetch.Done store party a at = (at.rest ≡ []) × (fault_code (got party at.number) ≡ None)
 
+-- the same by the outcome, after which only a file that came whole is spoken of
 abbrev pub FetchesBy : Option Ending → Work → Store → Party → Attempt → Type 0
 FetchesBy None (work.Download at) store party a = FetchesIn at.phase store party a at
+FetchesBy (Some ending) (work.Download at) store party a = IsCheckedIn at.phase (got party at.number)
 FetchesBy ending doing store party a = ⊤
 
 -- the client's link is that of its current attempt, and its job fetches so

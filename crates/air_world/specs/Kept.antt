@@ -48,6 +48,11 @@ abbrev pub IsFileAt : Store → ℕ → List ℕ → CallSign → Type 0
 IsFileAt store number file caller =
     (entry_of store number ≡ None) ⊎ (IsUnderWay store number file caller ⊎ IsKept store number file caller)
 
+-- the entry of this number, if it stands, is on the way to the task's file, or is it
+abbrev pub IsTaskAt : List Asked → Store → Party → ℕ → ℕ → Type 0
+IsTaskAt files store party task number =
+    (file : List ℕ) × IsFileOf files party task file × IsFileAt store number file party.client.me
+
 -- where an entry of this number stands it is so
 abbrev pub WhereStands : Store → ℕ → (Entry → Type 0) → Type 0
 WhereStands store number P = (entry : Entry) → entry_of store number ≡ Some entry → P entry

@@ -1,5 +1,5 @@
 -- Laws of worlds, over every lawful schedule.
-use Rattle.std.specs.Prelude.{◌≡◌, ◌≢◌, ℕ, List, true, Some}
+use Rattle.std.specs.Prelude.{◌≡◌, ◌≢◌, ℕ, List, ◌∷◌, true, Some}
 use Rattle.std.specs.List.{AllByRecursion}
 use Rattle.file_store.specs.Command.{after, drop_entry}
 use Rattle.file_store.specs.OnDisk.{after_first}
@@ -38,24 +38,34 @@ noted_first world c part count =
           };
     })
 
--- What is promised holds also after the first so many commands of the event under way: of a server's event in the store
--- after them, and of a client's with the notes after them.
-pub record PrefixesLaw : Type 0 where
+-- What is promised holds also while whatever event comes next is under way, after the first so many of its commands: of
+-- a server's event in the store after them, and of a client's with the notes after them.
+pub record HoldsDuring (world : World) : Type 0 where
   pub server :
-      (world delivered : World) (event : Event) (coming : NodeEvent) (count : ℕ) → Sound world → IsAllowed world event
+      (event : Event) (coming : NodeEvent) (delivered : World) (count : ℕ) → IsAllowed world event
       → ServerTakes world event coming delivered
       → HeadlineIn world (after_first count world.server.store (server_commands world coming))
   pub client :
-      (world : World) (event : Event) (c : ℕ) (part : ClientPart) (count : ℕ) → Sound world → IsAllowed world event
+      (event : Event) (c : ℕ) (part : ClientPart) (count : ℕ) → IsAllowed world event
       → ClientTakes world event c part → HeadlineIn (noted_first world c part count) world.server.store
+
+-- So it is of a sound world.
+abbrev pub PrefixesLaw : Type 0
+PrefixesLaw = (world : World) → Sound world → HoldsDuring world
 
 -- what is promised of uploads and downloads holds in each world
 abbrev pub HoldsInEach : List World → Type 0
 HoldsInEach worlds = AllByRecursion (λ world. HeadlineIn world world.server.store) worlds
 
--- So it is in each lawful schedule.
-abbrev pub ScheduleLaw : Type 0
-ScheduleLaw = (schedule : Schedule) (worlds : List World) → IsRun schedule worlds → HoldsInEach worlds
+-- What is promised holds in each world of a lawful schedule, the first one too, and while the event behind it is under
+-- way: in all that the power may leave.
+pub record ScheduleLaw : Type 0 where
+  pub worlds :
+      (schedule : Schedule) (worlds : List World) → IsRun schedule worlds
+      → HoldsInEach (first_world schedule ∷ worlds)
+  pub during :
+      (schedule : Schedule) (worlds : List World) → IsRun schedule worlds
+      → AllByRecursion HoldsDuring (first_world schedule ∷ worlds)
 
 -- And in each one without cuts: each acknowledged file is kept, and each finished download has its file's octets.
 abbrev pub NoCutsLaw : Type 0

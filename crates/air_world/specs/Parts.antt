@@ -1,22 +1,23 @@
 -- What holds of each world between events, part by part, as a reader wants to know it.
-use Rattle.std.specs.Prelude.{◌≡◌, ℕ, ◌<◌, List, ◌++◌, length, true, None, Some}
+use Rattle.std.specs.Prelude.{◌≡◌, ℕ, ◌<◌, ◌≤◌, List, ◌++◌, length, true, None, Some}
 use Rattle.std.specs.Prelude.{IfSome}
 use Rattle.px_base.specs.Octets.{IsFront}
 use Rattle.ax25_link.specs.Linked.{NumbersFit, OctetsFit}
+use Rattle.ax25_link.specs.Sending.{IsQuiet}
 use Rattle.pfh_items.specs.Faults.{fault_code}
 use Rattle.file_store.specs.Info.{IsCompleteIn}
-use Rattle.file_store.specs.Store.{Entry, Store, entry_of, partial}
+use Rattle.file_store.specs.Store.{Entry, entry_of, partial}
 use Rattle.ftl0_session.specs.Downloads.Needs.{AreComplete}
 use Rattle.ftl0_session.specs.Table.{receiving}
 use Rattle.ftl0_client.specs.declared.outcome.Outcome.TheVariants as outcome
 use Rattle.ftl0_client.specs.Outcomes.{outcome_by}
 use Rattle.air_world.specs.Attempt.{Attempt, client_station, server_station}
 use Rattle.air_world.specs.Facts.{AreFirstIfAny, HasNumber, IsBegun, IsFetching, IsOfferKept, got}
-use Rattle.air_world.specs.Kept.{HoldsAck, IsFileAt, IsTaskKept, Offered, WhereStands}
+use Rattle.air_world.specs.Kept.{HoldsAck, IsTaskAt, IsTaskKept, Offered, WhereStands}
 use Rattle.air_world.specs.Party.{EachAttempt, EachSide, IsFileOf, Party, newest}
 use Rattle.air_world.specs.Said.{AsksUpload, Grants, SaysComplete, said_behind_server}
 use Rattle.air_world.specs.Sides.{IsJob, IsSession, ServerSide}
-use Rattle.air_world.specs.Sound.{AreGrantedOnce, IsSoundStore}
+use Rattle.air_world.specs.Sound.{AreGrantedOnce, ArePlaces, IsLinkOf, IsSoundStore}
 use Rattle.air_world.specs.UploadDialogue.{GoesOnWith}
 use Rattle.air_world.specs.World.{PartyAt, World}
 
@@ -28,8 +29,8 @@ EachParty world P = (c : ℕ) (party : Party) → PartyAt world c party → P pa
 abbrev pub OfCurrent : Party → (Attempt → ServerSide → Type 0) → Type 0
 OfCurrent party P = IfSome (newest party) (λ a. IfSome a.server (P a))
 
--- No two tasks have one number. A task's number is below the next one, and the entry of that number, if it stands, is
--- on the way to the task's file, or is it.
+-- No two tasks have one number. A task that has a number has a file; the number is below the next one, and its entry,
+-- if it stands, is on the way to the file, or is it.
 pub record AreNumbered (world : World) : Type 0 where
   pub distinct :
       (c task other that number : ℕ) (party others : Party) → PartyAt world c party → PartyAt world other others
@@ -38,8 +39,8 @@ pub record AreNumbered (world : World) : Type 0 where
       EachParty world (λ party. (task number : ℕ) → HasNumber party task number → number < world.server.store.next)
   pub stands :
       EachParty world
-      (λ party. (task number : ℕ) (file : List ℕ) → HasNumber party task number
-      → IsFileOf world.files party task file → IsFileAt world.server.store number file party.client.me)
+      (λ party. (task number : ℕ) → HasNumber party task number
+      → IsTaskAt world.files world.server.store party task number)
 
 -- An acknowledged task has a number, and its file is kept.
 pub record AreAcknowledged (world : World) : Type 0 where
@@ -49,11 +50,13 @@ pub record AreAcknowledged (world : World) : Type 0 where
       (λ party. (task number : ℕ) → HoldsAck party task number
       → IsTaskKept world.files world.server.store party task number)
 
--- The numbers of the two ends of a current attempt fit one another and their transmissions.
-abbrev pub DoNumbersFit : Attempt → ServerSide → Type 0
-DoNumbersFit a side =
-    NumbersFit a.window (client_station a) (server_station a side)
-    × NumbersFit a.window (server_station a side) (client_station a)
+-- The numbers of the two ends of a current attempt fit one another and their transmissions. Neither end has anything to
+-- send, so no reply is owed for what was accepted.
+pub record DoNumbersFit (a : Attempt) (side : ServerSide) : Type 0 where
+  pub of_client : NumbersFit a.window (client_station a) (server_station a side)
+  pub of_server : NumbersFit a.window (server_station a side) (client_station a)
+  pub client_quiet : IsQuiet a.window a.client.attempted.end
+  pub server_quiet : IsQuiet a.window side.connected.end
 
 -- Their octets do: what each accepted are the first pieces that the other one sent.
 abbrev pub DoOctetsFit : Attempt → ServerSide → Type 0
@@ -62,10 +65,13 @@ DoOctetsFit a side =
 
 -- Where a session receives a file and its client has a task with that number, what is held and what waits are the
 -- first octets of the task's file, and what the client has said behind them goes on with it.
-pub record ReceivesFile (store : Store) (a : Attempt) (side : ServerSide) (number : ℕ) (rest file : List ℕ)
+pub record ReceivesFile
+    (world : World) (party : Party) (a : Attempt) (side : ServerSide) (task number : ℕ) (rest : List ℕ)
     : Type 0 where
+  pub file : List ℕ
+  pub is_file : IsFileOf world.files party task file
   pub entry : Entry
-  pub is_entry : entry_of store number ≡ Some entry
+  pub is_entry : entry_of world.server.store number ≡ Some entry
   pub held : List ℕ
   pub holds : entry.holding ≡ partial held
   pub front : IsFront (held ++ rest) file
@@ -79,27 +85,35 @@ pub record AreInState (world : World) : Type 0 where
   pub receives :
       EachParty world
       (λ party. EachSide party
-      (λ a side. (task number : ℕ) (rest file : List ℕ) → side.is_up ≡ true
+      (λ a side. (task number : ℕ) (rest : List ℕ) → side.is_up ≡ true
       → side.connected.state ≡ receiving number rest → HasNumber party task number
-      → IsFileOf world.files party task file → ReceivesFile world.server.store a side number rest file))
+      → ReceivesFile world party a side task number rest))
 
--- An answer to a new upload that its client hasn't noted names a number that is below the next one, and that no task
--- has. The upload is of the file of the attempt's job. The entry, if it stands, is the client's, of the upload's
--- length, and holds nothing.
-pub record IsUnnoted (world : World) (party : Party) (file : List ℕ) (number file_length : ℕ) : Type 0 where
-  pub below : number < world.server.store.next
+-- The number isn't noted: no task has it, and the entry, if it stands, is the client's, of the upload's length, and
+-- holds nothing.
+pub record IsUnnoted (world : World) (party : Party) (number file_length : ℕ) : Type 0 where
   pub no_task : EachParty world (λ other. (task : ℕ) → ¬ HasNumber other task number)
-  pub length_is : file_length ≡ length file
   pub begun : WhereStands world.server.store number (IsBegun party.client.me file_length)
+
+-- An answer to a new upload of this length names a number that is below the next one. Its attempt is one to send a
+-- task's file, of that length, for the first time. As long as the task hasn't the number, it isn't noted.
+pub record IsGiven (world : World) (party : Party) (a : Attempt) (number file_length : ℕ) : Type 0 where
+  pub some : 1 ≤ number
+  pub below : number < world.server.store.next
+  pub task : ℕ
+  pub file : List ℕ
+  pub asks : AsksUpload a task 0 file
+  pub is_file : IsFileOf world.files party task file
+  pub length_is : file_length ≡ length file
+  pub unnoted : ¬ HasNumber party task number → IsUnnoted world party number file_length
 
 -- So is each such answer, and no two answers to new uploads name one number.
 pub record AreGranted (world : World) : Type 0 where
-  pub unnoted :
+  pub given :
       EachParty world
       (λ party. EachSide party
-      (λ a side. (task number file_length : ℕ) (file : List ℕ) → AsksUpload a task 0 file
-      → Grants side number file_length → ¬ HasNumber party task number
-      → IsUnnoted world party file number file_length))
+      (λ a side. (number file_length : ℕ) → Grants side number file_length
+      → IsGiven world party a number file_length))
   pub once : AreGrantedOnce world
 
 -- what a session said to be complete is
@@ -124,8 +138,11 @@ pub record AreGot (world : World) : Type 0 where
       (λ party. (number : ℕ) → outcome_by party.client.attempt ≡ outcome.Fetched number
       → fault_code (got party number) ≡ None)
 
--- All parts.
+-- All parts. What they say of sides of attempts they say of the server's sessions and of the clients' jobs: these are
+-- sides of attempts.
 pub record HasParts (world : World) : Type 0 where
+  pub places : ArePlaces world
+  pub links : EachParty world (λ party. IsLinkOf (newest party) party.client.attempt)
   pub store : IsSoundStore world.server.store
   pub numbered : AreNumbered world
   pub acknowledged : AreAcknowledged world

@@ -86,13 +86,14 @@ abbrev pub IsGreeting : PacketValue → Type 0
 IsGreeting packet = (moment : ℕ) × (left : Bool) × (packet ≡ greeting moment left)
 
 -- The session is in the state to which its packets lead, those of the octets that its end accepted and those that it
--- queued. It has said LOGIN_RESP, and then its replies and what it queued, in order. While it is up it has taken each
--- packet, and each reply fitted; this holds also of one that is over.
+-- queued. It has said LOGIN_RESP, and then its replies and what it queued, in order. This holds also of one that is
+-- over. It has taken each packet, but for those behind one whose replies didn't fit: with that one it was over. The
+-- octets of the packets that it didn't take are neither in its entries nor in its rest.
 pub record IsSession (side : ServerSide) : Type 0 where
   pub reached : SessionReaches (caller_of side.connected) command side.entries side.connected.state
   pub unread : List Item
   pub packets : packets_of (concat side.connected.end.taken) ≡ session.items_in side.entries ++ unread
-  pub all : side.is_up ≡ true → unread ≡ []
+  pub all : AllByRecursion session.IsNotLost side.entries → unread ≡ []
   pub none_lost : side.is_up ≡ true → AllByRecursion session.IsNotLost side.entries
   pub rest : side.connected.rest ≡ rest_of (concat side.connected.end.taken)
   pub said : side.connected.end.pushed ≡ texts (said_by_server side)

@@ -137,7 +137,8 @@ abbrev pub session_after : Store → Happened → Session
 session_after store happened = session_over (after_all store happened.done) happened.lists happened.after.state
 
 -- What a frame makes of a connection is what these entries make of its end, its session, the store and the lists.
--- They took the first of the packets that came; all of them, and none was lost, where the session goes on.
+-- They took the first of the packets that came: all of them, unless the last one that they took was lost. None was
+-- where the session goes on.
 pub record HeardBy (w : Window) (frame : FrameValue) (c : Connected) (happened : Happened) (entries : List SessionEntry)
     : Type 0 where
   pub doings : List Doing
@@ -145,7 +146,7 @@ pub record HeardBy (w : Window) (frame : FrameValue) (c : Connected) (happened :
   pub said : happened.after.end.pushed ≡ (after_frame w c.end frame).pushed ++ texts (said_in entries)
   pub unread : List Item
   pub packets : packets_heard w c frame ≡ items_in entries ++ unread
-  pub all : happened.over ≡ false → unread ≡ []
+  pub all : AllByRecursion IsNotLost entries → unread ≡ []
   pub none_lost : happened.over ≡ false → AllByRecursion IsNotLost entries
   pub done : happened.done ≡ commands_in entries
 
