@@ -1,0 +1,4 @@
+mod EventCases
+mod LineLemmas
+mod SplitLemmas
+mod WordLemmas

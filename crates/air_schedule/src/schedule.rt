@@ -1,0 +1,122 @@
+//! A schedule, and the reading of its text.
+
+ghost use Rattle.std.specs.Prelude.{◌≡◌, ◌∷◌, ◌++◌, [], ℕ, List, IfOk, IfSome, OnOk, OnErr, IsErrOf, map};
+ghost use Rattle.air_schedule.specs.Events.{event_value};
+ghost use Rattle.air_schedule.specs.Text.{BeginSchedule, FirstBadLine, Line, LineText, ScheduleText, client_line, lines_of};
+
+use crate::call_word::read_client;
+use crate::event_line::read_event;
+use crate::fault::LineFault;
+use crate::split::split_line;
+use crate::window::read_window;
+use crate::{Event, ScheduleFault};
+use px_base::Call;
+use std::alloc::Global;
+use std::marker::Model;
+use std::str;
+
+/// How many clients a schedule has at most.
+const MOST_CLIENTS: usize = 8;
+
+/// A schedule: the window of the links, the calls of the clients, no two the same, and the events in their order. Contracts
+/// see it as the `Schedule` of the definitions.
+#[derive(Debug, Drop)]
+pub struct Schedule {
+    window: u8,
+    clients: Vec<Call>,
+    events: Vec<Event>,
+}
+
+impl Model for Schedule {
+    ghost use Rattle.std.specs.Prelude.{map};
+    ghost use Rattle.air_schedule.specs.Events.{event_value};
+    ghost use Rattle.air_schedule.specs.Schedule.{IsSchedule, Schedule};
+
+    ghost Value = { Schedule };
+
+    ghost view = { λ a. record { size = a.window; calls = a.clients.items; events = map event_value a.events.items } };
+
+    ghost invariant = { λ a. IsSchedule (record { size = a.window; calls = a.clients.items; events = map event_value a.events.items }) };
+}
+
+impl Schedule {
+    /// Reads the text of a schedule: its lines, each ended by LF. The error comes exactly where the text is none, at the
+    /// first line that can't be a schedule's, whatever the events would do. Takes memory.
+    pub fn read(alloc: Global, text: &[u8]) -> Result<Schedule, ScheduleFault>
+        ensures read { IfOk result (λ schedule. ScheduleText schedule text.now) }
+        ensures bad { (line : ℕ) → result ≡ Err (ScheduleFault.BadLine line) → FirstBadLine text.now line }
+    {
+        let bad = ScheduleFault::BadLine { line: 1 };
+        let (first, mut rest) = split_line(text).ok_or(bad)?;
+        let mut schedule = Schedule {
+            window: read_window(first).ok_or(bad)?,
+            clients: Vec::new(alloc),
+            events: Vec::new(alloc),
+        };
+        let mut line = 2;
+        while !rest.is_empty() {
+            let (next, later) = split_line(rest).ok_or(ScheduleFault::BadLine { line })?;
+            if let Err(fault) = schedule.add(alloc, next) {
+                return Err(fault.at(line));
+            }
+            rest = later;
+            line += 1;
+        }
+        Ok(schedule)
+    }
+
+    /// How many I frames of a link may be outstanding (k of AX.25 2.0, 2.4.7.4): 1 to 7. Takes no memory.
+    pub fn window(&self) -> u8
+        ensures { result ≡ self.now.size }
+    {
+        self.window
+    }
+
+    /// The calls of the clients, in the order of their numbers, at most eight. Takes no memory.
+    pub fn clients(&self) -> &[Call]
+        ensures { result.now ≡ self.now.calls }
+    {
+        &self.clients
+    }
+
+    /// The events, in their order. Takes no memory.
+    pub fn events(&self) -> &[Event]
+        ensures { map event_value result.now ≡ self.now.events }
+    {
+        &self.events
+    }
+
+    /// Takes the next line, without its LF. Takes memory.
+    fn add(&mut self, alloc: Global, line: &[u8]) -> Result<(), LineFault>
+        ensures taken { OnOk result ((said : Line) × LineText said line.now
+            × (lines_of self.new ≡ lines_of self.old ++ said ∷ [])) }
+        ensures kept { OnErr result (self.new ≡ self.old) }
+        ensures none { IsErrOf result LineFault.NoLine → (said : Line) (more : List Line) → LineText said line.now
+            → BeginSchedule (lines_of self.old ++ said ∷ more) → ⊥ }
+    {
+        let Ok(line) = str::from_utf8(line) else {
+            return Err(LineFault::NoLine);
+        };
+        if let Some(call) = read_client(line) {
+            return self.add_client(call);
+        }
+        let event = read_event(alloc, line)?;
+        self.events.push(event)?;
+        Ok(())
+    }
+
+    /// Takes one more client, where there are fewer than eight, no event stands, and none has its call.
+    fn add_client(&mut self, call: Call) -> Result<(), LineFault>
+        ensures taken { OnOk result (lines_of self.new ≡ lines_of self.old ++ client_line call ∷ []) }
+        ensures kept { OnErr result (self.new ≡ self.old) }
+        ensures none { IsErrOf result LineFault.NoLine → (more : List Line)
+            → BeginSchedule (lines_of self.old ++ client_line call ∷ more) → ⊥ }
+    {
+        let is_full = self.clients.len() == MOST_CLIENTS;
+        if is_full || !self.events.is_empty() || self.clients.contains(&call) {
+            return Err(LineFault::NoLine);
+        }
+        self.clients.push(call)?;
+        Ok(())
+    }
+}
