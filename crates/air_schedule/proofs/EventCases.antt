@@ -1,5 +1,5 @@
 -- Which events may have words that begin so.
-use Rattle.std.proofs.Common.{◌≡◌, ◌≢◌, ℕ, ◌<◌, ◌≤◌, ◌^◌, cond, List, [], ◌∷◌, ◌++◌, codes, decimal, bytes_eq, get_or, ap, sym, ◌∙◌, refl, arith}
+use Rattle.std.proofs.Common.{◌≡◌, ◌≢◌, ℕ, ◌<◌, ◌≤◌, ◌^◌, false, cond, List, [], ◌∷◌, ◌++◌, codes, decimal, bytes_eq, get_or, ap, sym, ◌∙◌, refl, arith}
 use Rattle.std.proofs.lemmas.Fmt.{decimal_injective}
 use Rattle.hex.specs.Hex.{decode_of}
 use Rattle.hex.proofs.HexLemmas.{decode_of-same}
@@ -111,3 +111,16 @@ one_event (cut_client c call choice) (cut_client d other pick) words h k =
     cc
 one_event one other words h k =
     absurd (other_words (sign_of one) (sign_of other) refl (sym (signs one words h) ∙ signs other words k))
+
+-- no such event ticks
+pub no_tick : (event : Event) (station : List ℕ) → station ≢ codes "server"
+    → ((c : ℕ) → c < 2 ^ 64 → words_of station ≡ decimal c ∷ [] → ⊥) → EventText event (codes "tick" ∷ words_of station) → ⊥
+no_tick tick_server station server client h = server (sole_word station (codes "server") (cc))
+no_tick (tick_client c) station server client h = client c h.1.0 (cc)
+no_tick event station server client h =
+    other_words (codes "tick") (sign_of event) refl (signs event (codes "tick" ∷ words_of station) h.1)
+
+-- no event begins as the line of the window or of a client
+pub event_apart : (event : Event) → (bytes_eq (sign_of event) (codes "window") ≡ false) × (bytes_eq (sign_of event) (codes "client") ≡ false)
+event_apart tick_server = (refl, refl)
+event_apart event = (refl, refl)

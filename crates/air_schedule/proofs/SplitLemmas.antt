@@ -31,10 +31,10 @@ first_word line (Some parts) h =
 -- where no LF stands
 pub no_line : (text : List ℕ) → position (λ octet. eqb octet 10) text ≡ None → parts_of text ≡ text ∷ []
 no_line text h = elim (cases_lt (position_or_len (λ octet. eqb octet 10) text) (length text)) [
-      | inl below ↦ absurd (grind (arith, common_steps, below, h))
-      | inr past ↦ slice_split_none (λ octet. eqb octet 10) text
-          (λ k d below. fails_before_first (λ octet. eqb octet 10) text k d (omega arith))
-    ]
+  | inl below ↦ absurd (grind (arith, common_steps, below, h))
+  | inr past ↦ slice_split_none (λ octet. eqb octet 10) text
+      (λ k d below. fails_before_first (λ octet. eqb octet 10) text k d (omega arith))
+]
 
 -- where the first LF stands at this place
 pub first_line : (text : List ℕ) (end : ℕ) → position (λ octet. eqb octet 10) text ≡ Some end
@@ -42,6 +42,6 @@ pub first_line : (text : List ℕ) (end : ℕ) → position (λ octet. eqb octet
 first_line text end h =
     let found = position-Some (λ octet. eqb octet 10) text end 0 h in
     let place : position_or_len (λ octet. eqb octet 10) text ≡ end
-        = position_or_len_is (λ octet. eqb octet 10) text end 0 (omega arith) found.2 (λ _. found.1) in
+    = position_or_len_is (λ octet. eqb octet 10) text end 0 (omega arith) found.2 (λ _. found.1) in
     let cut = slice_split_first (λ octet. eqb octet 10) text 0 (omega arith) in
     (found.0, rw place at cut)

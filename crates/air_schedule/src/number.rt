@@ -40,7 +40,7 @@ pub(crate) fn read_ranged(low: u64, high: u64, word: &str) -> Option<u64>
 pub(crate) fn read_numbers(words: &str) -> Option<(u64, u64)>
     ensures { MatchOption result
         ((first second : ℕ) → IsNumber first → IsNumber second
-            → words_of words.now ≡ decimal first ∷ decimal second ∷ [] → ⊥)
+        → words_of words.now ≡ decimal first ∷ decimal second ∷ [] → ⊥)
         (λ numbers. words_of words.now ≡ decimal numbers.0 ∷ decimal numbers.1 ∷ []) }
 {
     let (first, second) = split_word(words)?;

@@ -1,8 +1,10 @@
 //! A schedule, and the reading of its text.
 
-ghost use Rattle.std.specs.Prelude.{◌≡◌, ◌∷◌, ◌++◌, [], ℕ, List, IfOk, IfSome, OnOk, OnErr, IsErrOf, map};
+ghost use Rattle.std.specs.Prelude.{◌≡◌, ◌∷◌, ◌++◌, [], ℕ, List, IfErr, IfOk, OnOk, OnErr, IsErrOf, map};
 ghost use Rattle.air_schedule.specs.Events.{event_value};
-ghost use Rattle.air_schedule.specs.Text.{BeginSchedule, FirstBadLine, Line, LineText, ScheduleText, client_line, lines_of};
+ghost use Rattle.air_schedule.specs.Text.{BeginSchedule, FirstBadLine, Line, LineText, ScheduleText, client_line, event_line, lines_of};
+ghost use Rattle.air_schedule.specs.Schedule.{IsInRange, IsSchedule};
+ghost use Rattle.px_base.specs.CallSign.{IsCall};
 
 use crate::call_word::read_client;
 use crate::event_line::read_event;
@@ -46,16 +48,22 @@ impl Schedule {
         ensures read { IfOk result (λ schedule. ScheduleText schedule text.now) }
         ensures bad { (line : ℕ) → result ≡ Err (ScheduleFault.BadLine line) → FirstBadLine text.now line }
     {
-        let bad = ScheduleFault::BadLine { line: 1 };
-        let (first, mut rest) = split_line(text).ok_or(bad)?;
+        let Some((first, mut rest)) = split_line(text) else {
+            return Err(ScheduleFault::BadLine { line: 1 });
+        };
+        let Some(window) = read_window(first) else {
+            return Err(ScheduleFault::BadLine { line: 1 });
+        };
         let mut schedule = Schedule {
-            window: read_window(first).ok_or(bad)?,
+            window,
             clients: Vec::new(alloc),
             events: Vec::new(alloc),
         };
         let mut line = 2;
         while !rest.is_empty() {
-            let (next, later) = split_line(rest).ok_or(ScheduleFault::BadLine { line })?;
+            let Some((next, later)) = split_line(rest) else {
+                return Err(ScheduleFault::BadLine { line });
+            };
             if let Err(fault) = schedule.add(alloc, next) {
                 return Err(fault.at(line));
             }
@@ -90,6 +98,7 @@ impl Schedule {
     fn add(&mut self, alloc: Global, line: &[u8]) -> Result<(), LineFault>
         ensures taken { OnOk result ((said : Line) × LineText said line.now
             × (lines_of self.new ≡ lines_of self.old ++ said ∷ [])) }
+        ensures schedule { OnOk result (IsSchedule self.new) }
         ensures kept { OnErr result (self.new ≡ self.old) }
         ensures none { IsErrOf result LineFault.NoLine → (said : Line) (more : List Line) → LineText said line.now
             → BeginSchedule (lines_of self.old ++ said ∷ more) → ⊥ }
@@ -100,20 +109,35 @@ impl Schedule {
         if let Some(call) = read_client(line) {
             return self.add_client(call);
         }
-        let event = read_event(alloc, line)?;
+        match read_event(alloc, line) {
+            Ok(event) => self.add_event(event),
+            Err(fault) => Err(fault),
+        }
+    }
+
+    /// Takes one more event. Takes memory.
+    fn add_event(&mut self, event: Event) -> Result<(), LineFault>
+        requires { IsInRange (event_value event) }
+        ensures taken { OnOk result (lines_of self.new ≡ lines_of self.old ++ event_line (event_value event) ∷ []) }
+        ensures schedule { OnOk result (IsSchedule self.new) }
+        ensures kept { OnErr result (self.new ≡ self.old) }
+        ensures fault { IfErr result (λ fault. fault ≡ LineFault.OutOfMemory) }
+    {
         self.events.push(event)?;
         Ok(())
     }
 
-    /// Takes one more client, where there are fewer than eight, no event stands, and none has its call.
+    /// Takes one more client, where there are fewer than eight, no event stands, and none has its call. Takes memory.
     fn add_client(&mut self, call: Call) -> Result<(), LineFault>
+        requires { IsCall call }
         ensures taken { OnOk result (lines_of self.new ≡ lines_of self.old ++ client_line call ∷ []) }
+        ensures schedule { OnOk result (IsSchedule self.new) }
         ensures kept { OnErr result (self.new ≡ self.old) }
         ensures none { IsErrOf result LineFault.NoLine → (more : List Line)
             → BeginSchedule (lines_of self.old ++ client_line call ∷ more) → ⊥ }
     {
-        let is_full = self.clients.len() == MOST_CLIENTS;
-        if is_full || !self.events.is_empty() || self.clients.contains(&call) {
+        let is_full = self.clients().len() == MOST_CLIENTS;
+        if is_full || !self.events().is_empty() || self.clients().contains(&call) {
             return Err(LineFault::NoLine);
         }
         self.clients.push(call)?;

@@ -17,7 +17,7 @@ pub(crate) fn read_tokens(alloc: Global, word: &str) -> Result<Vec<u8>, LineFaul
     ensures { MatchResult result
         (λ tokens. AreTokens tokens.items × (decode_of word.now ≡ Ok tokens.items) × (words_of word.now ≡ word.now ∷ []))
         (IsCause ((hex tokens : List ℕ) → words_of word.now ≡ hex ∷ [] → decode_of hex ≡ Ok tokens
-            → AreTokens tokens → ⊥)) }
+        → AreTokens tokens → ⊥)) }
 {
     if word.is_empty() || word.len() > 2 * MOST_TOKENS {
         return Err(LineFault::NoLine);
