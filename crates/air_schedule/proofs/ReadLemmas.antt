@@ -1,5 +1,5 @@
 -- The lines of a text, as far as they were read.
-use Rattle.std.proofs.Common.{◌≡◌, ◌≢◌, ℕ, ◌+◌, ◌-◌, ◌<◌, ◌≤◌, ◌⊎◌, ◌==◌, inl, inr, List, [], ◌∷◌, ◌++◌, length, map, ap, sym, subst, ◌∙◌, refl, arith, append-nil, length-append}
+use Rattle.std.proofs.Common.{◌≡◌, ◌≢◌, ℕ, ◌+◌, ◌⊎◌, ◌==◌, inl, inr, List, [], ◌∷◌, ◌++◌, length, map, ap, sym, subst, ◌∙◌, refl, arith, append-nil, length-append}
 use Rattle.std.proofs.lemmas.List.Splits.{length-slice_split}
 use Rattle.air_schedule.specs.Schedule.{IsSchedule, Schedule}
 use Rattle.air_schedule.specs.Text.{BeginSchedule, BeginsWell, FirstBadLine, Line, LineText, LinesThen, ScheduleText, client_line, event_line, lines_of, parts_of, window_line, words_of}

@@ -1,5 +1,5 @@
 -- Which line may follow the lines of a schedule.
-use Rattle.std.proofs.Common.{◌≡◌, ◌≢◌, ℕ, ◌+◌, ◌<◌, ◌≤◌, ◌^◌, ◌==◌, ◌&&◌, Bool, false, true, inl, inr, List, [], ◌∷◌, ◌++◌, length, map, codes, decimal, bytes_eq, ap, ap₂, sym, subst, ◌∙◌, refl, arith, append_assoc, append-nil, length-append}
+use Rattle.std.proofs.Common.{◌≡◌, ◌≢◌, ℕ, ◌<◌, ◌≤◌, ◌==◌, ◌&&◌, Bool, false, true, inl, inr, List, [], ◌∷◌, ◌++◌, length, map, codes, bytes_eq, ap, ap₂, sym, subst, ◌∙◌, refl, arith, append_assoc, length-append}
 use Rattle.std.specs.Bool.{Decides}
 use Rattle.std.specs.List.{AllByRecursion, list_any}
 use Rattle.std.proofs.lemmas.Bool.{false≢true, or_cases, or_parts}
@@ -10,7 +10,7 @@ use Rattle.std.proofs.lemmas.Slice.Eq.{bytes_eq-Decides}
 use Rattle.px_base.specs.CallSign.{CallSign, CallText, IsCall}
 use Rattle.px_base.proofs.Calls.{one_call}
 use Rattle.air_schedule.specs.Schedule.{AreDistinct, Event, IsInRange, IsSchedule, Schedule}
-use Rattle.air_schedule.specs.Text.{BeginSchedule, EventText, Line, LineText, LineWords, client_line, event_line, lines_of, window_line, words_of}
+use Rattle.air_schedule.specs.Text.{BeginSchedule, EventText, Line, LineWords, client_line, event_line, lines_of, window_line}
 use Rattle.air_schedule.proofs.EventCases.{event_apart, one_event, sign, sign_of, signs}
 use Rattle.air_schedule.proofs.WordLemmas.{other_words}
 

@@ -1,5 +1,5 @@
 -- There is no other job.
-use Rattle.std.proofs.Common.{◌≡◌, List, ℕ, [], ◌∷◌, codes, sym, ◌∙◌}
+use Rattle.std.proofs.Common.{◌≡◌, ◌∷◌, sym, ◌∙◌}
 use Rattle.air_schedule.specs.Text.{words_of}
 use Rattle.air_schedule.proofs.EventCases.{no_job}
 use Rattle.air_schedule.proofs.WordLemmas.{other_words}

@@ -1,5 +1,5 @@
 -- A call is one word.
-use Rattle.std.proofs.Common.{◌≡◌, List, ℕ, [], ◌∷◌, codes, subst, ap, sym, ◌∙◌, arith}
+use Rattle.std.proofs.Common.{◌≡◌, [], ◌∷◌, codes, subst, sym, ◌∙◌}
 use Rattle.px_base.specs.CallSign.{CallText}
 use Rattle.air_schedule.specs.Text.{words_of}
 use Rattle.air_schedule.proofs.WordLemmas.{IsWord-call, same_words, sole_word, words_of-word}

@@ -1,5 +1,5 @@
 -- No other station ticks.
-use Rattle.std.proofs.Common.{codes, sym, ◌∙◌}
+use Rattle.std.proofs.Common.{sym, ◌∙◌}
 use Rattle.air_schedule.proofs.EventCases.{no_tick}
 use Rattle.air_schedule.proofs.WordLemmas.{other_words}
 use Rattle.air_schedule.proofs.event_line.read_tick.Goals as goal

@@ -1,5 +1,5 @@
 -- The number that is read is the one that the word writes.
-use Rattle.std.proofs.Common.{◌≡◌, ℕ, ◌<◌, ◌≤◌, ◌^◌, decimal, inl, inr, sym, ◌∙◌, arith}
+use Rattle.std.proofs.Common.{◌≡◌, decimal, inl, inr, arith}
 use Rattle.std.proofs.lemmas.Fmt.{decimal_injective}
 use Rattle.air_schedule.proofs.number.read_ranged.Goals as goal
 

@@ -1,5 +1,5 @@
 -- The LF is where the first line ends.
-use Rattle.std.proofs.Common.{◌≡◌, ℕ, ◌+◌, ◌-◌, length, take, drop, eqb, sym, ◌∙◌, rules, tests, arith, length-drop}
+use Rattle.std.proofs.Common.{◌≡◌, ◌+◌, ◌-◌, length, drop, eqb, sym, ◌∙◌, rules, tests, arith, length-drop}
 use Rattle.std.specs.List.{position}
 use Rattle.std.proofs.lemmas.Iterator.{YieldsList-from_slice}
 use Rattle.std.proofs.lemmas.Iterator.Search.{position_from_yields_List}

@@ -1,5 +1,5 @@
 -- What decodes is twice as long as its tokens, and one word.
-use Rattle.std.proofs.Common.{◌≡◌, List, ℕ, ◌+◌, ◌*◌, ◌≤◌, ◌<◌, [], ◌∷◌, Ok, Err, length, eqb, subst, ap, sym, ◌∙◌, inl, inr, arith}
+use Rattle.std.proofs.Common.{◌≡◌, List, ℕ, ◌*◌, ◌≤◌, ◌<◌, [], ◌∷◌, Ok, Err, length, subst, ap, sym, ◌∙◌, inl, inr, arith}
 use Rattle.std.proofs.lemmas.Bool.{eqb-false, eqb-true}
 use Rattle.std.proofs.lemmas.List.Elements.{All-from_get_or}
 use Rattle.hex.specs.Hex.{decode_of}
@@ -8,7 +8,6 @@ use Rattle.hex.specs.declared.error.FromHexError.{FromHexError}
 use Rattle.air_schedule.specs.Causes.{IsCause, fault_of_hex}
 use Rattle.air_schedule.specs.declared.fault.LineFault.{LineFault}
 use Rattle.air_schedule.specs.declared.fault.LineFault.TheVariants.{NoLine, OutOfMemory}
-use Rattle.px_base.specs.Octets.{IsOctets}
 use Rattle.air_schedule.specs.Schedule.{AreTokens}
 use Rattle.air_schedule.specs.Text.{words_of}
 use Rattle.air_schedule.proofs.WordLemmas.{IsWord-hex, sole_word, words_of-word}

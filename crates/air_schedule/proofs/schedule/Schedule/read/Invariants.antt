@@ -1,5 +1,5 @@
 -- The lines that were read, and what is left of the text.
-use Rattle.std.proofs.Common.{◌≡◌, ℕ, ◌+◌, ◌≤◌, length}
+use Rattle.std.proofs.Common.{◌≡◌, ◌+◌, ◌≤◌, length}
 use Rattle.air_schedule.specs.Schedule.{IsSchedule}
 use Rattle.air_schedule.specs.Text.{LinesThen, lines_of, parts_of}
 use Rattle.air_schedule.proofs.schedule.Schedule.read.Given as goal
