@@ -1,7 +1,8 @@
 -- The lines of a text, as far as they were read.
 use Rattle.std.proofs.Common.{◌≡◌, ◌≢◌, ℕ, ◌+◌, ◌⊎◌, ◌==◌, inl, inr, List, [], ◌∷◌, ◌++◌, length, map, ap, sym, subst, ◌∙◌, refl, arith, append-nil, length-append}
 use Rattle.std.proofs.lemmas.List.Splits.{length-slice_split}
-use Rattle.air_schedule.specs.Schedule.{IsSchedule, Schedule}
+use Rattle.px_base.specs.CallSign.{CallSign}
+use Rattle.air_schedule.specs.Schedule.{Event, IsSchedule, Schedule}
 use Rattle.air_schedule.specs.Text.{BeginSchedule, BeginsWell, FirstBadLine, Line, LineText, LinesThen, ScheduleText, client_line, event_line, lines_of, parts_of, window_line, words_of}
 use Rattle.air_schedule.proofs.ScheduleLemmas.{one_line}
 
@@ -142,3 +143,55 @@ window_first said more h = (h.0.size, first h.0.size (map client_line h.0.calls 
 pub nothing_left : (text : List ℕ) → length text ≡ 0 → text ≡ []
 nothing_left [] h = refl
 nothing_left (octet ∷ text) h = absurd (omega arith)
+
+-- two schedules with the same lines are the same
+same_lines : (one other : Schedule) → lines_of one ≡ lines_of other → one ≡ other
+same_lines one other h =
+    let size : one.size ≡ other.size = cc in
+    let rest : map client_line one.calls ++ map event_line one.events ≡ map client_line other.calls ++ map event_line other.events = cc in
+    let parts = same_parts one.calls other.calls one.events other.events rest in
+    ap (λ n. make n one.calls one.events) size ∙ ap (λ calls. make other.size calls one.events) parts.0 ∙ ap (make other.size other.calls) parts.1
+  where
+    make : ℕ → List CallSign → List Event → Schedule
+    make size calls events = record { size = size; calls = calls; events = events }
+
+    same_events : (events others : List Event) → map event_line events ≡ map event_line others → events ≡ others
+    same_events [] [] h = refl
+    same_events [] (o ∷ others) h = absurd (cc)
+    same_events (e ∷ events) [] h = absurd (cc)
+    same_events (e ∷ events) (o ∷ others) h =
+        let rest : events ≡ others = same_events events others (cc) in
+        let first : e ≡ o = cc in
+        cc
+
+    same_parts : (calls others : List CallSign) (events theirs : List Event)
+        → map client_line calls ++ map event_line events ≡ map client_line others ++ map event_line theirs → (calls ≡ others) × (events ≡ theirs)
+    same_parts [] [] events theirs h = (refl, same_events events theirs h)
+    same_parts [] (o ∷ others) [] theirs h = absurd (cc)
+    same_parts [] (o ∷ others) (e ∷ events) theirs h = absurd (cc)
+    same_parts (c ∷ calls) [] events [] h = absurd (cc)
+    same_parts (c ∷ calls) [] events (t ∷ theirs) h = absurd (cc)
+    same_parts (c ∷ calls) (o ∷ others) events theirs h =
+        let rest = same_parts calls others events theirs (cc) in
+        let first : c ≡ o = cc in
+        let behind : calls ≡ others = rest.0 in
+        (cc, rest.1)
+
+-- a text is one schedule's
+pub one_schedule : (text : List ℕ) (one other : Schedule) → ScheduleText one text → ScheduleText other text → one ≡ other
+one_schedule text one other h k = elim (compare (lines_of one) (lines_of other) ([] ∷ []) ([] ∷ []) (parts_of text) h.lines k.lines) [
+  | inl on ↦ absurd (nothing_more on.more on.text on.later on.here on.stand)
+  | inr far ↦ same_lines one other (ended far.more far.whole far.stand)
+]
+  where
+    some_part : (parts : List (List ℕ)) → parts ≡ [] ∷ [] → parts ≡ [] → ⊥
+    some_part parts e none = cc
+
+    nothing_more : (more : List Line) (text : List ℕ) (later : List (List ℕ)) → [] ∷ [] ≡ text ∷ later → LinesThen more ([] ∷ []) later → ⊥
+    nothing_more more text later e stand =
+        let none : later ≡ [] = cc in
+        some_part ([] ∷ []) refl (LinesThen-nil more ([] ∷ []) (subst (LinesThen more ([] ∷ [])) none stand))
+
+    ended : (more : List Line) → lines_of one ≡ lines_of other ++ more → LinesThen more ([] ∷ []) ([] ∷ []) → lines_of one ≡ lines_of other
+    ended [] whole stand = whole ∙ append-nil (lines_of other)
+    ended (line ∷ more) whole stand = absurd (nothing_more more stand.0 stand.1 stand.3 stand.4)

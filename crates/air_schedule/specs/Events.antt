@@ -2,7 +2,8 @@
 use Rattle.std.specs.Prelude.{ℕ, List, Option, MatchOption, MatchResult, Result}
 use Rattle.air_schedule.specs.declared.event.Event.{Event as StoredEvent}
 use Rattle.air_schedule.specs.declared.event.Event.TheVariants.{AskDownload, AskList, AskResume, AskUpload, BreakClient}
-use Rattle.air_schedule.specs.declared.event.Event.TheVariants.{CutClient, CutServer, TickClient, TickServer, ToClient, ToServer}
+use Rattle.air_schedule.specs.declared.event.Event.TheVariants.{CutClient, CutServer, TickClient, TickServer}
+use Rattle.air_schedule.specs.declared.event.Event.TheVariants.{ToClient, ToServer}
 use Rattle.air_schedule.specs.declared.fault.LineFault.{LineFault}
 use Rattle.air_schedule.specs.Causes.{IsCause}
 use Rattle.air_schedule.specs.Schedule.{Event, ask_download, ask_list, ask_resume, ask_upload, break_client}

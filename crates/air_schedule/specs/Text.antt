@@ -1,9 +1,11 @@
--- The text of a schedule: lines, each ended by LF, whose words one blank parts. Numbers are decimal, without leading zero.
+-- The text of a schedule: lines, each ended by LF, whose words one blank parts. Numbers are decimal, without leading
+-- zero.
 use Rattle.std.specs.Prelude.{◌≡◌, ◌==◌, ℕ, ◌-◌, ◌<◌, ◌≤◌, ◌^◌, List, [], ◌∷◌, ◌++◌, codes, decimal, length, map, Ok}
 use Rattle.std.specs.List.{slice_split}
 use Rattle.hex.specs.Hex.{decode_of}
 use Rattle.px_base.specs.CallSign.{CallSign, CallText}
-use Rattle.air_schedule.specs.Schedule.{Event, IsInRange, IsSchedule, Schedule, ask_download, ask_list, ask_resume, ask_upload, break_client}
+use Rattle.air_schedule.specs.Schedule.{Event, IsInRange, IsSchedule, Schedule}
+use Rattle.air_schedule.specs.Schedule.{ask_download, ask_list, ask_resume, ask_upload, break_client}
 use Rattle.air_schedule.specs.Schedule.{cut_client, cut_server, tick_client, tick_server, to_client, to_server}
 
 -- what a line says
@@ -97,3 +99,8 @@ pub record FirstBadLine (text : List ℕ) (line : ℕ) : Type 0 where
   pub none : (schedule : Schedule) → ScheduleText schedule text → ⊥
   pub before : BeginsWell (line - 1) text
   pub here : BeginsWell line text → ⊥
+
+-- Each text is the text of at most one schedule.
+abbrev pub OneSchedule : Type 0
+OneSchedule =
+    (text : List ℕ) (one other : Schedule) → ScheduleText one text → ScheduleText other text → one ≡ other

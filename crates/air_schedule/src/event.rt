@@ -1,7 +1,7 @@
 //! The events of a schedule.
 
-/// An event of a schedule. Clients and transmissions are numbered from 1 on; whether there is one of a number shows when
-/// the schedule is played.
+/// An event of a schedule. Clients and transmissions are numbered from 1 on. Whether there is one of a number is seen
+/// when the schedule is played.
 #[derive(Debug, Drop)]
 pub enum Event {
     /// `ask C upload N`: a client is asked for a new file.

@@ -1,5 +1,5 @@
-//! The schedule of a rehearsal: the window of its links, the calls of its clients and its events, and the reading of its
-//! text. docs/FORMATS.md has the text's lines.
+//! The schedule of a rehearsal: the window of its links, the calls of its clients and its events, and the reading of
+//! its text. docs/FORMATS.md has the text's lines.
 #![tactic(auto)]
 
 mod ask;
@@ -7,6 +7,7 @@ mod call_word;
 mod event;
 mod event_line;
 mod fault;
+pub mod laws;
 mod number;
 mod schedule;
 mod split;

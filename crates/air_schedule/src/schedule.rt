@@ -2,8 +2,9 @@
 
 ghost use Rattle.std.specs.Prelude.{◌≡◌, ◌∷◌, ◌++◌, [], ℕ, List, IfErr, IfOk, OnOk, OnErr, IsErrOf, map};
 ghost use Rattle.air_schedule.specs.Events.{event_value};
-ghost use Rattle.air_schedule.specs.Text.{BeginSchedule, FirstBadLine, Line, LineText, ScheduleText, client_line, event_line, lines_of};
 ghost use Rattle.air_schedule.specs.Schedule.{IsInRange, IsSchedule};
+ghost use Rattle.air_schedule.specs.Text.{BeginSchedule, FirstBadLine, Line, LineText, ScheduleText};
+ghost use Rattle.air_schedule.specs.Text.{client_line, event_line, lines_of};
 ghost use Rattle.px_base.specs.CallSign.{IsCall};
 
 use crate::call_word::read_client;
@@ -20,8 +21,8 @@ use std::str;
 /// How many clients a schedule has at most.
 const MOST_CLIENTS: usize = 8;
 
-/// A schedule: the window of the links, the calls of the clients, no two the same, and the events in their order. Contracts
-/// see it as the `Schedule` of the definitions.
+/// A schedule: the window of the links, the calls of the clients, no two the same, and the events in their order.
+/// Contracts see it as the `Schedule` of the definitions.
 #[derive(Debug, Drop)]
 pub struct Schedule {
     window: u8,
@@ -36,14 +37,22 @@ impl Model for Schedule {
 
     ghost Value = { Schedule };
 
-    ghost view = { λ a. record { size = a.window; calls = a.clients.items; events = map event_value a.events.items } };
+    ghost view = { λ a. record {
+      size = a.window;
+      calls = a.clients.items;
+      events = map event_value a.events.items;
+    } };
 
-    ghost invariant = { λ a. IsSchedule (record { size = a.window; calls = a.clients.items; events = map event_value a.events.items }) };
+    ghost invariant = { λ a. IsSchedule (record {
+      size = a.window;
+      calls = a.clients.items;
+      events = map event_value a.events.items;
+    }) };
 }
 
 impl Schedule {
-    /// Reads the text of a schedule: its lines, each ended by LF. The error comes exactly where the text is none, at the
-    /// first line that can't be a schedule's, whatever the events would do. Takes memory.
+    /// Reads the text of a schedule: its lines, each ended by LF. `BadLine` comes exactly where the text is none, for
+    /// the first line that can't be a schedule's, before any event is played. Takes memory.
     pub fn read(alloc: Global, text: &[u8]) -> Result<Schedule, ScheduleFault>
         ensures read { IfOk result (λ schedule. ScheduleText schedule text.now) }
         ensures bad { (line : ℕ) → result ≡ Err (ScheduleFault.BadLine line) → FirstBadLine text.now line }

@@ -15,7 +15,8 @@ const MOST_TOKENS: usize = 2_047;
 /// The tokens that a word writes in hexadecimal, two digits an octet, in either case. Takes memory.
 pub(crate) fn read_tokens(alloc: Global, word: &str) -> Result<Vec<u8>, LineFault>
     ensures { MatchResult result
-        (λ tokens. AreTokens tokens.items × (decode_of word.now ≡ Ok tokens.items) × (words_of word.now ≡ word.now ∷ []))
+        (λ tokens. AreTokens tokens.items × (decode_of word.now ≡ Ok tokens.items)
+        × (words_of word.now ≡ word.now ∷ []))
         (IsCause ((hex tokens : List ℕ) → words_of word.now ≡ hex ∷ [] → decode_of hex ≡ Ok tokens
         → AreTokens tokens → ⊥)) }
 {
