@@ -1,8 +1,7 @@
 -- What a frame or a tick makes of an attempt is what the entries make that come of it.
-use Rattle.std.proofs.Common.{◌≡◌, ⊎_elim, ℕ, zero, suc, ◌≤◌, ◌<◌, Bool, true, false, ◌&&◌, List, [], ◌∷◌, ◌++◌, length, take, drop, Option, None, Some, refl, sym, ◌∙◌, ap, ap₂, subst, append_assoc, append-nil, arith}
+use Rattle.std.proofs.Common.{◌≡◌, ℕ, zero, suc, ◌≤◌, Bool, true, false, ◌&&◌, List, [], ◌∷◌, ◌++◌, length, take, drop, Option, None, Some, refl, sym, ◌∙◌, ap, ap₂, subst, append_assoc, append-nil, arith}
 use Rattle.std.specs.Prelude.{◌==◌, nat_le, if◌then◌else◌}
-use Rattle.std.proofs.lemmas.Bool.{cond_both}
-use Rattle.std.proofs.lemmas.Bool.Decides.{leb_tells}
+use Rattle.std.proofs.lemmas.Bool.{cond_both, leb-true}
 use Rattle.std.proofs.lemmas.List.{length-take, take_all}
 use Rattle.std.proofs.lemmas.List.Concat.{flat_map-append}
 use Rattle.std.proofs.lemmas.Option.{same_Some}
@@ -110,10 +109,6 @@ parting-up : (o : Option Ending) (end : LinkEnd) → end.state ≡ Up → o ≡ 
 parting-up None end up none = up
 parting-up (Some ending) end up none = absurd (cc none)
 
-is-least : (n m : ℕ) → nat_le n m ≡ true → n ≤ m
-is-least n m is =
-    ⊎_elim (λ (t : (nat_le n m ≡ true) × (n ≤ m)). t.1) (λ (t : (nat_le n m ≡ false) × (m < n)). absurd (let no : true ≡ false = sym is ∙ t.0 in cc)) (leb_tells n m)
-
 module _ (lists : Lists) (a : Attempted) (item : Item) where
   abbrev row_is : Row Work
   row_is = job_row lists a.job item
@@ -133,7 +128,7 @@ module _ (lists : Lists) (a : Attempted) (item : Item) where
   answered true fit none up =
       let text : List ℕ = texts row_is.replies in
       let p = parts (job_by true).ending (after_push a.end text) up in
-      let all : take (free_octets a.end) text ≡ text = take_all (free_octets a.end) text (is-least (length text) (free_octets a.end) fit) in (
+      let all : take (free_octets a.end) text ≡ text = take_all (free_octets a.end) text (leb-true (length text) (free_octets a.end) fit) in (
         record {
           happens = record {
             doings = push text ∷ p.doings;
@@ -222,7 +217,7 @@ goes-due lists (suc more) a up = by (goes-due lists more) (nat_le enough_free (f
     by rest true enough (Some due) is =
         let next : Attempted = after_due due a in
         goes-then lists a [] [] (queued due ∷ []) (entries_due more next) (quietly next) (quietly (queuing more next))
-        (goes-queued lists a due is (is-least enough_free (free_octets a.end) enough) up) (rest next up)
+        (goes-queued lists a due is (leb-true enough_free (free_octets a.end) enough) up) (rest next up)
 
 -- ---- the end of an event
 

@@ -17,6 +17,7 @@ use Rattle.ftl0_client.specs.Client.{Client, ClientHappened, ClientSends, IsSile
 use Rattle.client_notes.specs.Notes.{is_same_call}
 use Rattle.ftl0_client.specs.ClientStep.{Empties}
 use Rattle.client_laws.specs.Steps.{StepLaw}
+use Rattle.client_laws.proofs.EntryLemmas.{hearing-law, ticking-law}
 
 -- ---- what the end of an attempt sends
 
@@ -112,11 +113,13 @@ step-law = record {
       let h : Happened = hearing old.window old.lists a frame in
       let same : hearing_by old frame (attempt_for old frame) ≡ heard_by old h = ap (hearing_by old frame) is in
       let all = drains-all old step.silent h frames new (subst (λ (e : ClientHappened). Empties e.after frames new) same step.sent) in
+      let did = (hearing-law old.window old.lists a frame).0 in
       record {
-        quiet = quiet old step.silent a (attempt-of old frame a is);
         noted_is = step.noted_is ∙ ap (λ (e : ClientHappened). e.noted) same;
+        doings = did.doings;
         last = all.0;
-        drains = all.1;
+        link = record { quiet = quiet old step.silent a (attempt-of old frame a is); told = refl; end = h.after.end; does = did.does; drains = all.1 };
+        ends = refl;
         new_is = all.2;
       };
   passed = λ old new frame noted frames step is.
@@ -126,7 +129,15 @@ step-law = record {
   ticked = λ old new a noted frames step is.
       let same : ticking_by old old.attempt ≡ with_attempt old (ticking a) = ap (ticking_by old) is in
       let all = drains-all old step.silent (quietly (ticking a)) frames new (subst (λ (c : Client). Empties c frames new) same step.sent) in
-      record { quiet = quiet old step.silent a is; noted_is = step.noted_is; last = all.0; drains = all.1; new_is = all.2 };
+      let did = (ticking-law old.lists a).0 in
+      record {
+        noted_is = step.noted_is;
+        doings = did.doings;
+        last = all.0;
+        link = record { quiet = quiet old step.silent a is; told = refl; end = (ticking a).end; does = did.does; drains = all.1 };
+        ends = refl;
+        new_is = all.2;
+      };
   idle = λ old new noted frames step is.
       let all = sends-nothing old step.silent frames new (subst (λ (c : Client). Empties c frames new) (ap (ticking_by old) is) step.sent) in
       record { noted_is = step.noted_is; frames_are = all.0; new_is = all.1 };
