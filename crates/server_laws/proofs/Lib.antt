@@ -1,1 +1,2 @@
 mod AcknowledgedLemmas
+mod HearingLemmas

@@ -1,6 +1,8 @@
-//! Laws of the runs of `server_node`: what a session or a server acknowledges stands on its disk.
+//! Laws of the runs of `server_node`: what a session or a server acknowledges stands on its disk. And laws of what a
+//! server does at an event.
 #![tactic(auto)]
 
+ghost use Rattle.ftl0_server.specs.Entries.{HearingLaw};
 ghost use Rattle.node.specs.Lent.{seen};
 ghost use Rattle.server_laws.specs.Acknowledged.{ServerAcknowledgesLaw, SessionAcknowledgesLaw};
 
@@ -26,3 +28,9 @@ pub fn server_acknowledges_law<D: Disk, A: Air, C: Clock>()
     acknowledged_stands_law();
     taking_law();
 }
+
+/// Each frame but a SABM makes of a connection whose end is up what the session's packets make of it one after another:
+/// each that is taken, with its row of the session's table, and then each that is due.
+pub fn hearing_law()
+    ensures { HearingLaw }
+{}
