@@ -1,2 +1,3 @@
 mod AcknowledgedLemmas
 mod HearingLemmas
+mod StepLemmas

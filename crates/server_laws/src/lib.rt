@@ -5,6 +5,7 @@
 ghost use Rattle.ftl0_server.specs.Entries.{HearingLaw};
 ghost use Rattle.node.specs.Lent.{seen};
 ghost use Rattle.server_laws.specs.Acknowledged.{ServerAcknowledgesLaw, SessionAcknowledgesLaw};
+ghost use Rattle.server_laws.specs.Places.{StepLaw};
 
 use disk_model::Disk;
 use ftl0_server::connection::laws::taking_law;
@@ -33,4 +34,11 @@ pub fn server_acknowledges_law<D: Disk, A: Air, C: Clock>()
 /// each that is taken, with its row of the session's table, and then each that is due.
 pub fn hearing_law()
     ensures { HearingLaw }
+{}
+
+/// A step of a server goes by places: what is sent is the DM to a station without a connection, where one is, and then
+/// what each place's end drains, in order. A frame changes its sender's place alone, or that of the lowest free place
+/// where it opens a connection; all others are as they were.
+pub fn step_law()
+    ensures { StepLaw }
 {}
