@@ -1,3 +1,4 @@
 mod AcknowledgedLemmas
 mod HearingLemmas
+mod RowLemmas
 mod StepLemmas

@@ -1,2 +1,3 @@
 pub mod Acknowledged
 pub mod Places
+pub mod Rows

@@ -1,11 +1,12 @@
-//! Laws of the runs of `server_node`: what a session or a server acknowledges stands on its disk. And laws of what a
-//! server does at an event.
+//! Laws of the runs of `server_node`: what a session or a server acknowledges stands on its disk. And laws of the rows
+//! of a session's table, and of what a server does at an event.
 #![tactic(auto)]
 
 ghost use Rattle.ftl0_server.specs.Entries.{HearingLaw};
 ghost use Rattle.node.specs.Lent.{seen};
 ghost use Rattle.server_laws.specs.Acknowledged.{ServerAcknowledgesLaw, SessionAcknowledgesLaw};
 ghost use Rattle.server_laws.specs.Places.{StepLaw};
+ghost use Rattle.server_laws.specs.Rows.{CallerLaw, DueReadsLaw, ReadsLaw};
 
 use disk_model::Disk;
 use ftl0_server::connection::laws::taking_law;
@@ -41,4 +42,17 @@ pub fn hearing_law()
 /// where it opens a connection; all others are as they were.
 pub fn step_law()
     ensures { StepLaw }
+{}
+
+/// Where a file that is received is the caller's, each command of a row of the session's table begins a file as the
+/// caller, or is of an entry that is the caller's.
+pub fn caller_law()
+    ensures { CallerLaw }
+{}
+
+/// A row where a read of the disk fails is the row where none does, or tells of it by code 3 and does nothing else. So
+/// it is of what is sent next, with code 3 in its place.
+pub fn reads_law()
+    ensures rows { ReadsLaw }
+    ensures due { DueReadsLaw }
 {}
