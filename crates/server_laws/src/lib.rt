@@ -5,6 +5,7 @@
 ghost use Rattle.ftl0_server.specs.Entries.{HearingLaw};
 ghost use Rattle.node.specs.Lent.{seen};
 ghost use Rattle.server_laws.specs.Acknowledged.{ServerAcknowledgesLaw, SessionAcknowledgesLaw};
+ghost use Rattle.server_laws.specs.Misses.{MissesLaw};
 ghost use Rattle.server_laws.specs.Places.{StepLaw};
 ghost use Rattle.server_laws.specs.Rows.{CallerLaw, DueReadsLaw, ReadsLaw};
 
@@ -56,3 +57,11 @@ pub fn reads_law()
     ensures rows { ReadsLaw }
     ensures due { DueReadsLaw }
 {}
+
+/// An event that tells of no read of the disk that failed is what it is where no read fails, whichever writes and syncs
+/// fail in it.
+pub fn misses_law()
+    ensures { MissesLaw }
+{
+    reads_law();
+}
