@@ -12,7 +12,7 @@ pub mod Lists
 pub mod Parts
 pub mod Party
 pub mod Said
-pub mod Schedule
+pub use Rattle.air_schedule.specs.Schedule
 pub mod Sides
 pub mod Sound
 pub mod Step

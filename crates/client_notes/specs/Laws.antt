@@ -3,6 +3,8 @@ use Rattle.std.specs.Prelude.{◌≡◌, ◌↔◌, ℕ, List, [], ◌++◌, map
 use Rattle.std.specs.List.{AllByRecursion}
 use Rattle.px_base.specs.CallSign.{CallSign}
 use Rattle.px_base.specs.Octets.{IsOctets}
+use Rattle.disk_model.specs.Moments.{ChangesNothing}
+use Rattle.disk_model.specs.declared.disk.Disk.{Ghosts}
 use Rattle.file_journal.specs.Commands as kept
 use Rattle.file_journal.specs.Journal.{journal_of, store}
 use Rattle.file_journal.specs.Records.{IsRecord, Record, whole}
@@ -10,7 +12,7 @@ use Rattle.client_notes.specs.Answers.{noted_at}
 use Rattle.client_notes.specs.Command.{NotesCommand, after, forgot, got, is_allowed}
 use Rattle.client_notes.specs.Notes.{Lists, got_of, no_notes}
 use Rattle.client_notes.specs.Records.{IsWritable, Writes, command_of, notes_magic, record_of_command}
-use Rattle.client_notes.specs.State.{StandsFor}
+use Rattle.client_notes.specs.State.{NotesState, StandsFor, StandsOn}
 use Rattle.client_notes.specs.declared.answers.Noted.TheVariants as noted
 
 -- A record of at most 600 octets is read as a command exactly where it is that command's record; and each command that
@@ -63,3 +65,9 @@ abbrev pub ForgotLaw : Type 0
 ForgotLaw =
     (lists : Lists) (server : CallSign) (number : ℕ)
     → got_of (after lists (forgot server number)) server number ≡ []
+
+-- Notes that stand on a disk stand on it still where nothing but the arming changed, or counts of faults.
+abbrev pub ArmedLaw : {D : Type 0} → Ghosts D → Type 0
+ArmedLaw {D} g =
+    (self : NotesState) (old new : D) → ChangesNothing g.content g.images g.moment g.images_since old new
+    → StandsOn g self old → StandsOn g self new

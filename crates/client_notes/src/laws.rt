@@ -1,6 +1,6 @@
 //! Laws of a client's notes.
 
-ghost use Rattle.client_notes.specs.Laws.{AckedLaw, ForgotLaw, GotLaw, RecordsLaw, StandingLaw};
+ghost use Rattle.client_notes.specs.Laws.{AckedLaw, ArmedLaw, ForgotLaw, GotLaw, RecordsLaw, StandingLaw};
 ghost use Rattle.client_notes.specs.OnDisk.{EachImage};
 ghost use Rattle.client_notes.specs.Several.{OneLaw, SeveralLaw};
 ghost use Rattle.client_notes.specs.State.{IsReady, StandsFor};
@@ -49,4 +49,10 @@ pub fn got_law()
 /// or refused. What is got of a file grows at its end, or is given up.
 pub fn tasks_law()
     ensures { TasksLaw }
+{}
+
+/// What arming a disk leaves: the notes stand on it as before. So it is of whatever leaves the disk's content, its
+/// moment, and what a crash may leave or might have left.
+pub fn armed_law<D: Disk>()
+    ensures { ArmedLaw D.Disk }
 {}

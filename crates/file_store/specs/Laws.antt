@@ -2,6 +2,7 @@
 use Rattle.std.specs.Prelude.{◌≡◌, ◌⊎◌, ◌↔◌, ℕ, ◌≤◌, List, length, map, Option, None, Some, IfSome, IsTrue}
 use Rattle.std.specs.List.{AllByRecursion}
 use Rattle.px_base.specs.Octets.{IsOctets}
+use Rattle.disk_model.specs.Moments.{ChangesNothing}
 use Rattle.disk_model.specs.declared.disk.Disk.{Ghosts}
 use Rattle.file_journal.specs.Calls.{images_now}
 use Rattle.file_journal.specs.Journal.{journal_of, store}
@@ -11,7 +12,7 @@ use Rattle.file_entries.specs.Info.{is_complete}
 use Rattle.file_entries.specs.Records.{IsWritable, record_of_command, store_magic}
 use Rattle.file_entries.specs.Store.{Entry, Store, complete, empty_store, entry_of, partial}
 use Rattle.file_store.specs.OnDisk.{MakesBetween}
-use Rattle.file_store.specs.State.{StandsFor}
+use Rattle.file_store.specs.State.{StandsFor, StandsOn, StoreState}
 use Rattle.file_store.specs.Upload.{Upload, entry_for}
 
 -- The octets are a journal of this block number, or have none yet, and its records are these commands, each of which the
@@ -61,3 +62,9 @@ ReceiptLaw =
     → AreAllowed store commands → entry_of store number ≡ Some entry → IsTrue (is_complete entry.holding)
     → MakesBetween low high store commands image
     → (files : Store) × StandsFor image files × (entry_of files number ≡ Some entry)
+
+-- A store that stands on a disk stands on it still where nothing but the arming changed, or counts of faults.
+abbrev pub ArmedLaw : {D : Type 0} → Ghosts D → Type 0
+ArmedLaw {D} g =
+    (self : StoreState) (old new : D) → ChangesNothing g.content g.images g.moment g.images_since old new
+    → StandsOn g self old → StandsOn g self new

@@ -4,7 +4,7 @@ ghost use Rattle.std.specs.Prelude.{◌≡◌, ℕ, Some, IsTrue};
 ghost use Rattle.file_entries.specs.Info.{is_complete};
 ghost use Rattle.file_entries.specs.IsStore.{IsStore};
 ghost use Rattle.file_entries.specs.Store.{Entry, entry_of};
-ghost use Rattle.file_store.specs.Laws.{HoldsInEach, ReceiptLaw, StandingLaw, StandsInEach};
+ghost use Rattle.file_store.specs.Laws.{ArmedLaw, HoldsInEach, ReceiptLaw, StandingLaw, StandsInEach};
 ghost use Rattle.file_store.specs.State.{IsRead, IsReady, store_in};
 ghost use Rattle.file_store.specs.Upload.{Holds};
 
@@ -49,4 +49,10 @@ pub fn complete_law<D: Disk>(store: &FileStore, disk: &D)
 /// every moment of them and whether the disk failed in one or not.
 pub fn receipt_law()
     ensures { ReceiptLaw }
+{}
+
+/// What arming a disk leaves: the store stands on it as before. So it is of whatever leaves the disk's content, its
+/// moment, and what a crash may leave or might have left.
+pub fn armed_law<D: Disk>()
+    ensures { ArmedLaw D.Disk }
 {}

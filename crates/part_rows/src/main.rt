@@ -23,6 +23,7 @@ mod parts;
 mod pieces;
 mod reader;
 mod refusals;
+mod schedule;
 mod selections;
 mod store;
 mod words;
@@ -57,6 +58,7 @@ fn play<R: AllocGlobal + Files + Print>(rt: &R, family: &str) -> Result<()> {
         "packets" => play_family(rt, family, &mut packets::PacketRows),
         "reader" => play_family(rt, family, &mut reader::ReaderRows),
         "refusals" => play_family(rt, family, &mut refusals::RefusalRows),
+        "schedule" => play_family(rt, family, &mut schedule::ScheduleRows),
         "selection" => play_family(rt, family, &mut selections::SelectionRows::new(rt.alloc())),
         "store" => play_family(rt, family, &mut store::StoreRows),
         "words" => play_family(rt, family, &mut words::WordRows),

@@ -1,1 +1,5 @@
 mod AcknowledgedLemmas
+mod HearingLemmas
+mod MissesLemmas
+mod RowLemmas
+mod StepLemmas

@@ -1,1 +1,4 @@
 pub mod Acknowledged
+pub mod Misses
+pub mod Places
+pub mod Rows

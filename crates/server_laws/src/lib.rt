@@ -1,8 +1,13 @@
-//! Laws of the runs of `server_node`: what a session or a server acknowledges stands on its disk.
+//! Laws of the runs of `server_node`: what a session or a server acknowledges stands on its disk. And laws of the rows
+//! of a session's table, and of what a server does at an event.
 #![tactic(auto)]
 
+ghost use Rattle.ftl0_server.specs.Entries.{HearingLaw};
 ghost use Rattle.node.specs.Lent.{seen};
 ghost use Rattle.server_laws.specs.Acknowledged.{ServerAcknowledgesLaw, SessionAcknowledgesLaw};
+ghost use Rattle.server_laws.specs.Misses.{MissesLaw};
+ghost use Rattle.server_laws.specs.Places.{StepLaw};
+ghost use Rattle.server_laws.specs.Rows.{CallerLaw, DueReadsLaw, ReadsLaw};
 
 use disk_model::Disk;
 use ftl0_server::connection::laws::taking_law;
@@ -25,4 +30,38 @@ pub fn server_acknowledges_law<D: Disk, A: Air, C: Clock>()
 {
     acknowledged_stands_law();
     taking_law();
+}
+
+/// Each frame but a SABM makes of a connection whose end is up what the session's packets make of it one after another:
+/// each that is taken, with its row of the session's table, and then each that is due.
+pub fn hearing_law()
+    ensures { HearingLaw }
+{}
+
+/// A step of a server goes by places: what is sent is the DM to a station without a connection, where one is, and then
+/// what each place's end drains, in order. A frame changes its sender's place alone, or that of the lowest free place
+/// where it opens a connection; all others are as they were.
+pub fn step_law()
+    ensures { StepLaw }
+{}
+
+/// Where a file that is received is the caller's, each command of a row of the session's table begins a file as the
+/// caller, or is of an entry that is the caller's.
+pub fn caller_law()
+    ensures { CallerLaw }
+{}
+
+/// A row where a read of the disk fails is the row where none does, or tells of it by code 3 and does nothing else. So
+/// it is of what is sent next, with code 3 in its place.
+pub fn reads_law()
+    ensures rows { ReadsLaw }
+    ensures due { DueReadsLaw }
+{}
+
+/// An event that tells of no read of the disk that failed is what it is where no read fails, whichever writes and syncs
+/// fail in it.
+pub fn misses_law()
+    ensures { MissesLaw }
+{
+    reads_law();
 }

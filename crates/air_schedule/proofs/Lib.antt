@@ -1,0 +1,6 @@
+mod EventCases
+mod LineLemmas
+mod ReadLemmas
+mod ScheduleLemmas
+mod SplitLemmas
+mod WordLemmas

@@ -1,0 +1,4 @@
+pub mod Causes
+pub mod Events
+pub mod Schedule
+pub mod Text

@@ -1,0 +1,51 @@
+-- Laws of the rows of a session's table: whose files their commands are of, and what a read that fails changes.
+use Rattle.std.specs.Prelude.{◌≡◌, ◌⊎◌, ℕ, List, [], ◌∷◌, Bool, true, false, Some, ⊤}
+use Rattle.px_base.specs.CallSign.{CallSign}
+use Rattle.ftl0_packets.specs.Layout.{Item, dl_error_resp}
+use Rattle.file_entries.specs.Follows.{AreOf, IsOwnEntry}
+use Rattle.file_store.specs.Store.{Store}
+use Rattle.ftl0_session.specs.Lists.Lists.{CallerList}
+use Rattle.ftl0_session.specs.Table.{DuePacket, Row, State, aborting, command, listing, next_due, receiving, sending}
+use Rattle.ftl0_session.specs.Table.{session_row, waiting}
+
+-- the file that is received in this state, where one is, is the caller's
+abbrev pub ReceivesOwn : CallSign → Store → State → Type 0
+ReceivesOwn caller store command = ⊤
+ReceivesOwn caller store (receiving number rest) = IsOwnEntry caller store number
+ReceivesOwn caller store aborting = ⊤
+ReceivesOwn caller store (sending number place last) = ⊤
+ReceivesOwn caller store waiting = ⊤
+ReceivesOwn caller store (listing dues) = ⊤
+
+-- Where a file that is received is the caller's, each command of a packet's row begins a file as the caller, or is of
+-- an entry that is the caller's in its turn.
+abbrev pub CallerLaw : Type 0
+CallerLaw =
+    (caller : CallSign) (moment : ℕ) (store : Store) (lists : List CallerList) (state : State) (item : Item)
+    (fails : Bool) → ReceivesOwn caller store state
+    → AreOf caller store (session_row caller moment store lists state item fails).commands
+
+-- DL_ERROR_RESP 3 to a packet, and nothing else changes
+abbrev pub failed_row : List CallerList → State → Row
+failed_row lists state =
+    record { state = state; lists = lists; commands = []; replies = dl_error_resp 3 ∷ [] }
+
+-- the row where a read fails is the one where none does; or it tells of it by code 3, and does nothing else
+abbrev pub TellsOfRead : List CallerList → State → (Bool → Row) → Type 0
+TellsOfRead lists state row = (row true ≡ row false) ⊎ (row true ≡ failed_row lists state)
+
+-- so is each row of the table
+abbrev pub ReadsLaw : Type 0
+ReadsLaw =
+    (caller : CallSign) (moment : ℕ) (store : Store) (lists : List CallerList) (state : State) (item : Item)
+    → TellsOfRead lists state (session_row caller moment store lists state item)
+
+-- DL_ERROR_RESP 3 in the place of what was due, and the session waits for a command
+abbrev pub failed_due : DuePacket
+failed_due = record { packet = dl_error_resp 3; state = command }
+
+-- What is sent next where a read fails is what is sent next where none does; or it is code 3 in its place.
+abbrev pub DueReadsLaw : Type 0
+DueReadsLaw =
+    (store : Store) (state : State)
+    → (next_due store state true ≡ next_due store state false) ⊎ (next_due store state true ≡ Some failed_due)
