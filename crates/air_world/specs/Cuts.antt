@@ -13,7 +13,7 @@ use Rattle.ftl0_client.specs.Client.{Client, new_client}
 use Rattle.ftl0_client.specs.ClientStep as client
 use Rattle.air_world.specs.Events.{ClientPart, ClientTakes, IsPartOf, ServerTakes}
 use Rattle.air_world.specs.Lawful.{IsAllowed}
-use Rattle.air_world.specs.Party.{Party, sessions_over}
+use Rattle.air_attempt.specs.Party.{Party, sessions_over}
 use Rattle.air_world.specs.Schedule.{Event, IsSchedule, Schedule, break_client, cut_client, cut_server, tick_server}
 use Rattle.air_world.specs.Schedule.{to_server}
 use Rattle.air_world.specs.Step.{ClientGoes, ServerGoes, client_started, with_asked}

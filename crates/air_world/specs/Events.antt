@@ -14,13 +14,14 @@ use Rattle.ftl0_job.specs.declared.work.Work.TheVariants as work
 use Rattle.ftl0_client.specs.Client as client
 use Rattle.ftl0_client.specs.Client.{ClientEvent, asks}
 use Rattle.sha2.specs.Sha256.{sha256}
-use Rattle.air_world.specs.Attempt.{Attempt}
+use Rattle.air_attempt.specs.Attempt.{Attempt}
 use Rattle.air_world.specs.Lawful.{last_unfinished}
-use Rattle.air_world.specs.Lists.{Placed}
-use Rattle.air_world.specs.Party.{Asked, IsFileOf, Party, newest, to_client_delivered, to_server_delivered, with_newest}
+use Rattle.air_attempt.specs.Lists.{Placed}
+use Rattle.air_attempt.specs.Party.{Asked, IsFileOf, Party, newest, to_client_delivered, to_server_delivered}
+use Rattle.air_attempt.specs.Party.{with_newest}
 use Rattle.air_world.specs.Schedule.{Event, ask_download, ask_list, ask_resume, ask_upload, tick_client, tick_server}
 use Rattle.air_world.specs.Schedule.{to_client, to_server}
-use Rattle.air_world.specs.Uploads.{upload_file, upload_name}
+use Rattle.air_files.specs.Uploads.{upload_file, upload_name}
 use Rattle.air_world.specs.World.{PartyAt, World, next_moment, with_party}
 
 -- the transmission at this place of those that these are in the client's current attempt

@@ -8,9 +8,10 @@ use Rattle.ftl0_client.specs.declared.attempt.outcome.AttemptOutcome.TheVariants
 use Rattle.ftl0_client.specs.Attempt.Attempted.{outcome_of}
 use Rattle.ftl0_client.specs.declared.outcome.Outcome.TheVariants as outcome
 use Rattle.ftl0_client.specs.Outcomes.{outcome_by}
-use Rattle.air_world.specs.Attempt.{Attempt}
-use Rattle.air_world.specs.Kept.{HoldsAck, HoldsTo, IsTaskKept, Offered, WhereStands}
-use Rattle.air_world.specs.Party.{Party}
+use Rattle.air_attempt.specs.Attempt.{Attempt}
+use Rattle.air_world.specs.Offered.{Offered}
+use Rattle.air_files.specs.Kept.{HoldsAck, HoldsTo, IsTaskKept, WhereStands}
+use Rattle.air_attempt.specs.Party.{Party}
 use Rattle.air_world.specs.World.{PartyAt, World}
 
 -- the file of this number is complete, and the octets that the client has got of it are all of them

@@ -12,7 +12,7 @@ use Rattle.air_world.specs.Events.{ClientPart, ClientTakes, ServerTakes}
 use Rattle.air_world.specs.Headline.{HeadlineIn}
 use Rattle.air_world.specs.Lawful.{IsAllowed}
 use Rattle.air_world.specs.Parts.{HasParts}
-use Rattle.air_world.specs.Party.{EachSide, Party}
+use Rattle.air_attempt.specs.Party.{EachSide, Party}
 use Rattle.air_world.specs.Schedule.{Event, IsNoCut, IsSchedule, Schedule}
 use Rattle.air_world.specs.Sound.{Sound}
 use Rattle.air_world.specs.World.{PartyAt, World, first_world, with_party}

@@ -11,14 +11,17 @@ use Rattle.ftl0_session.specs.Downloads.Needs.{AreComplete}
 use Rattle.ftl0_session.specs.Table.{receiving}
 use Rattle.ftl0_client.specs.declared.outcome.Outcome.TheVariants as outcome
 use Rattle.ftl0_client.specs.Outcomes.{outcome_by}
-use Rattle.air_world.specs.Attempt.{Attempt, client_station, server_station}
-use Rattle.air_world.specs.Facts.{AreFirstIfAny, HasNumber, IsBegun, IsFetching, IsOfferKept, got}
-use Rattle.air_world.specs.Kept.{HoldsAck, IsTaskAt, IsTaskKept, Offered, WhereStands}
-use Rattle.air_world.specs.Party.{EachAttempt, EachSide, IsFileOf, Party, newest}
-use Rattle.air_world.specs.Said.{AsksUpload, Grants, SaysComplete, said_behind_server}
-use Rattle.air_world.specs.Sides.{IsJob, IsSession, ServerSide}
-use Rattle.air_world.specs.Sound.{AreGrantedOnce, ArePlaces, IsLinkOf, IsSoundStore}
-use Rattle.air_world.specs.UploadDialogue.{GoesOnWith}
+use Rattle.air_attempt.specs.Attempt.{Attempt, client_station, server_station}
+use Rattle.air_files.specs.Facts.{AreFirstIfAny, HasNumber, IsBegun, IsFetching, IsOfferKept, got}
+use Rattle.air_world.specs.Offered.{Offered}
+use Rattle.air_files.specs.SoundStore.{IsSoundStore}
+use Rattle.air_attempt.specs.Party.{IsLinkOf}
+use Rattle.air_files.specs.Kept.{HoldsAck, IsTaskAt, IsTaskKept, WhereStands}
+use Rattle.air_attempt.specs.Party.{EachAttempt, EachSide, IsFileOf, Party, newest}
+use Rattle.air_attempt.specs.Said.{AsksUpload, Grants, SaysComplete, said_behind_server}
+use Rattle.air_attempt.specs.Sides.{IsJob, IsSession, ServerSide}
+use Rattle.air_world.specs.Sound.{AreGrantedOnce, ArePlaces}
+use Rattle.air_files.specs.UploadDialogue.{GoesOnWith}
 use Rattle.air_world.specs.World.{PartyAt, World}
 
 -- so it is of each client

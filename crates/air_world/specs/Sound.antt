@@ -1,40 +1,24 @@
 -- What holds of each world between events, in a form that each event keeps.
-use Rattle.std.specs.Prelude.{◌≡◌, ℕ, ◌≤◌, List, length, slice_get, true, Option, None, Some, ⊤}
+use Rattle.std.specs.Prelude.{◌≡◌, ℕ, ◌≤◌, length, slice_get, true, Some}
 use Rattle.std.specs.List.{AllByRecursion}
 use Rattle.px_base.specs.CallSign.{IsCall}
-use Rattle.px_base.specs.Octets.{IsOctets}
 use Rattle.ax25_link.specs.declared.state.LinkState.TheVariants.{Up}
 use Rattle.ax25_link.specs.Window.{IsWindow}
-use Rattle.file_store.specs.Headers.{KeepsRules}
-use Rattle.file_store.specs.IsStore.{IsStore}
-use Rattle.file_store.specs.Store.{Store, octets_of}
 use Rattle.ftl0_session.specs.Downloads.Needs.{AreComplete}
 use Rattle.ftl0_server.specs.Connection.Connected.{Connected, caller_of}
 use Rattle.ftl0_server.specs.Laws as server
 use Rattle.ftl0_server.specs.Slots.{connected, leaving}
-use Rattle.client_notes.specs.Notes.{Task, task_of}
-use Rattle.ftl0_job.specs.declared.work.Work.{Work}
-use Rattle.ftl0_job.specs.declared.work.Work.TheVariants as work
-use Rattle.ftl0_client.specs.Attempt.Attempted.{Attempted}
-use Rattle.ftl0_client.specs.Attempt.Laws.{AttemptStands}
 use Rattle.ftl0_client.specs.Laws as client
-use Rattle.sha2.specs.Sha256.{sha256}
-use Rattle.air_world.specs.Attempt.{Attempt, IsAttempt}
-use Rattle.air_world.specs.Facts.{HasFacts}
-use Rattle.air_world.specs.Party.{Asked, EachAttempt, IsFileOf, OnlyNewestUp, Party, newest}
-use Rattle.air_world.specs.Party.{newest_side, upload_of}
-use Rattle.air_world.specs.Said.{Grants}
-use Rattle.air_world.specs.Schedule.{AreTokens, IsFileNumber}
-use Rattle.air_world.specs.Sides.{ServerSide}
-use Rattle.air_world.specs.Uploads.{IsGoodFile}
+use Rattle.air_attempt.specs.Attempt.{Attempt, IsAttempt}
+use Rattle.air_files.specs.Facts.{HasFacts}
+use Rattle.air_attempt.specs.Party.{EachAttempt, OnlyNewestUp, Party, newest}
+use Rattle.air_attempt.specs.Party.{newest_side, IsLinkOf}
+use Rattle.air_files.specs.SoundStore.{IsSoundStore}
+use Rattle.air_files.specs.Tasks.{AreTasks, IsWork, StandsBy}
+use Rattle.air_attempt.specs.Said.{Grants}
+use Rattle.air_attempt.specs.Sides.{ServerSide}
+use Rattle.air_files.specs.Uploads.{IsGoodFile}
 use Rattle.air_world.specs.World.{PartyAt, World}
-
--- What holds of the store: the rules of a store; each complete file keeps the rules of files; and what is held are
--- octets.
-pub record IsSoundStore (store : Store) : Type 0 where
-  pub is_store : IsStore store
-  pub keeps_rules : AllByRecursion (λ entry. KeepsRules entry.holding) store.entries
-  pub octets : AllByRecursion (λ entry. IsOctets (octets_of entry.holding)) store.entries
 
 -- The stations: at most eight clients, all calls are calls and no two alike, and each client's server and window are
 -- the world's.
@@ -97,44 +81,6 @@ abbrev pub AreGrantedOnce : World → Type 0
 AreGrantedOnce world =
     (c at other that number : ℕ) → GrantedAt world c at number → GrantedAt world other that number
     → (c ≡ other) × (at ≡ that)
-
--- the client's link and job, if it has any, are those of its current attempt
-abbrev pub IsLinkOf : Option Attempt → Option Attempted → Type 0
-IsLinkOf current None = ⊤
-IsLinkOf None (Some a) = ⊥
-IsLinkOf (Some current) (Some a) = current.client.attempted ≡ a
-
--- A task: it is one of this client's uploads, of that one's name, and of its file's length and digest.
-pub record IsTaskFor (files : List Asked) (c : ℕ) (party : Party) (task : ℕ) (entry : Task) : Type 0 where
-  pub upload : ℕ
-  pub is_upload : upload_of party task ≡ Some upload
-  pub asked : Asked
-  pub is_asked : slice_get files upload ≡ Some asked
-  pub whose : asked.client ≡ c
-  pub server_is : entry.server ≡ party.client.server
-  pub caller_is : entry.caller ≡ party.client.me
-  pub name_is : entry.name ≡ asked.name
-  pub length_is : entry.length ≡ length asked.file
-  pub digest_is : entry.digest ≡ sha256 asked.file
-
--- each task is so, and each upload of a task is one
-pub record AreTasks (files : List Asked) (c : ℕ) (party : Party) : Type 0 where
-  pub each :
-      (task : ℕ) (entry : Task) → task_of party.client.lists task ≡ Some entry → IsTaskFor files c party task entry
-  pub as_many : length party.uploads ≡ length party.client.lists.tasks
-
--- the work of an attempt is such as may be asked: an upload's file is its task's
-abbrev pub IsWork : List Asked → Party → Work → Type 0
-IsWork files party (work.Upload at) = IsFileOf files party at.task at.file
-IsWork files party (work.Directory at) = AreTokens at.tokens
-IsWork files party (work.Download at) = (at.server ≡ party.client.server) × IsFileNumber at.number
-
--- the notes go with the job of the client's link
-abbrev pub StandsBy : Party → Option Attempt → Type 0
-StandsBy party None = ⊤
-StandsBy party (Some a) =
-    party.client.attempt ≡ Some a.client.attempted
-    → AttemptStands a.client.asked party.client.lists a.client.attempted
 
 -- One client: each of its attempts is so by itself, and what is between them, its notes and the store.
 pub record IsParty (world : World) (c : ℕ) (party : Party) : Type 0 where

@@ -10,8 +10,8 @@ use Rattle.client_notes.specs.Laws.{after_all}
 use Rattle.ftl0_client.specs.Client.{Client}
 use Rattle.ftl0_client.specs.ClientStep.{ClientStep}
 use Rattle.air_world.specs.Events.{ClientPart}
-use Rattle.air_world.specs.Party.{Party}
-use Rattle.air_world.specs.Transfers.{ClientDid, ServerDid, after_event, after_hearing, after_tick}
+use Rattle.air_attempt.specs.Party.{Party}
+use Rattle.air_attempt.specs.Transfers.{ClientDid, ServerDid, after_event, after_hearing, after_tick}
 use Rattle.air_world.specs.World.{World, counted, next_moment, with_party}
 
 -- a client after the server heard this frame: only the one whose frame it is has changed

@@ -2,3 +2,5 @@
 //! may come, what each makes of the world, with power cuts, and what holds of each world then. It has no code: its
 //! definitions are what the rehearsal is measured by.
 #![tactic(auto)]
+
+pub mod laws;

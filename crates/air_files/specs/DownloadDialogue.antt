@@ -8,9 +8,9 @@ use Rattle.file_store.specs.Store.{Store}
 use Rattle.ftl0_session.specs.Downloads.Table.{file_of}
 use Rattle.ftl0_session.specs.Table.{State, command, sending, waiting}
 use Rattle.ftl0_server.specs.Entries as session
-use Rattle.air_world.specs.Said.{Took}
-use Rattle.air_world.specs.Sides.{ClientSide, ServerSide, said_by_client}
-use Rattle.air_world.specs.UploadDialogue.{answered_in}
+use Rattle.air_attempt.specs.Said.{Took}
+use Rattle.air_attempt.specs.Sides.{ClientSide, ServerSide, said_by_client}
+use Rattle.air_files.specs.UploadDialogue.{answered_in}
 
 -- the word on a file that came, or didn't; and the answer to it
 abbrev pub IsWord : PacketValue → Type 0

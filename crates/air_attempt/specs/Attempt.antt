@@ -12,7 +12,7 @@ use Rattle.ax25_link.specs.Linked.{AreLinked, Station, ack_number, send_number}
 use Rattle.ax25_link.specs.Rows.{is_call}
 use Rattle.ax25_link.specs.Sending.{IsQuiet}
 use Rattle.ax25_link.specs.Window.{IsWindow, Window}
-use Rattle.air_world.specs.Sides.{ClientSide, IsJob, IsSession, ServerSide}
+use Rattle.air_attempt.specs.Sides.{ClientSide, IsJob, IsSession, ServerSide}
 
 -- The window of its link; the client's side, and the server's, once a session answered the SABM; and what each
 -- station sent in it. A side that is gone is as it was last.

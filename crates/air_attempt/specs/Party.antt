@@ -8,9 +8,10 @@ use Rattle.ax25_link.specs.Air.{Transmission, delivering, sending_all}
 use Rattle.ax25_frames.specs.FrameText.{FrameValue}
 use Rattle.ax25_link.specs.Window.{Window}
 use Rattle.client_notes.specs.Notes.{no_notes}
+use Rattle.ftl0_client.specs.Attempt.Attempted.{Attempted}
 use Rattle.ftl0_client.specs.Client.{Client, new_client}
-use Rattle.air_world.specs.Attempt.{Attempt}
-use Rattle.air_world.specs.Sides.{ServerSide}
+use Rattle.air_attempt.specs.Attempt.{Attempt}
+use Rattle.air_attempt.specs.Sides.{ServerSide}
 
 -- The client; of each of its tasks, in order, which upload it is; its attempts, the newest one first; and whether its
 -- next event is to be cut.
@@ -103,3 +104,9 @@ EachAttempt party P = AllByRecursion P party.attempts
 -- so it is of each session that a client ever had
 abbrev pub EachSide : Party → (Attempt → ServerSide → Type 0) → Type 0
 EachSide party P = EachAttempt party (λ a. IfSome a.server (P a))
+
+-- the client's link and job, if it has any, are those of its current attempt
+abbrev pub IsLinkOf : Option Attempt → Option Attempted → Type 0
+IsLinkOf current None = ⊤
+IsLinkOf None (Some a) = ⊥
+IsLinkOf (Some current) (Some a) = current.client.attempted ≡ a

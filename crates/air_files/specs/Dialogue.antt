@@ -12,9 +12,9 @@ use Rattle.ftl0_session.specs.Table.{command, download_part, listing}
 use Rattle.ftl0_server.specs.Entries as session
 use Rattle.ftl0_job.specs.declared.work.Work.{Work}
 use Rattle.ftl0_job.specs.declared.work.Work.TheVariants as work
-use Rattle.air_world.specs.DownloadDialogue.{SaysDownload, ServesDownload}
-use Rattle.air_world.specs.Sides.{ClientSide, ServerSide, said_by_client}
-use Rattle.air_world.specs.UploadDialogue.{SaysUpload, ServesUpload}
+use Rattle.air_files.specs.DownloadDialogue.{SaysDownload, ServesDownload}
+use Rattle.air_attempt.specs.Sides.{ClientSide, ServerSide, said_by_client}
+use Rattle.air_files.specs.UploadDialogue.{SaysUpload, ServesUpload}
 
 -- the packets of a session that selects and lists
 abbrev pub IsOfListing : PacketValue → Type 0

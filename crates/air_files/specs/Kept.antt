@@ -1,5 +1,5 @@
--- When a file stands as its client's, and which offers were made of it (FTL0 1990, uploading; PFH 1990).
-use Rattle.std.specs.Prelude.{◌≡◌, ◌⊎◌, ℕ, ◌≤◌, List, length, slice_get, None, Some}
+-- When a file stands as its client's (FTL0 1990, uploading; PFH 1990).
+use Rattle.std.specs.Prelude.{◌≡◌, ◌⊎◌, ℕ, ◌≤◌, List, length, None, Some}
 use Rattle.px_base.specs.CallSign.{CallSign}
 use Rattle.px_base.specs.Octets.{IsFront}
 use Rattle.pfh_items.specs.Stamp.{stamped}
@@ -7,11 +7,7 @@ use Rattle.pfh_writer.specs.KeptFile.{KeepsClient}
 use Rattle.file_store.specs.Store.{Entry, Store, complete, entry_of, octets_of, partial}
 use Rattle.client_notes.specs.Answers.{noted_at}
 use Rattle.client_notes.specs.declared.answers.Noted.TheVariants as noted
-use Rattle.air_world.specs.Attempt.{Attempt}
-use Rattle.air_world.specs.Party.{Asked, IsFileOf, Party}
-use Rattle.air_world.specs.Said.{Offers}
-use Rattle.air_world.specs.Sides.{ServerSide}
-use Rattle.air_world.specs.World.{PartyAt, World}
+use Rattle.air_attempt.specs.Party.{Asked, IsFileOf, Party}
 
 -- The client holds an acknowledgement: its notes have it that the task's file was acknowledged with this number.
 abbrev pub HoldsAck : Party → ℕ → ℕ → Type 0
@@ -56,19 +52,6 @@ IsTaskAt files store party task number =
 -- where an entry of this number stands it is so
 abbrev pub WhereStands : Store → ℕ → (Entry → Type 0) → Type 0
 WhereStands store number P = (entry : Entry) → entry_of store number ≡ Some entry → P entry
-
--- A session of a client of the world said UL_GO_RESP with this number and offset: it is among the packets that the
--- session queued, whatever became of it.
-pub record Offered (world : World) (number offset : ℕ) : Type 0 where
-  pub c : ℕ
-  pub party : Party
-  pub is_party : PartyAt world c party
-  pub place : ℕ
-  pub attempt : Attempt
-  pub is_attempt : slice_get party.attempts place ≡ Some attempt
-  pub side : ServerSide
-  pub is_side : attempt.server ≡ Some side
-  pub offers : Offers side number offset
 
 -- the entry holds as many octets as this offset, at least
 abbrev pub HoldsTo : ℕ → Entry → Type 0

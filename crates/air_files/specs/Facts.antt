@@ -21,15 +21,15 @@ use Rattle.ftl0_job.specs.JobState.{IsCheckedIn}
 use Rattle.ftl0_client.specs.Attempt.Attempted.{outcome_of}
 use Rattle.ftl0_client.specs.declared.attempt.outcome.AttemptOutcome.TheVariants.{Reached}
 use Rattle.ftl0_client.specs.Entries as job
-use Rattle.air_world.specs.Attempt.{Attempt}
-use Rattle.air_world.specs.Dialogue.{IsDueNow, Says, Serves}
-use Rattle.air_world.specs.Kept.{HoldsAck, HoldsTo, IsFileAt, IsTaskKept, WhereStands}
-use Rattle.air_world.specs.Lists.{Has, OneIs}
-use Rattle.air_world.specs.Party.{Asked, EachAttempt, EachSide, IsFileOf, Party, newest}
-use Rattle.air_world.specs.Said.{AsksUpload, Grants, Offers, SaysComplete, Took, octets_come, octets_said}
-use Rattle.air_world.specs.Said.{octets_taken, said_behind_client, said_behind_server}
-use Rattle.air_world.specs.Sides.{ServerSide, said_by_client}
-use Rattle.air_world.specs.UploadDialogue.{GoesOnWith}
+use Rattle.air_attempt.specs.Attempt.{Attempt}
+use Rattle.air_files.specs.Dialogue.{IsDueNow, Says, Serves}
+use Rattle.air_files.specs.Kept.{HoldsAck, HoldsTo, IsFileAt, IsTaskKept, WhereStands}
+use Rattle.air_attempt.specs.Lists.{Has, OneIs}
+use Rattle.air_attempt.specs.Party.{Asked, EachAttempt, EachSide, IsFileOf, Party, newest}
+use Rattle.air_attempt.specs.Said.{AsksUpload, Grants, Offers, SaysComplete, Took, octets_come, octets_said}
+use Rattle.air_attempt.specs.Said.{octets_taken, said_behind_client, said_behind_server}
+use Rattle.air_attempt.specs.Sides.{ServerSide, said_by_client}
+use Rattle.air_files.specs.UploadDialogue.{GoesOnWith}
 
 -- the task has this number on the server
 pub record HasNumber (party : Party) (task number : ℕ) : Type 0 where

@@ -6,9 +6,9 @@ use Rattle.ftl0_server.specs.Entries.{SessionEntry}
 use Rattle.ftl0_job.specs.declared.work.Work.TheVariants as work
 use Rattle.ftl0_job.specs.Upload.{new_upload}
 use Rattle.ftl0_client.specs.Entries as job
-use Rattle.air_world.specs.Attempt.{Attempt}
-use Rattle.air_world.specs.Lists.{Has, OneIs}
-use Rattle.air_world.specs.Sides.{ClientSide, ServerSide, said_by_client, said_by_server}
+use Rattle.air_attempt.specs.Attempt.{Attempt}
+use Rattle.air_attempt.specs.Lists.{Has, OneIs}
+use Rattle.air_attempt.specs.Sides.{ClientSide, ServerSide, said_by_client, said_by_server}
 
 -- the attempt is one to send this file of a task, whose number was known, or 0 where none was
 abbrev pub AsksUpload : Attempt → ℕ → ℕ → List ℕ → Type 0

@@ -7,8 +7,8 @@ use Rattle.ftl0_packets.specs.Layout.{ul_nak_resp, upload_cmd}
 use Rattle.ftl0_session.specs.Table.{State, command, receiving}
 use Rattle.ftl0_server.specs.Entries as session
 use Rattle.ftl0_server.specs.Entries.{SessionEntry}
-use Rattle.air_world.specs.Said.{Took}
-use Rattle.air_world.specs.Sides.{ClientSide, ServerSide, said_by_client}
+use Rattle.air_attempt.specs.Said.{Took}
+use Rattle.air_attempt.specs.Sides.{ClientSide, ServerSide, said_by_client}
 
 -- the packets to which a session replied: all that it took, but one whose replies didn't fit
 abbrev pub answered_by : SessionEntry → List Item

@@ -19,9 +19,9 @@ use Rattle.ftl0_client.specs.Attempt.Attempted.{Attempted}
 use Rattle.ftl0_client.specs.Client.{Client, ClientEvent, asks, hears, ticks}
 use Rattle.ftl0_client.specs.Entries as job
 use Rattle.ftl0_client.specs.Entries.{JobEntry}
-use Rattle.air_world.specs.Attempt.{Attempt}
-use Rattle.air_world.specs.Party.{all_over, client_sends, server_sends, with_answered, with_newest}
-use Rattle.air_world.specs.Sides.{ServerSide}
+use Rattle.air_attempt.specs.Attempt.{Attempt}
+use Rattle.air_attempt.specs.Party.{all_over, client_sends, server_sends, with_answered, with_newest}
+use Rattle.air_attempt.specs.Sides.{ServerSide}
 
 -- What a server did at an event: as it was, and as it is once it has sent all, before the places of sessions that are
 -- over are free; the moment; and the frames that it sent.

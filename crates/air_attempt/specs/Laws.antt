@@ -1,0 +1,200 @@
+-- Laws of the attempts of one client: what each event makes of them, and what a side took of what the other one said.
+use Rattle.std.specs.Prelude.{◌≡◌, ◌≢◌, ℕ, List, [], ◌∷◌, length, map, slice_get, true, false, None, Some, Ok}
+use Rattle.std.specs.List.{AllByRecursion}
+use Rattle.px_base.specs.CallSign.{CallSign}
+use Rattle.ax25_frames.specs.FrameText.{FrameValue}
+use Rattle.ax25_link.specs.Air.{IsLawful, Transmission}
+use Rattle.ax25_link.specs.declared.state.LinkState.TheVariants.{Up}
+use Rattle.ax25_link.specs.Rows.{is_call}
+use Rattle.ax25_link.specs.Window.{IsWindow}
+use Rattle.node.specs.Events.{NodeEvent, hears as frame_comes, ticks as tick_comes}
+use Rattle.file_store.specs.Command.{after_all}
+use Rattle.ftl0_server.specs.Connection.Connected.{Connected, caller_of}
+use Rattle.ftl0_server.specs.Entries as session
+use Rattle.ftl0_server.specs.Laws as server
+use Rattle.ftl0_server.specs.Server.{Server}
+use Rattle.ftl0_server.specs.ServerStep.{ServerStep, Stepped}
+use Rattle.ftl0_server.specs.Slots.{connected, leaving, place_of}
+use Rattle.client_notes.specs.Command.{NotesCommand}
+use Rattle.ftl0_job.specs.JobState.{IsNew}
+use Rattle.ftl0_client.specs.Client.{Client, ClientEvent, asks, hears, ticks}
+use Rattle.ftl0_client.specs.ClientStep.{ClientStep}
+use Rattle.ftl0_client.specs.Entries as job
+use Rattle.ftl0_client.specs.Laws as client
+use Rattle.air_attempt.specs.Attempt.{Attempt, IsAttempt}
+use Rattle.air_attempt.specs.Lists.{AreFirstOf}
+use Rattle.air_attempt.specs.Party.{AreOver, IsLinkOf, OnlyNewestUp, all_over, newest_side, to_client_delivered}
+use Rattle.air_attempt.specs.Party.{to_server_delivered, with_newest}
+use Rattle.air_attempt.specs.Sides.{ServerSide, said_by_client, said_by_server}
+use Rattle.air_attempt.specs.Transfers.{ServerDid, after_event, after_hearing, after_tick}
+
+-- each is an attempt of the client at this call with this server
+abbrev pub AreAttempts : CallSign → CallSign → List Attempt → Type 0
+AreAttempts me server attempts = AllByRecursion (IsAttempt me server) attempts
+
+-- A transmission of those that these are in the current attempt may be delivered. These are the attempts once it is
+-- marked.
+pub record Delivers (sent : Attempt → List Transmission) (mark : ℕ → Transmission → Attempt → Attempt)
+    (attempts : List Attempt) (frame : FrameValue) (marked : List Attempt) : Type 0 where
+  pub attempt : Attempt
+  pub current : slice_get attempts 0 ≡ Some attempt
+  pub place : ℕ
+  pub t : Transmission
+  pub lawful : IsLawful attempt.window (sent attempt) place t
+  pub frame_is : frame ≡ t.frame
+  pub marked_is : marked ≡ with_newest (mark place t) attempts
+
+abbrev pub DeliversToClient : List Attempt → FrameValue → List Attempt → Type 0
+DeliversToClient attempts frame marked = Delivers (λ a. a.by_server) to_client_delivered attempts frame marked
+
+abbrev pub DeliversToServer : List Attempt → FrameValue → List Attempt → Type 0
+DeliversToServer attempts frame marked = Delivers (λ a. a.by_client) to_server_delivered attempts frame marked
+
+-- ---- the client's events
+
+-- What comes to the client may come: a job that was just made, a transmission of the server's, or a tick. These are its
+-- attempts then, with the delivery, if it is one, marked.
+abbrev pub MayComeTo : ClientEvent → List Attempt → List Attempt → Type 0
+MayComeTo (asks job) attempts marked = IsNew job × (marked ≡ attempts)
+MayComeTo (hears frame) attempts marked = DeliversToClient attempts frame marked
+MayComeTo ticks attempts marked = marked ≡ attempts
+
+-- A client and its attempts: each is one of its own, with its window; its link, if it has one, is that of the current
+-- one; and it may step.
+pub record GoesWith (it : Client) (attempts : List Attempt) : Type 0 where
+  pub window : IsWindow it.window
+  pub attempts_are : AreAttempts it.me it.server attempts
+  pub windows : AllByRecursion (λ a. a.window ≡ it.window) attempts
+  pub link : IsLinkOf (slice_get attempts 0) it.attempt
+  pub may_step : client.MayStep it
+
+-- So it is after each event that may come.
+abbrev pub ClientLaw : Type 0
+ClientLaw =
+    (old new : Client) (event : ClientEvent) (noted : List NotesCommand) (frames : List FrameValue)
+    (attempts marked : List Attempt) → GoesWith old attempts → MayComeTo event attempts marked
+    → ClientStep old event noted frames new
+    → GoesWith new (after_event event (record { old = old; now = new; frames = frames }) marked)
+
+-- ---- the server's events
+
+-- this connection is at the place of the server
+abbrev pub IsSeatedIn : Server → ℕ → Connected → Type 0
+IsSeatedIn it place c = slice_get it.slots place ≡ Some (connected c)
+
+-- A server between events: it has eight places, no two connections of one caller, none whose session is over, and each
+-- with its link up; and it may step.
+pub record IsBetween (it : Server) : Type 0 where
+  pub window : IsWindow it.window
+  pub may_step : server.MayStep it
+  pub eight : length it.slots ≡ 8
+  pub distinct :
+      (place other : ℕ) (c that : Connected) → IsSeatedIn it place c → IsSeatedIn it other that
+      → caller_of c ≡ caller_of that → place ≡ other
+  pub none_leaving : (place : ℕ) (c : Connected) → slice_get it.slots place ≢ Some (leaving c)
+  pub ups : (place : ℕ) (c : Connected) → IsSeatedIn it place c → c.end.state ≡ Up
+
+-- the connection is that of the newest session of these attempts, which is up
+pub record IsNewestSession (c : Connected) (attempts : List Attempt) : Type 0 where
+  pub side : ServerSide
+  pub is_newest : newest_side attempts ≡ Some side
+  pub connected_is : side.connected ≡ c
+  pub is_up : side.is_up ≡ true
+
+-- The attempts of the caller at this call and its place in the server: without one no session is up, and else the
+-- newest one is, which is there.
+pub record SitsBy (it : Server) (me : CallSign) (attempts : List Attempt) : Type 0 where
+  pub none : place_of me it.slots ≡ None → AreOver attempts
+  pub some :
+      (place : ℕ) (c : Connected) → place_of me it.slots ≡ Some place → IsSeatedIn it place c
+      → IsNewestSession c attempts
+  pub newest_up : OnlyNewestUp attempts
+
+-- A caller of a server: its attempts, each with the server's window, and its place.
+pub record Calls (it : Server) (me : CallSign) (attempts : List Attempt) : Type 0 where
+  pub attempts_are : AreAttempts me it.me attempts
+  pub windows : AllByRecursion (λ a. a.window ≡ it.window) attempts
+  pub sits : SitsBy it me attempts
+
+-- what the server did in a step of an event at this moment in which no disk call fails
+abbrev pub did_in : {old : Server} {event : NodeEvent} {gives : Stepped} → ℕ → ServerStep old event [] gives → ServerDid
+did_in {old} {event} {gives} moment step =
+    record { old = old; last = step.last; moment = moment; frames = gives.frames }
+
+-- A step keeps the server's call, window and places, and its store is the one after its commands.
+pub record StaysServer (old : Server) (gives : Stepped) : Type 0 where
+  pub me_is : gives.new.me ≡ old.me
+  pub window_is : gives.new.window ≡ old.window
+  pub between : IsBetween gives.new
+  pub store_is : gives.new.store ≡ after_all old.store gives.done
+
+-- What the server makes of a frame: of the attempts of the client whose frame it is, and of all others.
+pub record ServerHearsLaw : Type 0 where
+  pub server :
+      (old : Server) (frame : FrameValue) (moment : ℕ) (gives : Stepped) → IsBetween old
+      → ServerStep old (frame_comes frame moment) [] gives → StaysServer old gives
+  pub own :
+      (old : Server) (frame : FrameValue) (moment : ℕ) (gives : Stepped) (attempts marked : List Attempt)
+      → IsBetween old → Calls old frame.src attempts → DeliversToServer attempts frame marked
+      → (step : ServerStep old (frame_comes frame moment) [] gives)
+      → Calls gives.new frame.src (after_hearing (did_in moment step) frame marked)
+  pub other :
+      (old : Server) (frame : FrameValue) (moment : ℕ) (gives : Stepped) (me : CallSign) (attempts : List Attempt)
+      → IsBetween old → Calls old me attempts → me ≢ frame.src
+      → ServerStep old (frame_comes frame moment) [] gives → Calls gives.new me attempts
+
+-- And what it makes of a tick, of the attempts of each client.
+pub record ServerTicksLaw : Type 0 where
+  pub server :
+      (old : Server) (moment : ℕ) (gives : Stepped) → IsBetween old → ServerStep old (tick_comes moment) [] gives
+      → StaysServer old gives × (gives.new.store ≡ old.store) × (gives.new.lists ≡ old.lists)
+  pub each :
+      (old : Server) (moment : ℕ) (gives : Stepped) (me : CallSign) (attempts : List Attempt) → IsBetween old
+      → Calls old me attempts → (step : ServerStep old (tick_comes moment) [] gives)
+      → Calls gives.new me (after_tick (did_in moment step) me attempts)
+
+-- the newest attempt is this one, with this session, which is up
+pub record IsServedBy (attempts : List Attempt) (c : Connected) : Type 0 where
+  pub attempt : Attempt
+  pub older : List Attempt
+  pub attempts_are : attempts ≡ attempt ∷ older
+  pub side : ServerSide
+  pub is_side : attempt.server ≡ Some side
+  pub connected_is : side.connected ≡ c
+  pub is_up : side.is_up ≡ true
+
+-- A frame that is no SABM and that a session hears is of the current attempt, and so is the session.
+abbrev pub CurrentLaw : Type 0
+CurrentLaw =
+    (old : Server) (frame : FrameValue) (attempts marked : List Attempt) (place : ℕ) (c : Connected)
+    → Calls old frame.src attempts → DeliversToServer attempts frame marked → is_call frame.kind.control ≡ false
+    → place_of frame.src old.slots ≡ Some place → IsSeatedIn old place c → IsServedBy attempts c
+
+-- ---- what a power cut leaves
+
+-- Attempts stay attempts where their sessions are over, and where a transmission is marked as delivered.
+pub record LeftLaw : Type 0 where
+  pub over : (me server : CallSign) (attempts : List Attempt) → AreAttempts me server attempts
+      → AreAttempts me server (all_over attempts)
+  pub to_client :
+      (me server : CallSign) (attempts marked : List Attempt) (frame : FrameValue)
+      → AreAttempts me server attempts → DeliversToClient attempts frame marked → AreAttempts me server marked
+  pub to_server :
+      (me server : CallSign) (attempts marked : List Attempt) (frame : FrameValue)
+      → AreAttempts me server attempts → DeliversToServer attempts frame marked → AreAttempts me server marked
+
+-- ---- what one side took
+
+-- The packets that a session took are the first of those that its client said.
+abbrev pub ServerTookFront : Attempt → ServerSide → Type 0
+ServerTookFront a side = AreFirstOf (session.items_in side.entries) (map Ok (said_by_client a.client))
+
+-- The packets that a job took are the first of those that its session said.
+abbrev pub ClientTookFront : Attempt → ServerSide → Type 0
+ClientTookFront a side = AreFirstOf (job.items_in a.client.entries) (map Ok (said_by_server side))
+
+-- So it is in each attempt that a session answered.
+abbrev pub FrontLaw : Type 0
+FrontLaw =
+    (me server : CallSign) (a : Attempt) (side : ServerSide) → IsAttempt me server a → a.server ≡ Some side
+    → ServerTookFront a side × ClientTookFront a side

@@ -1,0 +1,7 @@
+pub mod Attempt
+pub mod Laws
+pub mod Lists
+pub mod Party
+pub mod Said
+pub mod Sides
+pub mod Transfers

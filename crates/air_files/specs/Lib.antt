@@ -1,0 +1,9 @@
+pub mod Dialogue
+pub mod DownloadDialogue
+pub mod Facts
+pub mod Kept
+pub mod Laws
+pub mod SoundStore
+pub mod Tasks
+pub mod UploadDialogue
+pub mod Uploads

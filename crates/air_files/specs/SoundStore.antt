@@ -1,0 +1,13 @@
+-- What holds of the server's store in the world.
+use Rattle.std.specs.List.{AllByRecursion}
+use Rattle.px_base.specs.Octets.{IsOctets}
+use Rattle.file_store.specs.Headers.{KeepsRules}
+use Rattle.file_store.specs.IsStore.{IsStore}
+use Rattle.file_store.specs.Store.{Store, octets_of}
+
+-- What holds of the store: the rules of a store; each complete file keeps the rules of files; and what is held are
+-- octets.
+pub record IsSoundStore (store : Store) : Type 0 where
+  pub is_store : IsStore store
+  pub keeps_rules : AllByRecursion (λ entry. KeepsRules entry.holding) store.entries
+  pub octets : AllByRecursion (λ entry. IsOctets (octets_of entry.holding)) store.entries

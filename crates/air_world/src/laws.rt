@@ -1,0 +1,1 @@
+//! Laws of the world, each the contract of a function that does nothing.
