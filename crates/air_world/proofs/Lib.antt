@@ -1,2 +1,4 @@
+mod ClientsStay
+mod Rebuild
 mod Seats
 mod WorldLists
