@@ -1,4 +1,7 @@
 mod ClientsStay
+mod Granted
+mod Likes
 mod Rebuild
 mod Seats
+mod ServerTicked
 mod WorldLists

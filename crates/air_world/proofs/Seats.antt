@@ -1,9 +1,10 @@
 -- The server's places and the attempts of its callers, taken apart by caller and put together again.
 use Rattle.std.proofs.Common.{◌≡◌, ◌≢◌, ◌⊎◌, ℕ, zero, suc, ◌≤◌, ◌<◌, List, [], ◌∷◌, Bool, true, false, Option, None, Some, length, get_or, refl, sym, ap, subst, ◌∙◌, inl, inr, true≢false, arith}
-use Rattle.std.specs.Prelude.{slice_get, IfSome, MatchOption}
-use Rattle.std.specs.Option.{option_or}
+use Rattle.std.specs.Prelude.{find, if◌then◌else◌, is_some, slice_get, IfSome, MatchOption}
+use Rattle.std.specs.Option.{option_and_then, option_or}
 use Rattle.std.specs.List.{AllByRecursion, position, position_or_len}
 use Rattle.std.proofs.lemmas.Grind.{common_steps}
+use Rattle.std.proofs.lemmas.List.Folds.{find_at}
 use Rattle.std.proofs.lemmas.List.Sums.{fails_before_first}
 use Rattle.std.proofs.lemmas.List.Quantifiers.{position-Some}
 use Rattle.std.proofs.lemmas.Option.{get_or_from_slice_get, same_Some, slice_get-get_or, slice_get_within}
@@ -17,6 +18,7 @@ use Rattle.air_attempt.specs.Attempt.{Attempt, IsAttempt, IsEndOf}
 use Rattle.air_attempt.specs.Laws.{AreAttempts, Calls, IsBetween, IsNewestSession, IsSeatedIn, SitsBy}
 use Rattle.air_attempt.specs.Party.{AreOver, OnlyNewestUp, Party, newest_side}
 use Rattle.air_attempt.specs.Sides.{ServerSide}
+use Rattle.air_attempt.specs.Transfers.{connection_at, connection_of}
 use Rattle.air_world.specs.Sound.{ArePlaces, AreStationsOf, IsParty, IsSeated, IsSessionOf, IsSideAt, Sound}
 use Rattle.air_world.specs.World.{PartyAt, World}
 use Rattle.air_world.proofs.WorldLists.{all-at, all-by, is-same, same-call}
@@ -57,6 +59,51 @@ module _ (caller : CallSign) (slots : List Slot) where
       by : (o : Option ℕ) → place_of caller slots ≡ o → (found : ℕ) × (place_of caller slots ≡ Some found)
       by (Some found) same = (found, same)
       by None same = absurd (finds-none place c same at is)
+
+-- ---- the connection of a caller
+
+connection-slot : (caller : CallSign) (slot : Slot) (c : Connected) → connection_at caller slot ≡ Some c
+    → ((slot ≡ connected c) ⊎ (slot ≡ leaving c)) × (caller_of c ≡ caller)
+connection-slot caller free c is = absurd cc
+connection-slot caller (connected it) c is = by (is_same_call (caller_of it) caller) refl is
+  where
+    by : (b : Bool) → is_same_call (caller_of it) caller ≡ b → (if b then Some it else None) ≡ Some c
+        → ((connected it ≡ connected c) ⊎ (connected it ≡ leaving c)) × (caller_of c ≡ caller)
+    by true same is = let it_is = same_Some it c is in (inl (ap connected it_is), subst (λ (c : Connected). caller_of c ≡ caller) it_is (same-call (caller_of it) caller same))
+    by false same is = absurd cc
+connection-slot caller (leaving it) c is = by (is_same_call (caller_of it) caller) refl is
+  where
+    by : (b : Bool) → is_same_call (caller_of it) caller ≡ b → (if b then Some it else None) ≡ Some c
+        → ((leaving it ≡ connected c) ⊎ (leaving it ≡ leaving c)) × (caller_of c ≡ caller)
+    by true same is = let it_is = same_Some it c is in (inr (ap leaving it_is), subst (λ (c : Connected). caller_of c ≡ caller) it_is (same-call (caller_of it) caller same))
+    by false same is = absurd cc
+
+-- the connection of a caller is at a place
+pub connection-seat : (server : Server) (caller : CallSign) (c : Connected) → IsBetween server → connection_of server caller ≡ Some c
+    → (place : ℕ) × IsSeatedIn server place c × (caller_of c ≡ caller)
+connection-seat server caller c between is = by (find has server.slots) refl is
+  where
+    has : Slot → Bool
+    has slot = is_some (connection_at caller slot)
+
+    seated : (place : ℕ) (slot : Slot) → slice_get server.slots place ≡ Some slot → (slot ≡ connected c) ⊎ (slot ≡ leaving c) → IsSeatedIn server place c
+    seated place slot at (inl is) = at ∙ ap Some is
+    seated place slot at (inr is) = absurd (between.none_leaving place c (at ∙ ap Some is))
+
+    by : (o : Option Slot) → find has server.slots ≡ o → option_and_then (connection_at caller) o ≡ Some c → (place : ℕ) × IsSeatedIn server place c × (caller_of c ≡ caller)
+    by None found is = absurd cc
+    by (Some slot) found is =
+        let there = connection-slot caller slot c is in
+        let place = position_or_len has server.slots in
+        (place, seated place slot (sym (find_at has server.slots) ∙ found) there.0, there.1)
+
+-- a caller without a place has no connection
+pub no-connection : (server : Server) (caller : CallSign) → IsBetween server → place_of caller server.slots ≡ None → connection_of server caller ≡ None
+no-connection server caller between none = by (connection_of server caller) refl
+  where
+    by : (o : Option Connected) → connection_of server caller ≡ o → connection_of server caller ≡ None
+    by None is = is
+    by (Some c) is = let seat = connection-seat server caller c between is in absurd (finds-none caller server.slots seat.0 c none seat.1 seat.2)
 
 -- ---- apart
 
