@@ -114,3 +114,9 @@ stay-link [] [] (Some a) stays is = is
 stay-link [] (b ∷ news) (Some a) stays is = absurd stays
 stay-link (a ∷ olds) [] (Some it) stays is = absurd stays
 stay-link (a ∷ olds) (b ∷ news) (Some it) stays is = ap (λ (c : ClientSide). c.attempted) stays.0.client ∙ is
+
+pub stay-windows : (w : Window) (olds news : List Attempt) → ClientsStay olds news → AllByRecursion (λ (a : Attempt). a.window ≡ w) olds → AllByRecursion (λ (b : Attempt). b.window ≡ w) news
+stay-windows w [] [] stays all = tt
+stay-windows w [] (b ∷ news) stays all = absurd stays
+stay-windows w (a ∷ olds) [] stays all = absurd stays
+stay-windows w (a ∷ olds) (b ∷ news) stays all = (stays.0.window ∙ all.0, stay-windows w olds news stays.1 all.1)

@@ -3,5 +3,6 @@ mod Granted
 mod Likes
 mod Rebuild
 mod Seats
+mod ServerCut
 mod ServerTicked
 mod WorldLists
