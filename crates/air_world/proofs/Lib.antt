@@ -1,8 +1,10 @@
 mod ClientsStay
 mod Granted
 mod Likes
+mod Marked
 mod Rebuild
 mod Seats
+mod Served
 mod ServerCut
 mod ServerTicked
 mod WorldLists

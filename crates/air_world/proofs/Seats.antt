@@ -105,6 +105,37 @@ no-connection server caller between none = by (connection_of server caller) refl
     by None is = is
     by (Some c) is = let seat = connection-seat server caller c between is in absurd (finds-none caller server.slots seat.0 c none seat.1 seat.2)
 
+-- where one of them has something, the first one that has is found
+first-some : {X Y : Type 0} (f : X → Option Y) (xs : List X) (i : ℕ) (x : X) → slice_get xs i ≡ Some x → is_some (f x) ≡ true
+    → option_and_then f (find (λ x. is_some (f x)) xs) ≡ None → ⊥
+first-some f [] i x at some none = absurd cc
+first-some {X} {Y} f (y ∷ ys) i x at some none = by i at (f y) refl none (λ i at none. first-some f ys i x at some none)
+  where
+    by : (i : ℕ) → slice_get (y ∷ ys) i ≡ Some x → (o : Option Y) → f y ≡ o → option_and_then f (if is_some o then Some y else find (λ x. is_some (f x)) ys) ≡ None
+        → ((i : ℕ) → slice_get ys i ≡ Some x → option_and_then f (find (λ x. is_some (f x)) ys) ≡ None → ⊥) → ⊥
+    by i at (Some z) is none later = absurd (let none_is : Some z ≡ None = sym is ∙ none in cc)
+    by zero at None is none later =
+        absurd (true≢false (sym some ∙ ap (λ (it : X). is_some (f it)) (sym (same_Some y x at)) ∙ ap (λ (o : Option Y). is_some o) is))
+    by (suc i) at None is none later = later i at none
+
+-- a caller without a connection has no place
+pub connection-none : (server : Server) (caller : CallSign) → connection_of server caller ≡ None → place_of caller server.slots ≡ None
+connection-none server caller none = by (place_of caller server.slots) refl
+  where
+    has : Slot → Bool
+    has slot = is_some (connection_at caller slot)
+
+    no-slot : (place : ℕ) (c : Connected) → slice_get server.slots place ≡ Some (connected c) → caller_of c ≡ caller → ⊥
+    no-slot place c at is =
+        let own = subst (λ call. is_same_call (caller_of c) call ≡ true) is (is-same (caller_of c)) in
+        let passes : has (connected c) ≡ true = ap (λ (b : Bool). is_some (if b then Some c else None)) own in
+        first-some (connection_at caller) server.slots place (connected c) at passes none
+
+    by : (o : Option ℕ) → place_of caller server.slots ≡ o → place_of caller server.slots ≡ None
+    by None found = found
+    by (Some place) found =
+        let slot = found-slot caller server.slots place found in absurd (no-slot place slot.0 slot.1 slot.2)
+
 -- ---- apart
 
 same-connected : (one other : Connected) → connected one ≡ connected other → one ≡ other
