@@ -6,5 +6,6 @@ mod Rebuild
 mod Seats
 mod Served
 mod ServerCut
+mod ServerHeard
 mod ServerTicked
 mod WorldLists
