@@ -8,4 +8,5 @@ mod Served
 mod ServerCut
 mod ServerHeard
 mod ServerTicked
+mod ServerWorld
 mod WorldLists

@@ -16,7 +16,7 @@ use Rattle.air_world.proofs.Seats.{calls}
 use Rattle.air_world.proofs.ServerCut.{AreMarked, IsMarked}
 use Rattle.air_world.proofs.WorldLists.{all-at, set-at}
 
-length-set-slice : {X : Type 0} (xs : List X) (i : ℕ) (x : X) → length (slice_set xs i x) ≡ length xs
+pub length-set-slice : {X : Type 0} (xs : List X) (i : ℕ) (x : X) → length (slice_set xs i x) ≡ length xs
 length-set-slice [] i x = refl
 length-set-slice (y ∷ ys) zero x = refl
 length-set-slice (y ∷ ys) (suc i) x = ap suc (length-set-slice ys i x)

@@ -38,7 +38,7 @@ stands world sound c party is =
       works = it.works;
     }
 
-granted-at : (world : World) (c : ℕ) (party : Party) → PartyAt world c party → (at number : ℕ) → GrantedAt party at number → sound.GrantedAt world c at number
+pub granted-at : (world : World) (c : ℕ) (party : Party) → PartyAt world c party → (at number : ℕ) → GrantedAt party at number → sound.GrantedAt world c at number
 granted-at world c party is at number granted = record {
     party = party;
     is_party = is;

@@ -80,3 +80,10 @@ pub at-set : {X : Type 0} (xs : List X) (i : ℕ) (x old : X) → slice_get xs i
 at-set [] i x old at = absurd cc
 at-set (z ∷ zs) zero x old at = refl
 at-set (z ∷ zs) (suc i) x old at = at-set zs i x old at
+
+pub set-other : {X : Type 0} (xs : List X) (i j : ℕ) (x : X) → (j ≡ i → ⊥) → slice_get (slice_set xs i x) j ≡ slice_get xs j
+set-other [] i j x differs = refl
+set-other (z ∷ zs) zero zero x differs = absurd (differs refl)
+set-other (z ∷ zs) zero (suc j) x differs = refl
+set-other (z ∷ zs) (suc i) zero x differs = refl
+set-other (z ∷ zs) (suc i) (suc j) x differs = set-other zs i j x (λ same. differs (ap suc same))
