@@ -1,4 +1,5 @@
 mod ClientsStay
+mod CutWorld
 mod Granted
 mod Likes
 mod Marked

@@ -312,7 +312,7 @@ module _ (laws : HearingLaws) (old : World) (sound : Sound old) (c : ℕ) (party
 
   -- ---- all
 
-  seat-found : (seat : Connected) → connection_of old.server t.frame.src ≡ Some seat
+  pub seat-found : (seat : Connected) → connection_of old.server t.frame.src ≡ Some seat
       → (at : ℕ) × (place_of t.frame.src old.server.slots ≡ Some at) × IsSeatedIn old.server at seat
   seat-found seat was =
       let there = connection-seat old.server t.frame.src seat (between old sound) was in
