@@ -1,3 +1,4 @@
+mod ClientMade
 mod ClientsStay
 mod CutWorld
 mod Granted
