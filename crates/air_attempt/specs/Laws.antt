@@ -1,5 +1,5 @@
 -- Laws of the attempts of one client: what each event makes of them, and what a side took of what the other one said.
-use Rattle.std.specs.Prelude.{◌≡◌, ◌≢◌, ℕ, List, [], ◌∷◌, length, map, slice_get, true, false, None, Some, Ok}
+use Rattle.std.specs.Prelude.{◌≡◌, ◌≢◌, ◌⊎◌, ℕ, List, [], ◌∷◌, length, map, slice_get, true, false, None, Some, Ok}
 use Rattle.std.specs.List.{AllByRecursion}
 use Rattle.px_base.specs.CallSign.{CallSign}
 use Rattle.ax25_frames.specs.FrameText.{FrameValue}
@@ -121,18 +121,25 @@ abbrev pub did_in : {old : Server} {event : NodeEvent} {gives : Stepped} → ℕ
 did_in {old} {event} {gives} moment step =
     record { old = old; last = step.last; moment = moment; frames = gives.frames }
 
--- A step keeps the server's call, window and places, and its store is the one after its commands.
-pub record StaysServer (old : Server) (gives : Stepped) : Type 0 where
+-- a connection of this caller was there, or the caller is one of these
+abbrev pub IsKnown : Server → (CallSign → Type 0) → CallSign → Type 0
+IsKnown old IsNew caller =
+    IsNew caller ⊎ ((place : ℕ) × (c : Connected) × IsSeatedIn old place c × (caller_of c ≡ caller))
+
+-- A step keeps the server's call, window and places, and its store is the one after its commands. No caller comes to a
+-- place but one of these.
+pub record StaysServer (old : Server) (gives : Stepped) (IsNew : CallSign → Type 0) : Type 0 where
   pub me_is : gives.new.me ≡ old.me
   pub window_is : gives.new.window ≡ old.window
   pub between : IsBetween gives.new
   pub store_is : gives.new.store ≡ after_all old.store gives.done
+  pub known : (place : ℕ) (c : Connected) → IsSeatedIn gives.new place c → IsKnown old IsNew (caller_of c)
 
 -- What the server makes of a frame: of the attempts of the client whose frame it is, and of all others.
 pub record ServerHearsLaw : Type 0 where
   pub server :
       (old : Server) (frame : FrameValue) (moment : ℕ) (gives : Stepped) → IsBetween old
-      → ServerStep old (frame_comes frame moment) [] gives → StaysServer old gives
+      → ServerStep old (frame_comes frame moment) [] gives → StaysServer old gives (λ caller. caller ≡ frame.src)
   pub own :
       (old : Server) (frame : FrameValue) (moment : ℕ) (gives : Stepped) (attempts marked : List Attempt)
       → IsBetween old → Calls old frame.src attempts → DeliversToServer attempts frame marked
@@ -147,7 +154,7 @@ pub record ServerHearsLaw : Type 0 where
 pub record ServerTicksLaw : Type 0 where
   pub server :
       (old : Server) (moment : ℕ) (gives : Stepped) → IsBetween old → ServerStep old (tick_comes moment) [] gives
-      → StaysServer old gives × (gives.new.store ≡ old.store) × (gives.new.lists ≡ old.lists)
+      → StaysServer old gives (λ caller. ⊥) × (gives.new.store ≡ old.store) × (gives.new.lists ≡ old.lists)
   pub each :
       (old : Server) (moment : ℕ) (gives : Stepped) (me : CallSign) (attempts : List Attempt) → IsBetween old
       → Calls old me attempts → (step : ServerStep old (tick_comes moment) [] gives)

@@ -1,6 +1,6 @@
 -- Laws of what one client's tasks, attempts and files that it got have of the store: what each thing that a session or a
 -- job does keeps of it, between its commands too.
-use Rattle.std.specs.Prelude.{◌≡◌, ◌≢◌, ◌⊎◌, ℕ, ◌<◌, ◌≤◌, List, [], ◌∷◌, ◌++◌, length, Bool, true, None, Some}
+use Rattle.std.specs.Prelude.{◌≡◌, ◌≢◌, ◌⊎◌, ℕ, ◌<◌, ◌≤◌, List, [], ◌∷◌, ◌++◌, length, Bool, true, Option, None, Some}
 use Rattle.std.specs.Prelude.{⊤}
 use Rattle.std.specs.List.{AllByRecursion}
 use Rattle.px_base.specs.CallSign.{CallSign, IsCall}
@@ -34,7 +34,7 @@ use Rattle.ftl0_client.specs.Entries as job
 use Rattle.ftl0_client.specs.Entries.{JobEntry}
 use Rattle.air_attempt.specs.Attempt.{Attempt}
 use Rattle.air_attempt.specs.Laws.{ClientTookFront, ServerTookFront}
-use Rattle.air_attempt.specs.Party.{Asked, EachAttempt, EachSide, Party, all_over, first_party, sessions_over}
+use Rattle.air_attempt.specs.Party.{Asked, EachAttempt, EachSide, Party, all_over, first_party, newest, sessions_over}
 use Rattle.air_attempt.specs.Said.{Grants}
 use Rattle.air_attempt.specs.Sides.{IsGreeting, ServerSide}
 use Rattle.air_files.specs.Facts.{GoesOnWithTask, HasFacts}
@@ -98,8 +98,15 @@ AreNewGrants next side entries =
     (number file_length : ℕ) → Grants (record side { entries = side.entries ++ entries }) number file_length
     → Grants side number file_length ⊎ (next ≤ number)
 
+-- What a power cut leaves of the client where it comes after some of the commands of its session's entries: the facts
+-- hold in the store then, with the sessions over and as they were before, and the store is such.
+pub record LeftIn (files : List Asked) (party : Party) (before now : Store) : Type 0 where
+  pub facts : HasFacts now files (sessions_over party)
+  pub store : IsSoundStore now
+  pub follows : FollowsBy party.client.me before now
+
 -- What entries of a session, from one to another, leave of the client: the facts hold behind them, and so they do
--- where a power cut comes after the first of their commands, with the sessions over and as they were before.
+-- where a power cut comes after the first of their commands.
 pub record SessionKeeps (files : List Asked) (party done : Party) (before now : Session) (entries : List SessionEntry)
     (side : ServerSide) : Type 0 where
   pub facts : HasFacts now.store files done
@@ -108,7 +115,7 @@ pub record SessionKeeps (files : List Asked) (party done : Party) (before now : 
   pub follows : FollowsBy party.client.me before.store now.store
   pub during :
       (count : ℕ)
-      → HasFacts (after_first count before.store (session.commands_in entries)) files (sessions_over party)
+      → LeftIn files party before.store (after_first count before.store (session.commands_in entries))
   pub grants : AreNewGrants before.store.next side entries
 
 -- So entries do of a session of an attempt at a work of this kind.
@@ -207,9 +214,50 @@ JobLaw = JobLawOf (λ asked. ⊤) (λ entries. ⊤)
 
 -- ---- what others do, and what goes
 
--- What holds of a client holds still of it in a store that another caller's commands made of it; where its sessions are
--- over; where it starts again from its notes; and without an entry under way that no session receives.
+-- the session is such as that one was, or is over
+pub record LooksLikeSession (old new : ServerSide) : Type 0 where
+  pub greeting : new.greeting ≡ old.greeting
+  pub entries : new.entries ≡ old.entries
+  pub state : new.connected.state ≡ old.connected.state
+  pub up : new.is_up ≡ true → old.is_up ≡ true
+
+abbrev pub LooksServed : Option ServerSide → Option ServerSide → Type 0
+LooksServed None None = ⊤
+LooksServed None (Some new) = ⊥
+LooksServed (Some old) None = ⊥
+LooksServed (Some old) (Some new) = LooksLikeSession old new
+
+-- the attempt is such as that one was, but for the ends of its links and what was sent
+pub record LooksLike (old new : Attempt) : Type 0 where
+  pub asked : new.client.asked ≡ old.client.asked
+  pub entries : new.client.entries ≡ old.client.entries
+  pub job : new.client.attempted.job ≡ old.client.attempted.job
+  pub served : LooksServed old.server new.server
+
+abbrev pub LookLike : List Attempt → List Attempt → Type 0
+LookLike [] [] = ⊤
+LookLike [] (a ∷ those) = ⊥
+LookLike (a ∷ older) [] = ⊥
+LookLike (a ∷ older) (b ∷ those) = LooksLike a b × LookLike older those
+
+-- The client is such as that one was. Its link is gone, or is that of the current attempt still.
+pub record IsSameParty (old new : Party) : Type 0 where
+  pub me : new.client.me ≡ old.client.me
+  pub server : new.client.server ≡ old.client.server
+  pub lists : new.client.lists ≡ old.client.lists
+  pub uploads : new.uploads ≡ old.uploads
+  pub attempts : LookLike old.attempts new.attempts
+  pub link :
+      (a b : Attempt) → newest old ≡ Some a → newest new ≡ Some b → new.client.attempt ≡ Some b.client.attempted
+      → old.client.attempt ≡ Some a.client.attempted
+
+-- What holds of a client holds still of one that is such as that one was; in a store that another caller's commands
+-- made; where its sessions are over; where it starts again from its notes; and without an entry under way that no
+-- session receives.
 pub record StayLaw : Type 0 where
+  pub same :
+      (store : Store) (files : List Asked) (old new : Party) → IsSameParty old new → HasFacts store files old
+      → HasFacts store files new
   pub other :
       (files : List Asked) (c : ℕ) (party : Party) (caller : CallSign) (before now : Store)
       → Stands files c party → IsCall caller → party.client.me ≢ caller → IsSoundStore before
