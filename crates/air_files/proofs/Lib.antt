@@ -1,1 +1,3 @@
+mod ApartLemmas
+mod LiftLemmas
 mod StableLemmas
