@@ -1,7 +1,6 @@
 -- The facts of a client taken apart: of one session, of one attempt, and of the client itself.
 use Rattle.std.proofs.Common.{◌≡◌, ℕ, List, true, Some}
 use Rattle.std.specs.Prelude.{IfSome}
-use Rattle.std.specs.List.{AllByRecursion}
 use Rattle.file_store.specs.Info.{IsCompleteIn}
 use Rattle.file_store.specs.Store.{Store}
 use Rattle.ftl0_session.specs.Table.{receiving}
@@ -11,8 +10,8 @@ use Rattle.air_attempt.specs.Party.{Asked, EachAttempt, EachSide, IsFileOf, Part
 use Rattle.air_attempt.specs.Said.{Grants, Offers, SaysComplete}
 use Rattle.air_attempt.specs.Sides.{ServerSide}
 use Rattle.air_files.specs.Dialogue.{IsDueNow, Says, Serves}
-use Rattle.air_files.specs.Facts.{AreFirstIfAny, AskedWithin, GoesOnWithTask, HasFacts, HasFetched, HasGotFacts, HasNumber, HasSessionFacts}
-use Rattle.air_files.specs.Facts.{HasTaskFacts, IsFetching, IsGrantKept, IsNumbered, IsOfferKept, NotesGrant, Receives, got}
+use Rattle.air_files.specs.Facts.{AreFirstIfAny, AskedWithin, GoesOnWithTask, HasFacts, HasFetched, HasNumber}
+use Rattle.air_files.specs.Facts.{IsFetching, IsGrantKept, IsNumbered, IsOfferKept, NotesGrant, Receives, got}
 use Rattle.air_files.specs.Kept.{HoldsAck, IsTaskKept}
 use Rattle.air_files.proofs.LiftLemmas.{each-at, each-from, each-side, side-at}
 

@@ -1,3 +1,5 @@
 mod ApartLemmas
+mod GoneLemmas
 mod LiftLemmas
+mod LikeLemmas
 mod StableLemmas

@@ -1,11 +1,11 @@
 -- What is so of each attempt, or of each session, of a client: of those at hand, and of a changed list of them.
-use Rattle.std.proofs.Common.{◌≡◌, ◌⊎◌, ℕ, List, [], ◌∷◌, ◌++◌, map, refl, ap, sym, ◌∙◌, subst, Option, None, Some, inl, inr, zero, suc}
-use Rattle.std.specs.Prelude.{IfSome, ⊤, slice_get}
+use Rattle.std.proofs.Common.{◌≡◌, ◌⊎◌, ℕ, List, [], ◌∷◌, ◌++◌, map, refl, sym, subst, Option, None, Some, inl, inr, zero, suc}
+use Rattle.std.specs.Prelude.{IfSome, slice_get}
 use Rattle.std.specs.List.{AllByRecursion}
 use Rattle.std.proofs.lemmas.Option.{same_Some}
 use Rattle.air_attempt.specs.Attempt.{Attempt}
 use Rattle.air_attempt.specs.Lists.{Has, OneIs}
-use Rattle.air_attempt.specs.Party.{EachAttempt, EachSide, Party}
+use Rattle.air_attempt.specs.Party.{EachSide, Party}
 use Rattle.air_attempt.specs.Sides.{ServerSide}
 
 -- ---- each of a list
