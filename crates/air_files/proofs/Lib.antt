@@ -2,4 +2,6 @@ mod ApartLemmas
 mod GoneLemmas
 mod LiftLemmas
 mod LikeLemmas
+mod OtherLemmas
 mod StableLemmas
+mod StoreLemmas

@@ -101,7 +101,7 @@ pub keeps-fetching : (before now : Store) (party : Party) (a : Attempt) → Keep
 keeps-fetching before now party a keeps fetching link =
     keeps-fetches_by a.client.attempted.job.ending a.client.attempted.job.work before now party a keeps (fetching link)
 
-keeps-fetching_some : (before now : Store) (party : Party) (o : Option Attempt) → KeepsComplete before now → IfSome o (IsFetching before party)
+pub keeps-fetching_some : (before now : Store) (party : Party) (o : Option Attempt) → KeepsComplete before now → IfSome o (IsFetching before party)
     → IfSome o (IsFetching now party)
 keeps-fetching_some before now party None keeps fetching = tt
 keeps-fetching_some before now party (Some a) keeps fetching = keeps-fetching before now party a keeps fetching
