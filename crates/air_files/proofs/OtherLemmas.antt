@@ -126,7 +126,7 @@ side-moved before now party a side law leaves received facts = record {
   serves = keeps-serves before now a.client.asked side leaves.keeps.complete facts.serves;
 }
 
--- by the law of what is due, `downloads_law` of `ftl0_session`
+-- by the law of what is due, `stays_law` of `ftl0_session`
 pub facts-moved : (files : List Asked) (before now : Store) (party : Party) → DueStaysLaw → LeavesOwn before now party.client.me
     → EachSide party (λ _ side. LeavesReceived before now side) → HasFacts before files party → HasFacts now files party
 facts-moved files before now party law leaves received facts = together now files party (moved (apart before files party facts))

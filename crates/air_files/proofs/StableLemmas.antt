@@ -144,7 +144,7 @@ keeps-serves before now (work.Download at) side keeps serves = record {
   sent = keeps-sent before now at.number serves.file serves.stage keeps serves.sent;
 }
 
--- by the law of what is due, `downloads_law` of `ftl0_session`
+-- by the law of what is due, `stays_law` of `ftl0_session`
 pub keeps-due : (before now : Store) (side : ServerSide) → DueStaysLaw → KeepsComplete before now → IsDueNow before side → IsDueNow now side
 keeps-due before now side law keeps due =
     let stays = law before now (download_part side.connected.state) keeps due.lies in
