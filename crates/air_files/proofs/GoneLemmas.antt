@@ -82,31 +82,33 @@ coming-same a b None (Some other) served = absurd served
 coming-same a b (Some side) None served = absurd served
 coming-same a b (Some side) (Some other) served = ap (λ it. coming_by a (Some it)) (side-same side other served)
 
-like-fetches : (store : Store) (party now : Party) (a b : Attempt) (at : Download) → LooksServed a.server b.server → Fetches store party a at
+-- the same octets come
+abbrev pub SameComing : Attempt → Attempt → Type 0
+SameComing a b = coming_by a a.server ≡ coming_by (like_attempt a b) b.server
+
+like-fetches : (store : Store) (party now : Party) (a b : Attempt) (at : Download) → SameComing a b → Fetches store party a at
     → Fetches store (like party now) (like_attempt a b) at
-like-fetches store party now a b at served f = record {
-  first = subst (λ (octets : List ℕ). AreFirstIfAny store at.number (got party at.number ++ (at.rest ++ octets)))
-      (coming-same a b a.server b.server served) f.first;
+like-fetches store party now a b at coming f = record {
+  first = subst (λ (octets : List ℕ). AreFirstIfAny store at.number (got party at.number ++ (at.rest ++ octets))) coming f.first;
   offset = f.offset;
   asked = f.asked;
   counted = f.counted;
 }
 
-like-fetches_in : (phase : DownloadPhase) (store : Store) (party now : Party) (a b : Attempt) (at : Download)
-    → LooksServed a.server b.server → FetchesIn phase store party a at → FetchesIn phase store (like party now) (like_attempt a b) at
-like-fetches_in fetch.Login store party now a b at served f = f
-like-fetches_in fetch.Fetching store party now a b at served f = like-fetches store party now a b at served f
-like-fetches_in fetch.Done store party now a b at served f = f
+like-fetches_in : (phase : DownloadPhase) (store : Store) (party now : Party) (a b : Attempt) (at : Download) → SameComing a b
+    → FetchesIn phase store party a at → FetchesIn phase store (like party now) (like_attempt a b) at
+like-fetches_in fetch.Login store party now a b at coming f = f
+like-fetches_in fetch.Fetching store party now a b at coming f = like-fetches store party now a b at coming f
+like-fetches_in fetch.Done store party now a b at coming f = f
 
-like-fetches_by : (ending : Option Ending) (doing : Work) (store : Store) (party now : Party) (a b : Attempt)
-    → LooksServed a.server b.server → FetchesBy ending doing store party a
-    → FetchesBy ending doing store (like party now) (like_attempt a b)
-like-fetches_by None (work.Download at) store party now a b served f = like-fetches_in at.phase store party now a b at served f
-like-fetches_by (Some ending) (work.Download at) store party now a b served f = f
-like-fetches_by None (work.Upload at) store party now a b served f = tt
-like-fetches_by (Some ending) (work.Upload at) store party now a b served f = tt
-like-fetches_by None (work.Directory at) store party now a b served f = tt
-like-fetches_by (Some ending) (work.Directory at) store party now a b served f = tt
+pub like-fetches_by : (ending : Option Ending) (doing : Work) (store : Store) (party now : Party) (a b : Attempt) → SameComing a b
+    → FetchesBy ending doing store party a → FetchesBy ending doing store (like party now) (like_attempt a b)
+like-fetches_by None (work.Download at) store party now a b coming f = like-fetches_in at.phase store party now a b at coming f
+like-fetches_by (Some ending) (work.Download at) store party now a b coming f = f
+like-fetches_by None (work.Upload at) store party now a b coming f = tt
+like-fetches_by (Some ending) (work.Upload at) store party now a b coming f = tt
+like-fetches_by None (work.Directory at) store party now a b coming f = tt
+like-fetches_by (Some ending) (work.Directory at) store party now a b coming f = tt
 
 -- the link of the one is that of the other
 abbrev GoesWithLink : Party → Party → List Attempt → List Attempt → Type 0
@@ -122,7 +124,8 @@ like-fetching store party now (a ∷ older) [] same link f = tt
 like-fetching store party now (a ∷ older) (b ∷ those) same link f =
     subst (IsFetching store (like party now)) (attempt-same a b same.0)
     (λ is.
-      like-fetches_by a.client.attempted.job.ending a.client.attempted.job.work store party now a b same.0.served
+      like-fetches_by a.client.attempted.job.ending a.client.attempted.job.work store party now a b
+      (coming-same a b a.server b.server same.0.served)
       (f (link a b refl refl (is ∙ ap (λ (it : Attempt). Some it.client.attempted) (attempt-same a b same.0)))))
 
 -- ---- all facts

@@ -1,7 +1,9 @@
 mod ApartLemmas
+mod BeginLemmas
 mod GoneLemmas
 mod LiftLemmas
 mod LikeLemmas
+mod LongerLemmas
 mod OtherLemmas
 mod StableLemmas
 mod StoreLemmas

@@ -97,6 +97,10 @@ pub some-from : {X : Type 0} {P : X → Type 0} (o : Option X) → ((x : X) → 
 some-from None holds = tt
 some-from (Some x) holds = holds x refl
 
+pub some-weaker : {X : Type 0} {P Q : X → Type 0} (o : Option X) → ((x : X) → P x → Q x) → IfSome o P → IfSome o Q
+some-weaker None weaker holds = tt
+some-weaker (Some x) weaker holds = weaker x holds
+
 pub side-at : (P : Attempt → ServerSide → Type 0) (party : Party) (a : Attempt) (side : ServerSide) → EachSide party P
     → Has party.attempts a → a.server ≡ Some side → P a side
 side-at P party a side each has is = some-at (P a) a.server side (each-at (λ it. IfSome it.server (P it)) party.attempts a each has) is
