@@ -4,6 +4,8 @@ mod GoneLemmas
 mod LiftLemmas
 mod LikeLemmas
 mod LongerLemmas
+mod NotedLemmas
 mod OtherLemmas
 mod StableLemmas
 mod StoreLemmas
+mod TaskLemmas

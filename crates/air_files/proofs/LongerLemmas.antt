@@ -1,5 +1,5 @@
 -- The facts of a client of which nothing was asked; with a further upload; and with its task.
-use Rattle.std.proofs.Common.{◌≡◌, ◌⊎◌, ℕ, zero, suc, List, [], ◌∷◌, ◌++◌, refl, ap, sym, ◌∙◌, Option, None, Some, inl, inr}
+use Rattle.std.proofs.Common.{◌==◌, false, ◌≡◌, ◌⊎◌, ℕ, zero, suc, List, [], ◌∷◌, ◌++◌, refl, ap, sym, ◌∙◌, Option, None, Some, inl, inr}
 use Rattle.std.specs.Prelude.{slice_get}
 use Rattle.std.specs.Option.{option_and_then, option_map}
 use Rattle.std.proofs.lemmas.Bool.Decides.{eqb_tells}
@@ -33,11 +33,15 @@ place-last (y ∷ ys) last (suc place) x there = place-last ys last place x ther
 
 -- ---- a client of which nothing was asked
 
-no-task : (task : ℕ) (entry : Task) → task_of no_notes task ≡ Some entry → ⊥
-no-task task entry is = elim (eqb_tells task 0) [
-    | inl w ↦ let none = rw w.0 at is in cc
-    | inr w ↦ let none = rw w.0 at is in cc
+-- a task that there is hasn't number 0
+pub task-some : (lists : Lists) (task : ℕ) (entry : Task) → task_of lists task ≡ Some entry → (task == 0) ≡ false
+task-some lists task entry is = elim (eqb_tells task 0) [
+    | inl w ↦ absurd (let none = rw w.0 at is in let x : ⊥ = cc in x)
+    | inr w ↦ w.0
   ]
+
+no-task : (task : ℕ) (entry : Task) → task_of no_notes task ≡ Some entry → ⊥
+no-task task entry is = let none = rw (task-some no_notes task entry is) at is in cc
 
 -- an acknowledged task is one
 pub acked-task : (lists : Lists) (task number : ℕ) → noted_at lists task ≡ Some (noted.Acked task number)

@@ -1,6 +1,6 @@
 //! Laws of what a client's tasks, attempts and files have of the store, each the contract of a function that does nothing.
 
-ghost use Rattle.air_files.specs.Laws.{StayLaw};
+ghost use Rattle.air_files.specs.Laws.{BeginLaw, StayLaw};
 
 use file_entries::laws::follows_law;
 use ftl0_session::downloads::laws::stays_law;
@@ -14,3 +14,9 @@ pub fn stay_law()
     follows_law();
     stays_law();
 }
+
+/// What begins has all that holds of a client: a client of which nothing was asked, an attempt, a session, a further
+/// upload, and its task.
+pub fn begin_law()
+    ensures { BeginLaw }
+{}
