@@ -5,6 +5,7 @@ mod LiftLemmas
 mod LikeLemmas
 mod LongerLemmas
 mod NotedLemmas
+pub mod Offered
 mod OtherLemmas
 mod StableLemmas
 mod StoreLemmas

@@ -40,7 +40,7 @@ task-some lists task entry is = elim (eqb_tells task 0) [
     | inr w ↦ w.0
   ]
 
-no-task : (task : ℕ) (entry : Task) → task_of no_notes task ≡ Some entry → ⊥
+pub no-task : (task : ℕ) (entry : Task) → task_of no_notes task ≡ Some entry → ⊥
 no-task task entry is = let none = rw (task-some no_notes task entry is) at is in cc
 
 -- an acknowledged task is one

@@ -19,7 +19,7 @@ found-so P number [] entry each found = absurd (cc)
 found-so P number (x ∷ xs) entry each found = grind (arith, nat_tests, found-so P number xs entry each.1)
 
 -- the numbers rise
-later-number : (number low next : ℕ) (entries : List Entry) (entry : Entry) → AreEntries low entries next
+pub later-number : (number low next : ℕ) (entries : List Entry) (entry : Entry) → AreEntries low entries next
     → find (has_number number) entries ≡ Some entry → low ≤ number
 later-number number low next [] entry are found = absurd (cc)
 later-number number low next (x ∷ xs) entry are found = grind (arith, nat_tests, later-number number (x.number + 1) next xs entry are.4)
