@@ -1,1 +1,3 @@
 mod FirstLemmas
+mod NumberedLemmas
+mod ReceivesLemmas
