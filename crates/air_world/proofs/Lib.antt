@@ -1,3 +1,5 @@
 mod FirstLemmas
 mod NumberedLemmas
+mod PartsLemmas
 mod ReceivesLemmas
+mod WholeLemmas

@@ -1,12 +1,10 @@
 -- The file that a session receives is that of the task that has its number.
-use Rattle.std.proofs.Common.{◌≡◌, ◌≢◌, ◌⊎◌, ℕ, zero, suc, ◌+◌, ◌≤◌, ◌<◌, List, [], ◌∷◌, ◌++◌, length, take, drop, refl, ap, sym, ◌∙◌, subst, arith, true, Option, None, Some, Ok, inl, inr}
-use Rattle.std.specs.Prelude.{slice_get}
+use Rattle.std.proofs.Common.{◌≡◌, ◌⊎◌, ℕ, zero, suc, ◌+◌, ◌≤◌, List, [], ◌++◌, length, take, drop, refl, ap, sym, ◌∙◌, subst, arith, true, Some, inl, inr}
 use Rattle.std.specs.List.{AllByRecursion}
 use Rattle.std.proofs.lemmas.List.{length-take-le, take-append-drop}
 use Rattle.px_base.specs.Octets.{IsFront}
 use Rattle.ftl0_session.specs.Table.{State, command, receiving}
 use Rattle.ftl0_server.specs.Entries as session
-use Rattle.ftl0_job.specs.declared.work.Work.{Work}
 use Rattle.ftl0_job.specs.declared.work.Work.TheVariants as work
 use Rattle.ftl0_job.specs.Upload.{new_upload}
 use Rattle.air_attempt.specs.Attempt.{Attempt, IsAttempt, IsAnsweredBy}
@@ -15,11 +13,11 @@ use Rattle.air_attempt.specs.Party.{IsFileOf, Party}
 use Rattle.air_attempt.specs.Said.{AsksUpload, Grants, octets_come, said_behind_server}
 use Rattle.air_attempt.specs.Sides.{IsSession, ServerSide}
 use Rattle.air_files.specs.Dialogue.{Serves}
-use Rattle.air_files.specs.Facts.{GoesOnWithTask, HasNumber, IsGrantKept, Receives}
+use Rattle.air_files.specs.Facts.{GoesOnWithTask, HasNumber, Receives}
 use Rattle.air_files.specs.Tasks.{IsWork}
 use Rattle.air_files.specs.UploadDialogue.{AnsweredFirst, GoesOnWith, IsOfferedBy, IsReceivingState, Receiving, ServesUpload, ended, receives, refused, unasked}
 use Rattle.air_files.proofs.Offered.{each-at, side-at}
-use Rattle.air_world.proofs.NumberedLemmas.{IsTaskGrant, one-task, place-of_one, same-grant, task-grant}
+use Rattle.air_world.proofs.NumberedLemmas.{place-of_one, same-grant, task-grant}
 use Rattle.air_world.specs.Parts.{AreNumbered, ReceivesFile}
 use Rattle.air_world.specs.Sound.{IsParty, Sound}
 use Rattle.air_world.specs.World.{PartyAt, World}
