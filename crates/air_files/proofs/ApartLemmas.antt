@@ -66,20 +66,20 @@ apart store files party facts = record {
   numbered = facts.tasks.numbered;
   acknowledged = facts.tasks.acknowledged;
   attempts = each-from party.attempts (λ a has. record {
-      noted = each-at (NotesGrant party) party.attempts a facts.tasks.noted has;
-      goes_on = each-at (GoesOnWithTask party) party.attempts a facts.tasks.goes_on has;
-      says = each-at (λ it. Says it.client.asked it.client) party.attempts a facts.sessions.says has;
-      fetched = each-at (HasFetched party) party.attempts a facts.files_got.fetched has;
-      asked_within = each-at (AskedWithin party) party.attempts a facts.files_got.asked_within has;
-    });
+    noted = each-at (NotesGrant party) party.attempts a facts.tasks.noted has;
+    goes_on = each-at (GoesOnWithTask party) party.attempts a facts.tasks.goes_on has;
+    says = each-at (λ it. Says it.client.asked it.client) party.attempts a facts.sessions.says has;
+    fetched = each-at (HasFetched party) party.attempts a facts.files_got.fetched has;
+    asked_within = each-at (AskedWithin party) party.attempts a facts.files_got.asked_within has;
+  });
   sides = each-side party (λ a side has is. record {
-      granted = side-at (GrantFact store party) party a side facts.sessions.granted has is;
-      complete = side-at (λ _ it. CompleteFact store it) party a side facts.sessions.complete has is;
-      offered = side-at (λ _ it. OfferFact store it) party a side facts.sessions.offered has is;
-      receives = side-at (ReceiveFact store party) party a side facts.sessions.receives has is;
-      due = side-at (λ _ it. DueFact store it) party a side facts.sessions.due has is;
-      serves = side-at (λ it those. Serves store it.client.asked those) party a side facts.sessions.serves has is;
-    });
+    granted = side-at (GrantFact store party) party a side facts.sessions.granted has is;
+    complete = side-at (λ _ it. CompleteFact store it) party a side facts.sessions.complete has is;
+    offered = side-at (λ _ it. OfferFact store it) party a side facts.sessions.offered has is;
+    receives = side-at (ReceiveFact store party) party a side facts.sessions.receives has is;
+    due = side-at (λ _ it. DueFact store it) party a side facts.sessions.due has is;
+    serves = side-at (λ it those. Serves store it.client.asked those) party a side facts.sessions.serves has is;
+  });
   got_front = facts.files_got.got_front;
   fetching = facts.files_got.fetching;
 }
@@ -87,9 +87,9 @@ apart store files party facts = record {
 pub together : (store : Store) (files : List Asked) (party : Party) → HasFactsApart store files party → HasFacts store files party
 together store files party facts =
     let client : (a : Attempt) → Has party.attempts a → HasClientFacts party a =
-        λ a has. each-at (HasClientFacts party) party.attempts a facts.attempts has in
+    λ a has. each-at (HasClientFacts party) party.attempts a facts.attempts has in
     let session : (a : Attempt) (side : ServerSide) → Has party.attempts a → a.server ≡ Some side → HasSideFacts store party a side =
-        λ a side has is. side-at (HasSideFacts store party) party a side facts.sides has is in
+    λ a side has is. side-at (HasSideFacts store party) party a side facts.sides has is in
     record {
       tasks = record {
         numbered = facts.numbered;

@@ -98,13 +98,15 @@ facts-called store files party a facts begins goes_on = together store files (ca
           let it = parts.numbered task number file (number-like party (calling party a) task number has) is in
           record { below = it.below; stands = it.stands; granted = inr it.granted };
       acknowledged = parts.acknowledged;
-      attempts =
-          (begun-client party a begins goes_on,
-           each-weaker party.attempts (λ b. like-client party (calling party a) b b) parts.attempts);
-      sides =
-          (subst (λ o. IfSome o (HasSideFacts store (calling party a) a)) (sym begins.unserved) tt,
-           each-weaker party.attempts
-           (λ b. some-weaker b.server (λ side. like-side store party (calling party a) b b side side (λ up. up))) parts.sides);
+      attempts = (
+        begun-client party a begins goes_on,
+        each-weaker party.attempts (λ b. like-client party (calling party a) b b) parts.attempts,
+      );
+      sides = (
+        subst (λ o. IfSome o (HasSideFacts store (calling party a) a)) (sym begins.unserved) tt,
+        each-weaker party.attempts
+            (λ b. some-weaker b.server (λ side. like-side store party (calling party a) b b side side (λ up. up))) parts.sides,
+      );
       got_front = parts.got_front;
       fetching = λ link.
           subst (λ (it : JobState). FetchesBy it.ending it.work store (calling party a) a) (sym begins.job)
@@ -118,7 +120,7 @@ only-greeting : (side : ServerSide) (greeted : IsGreeted side) (packet : PacketV
 only-greeting side greeted packet said =
     ⊎_elim (λ it. it) (λ none. absurd none)
     (subst (λ packets. Has packets packet)
-     (ap (λ entries. side.greeting ∷ session.said_in entries) greeted.entries ∙ ap (λ it. it ∷ []) greeted.greets.2) said)
+    (ap (λ entries. side.greeting ∷ session.said_in entries) greeted.entries ∙ ap (λ it. it ∷ []) greeted.greets.2) said)
 
 greeted-serves : (store : Store) (asked : Work) (side : ServerSide) → IsGreeted side → Serves store asked side
 greeted-serves store (work.Upload at) side greeted = record {
@@ -153,9 +155,9 @@ greeted-side store party a side greeted = record {
       absurd (let is = only-greeting side greeted (ul_go_resp number offset) offers in let x : ⊥ = cc in x);
   receives = λ number rest up is. absurd (let none : command ≡ receiving number rest = sym greeted.state ∙ is in let x : ⊥ = cc in x);
   due = λ up. record {
-      lies = subst (λ (it : State). IsDueIn store (download_part it)) (sym greeted.state) tt;
-      octets = subst (λ (it : State). IsOctets (octets_due store (download_part it))) (sym greeted.state) (All-nil _);
-    };
+    lies = subst (λ (it : State). IsDueIn store (download_part it)) (sym greeted.state) tt;
+    octets = subst (λ (it : State). IsOctets (octets_due store (download_part it))) (sym greeted.state) (All-nil _);
+  };
   serves = greeted-serves store a.client.asked side greeted;
 }
 
@@ -169,7 +171,7 @@ nothing-comes a side unserved none greeted =
     ap (coming_by a) unserved
     ∙ sym (ap (λ (entries : List JobEntry). octets_said (drop (length (job.items_in entries)) (said_by_server side))) none
     ∙ ap (λ packets. octets_said packets)
-      (ap (λ entries. side.greeting ∷ session.said_in entries) greeted.entries ∙ ap (λ it. it ∷ []) greeted.greets.2))
+    (ap (λ entries. side.greeting ∷ session.said_in entries) greeted.entries ∙ ap (λ it. it ∷ []) greeted.greets.2))
 
 opened-grants : (task number : ℕ) (a : Attempt) (older : List Attempt) (side : ServerSide) → a.server ≡ None
     → OneIs (IsGranted task number) (a ∷ older) → OneIs (IsGranted task number) (serving a side ∷ older)
@@ -199,9 +201,10 @@ facts-opened store files party a older side facts are unserved none greeted =
               };
           acknowledged = parts.acknowledged;
           attempts = (like-client party now a (serving a side) clients.0, each-weaker older (λ b. like-client party now b b) clients.1);
-          sides =
-              (greeted-side store now (serving a side) side greeted,
-               each-weaker older (λ b. some-weaker b.server (λ it. like-side store party now b b it it (λ up. up))) sessions.1);
+          sides = (
+            greeted-side store now (serving a side) side greeted,
+            each-weaker older (λ b. some-weaker b.server (λ it. like-side store party now b b it it (λ up. up))) sessions.1,
+          );
           got_front = parts.got_front;
           fetching = λ link.
               like-fetches_by a.client.attempted.job.ending a.client.attempted.job.work store party now a (serving a side)

@@ -33,9 +33,10 @@ like-client_each : (party now : Party) (older those : List Attempt) → LookLike
 like-client_each party now [] [] same facts = tt
 like-client_each party now [] (b ∷ those) same facts = absurd same
 like-client_each party now (a ∷ older) [] same facts = absurd same
-like-client_each party now (a ∷ older) (b ∷ those) same facts =
-    (subst (HasClientFacts (like party now)) (attempt-same a b same.0) (like-client party now a b facts.0),
-     like-client_each party now older those same.1 facts.1)
+like-client_each party now (a ∷ older) (b ∷ those) same facts = (
+  subst (HasClientFacts (like party now)) (attempt-same a b same.0) (like-client party now a b facts.0),
+  like-client_each party now older those same.1 facts.1,
+)
 
 like-served : (store : Store) (party now : Party) (a b : Attempt) (o other : Option ServerSide) → LooksLike a b → LooksServed o other
     → IfSome o (HasSideFacts store party a) → IfSome other (HasSideFacts store (like party now) b)
@@ -45,7 +46,7 @@ like-served store party now a b (Some side) None same served facts = tt
 like-served store party now a b (Some side) (Some other) same served facts =
     subst (λ it. HasSideFacts store (like party now) it other) (attempt-same a b same)
     (subst (HasSideFacts store (like party now) (like_attempt a b)) (side-same side other served)
-     (like-side store party now a b side other served.up facts))
+    (like-side store party now a b side other served.up facts))
 
 like-sides : (store : Store) (party now : Party) (older those : List Attempt) → LookLike older those
     → AllByRecursion (λ a. IfSome a.server (HasSideFacts store party a)) older
@@ -62,10 +63,14 @@ like-granted task number a b same granted = by a.server b.server granted.3 refl 
     by : (o other : Option ServerSide) → o ≡ Some granted.1 → b.server ≡ other → LooksServed o other → IsGranted task number b
     by None other is there served = absurd (cc)
     by (Some side) None is there served = absurd served
-    by (Some side) (Some it) is there served =
-        (granted.0, it, same.asked ∙ granted.2, there,
-         subst (λ (entries : List SessionEntry). OneIs (IsAnswer (Ok (upload_cmd 0 (length granted.0))) (ul_go_resp number 0)) entries)
-         (ap (λ (x : ServerSide). x.entries) (sym (same_Some side granted.1 is)) ∙ sym served.entries) granted.4)
+    by (Some side) (Some it) is there served = (
+      granted.0,
+      it,
+      same.asked ∙ granted.2,
+      there,
+      subst (λ (entries : List SessionEntry). OneIs (IsAnswer (Ok (upload_cmd 0 (length granted.0))) (ul_go_resp number 0)) entries)
+          (ap (λ (x : ServerSide). x.entries) (sym (same_Some side granted.1 is)) ∙ sym served.entries) granted.4,
+    )
 
 like-one : (task number : ℕ) (older those : List Attempt) → LookLike older those → OneIs (IsGranted task number) older
     → OneIs (IsGranted task number) those
@@ -124,9 +129,9 @@ like-fetching store party now (a ∷ older) [] same link f = tt
 like-fetching store party now (a ∷ older) (b ∷ those) same link f =
     subst (IsFetching store (like party now)) (attempt-same a b same.0)
     (λ is.
-      like-fetches_by a.client.attempted.job.ending a.client.attempted.job.work store party now a b
-      (coming-same a b a.server b.server same.0.served)
-      (f (link a b refl refl (is ∙ ap (λ (it : Attempt). Some it.client.attempted) (attempt-same a b same.0)))))
+    like-fetches_by a.client.attempted.job.ending a.client.attempted.job.work store party now a b
+    (coming-same a b a.server b.server same.0.served)
+    (f (link a b refl refl (is ∙ ap (λ (it : Attempt). Some it.client.attempted) (attempt-same a b same.0)))))
 
 -- ---- all facts
 

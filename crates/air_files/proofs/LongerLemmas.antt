@@ -36,9 +36,9 @@ place-last (y ∷ ys) last (suc place) x there = place-last ys last place x ther
 -- a task that there is hasn't number 0
 pub task-some : (lists : Lists) (task : ℕ) (entry : Task) → task_of lists task ≡ Some entry → (task == 0) ≡ false
 task-some lists task entry is = elim (eqb_tells task 0) [
-    | inl w ↦ absurd (let none = rw w.0 at is in let x : ⊥ = cc in x)
-    | inr w ↦ w.0
-  ]
+  | inl w ↦ absurd (let none = rw w.0 at is in let x : ⊥ = cc in x)
+  | inr w ↦ w.0
+]
 
 pub no-task : (task : ℕ) (entry : Task) → task_of no_notes task ≡ Some entry → ⊥
 no-task task entry is = let none = rw (task-some no_notes task entry is) at is in cc
@@ -74,6 +74,7 @@ file-more files more party task file is = by (upload_of party task) is
         → option_map (λ (asked : Asked). asked.file) (slice_get (files ++ more) upload) ≡ Some file
     at upload None there is = absurd (cc)
     at upload (Some asked) there is = ap (option_map (λ (it : Asked). it.file)) (place-more files more upload asked there) ∙ is
+
     by : (o : Option ℕ) → option_map (λ (asked : Asked). asked.file) (option_and_then (slice_get files) o) ≡ Some file
         → option_map (λ (asked : Asked). asked.file) (option_and_then (slice_get (files ++ more)) o) ≡ Some file
     by None is = is

@@ -45,14 +45,14 @@ under-way-moved before now number file caller leaves way = by (leaves.own number
   where
     by : (entry_of now number ≡ Some way.entry) ⊎ (entry_of now number ≡ None) → IsFileAt now number file caller
     by (inl still) = inr (inl (record {
-        entry = way.entry;
-        is_entry = still;
-        caller_is = way.caller_is;
-        length_is = way.length_is;
-        held = way.held;
-        holds = way.holds;
-        front = way.front;
-      }))
+      entry = way.entry;
+      is_entry = still;
+      caller_is = way.caller_is;
+      length_is = way.length_is;
+      held = way.held;
+      holds = way.holds;
+      front = way.front;
+    }))
     by (inr gone) = inl gone
 
 pub file_at-moved : (before now : Store) (number : ℕ) (file : List ℕ) (caller : CallSign) → LeavesOwn before now caller → number < before.next
@@ -77,6 +77,7 @@ begun-moved before now caller number file_length leaves below begun entry there 
         → IsBegun caller file_length entry
     still old is (inl same) = subst (IsBegun caller file_length) (same_Some old entry (sym same ∙ there)) is
     still old is (inr gone) = absurd (let x : ⊥ = cc in x)
+
     by : (o : Option Entry) → entry_of before number ≡ o → IsBegun caller file_length entry
     by None gone = let none = leaves.keeps.gone number below gone in absurd (let x : ⊥ = cc in x)
     by (Some old) found = still old (begun old found) (leaves.own number old (begun old found).caller_is found)
@@ -160,11 +161,11 @@ pub facts-other : (files : List Asked) (party : Party) (caller : CallSign) (befo
 facts-other files party caller before now law due call other sound follows facts =
     let others = law.others caller before now sound.is_store call follows in
     let stays : (number : ℕ) (entry : Entry) → entry.caller ≡ party.client.me → entry_of before number ≡ Some entry → entry_of now number ≡ Some entry =
-        λ number entry mine. (others.1 number entry (λ is. other (sym mine ∙ is))).0 in
+    λ number entry mine. (others.1 number entry (λ is. other (sym mine ∙ is))).0 in
     facts-moved files before now party due
     (record { keeps = law.entries before now sound.is_store others.0; own = λ number entry mine there. inl (stays number entry mine there) })
     (each-side party (λ a side has is number rest up state entry there.
-        stays number entry (received-own before files party a side facts has is number rest up state entry there) there)) facts
+    stays number entry (received-own before files party a side facts has is number rest up state entry there) there)) facts
 
 -- ---- an entry that is given up
 
@@ -176,9 +177,9 @@ NoneReceives party number =
 left-or-gone : (store : Store) (number other : ℕ) (entry : Entry) → entry_of store other ≡ Some entry
     → (entry_of (after store (drop_entry number)) other ≡ Some entry) ⊎ (entry_of (after store (drop_entry number)) other ≡ None)
 left-or-gone store number other entry there = elim (eqb_tells other number) [
-    | inl w ↦ inr (subst (λ (n : ℕ). entry_of (after store (drop_entry number)) n ≡ None) (sym w.1) (dropped-none number store.entries))
-    | inr w ↦ inl (find-filter_other number other store.entries w.1 ∙ there)
-  ]
+  | inl w ↦ inr (subst (λ (n : ℕ). entry_of (after store (drop_entry number)) n ≡ None) (sym w.1) (dropped-none number store.entries))
+  | inr w ↦ inl (find-filter_other number other store.entries w.1 ∙ there)
+]
 
 pub facts-removed : (store : Store) (files : List Asked) (party : Party) (number : ℕ) (entry : Entry) (held : List ℕ) → FollowsLaw → DueStaysLaw
     → IsSoundStore store → entry_of store number ≡ Some entry → entry.holding ≡ partial held → NoneReceives party number
@@ -190,9 +191,9 @@ facts-removed store files party number entry held law due sound there holds none
       own = λ other it mine found. left-or-gone store number other it found;
     })
     (each-side party (λ a side has is other rest up state it found.
-        find-filter_other number other store.entries
-        (λ same.
-          side-at (λ _ those. (rest : List ℕ) → those.is_up ≡ true → those.connected.state ≢ receiving number rest) party a side none has is
-          rest up (state ∙ ap (λ n. receiving n rest) same))
-        ∙ found))
+    find-filter_other number other store.entries
+    (λ same.
+    side-at (λ _ those. (rest : List ℕ) → those.is_up ≡ true → those.connected.state ≢ receiving number rest) party a side none has is
+    rest up (state ∙ ap (λ n. receiving n rest) same))
+    ∙ found))
     facts

@@ -35,10 +35,11 @@ found-later number next x xs entry are found = grind (arith, nat_tests, later-nu
 pub each-found : (P : Entry → Type 0) (low next : ℕ) (entries : List Entry) → AreEntries low entries next
     → ((number : ℕ) (entry : Entry) → find (has_number number) entries ≡ Some entry → P entry) → AllByRecursion P entries
 each-found P low next [] are holds = tt
-each-found P low next (x ∷ xs) are holds =
-    (holds x.number x (found-first x xs),
-     each-found P (x.number + 1) next xs are.4
-     (λ number entry found. holds number entry (found-later number next x xs entry are.4 found)))
+each-found P low next (x ∷ xs) are holds = (
+  holds x.number x (found-first x xs),
+  each-found P (x.number + 1) next xs are.4
+      (λ number entry found. holds number entry (found-later number next x xs entry are.4 found)),
+)
 
 pub sound-files : (store : Store) → IsSoundStore store → HaveFiles store
 sound-files store sound number entry found = record {

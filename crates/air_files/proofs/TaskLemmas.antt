@@ -55,8 +55,8 @@ tasked-number : (party : Party) (place : ℕ) (it : Asked) (task number : ℕ) �
 tasked-number party place it task number has =
     ⊎_elim (λ there. record { entry = has.entry; is_entry = there; number_is = has.number_is; some = has.some })
     (λ (new : has.entry ≡ task_for party it).
-      let none : 0 ≡ number = sym (ap (λ (entry : Task). entry.number) new) ∙ has.number_is in
-      absurd (let some = has.some in omega arith))
+    let none : 0 ≡ number = sym (ap (λ (entry : Task). entry.number) new) ∙ has.number_is in
+    absurd (let some = has.some in omega arith))
     (task-last party.client.lists (task_for party it) task has.entry has.is_entry)
 
 -- and it isn't acknowledged
@@ -65,16 +65,16 @@ tasked-acked party place it task number holds =
     let acked = acked-task (tasked party place it).client.lists task number holds in
     ⊎_elim (λ there. ap (option_map (noted_as task)) there ∙ ap Some acked.2)
     (λ (new : acked.0 ≡ task_for party it).
-      absurd (let going : noted.Going task 0 ≡ noted.Acked task number = sym (ap (noted_as task) new) ∙ acked.2 in let x : ⊥ = cc in x))
+    absurd (let going : noted.Going task 0 ≡ noted.Acked task number = sym (ap (noted_as task) new) ∙ acked.2 in let x : ⊥ = cc in x))
     (task-last party.client.lists (task_for party it) task acked.0 acked.1)
 
 -- the upload of a task that was there is the same
 upload-tasked : (party : Party) (place : ℕ) (it : Asked) (task upload : ℕ) → upload_of party task ≡ Some upload
     → upload_of (tasked party place it) task ≡ Some upload
 upload-tasked party place it task upload is = elim (eqb_tells task 0) [
-    | inl w ↦ absurd (let none = rw w.0 at is in let x : ⊥ = cc in x)
-    | inr w ↦ rw w.0 (place-more party.uploads (place ∷ []) (task - 1) upload (rw w.0 at is))
-  ]
+  | inl w ↦ absurd (let none = rw w.0 at is in let x : ⊥ = cc in x)
+  | inr w ↦ rw w.0 (place-more party.uploads (place ∷ []) (task - 1) upload (rw w.0 at is))
+]
 
 -- and so is its file
 file-tasked : (files : List Asked) (party : Party) (place : ℕ) (it : Asked) (task : ℕ) (file : List ℕ) → IsFileOf files party task file
@@ -107,6 +107,7 @@ facts-tasked store files c party it stands facts =
   where
     keeps : KeepsNoted party (tasked party (length files) it)
     keeps = record { me = refl; numbers = number-tasked party (length files) it; got_is = λ number. refl }
+
     begun : HasFactsApart store (files ++ it ∷ []) party → HasFactsApart store (files ++ it ∷ []) (tasked party (length files) it)
     begun parts = record {
       numbered = λ task number file has is. numbered-tasked store files c party (length files) it task number file stands parts has is;
@@ -119,5 +120,5 @@ facts-tasked store files c party it stands facts =
       got_front = parts.got_front;
       fetching = some-weaker (newest party)
           (λ a fetching link. fetches_by-noted a.client.attempted.job.ending a.client.attempted.job.work store party (tasked party (length files) it) a keeps
-            (fetching link)) parts.fetching;
+          (fetching link)) parts.fetching;
     }

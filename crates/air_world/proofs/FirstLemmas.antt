@@ -93,8 +93,11 @@ pacsat-call : IsCall pacsat
 pacsat-call = record {
   spelled = (
     pacsat.chars,
-    (omega arith, omega arith,
-     All-from_recursion (λ c. IsTrue (is_call_char c)) pacsat.chars (refl, (refl, (refl, (refl, (refl, (refl, tt))))))),
+    (
+      omega arith,
+      omega arith,
+      All-from_recursion (λ c. IsTrue (is_call_char c)) pacsat.chars (refl, (refl, (refl, (refl, (refl, (refl, tt)))))),
+    ),
     refl,
   );
   in_range = omega arith;

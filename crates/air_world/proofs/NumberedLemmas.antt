@@ -77,22 +77,29 @@ pub same-grant : (world : World) (c other task that number : ℕ) (party others 
     → PartyAt world other others → IsTaskGrant party task number → IsTaskGrant others that number → (c ≡ other) × (task ≡ that)
 same-grant world c other task that number party others once there those one two =
     let same = once c one.at other two.at number
-        (record {
-          party = party; is_party = there; side = one.side;
-          is_side = record { attempt = one.attempt; is_attempt = one.is_attempt; is_side = one.is_side };
-          file_length = one.file_length; grants = one.grants;
-        })
-        (record {
-          party = others; is_party = those; side = two.side;
-          is_side = record { attempt = two.attempt; is_attempt = two.is_attempt; is_side = two.is_side };
-          file_length = two.file_length; grants = two.grants;
-        }) in
+    (record {
+      party = party;
+      is_party = there;
+      side = one.side;
+      is_side = record { attempt = one.attempt; is_attempt = one.is_attempt; is_side = one.is_side };
+      file_length = one.file_length;
+      grants = one.grants;
+    })
+    (record {
+      party = others;
+      is_party = those;
+      side = two.side;
+      is_side = record { attempt = two.attempt; is_attempt = two.is_attempt; is_side = two.is_side };
+      file_length = two.file_length;
+      grants = two.grants;
+    }) in
     let parties : party ≡ others = same_Some party others (sym there ∙ ap (λ n. slice_get world.parties n) same.0 ∙ those) in
     let attempts : one.attempt ≡ two.attempt =
     same_Some one.attempt two.attempt
-    (sym one.is_attempt ∙ ap (λ (it : Party). slice_get it.attempts one.at) parties ∙ ap (λ n. slice_get others.attempts n) same.1 ∙ two.is_attempt) in
-    (same.0,
-     one-task two.attempt task that 0 0 one.file two.file (subst (λ it. AsksUpload it task 0 one.file) attempts one.asks) two.asks)
+    (sym one.is_attempt ∙ ap (λ (it : Party). slice_get it.attempts one.at) parties ∙ ap (λ n. slice_get others.attempts n) same.1 ∙ two.is_attempt) in (
+      same.0,
+      one-task two.attempt task that 0 0 one.file two.file (subst (λ it. AsksUpload it task 0 one.file) attempts one.asks) two.asks,
+    )
 
 pub are-numbered : (world : World) → Sound world → AreNumbered world
 are-numbered world sound = record {

@@ -37,18 +37,18 @@ of-current : (P : Attempt → ServerSide → Type 0) (world : World) (c : ℕ) (
     → ((a : Attempt) (side : ServerSide) → IsAttempt party.client.me party.client.server a → IsAnswered a side → P a side) → OfCurrent party P
 of-current P world c party is holds =
     some-from (newest party) (λ a newest_is. some-from a.server (λ side serves.
-        let it = each-at (IsAttempt party.client.me party.client.server) party.attempts a is.attempts (has-at party.attempts 0 a newest_is) in
-        holds a side it (subst (IsAnsweredBy a) serves it.answered)))
+    let it = each-at (IsAttempt party.client.me party.client.server) party.attempts a is.attempts (has-at party.attempts 0 a newest_is) in
+    holds a side it (subst (IsAnsweredBy a) serves it.answered)))
 
 numbers-fit : (world : World) → Sound world → EachParty world (λ party. OfCurrent party DoNumbersFit)
 numbers-fit world sound c party there =
     of-current DoNumbersFit world c party (sound.parties c party there)
     (λ a side it answered. record {
-        of_client = answered.linked.one_numbers;
-        of_server = answered.linked.other_numbers;
-        client_quiet = it.quiet;
-        server_quiet = answered.quiet;
-      })
+      of_client = answered.linked.one_numbers;
+      of_server = answered.linked.other_numbers;
+      client_quiet = it.quiet;
+      server_quiet = answered.quiet;
+    })
 
 octets-fit : (world : World) → Sound world → EachParty world (λ party. OfCurrent party DoOctetsFit)
 octets-fit world sound c party there =
@@ -80,27 +80,31 @@ given world c party a side number file_length sound there has is grants = record
   where
     here : IsParty world c party
     here = sound.parties c party there
+
     kept : IsGrantKept world.server.store party a number file_length
     kept = side-at (λ it those. (number file_length : ℕ) → Grants those number file_length → IsGrantKept world.server.store party it number file_length)
         party a side here.facts.sessions.granted has is number file_length grants
+
     is_file : IsWork world.files party (work.Upload (new_upload kept.task 0 kept.file))
     is_file = subst (IsWork world.files party) kept.asks (each-at (λ it. IsWork world.files party it.client.asked) party.attempts a here.works has)
+
     granted : IsTaskGrant party kept.task number
     granted = let at = place-of_one (λ it. it ≡ a) party.attempts has in record {
-        at = at.0;
-        attempt = a;
-        is_attempt = at.2 ∙ ap Some at.3;
-        file = kept.file;
-        asks = kept.asks;
-        side = side;
-        is_side = is;
-        file_length = file_length;
-        grants = grants;
-      }
+      at = at.0;
+      attempt = a;
+      is_attempt = at.2 ∙ ap Some at.3;
+      file = kept.file;
+      asks = kept.asks;
+      side = side;
+      is_side = is;
+      file_length = file_length;
+      grants = grants;
+    }
+
     no-task : ¬ HasNumber party kept.task number → (other : ℕ) (others : Party) → PartyAt world other others → (task : ℕ) → HasNumber others task number → ⊥
     no-task none other others those task has_number =
         let same = same-grant world c other kept.task task number party others sound.granted there those granted
-            (task-grant world other others task number (sound.parties other others those) has_number) in
+        (task-grant world other others task number (sound.parties other others those) has_number) in
         let parties : others ≡ party = same_Some others party (sym those ∙ ap (λ n. slice_get world.parties n) (sym same.0) ∙ there) in
         none (subst (λ it. HasNumber party it number) (sym same.1) (subst (λ it. HasNumber it task number) parties has_number))
 

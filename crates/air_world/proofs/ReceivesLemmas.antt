@@ -47,6 +47,7 @@ offered-number known number file rest side serves none_lost is = by serves.stage
     from zero number offset new same first =
         inl (refl, subst (λ o. AnsweredFirst 0 (length file) side (receives number o [])) (new refl) first)
     from (suc known) number offset new same first = inr (omega arith, same (omega arith))
+
     by : (stage : Receiving) → IsReceivingState stage side.connected.state → IsOfferedBy known stage → AnsweredFirst known (length file) side stage
         → ((known ≡ 0) × Grants side number (length file)) ⊎ ((1 ≤ known) × (number ≡ known))
     by unasked at offered first = absurd (let none : command ≡ receiving number rest = sym at ∙ is in let x : ⊥ = cc in x)
@@ -72,23 +73,23 @@ received-task world c party a side task number rest sound numbered there has is 
     elim (offered-number r.known number r.file rest side serves (session.none_lost up) state) [
       | inl new ↦
           (same-grant world c c r.task task number party party sound.granted there there
-           (record {
-             at = at.0;
-             attempt = a;
-             is_attempt = at.2 ∙ ap Some at.3;
-             file = r.file;
-             asks = subst (λ known. AsksUpload a r.task known r.file) new.0 r.asks;
-             side = side;
-             is_side = is;
-             file_length = length r.file;
-             grants = new.1;
-           })
-           (task-grant world c party task number party_is number_is)).1
+          (record {
+            at = at.0;
+            attempt = a;
+            is_attempt = at.2 ∙ ap Some at.3;
+            file = r.file;
+            asks = subst (λ known. AsksUpload a r.task known r.file) new.0 r.asks;
+            side = side;
+            is_side = is;
+            file_length = length r.file;
+            grants = new.1;
+          })
+          (task-grant world c party task number party_is number_is)).1
       | inr old ↦
           (numbered.distinct c r.task c task number party party there there
-           (subst (HasNumber party r.task) (sym old.1)
-            (each-at (GoesOnWithTask party) party.attempts a party_is.facts.tasks.goes_on has r.task r.known r.file r.asks old.0))
-           number_is).1
+          (subst (HasNumber party r.task) (sym old.1)
+          (each-at (GoesOnWithTask party) party.attempts a party_is.facts.tasks.goes_on has r.task r.known r.file r.asks old.0))
+          number_is).1
     ]
 
 -- the first octets of a file are a front of it
@@ -102,7 +103,7 @@ receives-file world c party a side task number rest sound numbered there has is 
     let party_is = sound.parties c party there in
     let r : Receives world.server.store party a side number rest =
     side-at (λ it those. (number : ℕ) (rest : List ℕ) → those.is_up ≡ true → those.connected.state ≡ receiving number rest
-        → Receives world.server.store party it those number rest) party a side party_is.facts.sessions.receives has is number rest up state in
+    → Receives world.server.store party it those number rest) party a side party_is.facts.sessions.receives has is number rest up state in
     let same = received-task world c party a side task number rest sound numbered there has is up state number_is r in
     let works : IsWork world.files party (work.Upload (new_upload r.task r.known r.file)) =
     subst (IsWork world.files party) r.asks (each-at (λ it. IsWork world.files party it.client.asked) party.attempts a party_is.works has) in

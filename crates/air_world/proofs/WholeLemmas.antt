@@ -57,6 +57,6 @@ whole-got store number octets fault front sound first good =
     let it = first (λ none. empty-fault (ap fault_code (sym none) ∙ good)) in
     let found = complete-entry (entry_of store number) it.0 it.1 in
     let file = complete-good found.0.holding it.0 found.3
-        (found-so (λ entry. KeepsRules entry.holding) number store.entries found.0 sound.keeps_rules found.1)
-        (found-so (λ entry. IsOctets (octets_of entry.holding)) number store.entries found.0 sound.octets found.1) in
+    (found-so (λ entry. KeepsRules entry.holding) number store.entries found.0 sound.keeps_rules found.1)
+    (found-so (λ entry. IsOctets (octets_of entry.holding)) number store.entries found.0 sound.octets found.1) in
     it.1 ∙ ap Some (whole-front fault front it.0 octets file.1 file.0 it.2 good)
