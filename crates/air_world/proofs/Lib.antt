@@ -1,5 +1,7 @@
 mod FirstLemmas
+mod HeadlineLemmas
 mod NumberedLemmas
 mod PartsLemmas
 mod ReceivesLemmas
+mod RunLemmas
 mod WholeLemmas
