@@ -1,1 +1,14 @@
 //! Laws of the world, each the contract of a function that does nothing.
+
+ghost use Rattle.air_world.specs.Laws.{PartsLaw};
+
+use pfh_items::laws::{fault_law, no_front_law};
+
+/// A sound world has all parts, and what is promised of uploads and downloads holds in it: each acknowledged file is
+/// kept, no offer exceeds what is held, and each finished download has its file's octets.
+pub fn parts_law()
+    ensures { PartsLaw }
+{
+    fault_law();
+    no_front_law();
+}
