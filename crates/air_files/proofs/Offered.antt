@@ -1,6 +1,6 @@
 -- The lemmas that crates above may use.
 pub use Rattle.air_files.proofs.LiftLemmas.{each-append, each-at, each-both, each-from, each-map, each-side, each-weaker, has-at}
 pub use Rattle.air_files.proofs.LiftLemmas.{one-at, one-from, one-weaker, side-at, some-at, some-from, some-weaker}
-pub use Rattle.air_files.proofs.LongerLemmas.{acked-task, facts-first, no-task, place-last, place-more, task-file, task-some}
+pub use Rattle.air_files.proofs.LongerLemmas.{acked-task, facts-first, file-more, no-task, place-last, place-more, task-file, task-some}
 pub use Rattle.air_files.proofs.StableLemmas.{complete-entry, keeps-complete, keeps-file, keeps-offer, keeps-task_kept}
 pub use Rattle.air_files.proofs.StoreLemmas.{drop-sound, found-so, later-number}

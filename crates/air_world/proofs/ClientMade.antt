@@ -20,6 +20,7 @@ use Rattle.air_files.specs.Facts.{HasFacts}
 use Rattle.air_files.specs.Laws.{BeginLaw}
 use Rattle.air_files.specs.Tasks.{AreTasks, IsTaskFor, IsWork, StandsBy}
 use Rattle.air_files.specs.Uploads.{IsGoodFile}
+use Rattle.air_files.proofs.Offered.{file-more, place-more}
 use Rattle.air_world.specs.Sound.{AreGrantedOnce, AreStationsOf, GrantedAt, IsParty, IsSideAt, Sound}
 use Rattle.air_world.specs.World.{PartyAt, World, counted, with_party}
 use Rattle.air_world.proofs.Marked.{length-set-slice}
@@ -105,3 +106,134 @@ sits-stays server me olds news stay sits = record {
         };
     newest_up = only-stays olds news stay sits.newest_up;
   }
+
+-- ---- more uploads
+
+pub work-more : (files more : List Asked) (party : Party) (asked : Work) → IsWork files party asked → IsWork (files ++ more) party asked
+work-more files more party (work.Upload at) is = file-more files more party at.task at.file is
+work-more files more party (work.Directory at) is = is
+work-more files more party (work.Download at) is = is
+
+pub tasks-more : (files more : List Asked) (c : ℕ) (party : Party) → AreTasks files c party → AreTasks (files ++ more) c party
+tasks-more files more c party tasks = record {
+    each = λ task entry is.
+        let was = tasks.each task entry is in
+        record {
+          upload = was.upload;
+          is_upload = was.is_upload;
+          asked = was.asked;
+          is_asked = place-more files more was.upload was.asked was.is_asked;
+          whose = was.whose;
+          server_is = was.server_is;
+          caller_is = was.caller_is;
+          name_is = was.name_is;
+          length_is = was.length_is;
+          digest_is = was.digest_is;
+        };
+    as_many = tasks.as_many;
+  }
+
+-- ---- the client of the event
+
+-- what the client is to be, where these uploads were asked
+pub record IsClientMade (old : World) (c : ℕ) (was now : Party) (asked : List Asked) : Type 0 where
+  pub me : now.client.me ≡ was.client.me
+  pub server : now.client.server ≡ was.client.server
+  pub window : now.client.window ≡ was.client.window
+  pub goes : GoesWith now.client now.attempts
+  pub works : EachAttempt now (λ a. IsWork (old.files ++ asked) now a.client.asked)
+  pub tasks : AreTasks (old.files ++ asked) c now
+  pub job : StandsBy now (newest now)
+  pub facts : HasFacts old.server.store (old.files ++ asked) now
+  pub sessions : SessionsStay was.attempts now.attempts
+  pub good : AllByRecursion (λ (it : Asked). IsGoodFile it.file) asked
+
+module _ (begin_law : BeginLaw) (old : World) (sound : Sound old) (c : ℕ) (was now : Party) (is : PartyAt old c was) (asked : List Asked)
+    (made : IsClientMade old c was now asked) where
+  abbrev pub then : World
+  then = counted (record (with_party old c now) { files = old.files ++ asked })
+
+  -- a client then is that one, or another one, as it was
+  pub data IsClientThen (number : ℕ) (that : Party) : Type 0 where
+    own : number ≡ c → that ≡ now → IsClientThen number that
+    other : number ≢ c → PartyAt old number that → IsClientThen number that
+
+  then-is : (number : ℕ) (that : Party) → PartyAt then number that → IsClientThen number that
+  then-is number that there = by (set-at old.parties c number now that there)
+    where
+      by : ((number ≡ c) × (that ≡ now)) ⊎ ((number ≡ c → ⊥) × (slice_get old.parties number ≡ Some that)) → IsClientThen number that
+      by (inl it) = own it.0 it.1
+      by (inr it) = other it.0 it.1
+
+  -- each client is there, with its stations
+  before : (number : ℕ) (that : Party) → IsClientThen number that
+      → (it : Party) × PartyAt old number it × (that.client.me ≡ it.client.me) × (that.client.server ≡ it.client.server) × (that.client.window ≡ it.client.window)
+  before number that (own number_is that_is) =
+      (
+        was,
+        ap (λ i. slice_get old.parties i) number_is ∙ is,
+        ap (λ (p : Party). p.client.me) that_is ∙ made.me,
+        ap (λ (p : Party). p.client.server) that_is ∙ made.server,
+        ap (λ (p : Party). p.client.window) that_is ∙ made.window,
+      )
+  before number that (other number_is there) = (that, there, refl, refl, refl)
+
+  still : (number : ℕ) (that : Party) → PartyAt old number that → (it : Party) × PartyAt then number it × (it.client.me ≡ that.client.me)
+  still number that there = by (cases_eq number c)
+    where
+      by : (number ≡ c) ⊎ (number ≢ c) → (it : Party) × PartyAt then number it × (it.client.me ≡ that.client.me)
+      by (inl number_is) =
+          let same = same_Some was that (sym is ∙ ap (λ i. slice_get old.parties i) (sym number_is) ∙ there) in
+          (now, ap (λ i. slice_get then.parties i) number_is ∙ at-set old.parties c now was is, made.me ∙ ap (λ (p : Party). p.client.me) same)
+      by (inr differs) = (that, set-other old.parties c number now differs ∙ there, refl)
+
+  each-station : (P : Party → Type 0) → ((number : ℕ) (that it : Party) → PartyAt old number it → that.client.me ≡ it.client.me → that.client.server ≡ it.client.server → that.client.window ≡ it.client.window → P that)
+      → AllByRecursion P then.parties
+  each-station P each =
+      all-by P then.parties
+      (λ number that there. let it = before number that (then-is number that there) in each number that it.0 it.1 it.2 it.3 it.4)
+
+  stations : AreStationsOf then
+  stations = record {
+      server = sound.stations.server;
+      window = sound.stations.window;
+      most = subst (λ n. n ≤ 8) (sym (length-set-slice old.parties c now)) sound.stations.most;
+      are_calls = each-station (λ (p : Party). IsCall p.client.me)
+          (λ number that it there me server window. subst IsCall (sym me) (all-at (λ (p : Party). IsCall p.client.me) old.parties number it sound.stations.are_calls there));
+      distinct = λ one two party that at_one at_two same.
+          let first = before one party (then-is one party at_one) in
+          let second = before two that (then-is two that at_two) in
+          sound.stations.distinct one two first.0 second.0 first.1 second.1 (sym first.2 ∙ same ∙ second.2);
+      servers = each-station (λ (p : Party). p.client.server ≡ old.server.me)
+          (λ number that it there me server window. server ∙ all-at (λ (p : Party). p.client.server ≡ old.server.me) old.parties number it sound.stations.servers there);
+      windows = each-station (λ (p : Party). p.client.window ≡ old.server.window)
+          (λ number that it there me server window. window ∙ all-at (λ (p : Party). p.client.window ≡ old.server.window) old.parties number it sound.stations.windows there);
+    }
+
+  sits-then : (number : ℕ) (that : Party) → IsClientThen number that → SitsBy old.server that.client.me that.attempts
+  sits-then number that (own number_is that_is) =
+      let sits = sits-stays old.server was.client.me was.attempts now.attempts made.sessions (calls old sound c was is).sits in
+      subst (λ (p : Party). SitsBy old.server p.client.me p.attempts) (sym that_is) (subst (λ me. SitsBy old.server me now.attempts) (sym made.me) sits)
+  sits-then number that (other number_is there) = (calls old sound number that there).sits
+
+  known : AreSeatsKnown then
+  known place seat at =
+      let session = sound.places.sessions place seat at in
+      let it = still session.c session.party session.is_party in
+      (session.c, it.0, it.1, session.caller_is ∙ sym it.2)
+
+  party-then : (number : ℕ) (that : Party) → IsClientThen number that → IsParty then number that
+  party-then number that (own number_is that_is) = ?
+  party-then number that (other number_is there) =
+      let it = sound.parties number that there in
+      record {
+        attempts = it.attempts;
+        windows = it.windows;
+        works = all-map (λ (a : Attempt). IsWork old.files that a.client.asked) (λ a. IsWork then.files that a.client.asked) that.attempts
+            (λ a works. work-more old.files asked that a.client.asked works) it.works;
+        link = it.link;
+        may_step = it.may_step;
+        tasks = tasks-more old.files asked number that it.tasks;
+        job = it.job;
+        facts = begin_law.longer old.server.store old.files number that asked (stands old sound number that there) it.facts;
+      }
