@@ -1,5 +1,5 @@
 -- A world that a client's event made of a sound one is sound where that client is as it should be.
-use Rattle.std.proofs.Common.{◌≡◌, ◌≢◌, ◌⊎◌, ℕ, zero, suc, ◌<◌, ◌≤◌, List, [], ◌∷◌, ◌++◌, length, Bool, true, false, Option, None, Some, refl, sym, ap, subst, ◌∙◌, inl, inr}
+use Rattle.std.proofs.Common.{◌≡◌, ◌≢◌, ◌⊎◌, ℕ, zero, suc, ◌<◌, ◌≤◌, List, [], ◌∷◌, ◌++◌, drop, length, Bool, true, false, Option, None, Some, refl, sym, ap, subst, ◌∙◌, inl, inr}
 use Rattle.std.specs.Prelude.{map, slice_get, IfSome, MatchOption, ⊤}
 use Rattle.std.specs.List.{AllByRecursion}
 use Rattle.std.specs.Option.{option_or}
@@ -20,13 +20,13 @@ use Rattle.air_files.specs.Facts.{HasFacts}
 use Rattle.air_files.specs.Laws.{BeginLaw}
 use Rattle.air_files.specs.Tasks.{AreTasks, IsTaskFor, IsWork, StandsBy}
 use Rattle.air_files.specs.Uploads.{IsGoodFile}
-use Rattle.air_files.proofs.Offered.{file-more, place-more}
+use Rattle.air_files.proofs.Offered.{each-append, file-more, place-more}
 use Rattle.air_world.specs.Sound.{AreGrantedOnce, AreStationsOf, GrantedAt, IsParty, IsSideAt, Sound}
 use Rattle.air_world.specs.World.{PartyAt, World, counted, with_party}
 use Rattle.air_world.proofs.Marked.{length-set-slice}
 use Rattle.air_world.proofs.Seats.{AreSeatsKnown, between, calls, together}
 use Rattle.air_world.proofs.Served.{stands}
-use Rattle.air_world.proofs.WorldLists.{all-at, all-by, all-map, at-set, set-at, set-other}
+use Rattle.air_world.proofs.WorldLists.{all-at, all-by, all-map, at-map, at-set, map-at, set-at, set-other}
 
 -- ---- the sessions of attempts
 
@@ -222,8 +222,21 @@ module _ (begin_law : BeginLaw) (old : World) (sound : Sound old) (c : ℕ) (was
       let it = still session.c session.party session.is_party in
       (session.c, it.0, it.1, session.caller_is ∙ sym it.2)
 
+  own-then : IsParty then c now
+  own-then = record {
+      attempts = made.goes.attempts_are;
+      windows = made.goes.windows;
+      works = made.works;
+      link = made.goes.link;
+      may_step = made.goes.may_step;
+      tasks = made.tasks;
+      job = made.job;
+      facts = made.facts;
+    }
+
   party-then : (number : ℕ) (that : Party) → IsClientThen number that → IsParty then number that
-  party-then number that (own number_is that_is) = ?
+  party-then number that (own number_is that_is) =
+      subst (λ (p : Party). IsParty then number p) (sym that_is) (subst (λ n. IsParty then n now) (sym number_is) own-then)
   party-then number that (other number_is there) =
       let it = sound.parties number that there in
       record {
@@ -237,3 +250,104 @@ module _ (begin_law : BeginLaw) (old : World) (sound : Sound old) (c : ℕ) (was
         job = it.job;
         facts = begin_law.longer old.server.store old.files number that asked (stands old sound number that there) it.facts;
       }
+
+  -- ---- numbers
+
+  -- the session at a place was there, at this one or at the one before
+  session-at : (olds news : List Attempt) (at : ℕ) (b : Attempt) (side : ServerSide) → sessions_of news ≡ sessions_of olds → slice_get news at ≡ Some b → b.server ≡ Some side
+      → (a : Attempt) × (slice_get olds at ≡ Some a) × (a.server ≡ Some side)
+  session-at olds news at b side same there is_side =
+      let in_news = at-map (λ (a : Attempt). a.server) news at b there in
+      let in_olds = ap (λ (sessions : List (Option ServerSide)). slice_get sessions at) (sym same) ∙ in_news in
+      let was = map-at (λ (a : Attempt). a.server) olds at b.server in_olds in
+      (was.0, was.1, sym was.2 ∙ is_side)
+
+  -- how much further behind the client's sessions stand
+  abbrev pub shifted : SessionsStay was.attempts now.attempts → ℕ → ℕ
+  shifted (inl same) earlier = earlier
+  shifted (inr one) earlier = suc earlier
+
+  -- a number was given at this place of the client's, or, where an attempt came, at the one before
+  pub record WasGranted (number at grant : ℕ) : Type 0 where
+    pub earlier : ℕ
+    pub granted : GrantedAt old number earlier grant
+    pub own : number ≡ c → at ≡ shifted made.sessions earlier
+    pub other : number ≢ c → at ≡ earlier
+
+  -- the session at a place of the client's was there
+  own-session : (stay : SessionsStay was.attempts now.attempts) (at : ℕ) (b : Attempt) (side : ServerSide) → slice_get now.attempts at ≡ Some b → b.server ≡ Some side
+      → (earlier : ℕ) × (a : Attempt) × (slice_get was.attempts earlier ≡ Some a) × (a.server ≡ Some side) × (at ≡ shifted stay earlier)
+  own-session (inl same) at b side there is_side = let it = session-at was.attempts now.attempts at b side same there is_side in (at, it.0, it.1, it.2, refl)
+  own-session (inr one) at b side there is_side = by now.attempts one at there
+    where
+      by : (attempts : List Attempt) → sessions_of attempts ≡ None ∷ sessions_of was.attempts → (at : ℕ) → slice_get attempts at ≡ Some b
+          → (earlier : ℕ) × (a : Attempt) × (slice_get was.attempts earlier ≡ Some a) × (a.server ≡ Some side) × (at ≡ suc earlier)
+      by [] one at there = absurd cc
+      by (first ∷ rest) one zero there =
+          let none : first.server ≡ None = same_Some first.server None (ap (λ (s : List (Option ServerSide)). slice_get s 0) one) in
+          absurd (let some : None ≡ Some side = sym none ∙ ap (λ (it : Attempt). it.server) (same_Some first b there) ∙ is_side in cc)
+      by (first ∷ rest) one (suc at) there =
+          let same : sessions_of rest ≡ sessions_of was.attempts = ap (λ (s : List (Option ServerSide)). drop 1 s) one in
+          let it = session-at was.attempts rest at b side same there is_side in (at, it.0, it.1, it.2, refl)
+
+  was-granted : (number at grant : ℕ) → GrantedAt then number at grant → WasGranted number at grant
+  was-granted number at grant granted = by granted.party (then-is number granted.party granted.is_party) granted.is_side
+    where
+      by : (that : Party) → IsClientThen number that → IsSideAt that at granted.side → WasGranted number at grant
+      by that (own number_is that_is) is_side =
+          let here = subst (λ (p : Party). IsSideAt p at granted.side) that_is is_side in
+          let it = own-session made.sessions at here.attempt granted.side here.is_attempt here.is_side in
+          record {
+            earlier = it.0;
+            granted =
+                record {
+                  party = was;
+                  is_party = ap (λ i. slice_get old.parties i) number_is ∙ is;
+                  side = granted.side;
+                  is_side = record { attempt = it.1; is_attempt = it.2; is_side = it.3 };
+                  file_length = granted.file_length;
+                  grants = granted.grants;
+                };
+            own = λ same. it.4;
+            other = λ differs. absurd (differs number_is);
+          }
+      by that (other number_is there) is_side =
+          record {
+            earlier = at;
+            granted =
+                record {
+                  party = that;
+                  is_party = there;
+                  side = granted.side;
+                  is_side = is_side;
+                  file_length = granted.file_length;
+                  grants = granted.grants;
+                };
+            own = λ same. absurd (number_is same);
+            other = λ differs. refl;
+          }
+
+  granted-once : AreGrantedOnce then
+  granted-once one at two that grant first second =
+      let before_one = was-granted one at grant first in
+      let before_two = was-granted two that grant second in
+      let same = sound.granted one before_one.earlier two before_two.earlier grant before_one.granted before_two.granted in
+      (same.0, by before_one before_two same.0 same.1 (cases_eq one c))
+    where
+      by : (before_one : WasGranted one at grant) (before_two : WasGranted two that grant) → one ≡ two → before_one.earlier ≡ before_two.earlier → (one ≡ c) ⊎ (one ≢ c) → at ≡ that
+      by before_one before_two numbers earlier (inl own_is) =
+          before_one.own own_is ∙ ap (shifted made.sessions) earlier ∙ sym (before_two.own (sym numbers ∙ own_is))
+      by before_one before_two numbers earlier (inr differs) =
+          before_one.other differs ∙ earlier ∙ sym (before_two.other (λ same. differs (numbers ∙ same)))
+
+  pub then-sound : Sound then
+  then-sound = record {
+      stations = stations;
+      store = sound.store;
+      may_step = sound.may_step;
+      places = together then (between old sound) known (λ number that there. sits-then number that (then-is number that there));
+      lists = sound.lists;
+      files = each-append (λ (it : Asked). IsGoodFile it.file) old.files asked sound.files made.good;
+      parties = λ number that there. party-then number that (then-is number that there);
+      granted = granted-once;
+    }
