@@ -1,2 +1,5 @@
 pub mod Fronts
+pub mod JobAppend
+pub mod JobSays
+pub mod LinkKeeps
 pub mod PacketLists
