@@ -1,3 +1,5 @@
+pub mod ClientCalling
+pub mod ClientRows
 pub mod Fronts
 pub mod JobAppend
 pub mod JobSays
