@@ -1,5 +1,6 @@
 pub mod ClientCalling
 pub mod ClientRows
+pub mod ClientWorks
 pub mod Fronts
 pub mod JobAppend
 pub mod JobSays
