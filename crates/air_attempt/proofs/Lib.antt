@@ -6,3 +6,5 @@ pub mod JobAppend
 pub mod JobSays
 pub mod LinkKeeps
 pub mod PacketLists
+pub mod Sent
+pub mod Transmissions
