@@ -36,16 +36,17 @@ CallsOrUp state = (state ≡ Calling) ⊎ (state ≡ Up)
 abbrev Works : Attempted → Type 0
 Works a = a.job.ending ≡ None → CallsOrUp a.end.state
 
--- the attempt goes on: it isn't told down, and works still
+-- the attempt goes on: it isn't told down, no octets come, and it works still
 record GoesFrom (a now : Attempted) : Type 0 where
   down : now.down ≡ a.down
+  rest : now.rest ≡ a.rest
   works : Works a → Works now
 
 goes-same : (a : Attempted) → GoesFrom a a
-goes-same a = record { down = refl; works = λ works. works }
+goes-same a = record { down = refl; rest = refl; works = λ works. works }
 
 goes-then : (a between now : Attempted) → GoesFrom a between → GoesFrom between now → GoesFrom a now
-goes-then a between now first second = record { down = second.down ∙ first.down; works = λ works. second.works (first.works works) }
+goes-then a between now first second = record { down = second.down ∙ first.down; rest = second.rest ∙ first.rest; works = λ works. second.works (first.works works) }
 
 -- ---- packets that are taken
 
@@ -63,6 +64,7 @@ goes-one lists a item None is =
     let now : JobState = after_replies (job_after (job_row lists a.job item)) (kind_of_item item) (fits a.end text) in
     record {
       down = refl;
+      rest = refl;
       works = λ works none. parted-works now.ending (replied a.end text) none (subst CallsOrUp (sym (replied-state a.end text)) (works is));
     }
 
@@ -82,7 +84,7 @@ goes-queued : (a : Attempted) (count : ℕ) → GoesFrom a (queuing count a)
 goes-queued a count =
     filling-keeps (λ (at : Attempted). at.end) (λ at. next_due at.job) after_due (GoesFrom a)
     (λ at due is goes.
-    goes-then a at (after_due due at) goes (record { down = refl; works = λ works none. works (due-none at.job.ending at.job.work due is) })) count a (goes-same a)
+    goes-then a at (after_due due at) goes (record { down = refl; rest = refl; works = λ works none. works (due-none at.job.ending at.job.work due is) })) count a (goes-same a)
 
 later-some : (o : Option Ending) (free : Bool) → (is_later o && free) ≡ true → o ≡ None → ⊥
 later-some None free is none = cc is
@@ -91,7 +93,7 @@ later-some (Some ending) free is none = cc none
 goes-parted : (a : Attempted) → GoesFrom a (parting_later a)
 goes-parted a =
     cond_both (is_later a.job.ending && is_all_free a.end) (record a { end = after_hang_up a.end }) a (GoesFrom a)
-    (λ both. record { down = refl; works = λ works none. absurd (later-some a.job.ending (is_all_free a.end) both none) }) (λ not_both. goes-same a)
+    (λ both. record { down = refl; rest = refl; works = λ works none. absurd (later-some a.job.ending (is_all_free a.end) both none) }) (λ not_both. goes-same a)
 
 goes-settled : (a : Attempted) → GoesFrom a (settled a)
 goes-settled a =
@@ -119,17 +121,26 @@ down-outcome : (o : Option Ending) (down : Option Why) (why : Why) → outcome_b
 down-outcome None down why is = refl
 down-outcome (Some ending) down why is = absurd (cc is)
 
-module _ (lists : Lists) (a : Attempted) (end : LinkEnd) (octets : List ℕ) (keeps : KeepsWorking a) where
-  -- the attempt once this was told
-  abbrev after_of : Heard → Attempted
-  after_of told = settled (taking lists (after_told told (with_end a end) octets) (packets_told told a octets)).after
+-- the attempt at the end of an event, once this was told
+abbrev pub after_of : Lists → Attempted → LinkEnd → List ℕ → Heard → Attempted
+after_of lists a end octets told = settled (taking lists (after_told told (with_end a end) octets) (packets_told told a octets)).after
 
+goes-all : (lists : Lists) (next : Attempted) (items : List Item) → GoesFrom next (settled (taking lists next items).after)
+goes-all lists next items =
+    let taken = (taking lists next items).after in
+    goes-then next taken (settled taken) (goes-taken lists next items) (goes-settled taken)
+
+-- the octets of which no packet was taken yet are those that were left before any was
+pub rest-kept : (lists : Lists) (a : Attempted) (end : LinkEnd) (octets : List ℕ) (told : Heard) → (after_of lists a end octets told).rest ≡ (after_told told (with_end a end) octets).rest
+rest-kept lists a end octets told = (goes-all lists (after_told told (with_end a end) octets) (packets_told told a octets)).rest
+
+module _ (lists : Lists) (a : Attempted) (end : LinkEnd) (octets : List ℕ) (keeps : KeepsWorking a) where
   -- it goes on from one that was told nothing of the link's end
   goes-on : (next : Attempted) (items : List Item) → next.down ≡ a.down → next.job ≡ a.job → (CallsOrUp a.end.state → CallsOrUp next.end.state)
       → StaysReached a (settled (taking lists next items).after) → KeepsWorking (settled (taking lists next items).after)
   goes-on next items down job state stays =
       let now : Attempted = settled (taking lists next items).after in
-      let goes : GoesFrom next now = goes-then next (taking lists next items).after now (goes-taken lists next items) (goes-settled (taking lists next items).after) in
+      let goes : GoesFrom next now = goes-all lists next items in
       let same : now.down ≡ a.down = goes.down ∙ down in
       record {
         closed = λ why is.
@@ -162,7 +173,7 @@ module _ (lists : Lists) (a : Attempted) (end : LinkEnd) (octets : List ℕ) (ke
   same-works before now same works = subst CallsOrUp (sym same) works
 
   -- so it is after each event
-  pub keeps-working : (told : Heard) → StateAs told a.end.state end.state → StaysReached a (after_of told) → KeepsWorking (after_of told)
+  pub keeps-working : (told : Heard) → StateAs told a.end.state end.state → StaysReached a (after_of lists a end octets told) → KeepsWorking (after_of lists a end octets told)
   keeps-working Nothing is stays = goes-on (with_end a end) [] refl refl (same-works a.end.state end.state is) stays
   keeps-working Opened is stays = goes-on (with_end a end) [] refl refl (λ works. inr is) stays
   keeps-working Reopened is stays = goes-on (with_end a end) [] refl refl (same-works a.end.state end.state is) stays

@@ -1,4 +1,5 @@
 pub mod ClientCalling
+pub mod ClientJob
 pub mod ClientRows
 pub mod ClientWorks
 pub mod Fronts
