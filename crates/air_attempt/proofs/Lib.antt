@@ -1,6 +1,10 @@
 pub mod ClientCalling
+pub mod ClientHappens
+pub mod ClientIdle
 pub mod ClientJob
+pub mod ClientLink
 pub mod ClientRows
+pub mod ClientUnanswered
 pub mod ClientWorks
 pub mod Fronts
 pub mod JobAppend
