@@ -159,6 +159,10 @@ ticked-nothing a waits =
     behind-nothing (after_told told (with_end a (after_tick a.end)) [])
     (ap (λ (e : LinkEnd). is_up e.state) (told-end told (with_end a (after_tick a.end)) []) ∙ not-up (after_tick a.end).state waits.state)
 
+-- the job does nothing at a tick
+pub ticks-nothing : (w : Window) (a : Attempted) → Waits a.end → IsQuiet w a.end → entries_ticked a ≡ []
+ticks-nothing w a waits quiet = ticked-nothing a (tick-waits a.end (quiet-idle w a.end (not-up a.end.state waits.state) waits.unused.again quiet) waits)
+
 -- After a tick it waits still, and nothing was sent, or it sent a SABM, and calls.
 pub tick-stays : (w : Window) (a : Attempted) (made last : LinkEnd) (frames : List FrameValue) → Waits a.end → StepOf w a.end tick made frames last
     → StaysWaiting frames last (entries_ticked a) ⊎ SendsCall frames last

@@ -1,5 +1,7 @@
+pub mod ClientAttempt
 pub mod ClientCalling
 pub mod ClientHappens
+pub mod ClientHears
 pub mod ClientIdle
 pub mod ClientJob
 pub mod ClientLink
