@@ -6,6 +6,7 @@ pub mod ClientIdle
 pub mod ClientJob
 pub mod ClientLink
 pub mod ClientRows
+pub mod ClientTicks
 pub mod ClientUnanswered
 pub mod ClientWorks
 pub mod Fronts
