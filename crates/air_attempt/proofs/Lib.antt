@@ -1,3 +1,4 @@
+pub mod ClientAsks
 pub mod ClientAttempt
 pub mod ClientCalling
 pub mod ClientHappens
