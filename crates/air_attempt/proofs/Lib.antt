@@ -5,6 +5,7 @@ pub mod ClientHappens
 pub mod ClientHears
 pub mod ClientIdle
 pub mod ClientJob
+pub mod ClientLaws
 pub mod ClientLink
 pub mod ClientRows
 pub mod ClientTicks
