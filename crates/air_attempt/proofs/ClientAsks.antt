@@ -1,11 +1,9 @@
 -- An attempt that begins with what is asked; and one whose client has no link any more, and answers a frame by DM at
 -- most.
-use Rattle.std.proofs.Common.{◌≡◌, ℕ, ◌<◌, List, [], ◌∷◌, ◌++◌, map, Bool, true, false, Option, None, Some, refl, inl, inr, sym, ap, ◌∙◌, subst, arith, append-nil}
+use Rattle.std.proofs.Common.{◌≡◌, ℕ, List, [], ◌∷◌, ◌++◌, map, Bool, true, false, Option, None, Some, refl, inl, sym, ap, ◌∙◌, subst, arith}
 use Rattle.std.specs.Prelude.{if◌then◌else◌, ◌&&◌, ◌||◌}
-use Rattle.std.specs.List.{AllByRecursion}
 use Rattle.px_base.specs.CallSign.{CallSign}
 use Rattle.ax25_frames.specs.declared.control.Control.{Control}
-use Rattle.ax25_frames.specs.declared.control.Control.TheVariants.{Dm}
 use Rattle.ax25_frames.specs.FrameText.{FrameValue}
 use Rattle.ax25_link.specs.Air.{IsLawful, Transmission, delivering, fresh, sending_all}
 use Rattle.ax25_link.specs.Ends.{LinkEnd, call, calling_end}
@@ -17,11 +15,11 @@ use Rattle.ax25_link.specs.Window.{IsWindow, Window}
 use Rattle.ax25_link.proofs.Offered.{prefix_law}
 use Rattle.ftl0_packets.specs.Reading.{packets_of, rest_of}
 use Rattle.ftl0_job.specs.JobState.{IsNew}
-use Rattle.ftl0_job.specs.Table.{JobState, new_job}
-use Rattle.ftl0_client.specs.Attempt.Attempted.{Attempted, calling}
+use Rattle.ftl0_job.specs.Table.{JobState}
+use Rattle.ftl0_client.specs.Attempt.Attempted.{calling}
 use Rattle.ftl0_client.specs.Attempt.Hearing.{with_end}
-use Rattle.air_attempt.specs.Attempt.{AreFromTo, Attempt, IsAnswered, IsAnsweredBy, IsAttempt, IsFromTo, IsRefusal, IsUnanswered, client_station, server_station}
-use Rattle.air_attempt.specs.Sides.{ClientSide, IsJob, ServerSide}
+use Rattle.air_attempt.specs.Attempt.{AreFromTo, Attempt, IsAnsweredBy, IsAttempt, IsFromTo, IsRefusal, client_station, server_station}
+use Rattle.air_attempt.specs.Sides.{IsJob, ServerSide}
 use Rattle.air_attempt.proofs.Sent.{all-at}
 use Rattle.air_attempt.proofs.Transmissions.{all-delivered, from-delivered, one-call-sent}
 use Rattle.air_attempt.proofs.PacketLists.{all-append}

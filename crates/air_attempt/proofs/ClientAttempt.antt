@@ -1,38 +1,25 @@
 -- The newest attempt of a client, once its end of the link heard a frame or a tick came.
-use Rattle.std.proofs.Common.{◌≡◌, ◌⊎◌, ℕ, List, [], ◌∷◌, ◌++◌, map, Bool, true, false, Option, None, Some, refl, inl, inr, sym, ap, ◌∙◌, subst}
+use Rattle.std.proofs.Common.{◌≡◌, ℕ, List, [], ◌++◌, true, None, Some, sym, ap, ◌∙◌, subst}
 use Rattle.std.specs.List.{AllByRecursion, concat}
 use Rattle.px_base.specs.CallSign.{CallSign}
 use Rattle.px_base.specs.Octets.{IsFront, IsOctets}
 use Rattle.ax25_frames.specs.FrameText.{FrameValue}
-use Rattle.ax25_link.specs.Acts.{facing, hear}
-use Rattle.ax25_link.specs.Air.{IsLawful, Transmission, delivering, fresh, sending_all}
-use Rattle.ax25_link.specs.declared.state.LinkState.TheVariants.{Calling, Down}
-use Rattle.ax25_link.specs.Ends.{LinkEnd}
-use Rattle.ax25_link.specs.Laws.{HasNoCall, IsUnused, having_sent}
-use Rattle.ax25_link.specs.Linked.{AreLinked, Station}
-use Rattle.ax25_link.specs.LinkStep.{Coming, frame, tick}
+use Rattle.ax25_link.specs.Air.{Transmission, sending_all}
+use Rattle.ax25_link.specs.declared.state.LinkState.TheVariants.{Calling}
+use Rattle.ax25_link.specs.Laws.{HasNoCall, IsUnused}
+use Rattle.ax25_link.specs.Linked.{AreLinked}
 use Rattle.ax25_link.specs.Sending.{IsQuiet}
 use Rattle.ax25_link.specs.Stations.{SendsOwn}
 use Rattle.ax25_link.specs.Window.{Window}
 use Rattle.ax25_link.proofs.Offered.{prefix_law}
 use Rattle.ftl0_packets.proofs.OctetLemmas.{IsOctets-nil}
-use Rattle.client_notes.specs.Laws.{after_all}
-use Rattle.client_notes.specs.Notes.{Lists}
-use Rattle.ftl0_client.specs.Attempt.Attempted.{Attempted}
-use Rattle.ftl0_client.specs.Attempt.Hearing.{hearing, ticking}
-use Rattle.ftl0_client.specs.Attempt.Laws.{OutcomeLaw}
-use Rattle.ftl0_client.specs.Entries.{HearingLaw, JobEntry, TickingLaw, entries_heard, entries_ticked}
+use Rattle.ftl0_client.specs.Entries.{JobEntry}
 use Rattle.air_attempt.specs.Attempt.{AreFromTo, Attempt, IsAnswered, IsAnsweredBy, IsAttempt, IsRefusal, IsUnanswered, client_station, server_station}
 use Rattle.air_attempt.specs.Sides.{ClientSide, IsJob, ServerSide, said_by_server}
-use Rattle.air_attempt.specs.Transfers.{has_call}
-use Rattle.air_attempt.proofs.ClientHappens.{frame-happens, tick-happens}
-use Rattle.air_attempt.proofs.ClientIdle.{SendsCall}
-use Rattle.air_attempt.proofs.ClientJob.{Happens, SaysInRange, gone_on, job-goes-on}
-use Rattle.air_attempt.proofs.ClientLink.{StepKeeps, StepOf, outcome_of_coming, information_of, step-keeps}
-use Rattle.air_attempt.proofs.ClientUnanswered.{StaysWaiting, Waits, dm-waits, tick-stays}
+use Rattle.air_attempt.proofs.ClientUnanswered.{StaysWaiting, Waits}
 use Rattle.air_attempt.proofs.PacketLists.{octets-of_front}
-use Rattle.air_attempt.proofs.Sent.{all-at, has-none, none-calls, stays-of}
-use Rattle.air_attempt.proofs.Transmissions.{all-delivered, from-delivered, one-call-sent}
+use Rattle.air_attempt.proofs.Sent.{stays-of}
+use Rattle.air_attempt.proofs.Transmissions.{one-call-sent}
 
 -- the attempt with its client's side become this, and what it sent; and with what the server sent, some of it delivered
 abbrev pub moved : ClientSide → List FrameValue → List Transmission → Attempt → Attempt

@@ -1,5 +1,5 @@
 -- What a frame and a tick make of an attempt, by the laws of a client's attempts.
-use Rattle.std.proofs.Common.{◌≡◌, List, [], Bool, true, false, Option, None, Some, refl, sym, ap, ◌∙◌, subst}
+use Rattle.std.proofs.Common.{◌≡◌, [], true, false, Option, None, Some, refl, sym, ◌∙◌}
 use Rattle.ax25_frames.specs.FrameText.{FrameValue}
 use Rattle.ax25_link.specs.declared.state.Why.{Why}
 use Rattle.ax25_link.specs.Ends.{LinkEnd}
@@ -8,7 +8,6 @@ use Rattle.ax25_link.specs.Refusals.{refusal_frame}
 use Rattle.ax25_link.specs.Rows.{row}
 use Rattle.ax25_link.specs.Timer.{after_tick, told_of_tick}
 use Rattle.ax25_link.specs.Window.{Window}
-use Rattle.ftl0_packets.specs.Layout.{Item}
 use Rattle.client_notes.specs.Laws.{after_all}
 use Rattle.client_notes.specs.Notes.{Lists}
 use Rattle.ftl0_client.specs.Attempt.Attempted.{Attempted}

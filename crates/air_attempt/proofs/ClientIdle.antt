@@ -6,9 +6,8 @@ use Rattle.ax25_frames.specs.FrameText.{FrameValue}
 use Rattle.ax25_link.specs.Ends.{Farewell, LinkEnd, Reply, call, outstanding}
 use Rattle.ax25_link.specs.declared.state.LinkState.{LinkState}
 use Rattle.ax25_link.specs.declared.state.LinkState.TheVariants.{Calling, Down}
-use Rattle.ax25_link.specs.Frames.{frame_of_reply}
 use Rattle.ax25_link.specs.Rows.{entering, is_call, replying, unless_oldest}
-use Rattle.ax25_link.specs.Sending.{Drains, IsQuiet, Sending, has_new, is_empty, last_sending, later_sending, next_sending, sending_after, sends_again, sends_new, sends_reply}
+use Rattle.ax25_link.specs.Sending.{Drains, IsQuiet, Sending, has_new, is_empty, last_sending, later_sending, sending_after, sends_again, sends_new, sends_reply}
 use Rattle.ax25_link.specs.Timer.{after_tick, is_down, is_spent, is_up, runs_out, timer_reply, trying}
 use Rattle.ax25_link.specs.Window.{Window}
 

@@ -1,13 +1,11 @@
 -- A job goes on by what a frame or a tick makes of it: it is still one that its packets lead to.
-use Rattle.std.proofs.Common.{◌≡◌, ◌⊎◌, ℕ, List, [], ◌∷◌, ◌++◌, Option, None, Some, refl, inl, inr, sym, ap, ap₂, ◌∙◌, subst, append-nil}
+use Rattle.std.proofs.Common.{◌≡◌, ℕ, List, [], ◌++◌, sym, ap, ap₂, ◌∙◌, subst, append-nil}
 use Rattle.std.specs.List.{AllByRecursion, concat}
 use Rattle.px_base.specs.Octets.{IsOctets}
 use Rattle.ax25_link.specs.Calls.{Doing, DoesAll}
 use Rattle.ax25_link.specs.declared.state.Heard.{Heard}
 use Rattle.ax25_link.specs.declared.state.Heard.TheVariants.{Nothing, Opened, Reopened, Bytes, Closed}
 use Rattle.ax25_link.specs.declared.state.LinkState.{LinkState}
-use Rattle.ax25_link.specs.declared.state.LinkState.TheVariants.{Calling, Up, Down}
-use Rattle.ax25_link.specs.declared.state.Why.{Why}
 use Rattle.ax25_link.specs.Ends.{LinkEnd}
 use Rattle.ax25_link.specs.Rows.{Outcome}
 use Rattle.ftl0_packets.specs.Items.{texts}
@@ -16,7 +14,7 @@ use Rattle.ftl0_packets.specs.Reading.{packets_of, rest_of}
 use Rattle.client_notes.specs.Notes.{Lists}
 use Rattle.ftl0_job.specs.JobState.{NotesGoWith}
 use Rattle.ftl0_job.specs.Table.{new_job}
-use Rattle.ftl0_client.specs.Attempt.Attempted.{Attempted, outcome_of}
+use Rattle.ftl0_client.specs.Attempt.Attempted.{Attempted}
 use Rattle.ftl0_client.specs.Attempt.Hearing.{after_told, packets_told, with_end}
 use Rattle.ftl0_client.specs.Attempt.Laws.{IsToldDown, StaysReached}
 use Rattle.ftl0_client.specs.Entries.{GoesBy, JobEntry, items_in, said_in}

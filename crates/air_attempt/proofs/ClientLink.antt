@@ -1,10 +1,10 @@
 -- A whole step of the end of a link that called, at a frame or a tick.
-use Rattle.std.proofs.Common.{◌≡◌, ℕ, List, [], ◌∷◌, true, refl, sym, ap, ◌∙◌, subst}
+use Rattle.std.proofs.Common.{◌≡◌, ℕ, List, [], true, refl, sym, ap, ◌∙◌, subst}
 use Rattle.ax25_frames.specs.FrameText.{FrameValue}
 use Rattle.ax25_link.specs.Calls.{Doing}
 use Rattle.ax25_link.specs.declared.state.LinkState.TheVariants.{Calling}
 use Rattle.ax25_link.specs.Ends.{LinkEnd}
-use Rattle.ax25_link.specs.Laws.{HasNoCall, IsUnused}
+use Rattle.ax25_link.specs.Laws.{IsUnused}
 use Rattle.ax25_link.specs.LinkStep.{Coming, LinkStep, after_coming, frame, heard_of_coming, tick}
 use Rattle.ax25_link.specs.Rows.{Outcome, row}
 use Rattle.ax25_link.specs.Sending.{IsQuiet}

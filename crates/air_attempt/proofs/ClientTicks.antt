@@ -1,16 +1,15 @@
 -- The newest attempt of a client, once a tick came: it goes on, or a further SABM was sent, with which one begins.
-use Rattle.std.proofs.Common.{◌≡◌, ◌⊎◌, ℕ, List, [], ◌∷◌, ◌++◌, map, true, false, Option, None, Some, refl, inl, inr, sym, ap, ◌∙◌, subst, append-nil}
+use Rattle.std.proofs.Common.{◌≡◌, ◌⊎◌, ℕ, List, [], ◌∷◌, ◌++◌, map, true, false, Option, None, Some, refl, inl, inr, sym, ap, ◌∙◌, subst}
 use Rattle.std.specs.List.{concat}
 use Rattle.px_base.specs.CallSign.{CallSign}
 use Rattle.px_base.specs.Octets.{IsOctets}
 use Rattle.ax25_frames.specs.FrameText.{FrameValue}
-use Rattle.ax25_link.specs.Air.{Transmission, fresh}
+use Rattle.ax25_link.specs.Air.{fresh}
 use Rattle.ax25_link.specs.declared.state.LinkState.{LinkState}
-use Rattle.ax25_link.specs.declared.state.LinkState.TheVariants.{Calling, Up, Ending, Down}
+use Rattle.ax25_link.specs.declared.state.LinkState.TheVariants.{Calling}
 use Rattle.ax25_link.specs.Ends.{LinkEnd}
 use Rattle.ax25_link.specs.Laws.{HasNoCall, IsUnused}
 use Rattle.ax25_link.specs.LinkStep.{heard_of_coming, tick}
-use Rattle.ax25_link.specs.Window.{Window}
 use Rattle.ax25_link.proofs.Offered.{prefix_law}
 use Rattle.client_notes.specs.Notes.{Lists}
 use Rattle.ftl0_client.specs.Attempt.Attempted.{Attempted}
@@ -18,10 +17,9 @@ use Rattle.ftl0_client.specs.Attempt.Hearing.{ticking, with_end}
 use Rattle.ftl0_client.specs.Attempt.Laws.{OutcomeLaw}
 use Rattle.ftl0_client.specs.Entries.{JobEntry, TickingLaw, entries_ticked, items_in, lost, passed, queued, said_in, took}
 use Rattle.ftl0_packets.specs.Items.{texts}
-use Rattle.ftl0_packets.specs.Layout.{Item}
 use Rattle.ftl0_packets.specs.Reading.{packets_of}
 use Rattle.ftl0_packets.proofs.OctetLemmas.{IsOctets-nil}
-use Rattle.air_attempt.specs.Attempt.{Attempt, IsAnswered, IsAnsweredBy, IsAttempt, IsOneCall, IsUnanswered, client_station, server_station}
+use Rattle.air_attempt.specs.Attempt.{Attempt, IsAnsweredBy, IsAttempt, IsOneCall, client_station, server_station}
 use Rattle.air_attempt.specs.Sides.{ClientSide, IsJob, ServerSide}
 use Rattle.air_attempt.specs.Transfers.{has_call}
 use Rattle.air_attempt.proofs.ClientAttempt.{Stands, attempt-moves, linked-stands, moved, waiting-stands, waits-of}
@@ -30,8 +28,8 @@ use Rattle.air_attempt.proofs.ClientIdle.{SendsCall}
 use Rattle.air_attempt.proofs.ClientJob.{SaysInRange, gone_on, job-goes-on}
 use Rattle.air_attempt.proofs.ClientLink.{StepKeeps, StepOf, step-keeps}
 use Rattle.air_attempt.proofs.ClientRows.{tick_outcome}
-use Rattle.air_attempt.proofs.ClientUnanswered.{StaysWaiting, Waits, tick-stays, ticks-nothing}
-use Rattle.air_attempt.proofs.Sent.{StaysOf, has-none, none-calls, stays-of}
+use Rattle.air_attempt.proofs.ClientUnanswered.{StaysWaiting, tick-stays, ticks-nothing}
+use Rattle.air_attempt.proofs.Sent.{has-none, none-calls, stays-of}
 
 -- a SABM alone is one
 no-call-one : (frames : List FrameValue) (last : LinkEnd) → SendsCall frames last → has_call frames ≡ false → ⊥

@@ -1,5 +1,5 @@
 -- An attempt that no session answered: only DM comes to its end, which calls until it is down.
-use Rattle.std.proofs.Common.{◌≡◌, ◌⊎◌, ℕ, ◌+◌, List, [], ◌∷◌, ◌++◌, Bool, true, false, Option, None, Some, refl, inl, inr, sym, ap, ap₂, ◌∙◌, subst}
+use Rattle.std.proofs.Common.{◌≡◌, ◌⊎◌, ℕ, ◌+◌, List, [], ◌∷◌, ◌++◌, Bool, true, false, None, Some, refl, inl, inr, sym, ap, ◌∙◌, subst}
 use Rattle.std.specs.Prelude.{if◌then◌else◌, ◌&&◌, ◌||◌}
 use Rattle.ax25_frames.specs.declared.control.Control.{Control}
 use Rattle.ax25_frames.specs.declared.control.Control.TheVariants.{Dm}
@@ -8,12 +8,12 @@ use Rattle.ax25_link.specs.Calls.{Doing, DoesAll}
 use Rattle.ax25_link.specs.declared.state.Heard.{Heard}
 use Rattle.ax25_link.specs.declared.state.Heard.TheVariants.{Nothing, Opened, Reopened, Bytes, Closed}
 use Rattle.ax25_link.specs.declared.state.LinkState.{LinkState}
-use Rattle.ax25_link.specs.declared.state.LinkState.TheVariants.{Calling, Up, Down}
+use Rattle.ax25_link.specs.declared.state.LinkState.TheVariants.{Calling, Down}
 use Rattle.ax25_link.specs.declared.state.Why.TheVariants as why
 use Rattle.ax25_link.specs.Ends.{LinkEnd, free_octets, oldest, refuse}
 use Rattle.ax25_link.specs.Laws.{IsUnused}
 use Rattle.ax25_link.specs.LinkStep.{frame, heard_of_tick, tick}
-use Rattle.ax25_link.specs.Rows.{Outcome, calling_row, closing, down_row, entering, is_call, passed_over, replying, row, row_of_state, unless_oldest}
+use Rattle.ax25_link.specs.Rows.{Outcome, calling_row, closing, entering, is_call, passed_over, replying, row, row_of_state, unless_oldest}
 use Rattle.ax25_link.specs.Sending.{Drains, IsQuiet}
 use Rattle.ax25_link.specs.Timer.{after_tick, is_down, is_spent, is_up, runs_out, told_of_tick, trying}
 use Rattle.ax25_link.specs.Window.{Window}
