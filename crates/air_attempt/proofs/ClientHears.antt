@@ -63,7 +63,7 @@ module _ (law : HearingLaw) (outcome : OutcomeLaw) (me server : CallSign) (lists
       stands (Some session) same answered =
           linked-stands a (moved (side last) frames list a) session same answered refl
           (prefix_law.heard a.window (client_station a) (server_station a session) place t (heard_of_coming a.window before.end (frame t.frame)) step.doings frames last is.window
-           answered.linked answered.quiet lawful step.link)
+          answered.linked answered.quiet lawful step.link)
 
       pub frame-moves : IsAttempt me server (moved (side last) frames list a)
       frame-moves =

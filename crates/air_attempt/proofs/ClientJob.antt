@@ -106,7 +106,7 @@ module _ (lists last : Lists) (side : ClientSide) (o : Outcome) (information : L
         fits =
             subst (λ (packets : List PacketValue). AllByRecursion Fits packets) (sym (said-then side.entries entries))
             (all-append Fits (said_in side.entries) (said_in entries) job.fits
-             (entries-fit lists last side.attempted.job now.job entries happens.goes (reached-fits (new_job side.asked) side.attempted.job side.entries job.reached says.asked) says.go_with));
+            (entries-fit lists last side.attempted.job now.job entries happens.goes (reached-fits (new_job side.asked) side.attempted.job side.entries job.reached says.asked) says.go_with));
         told_down = λ why is. keeps.state ∙ happens.told_down why is;
         closed = working.closed;
         working = λ none. subst (λ (s : LinkState). CallsOrUp s) (sym keeps.state) (working.working none);

@@ -132,7 +132,7 @@ module _ (below : Below) (old new : Client) (noted : List NotesCommand) (frames 
         } in
         subst (λ (n : Client). Goes old (hears t.frame) n frames delivered) (sym passed.new_is)
         (subst (λ (fs : List FrameValue). Goes old (hears t.frame) old fs delivered) (sym passed.frames_are)
-         (subst (λ (o : Option Attempted). GoesBy old (hears t.frame) old (answers_to old t.frame) delivered o) (sym none) at))
+        (subst (λ (o : Option Attempted). GoesBy old (hears t.frame) old (answers_to old t.frame) delivered o) (sym none) at))
 
     -- by its link
     module _ (before : Attempted) (same : old.attempt ≡ Some before) (link : a.client.attempted ≡ before) (says : SaysInRange old.lists a.client) where
@@ -148,7 +148,7 @@ module _ (below : Below) (old new : Client) (noted : List NotesCommand) (frames 
       heard-moves last =
           subst (λ (b : Attempted). Moves old.window b last) link
           (subst (λ (w : Window). Moves w a.client.attempted last) goes.windows.0
-           (λ one. frame-moves below.hearing below.outcome old.me old.server old.lists a is says place t lawful last frames one))
+          (λ one. frame-moves below.hearing below.outcome old.me old.server old.lists a is says place t lawful last frames one))
 
       hears-goes : Goes old (hears t.frame) new frames delivered
       hears-goes =

@@ -97,7 +97,7 @@ module _ (law : TickingLaw) (outcome : OutcomeLaw) (me server : CallSign) (lists
       stands (Some session) same answered =
           linked-stands a (moved (side last) frames a.by_server a) session same answered refl
           (prefix_law.ticked a.window (client_station a) (server_station a session) (heard_of_coming a.window before.end tick) step.doings frames last is.window
-           answered.linked step.link (none-calls frames none))
+          answered.linked step.link (none-calls frames none))
 
       pub tick-moves : IsAttempt me server (moved (side last) frames a.by_server a)
       tick-moves =

@@ -196,4 +196,4 @@ tick-stays w a made last frames waits step = by waits.state
     by (inr down) =
         inl
         (still
-         (drains-nothing w a.end last frames (idle-quiet w a.end idle) (subst (λ (e : LinkEnd). Drains w e frames last) (tick-down a.end down) drains)).0)
+        (drains-nothing w a.end last frames (idle-quiet w a.end idle) (subst (λ (e : LinkEnd). Drains w e frames last) (tick-down a.end down) drains)).0)
