@@ -1,20 +1,20 @@
-pub mod ClientAsks
-pub mod ClientAttempt
-pub mod ClientCalling
-pub mod ClientHappens
-pub mod ClientHears
-pub mod ClientIdle
-pub mod ClientJob
-pub mod ClientLaws
-pub mod ClientLink
-pub mod ClientRows
-pub mod ClientTicks
-pub mod ClientUnanswered
-pub mod ClientWorks
-pub mod Fronts
-pub mod JobAppend
-pub mod JobSays
-pub mod LinkKeeps
-pub mod PacketLists
-pub mod Sent
-pub mod Transmissions
+mod ClientAsks
+mod ClientAttempt
+mod ClientCalling
+mod ClientHappens
+mod ClientHears
+mod ClientIdle
+mod ClientJob
+mod ClientLaws
+mod ClientLink
+mod ClientRows
+mod ClientTicks
+mod ClientUnanswered
+mod ClientWorks
+mod Fronts
+mod JobAppend
+mod JobSays
+mod LinkKeeps
+mod PacketLists
+mod Sent
+mod Transmissions
