@@ -11,6 +11,7 @@ mod PartsLemmas
 mod Rebuild
 mod ReceivesLemmas
 mod RunLemmas
+mod SayLemmas
 mod Seats
 mod Served
 mod ServerCut
