@@ -1,3 +1,4 @@
+mod ClientBasics
 mod ClientMade
 mod ClientsStay
 mod CutWorld

@@ -52,7 +52,7 @@ pub record OwnMade (old : World) (party : Party) (gives : Stepped) (attempts : L
       (at number : ℕ) → GrantedAt (record party { attempts = attempts }) at number
       → GrantedAt party at number ⊎ ((at ≡ 0) × (old.server.store.next ≤ number))
 
-first-of : {X : Type 0} (xs : List X) (x : X) → slice_get xs 0 ≡ Some x → (older : List X) × (xs ≡ x ∷ older)
+pub first-of : {X : Type 0} (xs : List X) (x : X) → slice_get xs 0 ≡ Some x → (older : List X) × (xs ≡ x ∷ older)
 first-of [] x is = absurd cc
 first-of (y ∷ ys) x is = (ys, ap (λ z. z ∷ ys) (same_Some y x is))
 
