@@ -3,4 +3,6 @@ pub use Rattle.air_files.proofs.LiftLemmas.{each-append, each-at, each-both, eac
 pub use Rattle.air_files.proofs.LiftLemmas.{one-at, one-from, one-weaker, side-at, some-at, some-from, some-weaker}
 pub use Rattle.air_files.proofs.LongerLemmas.{acked-task, facts-first, no-task, place-last, place-more, task-file, task-some}
 pub use Rattle.air_files.proofs.StableLemmas.{complete-entry, keeps-complete, keeps-file, keeps-offer, keeps-task_kept}
-pub use Rattle.air_files.proofs.StoreLemmas.{drop-sound, found-so, later-number}
+pub use Rattle.air_files.proofs.StoreLemmas.{drop-keeps, drop-sound, found-so, later-number}
+pub use Rattle.air_files.proofs.OtherLemmas.{facts-other, facts-removed}
+pub use Rattle.air_files.proofs.GoneLemmas.{facts-over, facts-same, facts-started}

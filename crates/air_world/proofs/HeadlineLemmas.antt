@@ -1,5 +1,5 @@
 -- What is promised of uploads and downloads holds still in a store that follows.
-use Rattle.std.proofs.Common.{◌≡◌, ℕ, List}
+use Rattle.std.proofs.Common.{ℕ}
 use Rattle.file_entries.specs.Follows.{KeepsEntries}
 use Rattle.file_store.specs.Store.{Store}
 use Rattle.client_notes.specs.Notes.{got_of}

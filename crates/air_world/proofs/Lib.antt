@@ -3,5 +3,6 @@ mod HeadlineLemmas
 mod NumberedLemmas
 mod PartsLemmas
 mod ReceivesLemmas
+mod RemovalLemmas
 mod RunLemmas
 mod WholeLemmas

@@ -1,10 +1,9 @@
 -- What is promised holds over a lawful schedule, where it holds of each sound world and each event keeps a world sound.
-use Rattle.std.proofs.Common.{◌≡◌, List, [], ◌∷◌, sym, subst}
+use Rattle.std.proofs.Common.{List, [], ◌∷◌, sym, subst}
 use Rattle.std.specs.List.{AllByRecursion}
 use Rattle.air_files.proofs.Offered.{each-weaker}
 use Rattle.air_world.specs.Cuts.{IsRun, Plays}
-use Rattle.air_world.specs.Headline.{HeadlineIn}
-use Rattle.air_world.specs.Laws.{HoldsDuring, NoCutsLaw, PartsLaw, PrefixesLaw, ScheduleLaw, SoundLaw}
+use Rattle.air_world.specs.Laws.{NoCutsLaw, PartsLaw, PrefixesLaw, ScheduleLaw, SoundLaw}
 use Rattle.air_world.specs.Schedule.{Event, Schedule}
 use Rattle.air_world.specs.Sound.{Sound}
 use Rattle.air_world.specs.World.{World, first_world}

@@ -1,7 +1,9 @@
 //! Laws of the world, each the contract of a function that does nothing.
 
-ghost use Rattle.air_world.specs.Laws.{PartsLaw};
+ghost use Rattle.air_world.specs.Laws.{PartsLaw, RemovalLaw};
 
+use file_entries::laws::follows_law;
+use ftl0_session::downloads::laws::stays_law;
 use pfh_items::laws::{fault_law, no_front_law};
 
 /// A sound world has all parts, and what is promised of uploads and downloads holds in it: each acknowledged file is
@@ -11,4 +13,12 @@ pub fn parts_law()
 {
     fault_law();
     no_front_law();
+}
+
+/// An entry under way that no session receives may be given up: the world stays sound.
+pub fn removal_law()
+    ensures { RemovalLaw }
+{
+    follows_law();
+    stays_law();
 }
