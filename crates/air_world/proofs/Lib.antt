@@ -1,3 +1,4 @@
+mod ExistenceLemmas
 mod FirstLemmas
 mod HeadlineLemmas
 mod NumberedLemmas

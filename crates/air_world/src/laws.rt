@@ -1,8 +1,10 @@
 //! Laws of the world, each the contract of a function that does nothing.
 
-ghost use Rattle.air_world.specs.Laws.{PartsLaw, RemovalLaw};
+ghost use Rattle.air_world.specs.Laws.{ExistenceLaw, PartsLaw, RemovalLaw};
 
 use file_entries::laws::follows_law;
+use ftl0_client::laws as client_laws;
+use ftl0_server::laws as server_laws;
 use ftl0_session::downloads::laws::stays_law;
 use pfh_items::laws::{fault_law, no_front_law};
 
@@ -21,4 +23,12 @@ pub fn removal_law()
 {
     follows_law();
     stays_law();
+}
+
+/// Where an event may come in a sound world there is a step.
+pub fn existence_law()
+    ensures { ExistenceLaw }
+{
+    client_laws::some_step_law();
+    server_laws::some_step_law();
 }
