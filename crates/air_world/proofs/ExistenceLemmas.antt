@@ -1,5 +1,6 @@
 -- Where an event may come there is a step.
-use Rattle.std.proofs.Common.{◌≡◌, ℕ, zero, suc, ◌-◌, ◌<◌, [], length, reverse, get_or, refl, sym, subst, arith, Bool, true, false, Option, None, Some, inl, inr}
+use Rattle.std.proofs.Common.{◌≡◌, ℕ, zero, suc, ◌-◌, ◌<◌, [], length, reverse, get_or, refl, sym, subst, arith, Bool}
+use Rattle.std.proofs.Common.{true, false, Option, None, Some, inl, inr}
 use Rattle.std.specs.List.{position}
 use Rattle.std.specs.Option.{option_map}
 use Rattle.std.proofs.lemmas.Bool.Decides.{eqb_tells}
@@ -24,10 +25,12 @@ use Rattle.ftl0_client.specs.Laws as law
 use Rattle.air_attempt.specs.Party.{Party, to_client_delivered, to_server_delivered}
 use Rattle.air_files.proofs.Offered.{task-file}
 use Rattle.air_world.specs.Cuts.{ClientDoes, ClientEvent, Happens, ServerDoes, ServerEvent, broken}
-use Rattle.air_world.specs.Events.{ClientPart, ClientTakes, IsResuming, ServerTakes, asking, asking_file, next_upload, part_with, with_current}
+use Rattle.air_world.specs.Events.{ClientPart, ClientTakes, IsResuming, ServerTakes, asking, asking_file, next_upload}
+use Rattle.air_world.specs.Events.{part_with, with_current}
 use Rattle.air_world.specs.Lawful.{IsPossible, last_unfinished}
 use Rattle.air_world.specs.Laws.{ExistenceLaw}
-use Rattle.air_world.specs.Schedule.{Event, ask_download, ask_list, ask_resume, ask_upload, break_client, cut_client, cut_server}
+use Rattle.air_world.specs.Schedule.{Event, ask_download, ask_list, ask_resume, ask_upload, break_client, cut_client}
+use Rattle.air_world.specs.Schedule.{cut_server}
 use Rattle.air_world.specs.Schedule.{tick_client, tick_server, to_client, to_server}
 use Rattle.air_world.specs.Sound.{Sound}
 use Rattle.air_world.specs.Step.{client_started}
@@ -42,7 +45,8 @@ server-does some world coming delivered false sound =
     (_, record { gives = it.gives; step = it.step; did = _; did_is = refl; new_is = refl })
 server-does some world coming delivered true sound = (_, record { count = 0; within = omega arith; new_is = refl })
 
-server-event : server.SomeStepLaw → (world : World) (event : Event) (coming : NodeEvent) (delivered : World) → Sound world
+server-event : server.SomeStepLaw → (world : World) (event : Event) (coming : NodeEvent) (delivered : World)
+    → Sound world
     → ServerTakes world event coming delivered → (next : World) × ServerEvent world event next
 server-event some world event coming delivered sound takes =
     let does = server-does some world coming delivered world.is_cut sound in
@@ -52,12 +56,16 @@ server-event some world event coming delivered sound takes =
 silent-noted : (it : Client) (lists : Lists) → IsSilent it → IsSilent (record it { lists = lists })
 silent-noted it lists silent = by it.stray silent
   where
-    sent : (a : Attempted) (next : Option Sending) → sends_of_link it a next ≡ None → sends_of_link (record it { lists = lists }) a next ≡ None
+    sent : (a : Attempted) (next : Option Sending) → sends_of_link it a next ≡ None
+        → sends_of_link (record it { lists = lists }) a next ≡ None
     sent a None silent = refl
     sent a (Some sending) silent = absurd (cc)
-    link : (attempt : Option Attempted) → sends_of_attempt it attempt ≡ None → sends_of_attempt (record it { lists = lists }) attempt ≡ None
+
+    link : (attempt : Option Attempted) → sends_of_attempt it attempt ≡ None
+        → sends_of_attempt (record it { lists = lists }) attempt ≡ None
     link None silent = refl
     link (Some a) silent = sent a (next_sending it.window a.end) silent
+
     by : (stray : Option Refusal) → sends_by it stray ≡ None → sends_by (record it { lists = lists }) stray ≡ None
     by None silent = link it.attempt silent
     by (Some refusal) silent = absurd (cc)
@@ -66,11 +74,25 @@ client-does : law.SomeStepLaw → (world : World) (c : ℕ) (part : ClientPart) 
     → (next : World) × ClientDoes cut world c part next
 client-does some world c part false may =
     let it = some (client_started part) part.coming
-        (record { silent = silent-noted part.party.client (client_started part).lists may.silent; fits = may.fits }) in
-    (_, record { noted = it.noted; did = record { old = client_started part; now = it.new; frames = it.frames }; old_is = refl; step = it.step; new_is = refl })
+    (record { silent = silent-noted part.party.client (client_started part).lists may.silent; fits = may.fits }) in (
+      _,
+      record {
+        noted = it.noted;
+        did = record {
+          old = client_started part;
+          now = it.new;
+          frames =
+              it.frames;
+        };
+        old_is = refl;
+        step = it.step;
+        new_is = refl;
+      },
+    )
 client-does some world c part true may = (_, record { count = 0; within = omega arith; new_is = refl })
 
-client-event : law.SomeStepLaw → (world : World) (event : Event) (c : ℕ) (part : ClientPart) → law.MayStep part.party.client
+client-event : law.SomeStepLaw → (world : World) (event : Event) (c : ℕ) (part : ClientPart)
+    → law.MayStep part.party.client
     → ClientTakes world event c part → (next : World) × ClientEvent world event next
 client-event some world event c part may takes =
     let does = client-does some world c part part.party.is_cut may in
@@ -78,19 +100,29 @@ client-event some world event c part may takes =
 
 -- ---- the last unfinished task is one
 
-last-there : (lists : Lists) (task : ℕ) → last_unfinished lists ≡ Some task → (entry : Task) × (task_of lists task ≡ Some entry)
+last-there : (lists : Lists) (task : ℕ) → last_unfinished lists ≡ Some task
+    → (entry : Task) × (task_of lists task ≡ Some entry)
 last-there lists task is = by (position unfinished (reverse lists.tasks)) refl is
   where
     unfinished : Task → Bool
     unfinished = λ task. is_going task.progress
+
     none : Task
     none = new_task (record { chars = []; ssid = 0 }) (record { chars = []; ssid = 0 }) [] 0 []
-    there : (place : ℕ) → place < task_count lists → task_count lists - place ≡ task → (entry : Task) × (task_of lists task ≡ Some entry)
+
+    there : (place : ℕ) → place < task_count lists → task_count lists - place ≡ task
+        → (entry : Task) × (task_of lists task ≡ Some entry)
     there place below same = elim (eqb_tells task 0) [
-        | inl w ↦ absurd (let zero_is = w.1 in omega arith)
-        | inr w ↦ (get_or lists.tasks (task - 1) none, rw w.0 (slice_get-get_or lists.tasks (task - 1) none (omega arith)))
-      ]
-    by : (o : Option ℕ) → position unfinished (reverse lists.tasks) ≡ o → option_map (λ place. task_count lists - place) o ≡ Some task
+      | inl w ↦ absurd (let zero_is = w.1 in omega arith)
+      | inr w ↦ (
+        get_or lists.tasks (task - 1) none,
+        rw w.0
+            (slice_get-get_or lists.tasks (task - 1) none (omega arith)),
+      )
+    ]
+
+    by : (o : Option ℕ) → position unfinished (reverse lists.tasks) ≡ o
+        → option_map (λ place. task_count lists - place) o ≡ Some task
         → (entry : Task) × (task_of lists task ≡ Some entry)
     by None at is = absurd (cc)
     by (Some place) at is =
@@ -105,21 +137,23 @@ may-step-at : (world : World) (c : ℕ) (party : Party) → Sound world → Part
 may-step-at world c party sound there = (sound.parties c party there).may_step
 
 resuming : (world : World) (c : ℕ) (party : Party) (task : ℕ) → Sound world → PartyAt world c party
-    → last_unfinished party.client.lists ≡ Some task → (part : ClientPart) × IsResuming world party part × (part.party ≡ party)
+    → last_unfinished party.client.lists ≡ Some task
+    → (part : ClientPart) × IsResuming world party part × (part.party ≡ party)
 resuming world c party task sound there last =
     let found = last-there party.client.lists task last in
-    let its = (sound.parties c party there).tasks.each task found.0 found.1 in
-    (asking party (work.Upload (new_upload task found.0.number its.asked.file)),
-     record {
-       task = task;
-       last = last;
-       entry = found.0;
-       is_entry = found.1;
-       file = its.asked.file;
-       is_file = task-file world.files c party task found.0 its;
-       part_is = refl;
-     },
-     refl)
+    let its = (sound.parties c party there).tasks.each task found.0 found.1 in (
+      asking party (work.Upload (new_upload task found.0.number its.asked.file)),
+      record {
+        task = task;
+        last = last;
+        entry = found.0;
+        is_entry = found.1;
+        file = its.asked.file;
+        is_file = task-file world.files c party task found.0 its;
+        part_is = refl;
+      },
+      refl,
+    )
 
 module _ (serves : server.SomeStepLaw) (works : law.SomeStepLaw) (world : World) (sound : Sound world) where
   happens : (event : Event) → IsPossible world event → (next : World) × Happens world event next
@@ -164,27 +198,35 @@ module _ (serves : server.SomeStepLaw) (works : law.SomeStepLaw) (world : World)
       let t : Transmission = possible.2.1 in
       client-event works world (to_client (suc c) (suc place)) c
       (part_with (with_current (to_client_delivered place t) party) (client.hears t.frame))
-      (may-step-at world c party sound possible.1)
-      (refl,
-       (party, possible.1,
-        record {
-          t = t;
-          sent = record { attempt = possible.2.0; current = possible.2.2; is_at = possible.2.3.sent };
-          part_is = refl;
-        }))
-  happens tick_server possible = server-event serves world tick_server (ticks (next_moment world)) world sound (refl, refl)
+      (may-step-at world c party sound possible.1) (
+        refl,
+        (
+          party,
+          possible.1,
+          record {
+            t = t;
+            sent = record { attempt = possible.2.0; current = possible.2.2; is_at = possible.2.3.sent };
+            part_is = refl;
+          },
+        ),
+      )
+  happens tick_server possible = server-event serves world tick_server (ticks (next_moment world)) world sound
+      (refl, refl)
   happens (tick_client zero) possible = absurd possible
   happens (tick_client (suc c)) possible =
       client-event works world (tick_client (suc c)) c (part_with possible.0 client.ticks)
       (may-step-at world c possible.0 sound possible.1) (refl, (possible.0, possible.1, refl))
   happens (break_client zero) possible = absurd possible
-  happens (break_client (suc c)) possible =
-      (counted (with_party world c (broken possible.0)), (c, broken possible.0, (refl, (possible.0, possible.1, refl)), refl))
+  happens (break_client (suc c)) possible = (
+    counted (with_party world c (broken possible.0)),
+    (c, broken possible.0, (refl, (possible.0, possible.1, refl)), refl),
+  )
   happens (cut_server call choice) possible = (counted (record world { is_cut = true }), refl)
   happens (cut_client zero call choice) possible = absurd possible
-  happens (cut_client (suc c) call choice) possible =
-      (counted (with_party world c (record possible.0 { is_cut = true })),
-       (c, record possible.0 { is_cut = true }, (refl, (possible.0, possible.1, refl)), refl))
+  happens (cut_client (suc c) call choice) possible = (
+    counted (with_party world c (record possible.0 { is_cut = true })),
+    (c, record possible.0 { is_cut = true }, (refl, (possible.0, possible.1, refl)), refl),
+  )
 
 pub existence-law : server.SomeStepLaw → law.SomeStepLaw → ExistenceLaw
 existence-law serves works world event sound allowed =

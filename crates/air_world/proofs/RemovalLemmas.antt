@@ -20,31 +20,37 @@ use Rattle.air_world.specs.Sound.{ArePlaces, AreStationsOf, GrantedAt, IsParty}
 use Rattle.air_world.specs.World.{PartyAt, World}
 
 -- whether anything is due is told by the state alone
-due-none : (store other : Store) (state : State) (fails : Bool) → next_due store state fails ≡ None → next_due other state fails ≡ None
+due-none : (store other : Store) (state : State) (fails : Bool) → next_due store state fails ≡ None
+    → next_due other state fails ≡ None
 due-none store other state fails none = by (is_due (download_part state)) none
   where
-    by : (due : Bool) → option_map in_session (if due then Some (due_packet store (download_part state) fails) else None) ≡ None
+    by : (due : Bool) → option_map in_session
+        (if due then Some (due_packet store (download_part state) fails) else None) ≡ None
         → option_map in_session (if due then Some (due_packet other (download_part state) fails) else None) ≡ None
     by true none = absurd (cc)
     by false none = refl
 
 slot-queued : (store other : Store) (slot : Slot) → server.SlotIsQueued store slot → server.SlotIsQueued other slot
 slot-queued store other free queued = tt
-slot-queued store other (connected c) (inl none) = inl (λ failures part. due-none store other c.state (read_fails failures part) (none failures part))
+slot-queued store other (connected c) (inl none) = inl
+    (λ failures part. due-none store other c.state (read_fails failures part) (none failures part))
 slot-queued store other (connected c) (inr few) = inr few
 slot-queued store other (leaving c) queued = tt
 
 are-queued : (store other : Store) (slots : List Slot) → server.AreQueued store slots → server.AreQueued other slots
 are-queued store other [] queued = tt
-are-queued store other (slot ∷ slots) queued = (slot-queued store other slot queued.0, are-queued store other slots queued.1)
+are-queued store other (slot ∷ slots) queued =
+    (slot-queued store other slot queued.0, are-queued store other slots queued.1)
 
 -- and so is whether there is anything to send
 silent-still : (it : Server) (store : Store) → IsSilent it → IsSilent (record it { store = store })
 silent-still it store silent = by it.stray silent
   where
-    places : (next : Option PlacesSend) → sends_of_places it next ≡ None → sends_of_places (record it { store = store }) next ≡ None
+    places : (next : Option PlacesSend) → sends_of_places it next ≡ None
+        → sends_of_places (record it { store = store }) next ≡ None
     places None silent = refl
     places (Some sends) silent = absurd (cc)
+
     by : (stray : Option Refusal) → sends_by it stray ≡ None → sends_by (record it { store = store }) stray ≡ None
     by None silent = places (places_next it.window it.slots) silent
     by (Some refusal) silent = absurd (cc)
@@ -82,7 +88,8 @@ places-without world number it = record {
   none_leaving = it.none_leaving;
 }
 
-granted-with : (world : World) (number c at other : ℕ) → GrantedAt (without_entry world number) c at other → GrantedAt world c at other
+granted-with : (world : World) (number c at other : ℕ) → GrantedAt (without_entry world number) c at other
+    → GrantedAt world c at other
 granted-with world number c at other it = record {
   party = it.party;
   is_party = it.is_party;
@@ -107,12 +114,15 @@ removal-law follows due lists world number entry held sound there holds none = r
   files = sound.files;
   parties = λ c party is. party-without c party is (sound.parties c party is);
   granted = λ c at other that given one two.
-      sound.granted c at other that given (granted-with world number c at given one) (granted-with world number other that given two);
+      sound.granted c at other that given (granted-with world number c at given one)
+      (granted-with world number other that given two);
 }
   where
     now : Store
     now = after world.server.store (drop_entry number)
-    party-without : (c : ℕ) (party : Party) → PartyAt world c party → IsParty world c party → IsParty (without_entry world number) c party
+
+    party-without : (c : ℕ) (party : Party) → PartyAt world c party → IsParty world c party
+        → IsParty (without_entry world number) c party
     party-without c party is it = record {
       attempts = it.attempts;
       windows = it.windows;
@@ -121,5 +131,6 @@ removal-law follows due lists world number entry held sound there holds none = r
       may_step = it.may_step;
       tasks = it.tasks;
       job = it.job;
-      facts = facts-removed world.server.store world.files party number entry held follows due sound.store there holds (none c party is) it.facts;
+      facts = facts-removed world.server.store world.files party number entry held follows due sound.store there holds
+          (none c party is) it.facts;
     }
