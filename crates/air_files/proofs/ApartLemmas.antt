@@ -17,7 +17,8 @@ use Rattle.air_files.proofs.LiftLemmas.{each-at, each-from, each-side, side-at}
 
 -- the facts of one session of an attempt, each as `HasSessionFacts` has it of all
 abbrev pub GrantFact : Store → Party → Attempt → ServerSide → Type 0
-GrantFact store party a side = (number file_length : ℕ) → Grants side number file_length → IsGrantKept store party a number file_length
+GrantFact store party a side = (number file_length : ℕ) → Grants side number file_length
+    → IsGrantKept store party a number file_length
 
 abbrev pub CompleteFact : Store → ServerSide → Type 0
 CompleteFact store side = (number : ℕ) → SaysComplete side number → IsCompleteIn store number
@@ -61,7 +62,8 @@ pub record HasFactsApart (store : Store) (files : List Asked) (party : Party) : 
   pub got_front : (number : ℕ) → AreFirstIfAny store number (got party number)
   pub fetching : IfSome (newest party) (IsFetching store party)
 
-pub apart : (store : Store) (files : List Asked) (party : Party) → HasFacts store files party → HasFactsApart store files party
+pub apart : (store : Store) (files : List Asked) (party : Party) → HasFacts store files party
+    → HasFactsApart store files party
 apart store files party facts = record {
   numbered = facts.tasks.numbered;
   acknowledged = facts.tasks.acknowledged;
@@ -84,11 +86,13 @@ apart store files party facts = record {
   fetching = facts.files_got.fetching;
 }
 
-pub together : (store : Store) (files : List Asked) (party : Party) → HasFactsApart store files party → HasFacts store files party
+pub together : (store : Store) (files : List Asked) (party : Party) → HasFactsApart store files party
+    → HasFacts store files party
 together store files party facts =
     let client : (a : Attempt) → Has party.attempts a → HasClientFacts party a =
     λ a has. each-at (HasClientFacts party) party.attempts a facts.attempts has in
-    let session : (a : Attempt) (side : ServerSide) → Has party.attempts a → a.server ≡ Some side → HasSideFacts store party a side =
+    let session : (a : Attempt) (side : ServerSide) → Has party.attempts a → a.server ≡ Some side
+    → HasSideFacts store party a side =
     λ a side has is. side-at (HasSideFacts store party) party a side facts.sides has is in
     record {
       tasks = record {

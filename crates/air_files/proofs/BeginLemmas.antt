@@ -1,5 +1,6 @@
 -- An attempt that begins, and a session that does, have all facts: neither side said anything but LOGIN_RESP.
-use Rattle.std.proofs.Common.{◌≡◌, ⊎_elim, ℕ, List, [], ◌∷◌, length, refl, ap, sym, ◌∙◌, subst, Option, None, Some, Ok, inl, inr}
+use Rattle.std.proofs.Common.{◌≡◌, ⊎_elim, ℕ, List, [], ◌∷◌, length, refl, ap, sym, ◌∙◌, subst, Option, None, Some, Ok}
+use Rattle.std.proofs.Common.{inl, inr}
 use Rattle.std.specs.Prelude.{IfSome, drop, slice_get}
 use Rattle.std.specs.List.{AllByRecursion}
 use Rattle.std.specs.Option.{option_map}
@@ -52,7 +53,8 @@ not-said side packet none said = subst (λ packets. Has packets packet) (nothing
 
 not-reached : (ending : JobState) (down : Option Why) (outcome : Outcome) → ending.ending ≡ None
     → outcome_by ending.ending down ≡ Some (Reached outcome) → ⊥
-not-reached it down outcome none is = by down (subst (λ ending. outcome_by ending down ≡ Some (Reached outcome)) none is)
+not-reached it down outcome none is = by down
+    (subst (λ ending. outcome_by ending down ≡ Some (Reached outcome)) none is)
   where
     by : (down : Option Why) → outcome_by None down ≡ Some (Reached outcome) → ⊥
     by None is = cc
@@ -61,7 +63,12 @@ not-reached it down outcome none is = by down (subst (λ ending. outcome_by endi
 pub silent-says : (asked : Work) (side : ClientSide) → side.entries ≡ [] → Says asked side
 silent-says (work.Upload at) side none = record { stage = silent; said = nothing-said side none; sends_file = tt }
 silent-says (work.Directory at) side none = subst (IsListSaid at.tokens) (sym (nothing-said side none)) tt
-silent-says (work.Download at) side none = record { stage = download.silent; said = nothing-said side none; fetches = tt }
+silent-says (work.Download at) side none = record {
+  stage = download.silent;
+  said = nothing-said side none;
+  fetches =
+      tt;
+}
 
 -- the client with an attempt that begins
 abbrev calling : Party → Attempt → Party
@@ -71,7 +78,8 @@ calling party a =
       attempts = a ∷ party.attempts;
     }
 
-begun-client : (party : Party) (a : Attempt) → IsBeginning a → GoesOnWithTask party a → HasClientFacts (calling party a) a
+begun-client : (party : Party) (a : Attempt) → IsBeginning a → GoesOnWithTask party a
+    → HasClientFacts (calling party a) a
 begun-client party a begins goes_on = record {
   noted = λ task number file asks took. absurd (not-taken a.client (ul_go_resp number 0) begins.entries took);
   goes_on = λ task known file asks some.
@@ -79,18 +87,23 @@ begun-client party a begins goes_on = record {
       record { entry = has.entry; is_entry = has.is_entry; number_is = has.number_is; some = has.some };
   says = silent-says a.client.asked a.client begins.entries;
   fetched = λ number is.
-      absurd (not-reached a.client.attempted.job a.client.attempted.down (reached.Fetched number) (ap (λ (it : JobState). it.ending) begins.job) is);
+      absurd (not-reached a.client.attempted.job a.client.attempted.down (reached.Fetched number)
+      (ap (λ (it : JobState). it.ending) begins.job) is);
   asked_within = λ number offset asked. absurd (not-said a.client _ begins.entries asked);
 }
 
-begun-fetches : (asked : Work) (store : Store) (party : Party) (a : Attempt) → IsNotBegun asked → FetchesBy None asked store party a
+begun-fetches : (asked : Work) (store : Store) (party : Party) (a : Attempt) → IsNotBegun asked
+    → FetchesBy None asked store party a
 begun-fetches (work.Upload at) store party a begun = tt
 begun-fetches (work.Directory at) store party a begun = tt
-begun-fetches (work.Download at) store party a begun = subst (λ (it : Download). FetchesIn it.phase store party a it) (sym begun) refl
+begun-fetches (work.Download at) store party a begun = subst (λ (it : Download). FetchesIn it.phase store party a it)
+    (sym begun) refl
 
-pub facts-called : (store : Store) (files : List Asked) (party : Party) (a : Attempt) → HasFacts store files party → IsBeginning a
+pub facts-called : (store : Store) (files : List Asked) (party : Party) (a : Attempt) → HasFacts store files party
+    → IsBeginning a
     → GoesOnWithTask party a → HasFacts store files (calling party a)
-facts-called store files party a facts begins goes_on = together store files (calling party a) (called (apart store files party facts))
+facts-called store files party a facts begins goes_on = together store files (calling party a)
+    (called (apart store files party facts))
   where
     called : HasFactsApart store files party → HasFactsApart store files (calling party a)
     called parts = record {
@@ -105,7 +118,8 @@ facts-called store files party a facts begins goes_on = together store files (ca
       sides = (
         subst (λ o. IfSome o (HasSideFacts store (calling party a) a)) (sym begins.unserved) tt,
         each-weaker party.attempts
-            (λ b. some-weaker b.server (λ side. like-side store party (calling party a) b b side side (λ up. up))) parts.sides,
+            (λ b. some-weaker b.server (λ side. like-side store party (calling party a) b b side side
+            (λ up. up))) parts.sides,
       );
       got_front = parts.got_front;
       fetching = λ link.
@@ -120,7 +134,8 @@ only-greeting : (side : ServerSide) (greeted : IsGreeted side) (packet : PacketV
 only-greeting side greeted packet said =
     ⊎_elim (λ it. it) (λ none. absurd none)
     (subst (λ packets. Has packets packet)
-    (ap (λ entries. side.greeting ∷ session.said_in entries) greeted.entries ∙ ap (λ it. it ∷ []) greeted.greets.2) said)
+    (ap (λ entries. side.greeting ∷ session.said_in entries) greeted.entries ∙ ap
+    (λ it. it ∷ []) greeted.greets.2) said)
 
 greeted-serves : (store : Store) (asked : Work) (side : ServerSide) → IsGreeted side → Serves store asked side
 greeted-serves store (work.Upload at) side greeted = record {
@@ -144,16 +159,19 @@ greeted-serves store (work.Download at) side greeted = record {
   sent = tt;
 }
 
-greeted-side : (store : Store) (party : Party) (a : Attempt) (side : ServerSide) → IsGreeted side → HasSideFacts store party a side
+greeted-side : (store : Store) (party : Party) (a : Attempt) (side : ServerSide) → IsGreeted side
+    → HasSideFacts store party a side
 greeted-side store party a side greeted = record {
   granted = λ number file_length grants.
       absurd (subst (OneIs (IsAnswer (Ok (upload_cmd 0 file_length)) (ul_go_resp number 0))) greeted.entries grants);
   complete = λ number says.
       ⊎_elim (λ acks. absurd (let is = only-greeting side greeted ul_ack_resp acks.1 in let x : ⊥ = cc in x))
-      (λ tells. absurd (subst (OneIs (IsAnswer (Ok (upload_cmd number tells.0)) (ul_error_resp 12))) greeted.entries tells.1)) says;
+      (λ tells. absurd (subst (OneIs (IsAnswer (Ok (upload_cmd number tells.0))
+      (ul_error_resp 12))) greeted.entries tells.1)) says;
   offered = λ number offset offers.
       absurd (let is = only-greeting side greeted (ul_go_resp number offset) offers in let x : ⊥ = cc in x);
-  receives = λ number rest up is. absurd (let none : command ≡ receiving number rest = sym greeted.state ∙ is in let x : ⊥ = cc in x);
+  receives = λ number rest up is. absurd (let none : command ≡ receiving number rest = sym greeted.state
+      ∙ is in let x : ⊥ = cc in x);
   due = λ up. record {
     lies = subst (λ (it : State). IsDueIn store (download_part it)) (sym greeted.state) tt;
     octets = subst (λ (it : State). IsOctets (octets_due store (download_part it))) (sym greeted.state) (All-nil _);
@@ -169,16 +187,19 @@ nothing-comes : (a : Attempt) (side : ServerSide) → a.server ≡ None → a.cl
     → coming_by a a.server ≡ coming_by (serving a side) (Some side)
 nothing-comes a side unserved none greeted =
     ap (coming_by a) unserved
-    ∙ sym (ap (λ (entries : List JobEntry). octets_said (drop (length (job.items_in entries)) (said_by_server side))) none
+    ∙ sym (ap (λ (entries : List JobEntry). octets_said
+    (drop (length (job.items_in entries)) (said_by_server side))) none
     ∙ ap (λ packets. octets_said packets)
     (ap (λ entries. side.greeting ∷ session.said_in entries) greeted.entries ∙ ap (λ it. it ∷ []) greeted.greets.2))
 
 opened-grants : (task number : ℕ) (a : Attempt) (older : List Attempt) (side : ServerSide) → a.server ≡ None
     → OneIs (IsGranted task number) (a ∷ older) → OneIs (IsGranted task number) (serving a side ∷ older)
-opened-grants task number a older side unserved (inl it) = absurd (let is : None ≡ Some it.1 = sym unserved ∙ it.3 in let x : ⊥ = cc in x)
+opened-grants task number a older side unserved (inl it) = absurd
+    (let is : None ≡ Some it.1 = sym unserved ∙ it.3 in let x : ⊥ = cc in x)
 opened-grants task number a older side unserved (inr it) = inr it
 
-pub facts-opened : (store : Store) (files : List Asked) (party : Party) (a : Attempt) (older : List Attempt) (side : ServerSide)
+pub facts-opened : (store : Store) (files : List Asked) (party : Party) (a : Attempt) (older : List Attempt)
+    (side : ServerSide)
     → HasFacts store files party → party.attempts ≡ a ∷ older → a.server ≡ None → a.client.entries ≡ [] → IsGreeted side
     → HasFacts store files (with_attempt party (serving a side) older)
 facts-opened store files party a older side facts are unserved none greeted =
@@ -187,33 +208,44 @@ facts-opened store files party a older side facts are unserved none greeted =
     opened : HasFactsApart store files party → HasFactsApart store files (with_attempt party (serving a side) older)
     opened parts =
         let now : Party = with_attempt party (serving a side) older in
-        let clients : AllByRecursion (HasClientFacts party) (a ∷ older) = subst (AllByRecursion (HasClientFacts party)) are parts.attempts in
+        let clients : AllByRecursion (HasClientFacts party) (a ∷ older) = subst
+        (AllByRecursion (HasClientFacts party)) are parts.attempts in
         let sessions : AllByRecursion (λ b. IfSome b.server (HasSideFacts store party b)) (a ∷ older) =
         subst (AllByRecursion (λ b. IfSome b.server (HasSideFacts store party b))) are parts.sides in
-        let fetches : IsFetching store party a = subst (λ (attempts : List Attempt). IfSome (slice_get attempts 0) (IsFetching store party)) are parts.fetching in
+        let fetches : IsFetching store party a = subst
+        (λ (attempts : List Attempt). IfSome (slice_get attempts 0) (IsFetching store party)) are parts.fetching in
         record {
           numbered = λ task number file has is.
               let it = parts.numbered task number file (number-like party now task number has) is in
               record {
                 below = it.below;
                 stands = it.stands;
-                granted = opened-grants task number a older side unserved (subst (OneIs (IsGranted task number)) are it.granted);
+                granted = opened-grants task number a older side unserved
+                    (subst (OneIs (IsGranted task number)) are it.granted);
               };
           acknowledged = parts.acknowledged;
-          attempts = (like-client party now a (serving a side) clients.0, each-weaker older (λ b. like-client party now b b) clients.1);
+          attempts = (
+            like-client party now a (serving a side) clients.0,
+            each-weaker older
+                (λ b. like-client party now b b) clients.1,
+          );
           sides = (
             greeted-side store now (serving a side) side greeted,
-            each-weaker older (λ b. some-weaker b.server (λ it. like-side store party now b b it it (λ up. up))) sessions.1,
+            each-weaker older (λ b. some-weaker b.server
+                (λ it. like-side store party now b b it it (λ up. up))) sessions.1,
           );
           got_front = parts.got_front;
           fetching = λ link.
-              like-fetches_by a.client.attempted.job.ending a.client.attempted.job.work store party now a (serving a side)
+              like-fetches_by a.client.attempted.job.ending a.client.attempted.job.work store party now a
+              (serving a side)
               (nothing-comes a side unserved none greeted) (fetches link);
         }
 
-pub facts-opened_over : (store : Store) (files : List Asked) (party : Party) (a : Attempt) (older : List Attempt) (side : ServerSide)
+pub facts-opened_over : (store : Store) (files : List Asked) (party : Party) (a : Attempt) (older : List Attempt)
+    (side : ServerSide)
     → HasFacts store files party → party.attempts ≡ a ∷ older → a.server ≡ None → a.client.entries ≡ [] → IsGreeted side
     → HasFacts store files (with_attempt party (serving a side) (all_over older))
 facts-opened_over store files party a older side facts are unserved none greeted =
-    facts-opened store files (sessions_over party) (record a { server = option_map over a.server }) (all_over older) side
+    facts-opened store files (sessions_over party) (record a { server = option_map over a.server })
+    (all_over older) side
     (facts-over store files party facts) (ap all_over are) (ap (option_map over) unserved) none greeted

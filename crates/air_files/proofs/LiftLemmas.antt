@@ -1,5 +1,6 @@
 -- What is so of each attempt, or of each session, of a client: of those at hand, and of a changed list of them.
-use Rattle.std.proofs.Common.{◌≡◌, ◌⊎◌, ℕ, List, [], ◌∷◌, ◌++◌, map, refl, sym, subst, Option, None, Some, inl, inr, zero, suc}
+use Rattle.std.proofs.Common.{◌≡◌, ◌⊎◌, ℕ, List, [], ◌∷◌, ◌++◌, map, refl, sym, subst, Option, None, Some, inl, inr}
+use Rattle.std.proofs.Common.{zero, suc}
 use Rattle.std.specs.Prelude.{IfSome, slice_get}
 use Rattle.std.specs.List.{AllByRecursion}
 use Rattle.std.proofs.lemmas.Option.{same_Some}
@@ -21,21 +22,25 @@ pub each-from : {X : Type 0} {P : X → Type 0} (xs : List X) → ((x : X) → H
 each-from [] holds = tt
 each-from (x ∷ xs) holds = (holds x (inl refl), each-from xs (λ y has. holds y (inr has)))
 
-pub each-weaker : {X : Type 0} {P Q : X → Type 0} (xs : List X) → ((x : X) → P x → Q x) → AllByRecursion P xs → AllByRecursion Q xs
+pub each-weaker : {X : Type 0} {P Q : X → Type 0} (xs : List X) → ((x : X) → P x → Q x) → AllByRecursion P xs
+    → AllByRecursion Q xs
 each-weaker [] weaker each = tt
 each-weaker (x ∷ xs) weaker each = (weaker x each.0, each-weaker xs weaker each.1)
 
-pub each-both : {X : Type 0} {P Q R : X → Type 0} (xs : List X) → ((x : X) → P x → Q x → R x) → AllByRecursion P xs → AllByRecursion Q xs
+pub each-both : {X : Type 0} {P Q R : X → Type 0} (xs : List X) → ((x : X) → P x → Q x → R x) → AllByRecursion P xs
+    → AllByRecursion Q xs
     → AllByRecursion R xs
 each-both [] both one two = tt
 each-both (x ∷ xs) both one two = (both x one.0 two.0, each-both xs both one.1 two.1)
 
-pub each-map : {X : Type 0} {P : X → Type 0} (Q : X → Type 0) (change : X → X) (xs : List X) → ((x : X) → P x → Q (change x)) → AllByRecursion P xs
+pub each-map : {X : Type 0} {P : X → Type 0} (Q : X → Type 0) (change : X → X) (xs : List X)
+    → ((x : X) → P x → Q (change x)) → AllByRecursion P xs
     → AllByRecursion Q (map change xs)
 each-map Q change [] changes each = tt
 each-map Q change (x ∷ xs) changes each = (changes x each.0, each-map Q change xs changes each.1)
 
-pub each-append : {X : Type 0} (P : X → Type 0) (xs ys : List X) → AllByRecursion P xs → AllByRecursion P ys → AllByRecursion P (xs ++ ys)
+pub each-append : {X : Type 0} (P : X → Type 0) (xs ys : List X) → AllByRecursion P xs → AllByRecursion P ys
+    → AllByRecursion P (xs ++ ys)
 each-append P [] ys one two = two
 each-append P (x ∷ xs) ys one two = (one.0, each-append P xs ys one.1 two)
 
@@ -46,7 +51,8 @@ one-weaker [] weaker one = one
 one-weaker (x ∷ xs) weaker (inl here) = inl (weaker x here)
 one-weaker (x ∷ xs) weaker (inr there) = inr (one-weaker xs weaker there)
 
-pub one-map : {X : Type 0} {P : X → Type 0} (Q : X → Type 0) (change : X → X) (xs : List X) → ((x : X) → P x → Q (change x)) → OneIs P xs
+pub one-map : {X : Type 0} {P : X → Type 0} (Q : X → Type 0) (change : X → X) (xs : List X)
+    → ((x : X) → P x → Q (change x)) → OneIs P xs
     → OneIs Q (map change xs)
 one-map Q change [] changes one = one
 one-map Q change (x ∷ xs) changes (inl here) = inl (changes x here)
@@ -103,7 +109,8 @@ some-weaker (Some x) weaker holds = weaker x holds
 
 pub side-at : (P : Attempt → ServerSide → Type 0) (party : Party) (a : Attempt) (side : ServerSide) → EachSide party P
     → Has party.attempts a → a.server ≡ Some side → P a side
-side-at P party a side each has is = some-at (P a) a.server side (each-at (λ it. IfSome it.server (P it)) party.attempts a each has) is
+side-at P party a side each has is = some-at (P a) a.server side
+    (each-at (λ it. IfSome it.server (P it)) party.attempts a each has) is
 
 pub each-side : {P : Attempt → ServerSide → Type 0} (party : Party)
     → ((a : Attempt) (side : ServerSide) → Has party.attempts a → a.server ≡ Some side → P a side) → EachSide party P

@@ -1,5 +1,6 @@
 -- The facts of a client of which nothing was asked; with a further upload; and with its task.
-use Rattle.std.proofs.Common.{◌==◌, false, ◌≡◌, ◌⊎◌, ℕ, zero, suc, List, [], ◌∷◌, ◌++◌, refl, ap, sym, ◌∙◌, Option, None, Some, inl, inr}
+use Rattle.std.proofs.Common.{◌==◌, false, ◌≡◌, ◌⊎◌, ℕ, zero, suc, List, [], ◌∷◌, ◌++◌, refl, ap, sym, ◌∙◌, Option}
+use Rattle.std.proofs.Common.{None, Some, inl, inr}
 use Rattle.std.specs.Prelude.{slice_get}
 use Rattle.std.specs.Option.{option_and_then, option_map}
 use Rattle.std.proofs.lemmas.Bool.Decides.{eqb_tells}
@@ -18,7 +19,8 @@ use Rattle.air_files.proofs.ApartLemmas.{HasFactsApart, apart, together}
 
 -- ---- places of a list
 
-pub place-more : {X : Type 0} (xs more : List X) (place : ℕ) (x : X) → slice_get xs place ≡ Some x → slice_get (xs ++ more) place ≡ Some x
+pub place-more : {X : Type 0} (xs more : List X) (place : ℕ) (x : X) → slice_get xs place ≡ Some x
+    → slice_get (xs ++ more) place ≡ Some x
 place-more [] more place x there = absurd (cc)
 place-more (y ∷ ys) more zero x there = there
 place-more (y ∷ ys) more (suc place) x there = place-more ys more place x there
@@ -53,7 +55,8 @@ acked-task lists task number is = by (task_of lists task) refl is
     by None there acked = absurd (cc)
     by (Some entry) there acked = (entry, there, same_Some (noted_as task entry) (noted.Acked task number) acked)
 
-pub facts-first : (server me : CallSign) (w : Window) (limit : ℕ) → HasFacts (empty_store limit) [] (first_party server w me)
+pub facts-first : (server me : CallSign) (w : Window) (limit : ℕ)
+    → HasFacts (empty_store limit) [] (first_party server w me)
 facts-first server me w limit = together (empty_store limit) [] (first_party server w me) (record {
   numbered = λ task number file has is. absurd (no-task task has.entry has.is_entry);
   acknowledged = λ task number holds. let it = acked-task no_notes task number holds in absurd (no-task task it.0 it.1);
@@ -70,10 +73,12 @@ pub file-more : (files more : List Asked) (party : Party) (task : ℕ) (file : L
     → IsFileOf (files ++ more) party task file
 file-more files more party task file is = by (upload_of party task) is
   where
-    at : (upload : ℕ) (o : Option Asked) → slice_get files upload ≡ o → option_map (λ (asked : Asked). asked.file) o ≡ Some file
+    at : (upload : ℕ) (o : Option Asked) → slice_get files upload ≡ o
+        → option_map (λ (asked : Asked). asked.file) o ≡ Some file
         → option_map (λ (asked : Asked). asked.file) (slice_get (files ++ more) upload) ≡ Some file
     at upload None there is = absurd (cc)
-    at upload (Some asked) there is = ap (option_map (λ (it : Asked). it.file)) (place-more files more upload asked there) ∙ is
+    at upload (Some asked) there is = ap (option_map (λ (it : Asked). it.file))
+        (place-more files more upload asked there) ∙ is
 
     by : (o : Option ℕ) → option_map (λ (asked : Asked). asked.file) (option_and_then (slice_get files) o) ≡ Some file
         → option_map (λ (asked : Asked). asked.file) (option_and_then (slice_get (files ++ more)) o) ≡ Some file
@@ -81,23 +86,27 @@ file-more files more party task file is = by (upload_of party task) is
     by (Some upload) is = at upload (slice_get files upload) refl is
 
 -- the file of a task is that of its upload
-pub task-file : (files : List Asked) (c : ℕ) (party : Party) (task : ℕ) (entry : Task) (it : IsTaskFor files c party task entry)
+pub task-file : (files : List Asked) (c : ℕ) (party : Party) (task : ℕ) (entry : Task)
+    (it : IsTaskFor files c party task entry)
     → IsFileOf files party task it.asked.file
 task-file files c party task entry it =
     ap (λ o. option_map (λ (asked : Asked). asked.file) (option_and_then (slice_get files) o)) it.is_upload
     ∙ ap (option_map (λ (asked : Asked). asked.file)) it.is_asked
 
 -- and it was known, where the task is there
-pub file-known : (files more : List Asked) (c : ℕ) (party : Party) (task : ℕ) (entry : Task) (file : List ℕ) → IsTaskFor files c party task entry
+pub file-known : (files more : List Asked) (c : ℕ) (party : Party) (task : ℕ) (entry : Task) (file : List ℕ)
+    → IsTaskFor files c party task entry
     → IsFileOf (files ++ more) party task file → IsFileOf files party task file
 file-known files more c party task entry file it is =
     let here = task-file files c party task entry it in
     let more_is = file-more files more party task it.asked.file here in
     here ∙ sym more_is ∙ is
 
-pub facts-longer : (store : Store) (files : List Asked) (c : ℕ) (party : Party) (asked : List Asked) → Stands files c party
+pub facts-longer : (store : Store) (files : List Asked) (c : ℕ) (party : Party) (asked : List Asked)
+    → Stands files c party
     → HasFacts store files party → HasFacts store (files ++ asked) party
-facts-longer store files c party asked stands facts = together store (files ++ asked) party (longer (apart store files party facts))
+facts-longer store files c party asked stands facts = together store (files ++ asked) party
+    (longer (apart store files party facts))
   where
     longer : HasFactsApart store files party → HasFactsApart store (files ++ asked) party
     longer parts = record {
@@ -105,7 +114,8 @@ facts-longer store files c party asked stands facts = together store (files ++ a
           parts.numbered task number file has
           (file-known files asked c party task has.entry file (stands.tasks.each task has.entry has.is_entry) is);
       acknowledged = λ task number holds.
-          let kept = parts.acknowledged task number holds in (kept.0, file-more files asked party task kept.0 kept.1, kept.2);
+          let kept = parts.acknowledged task number holds in
+          (kept.0, file-more files asked party task kept.0 kept.1, kept.2);
       attempts = parts.attempts;
       sides = parts.sides;
       got_front = parts.got_front;

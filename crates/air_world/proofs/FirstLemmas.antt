@@ -25,11 +25,13 @@ first-at : (server : CallSign) (w : Window) (calls : List CallSign) (c : ℕ) (p
     → slice_get (map (first_party server w) calls) c ≡ Some party
     → (call : CallSign) × (slice_get calls c ≡ Some call) × (party ≡ first_party server w call)
 first-at server w [] c party there = absurd (cc)
-first-at server w (call ∷ calls) zero party there = (call, refl, sym (same_Some (first_party server w call) party there))
+first-at server w (call ∷ calls) zero party there =
+    (call, refl, sym (same_Some (first_party server w call) party there))
 first-at server w (call ∷ calls) (suc c) party there = first-at server w calls c party there
 
 -- calls of which none is another one's
-apart-from : (call : CallSign) (calls : List CallSign) (c : ℕ) (it : CallSign) → AllByRecursion (λ other. call ≢ other) calls
+apart-from : (call : CallSign) (calls : List CallSign) (c : ℕ) (it : CallSign)
+    → AllByRecursion (λ other. call ≢ other) calls
     → slice_get calls c ≡ Some it → call ≢ it
 apart-from call [] c it apart there = absurd (cc)
 apart-from call (other ∷ calls) zero it apart there = λ same. apart.0 (same ∙ sym (same_Some other it there))
@@ -41,11 +43,15 @@ one-place [] c other it distinct there that = absurd (cc)
 one-place (call ∷ calls) zero zero it distinct there that = refl
 one-place (call ∷ calls) zero (suc other) it distinct there that =
     absurd (apart-from call calls other it distinct.0 that (same_Some call it there))
-one-place (call ∷ calls) (suc c) zero it distinct there that = absurd (apart-from call calls c it distinct.0 there (same_Some call it that))
-one-place (call ∷ calls) (suc c) (suc other) it distinct there that = ap (λ n. suc n) (one-place calls c other it distinct.1 there that)
+one-place (call ∷ calls) (suc c) zero it distinct there that = absurd
+    (apart-from call calls c it distinct.0 there (same_Some call it that))
+one-place (call ∷ calls) (suc c) (suc other) it distinct there that = ap (λ n. suc n)
+    (one-place calls c other it distinct.1 there that)
 
-first-distinct : (server : CallSign) (w : Window) (calls : List CallSign) (c other : ℕ) (party that : Party) → AreDistinct calls
-    → slice_get (map (first_party server w) calls) c ≡ Some party → slice_get (map (first_party server w) calls) other ≡ Some that
+first-distinct : (server : CallSign) (w : Window) (calls : List CallSign) (c other : ℕ) (party that : Party)
+    → AreDistinct calls
+    → slice_get (map (first_party server w) calls) c ≡ Some party
+    → slice_get (map (first_party server w) calls) other ≡ Some that
     → party.client.me ≡ that.client.me → c ≡ other
 first-distinct server w calls c other party that distinct there those same =
     let one = first-at server w calls c party there in
@@ -59,7 +65,8 @@ no-side : (schedule : Schedule) (c at : ℕ) (party : Party) (side : ServerSide)
     → IsSideAt party at side → ⊥
 no-side schedule c at party side there is =
     let one = first-at pacsat (window_of schedule.size) schedule.calls c party there in
-    let none : slice_get {X = Attempt} [] at ≡ Some is.attempt = sym (ap (λ (it : Party). slice_get it.attempts at) one.2) ∙ is.is_attempt in
+    let none : slice_get {X = Attempt} [] at ≡ Some is.attempt = sym
+    (ap (λ (it : Party). slice_get it.attempts at) one.2) ∙ is.is_attempt in
     cc
 
 -- ---- the server
@@ -81,7 +88,8 @@ empty-sound = record {
 
 all-free : (place : ℕ) (slot : Slot) → slice_get all_free place ≡ Some slot → slot ≡ free
 all-free place slot there =
-    each-at (λ (it : Slot). it ≡ free) all_free slot (refl, (refl, (refl, (refl, (refl, (refl, (refl, (refl, tt)))))))) (has-at all_free place slot there)
+    each-at (λ (it : Slot). it ≡ free) all_free slot (refl, (refl, (refl, (refl, (refl, (refl, (refl, (refl, tt))))))))
+    (has-at all_free place slot there)
 
 no-connected : (place : ℕ) (it : Connected) → slice_get all_free place ≡ Some (connected it) → ⊥
 no-connected place it there = let is = all-free place (connected it) there in cc
@@ -108,14 +116,19 @@ first-stations schedule is = record {
   server = pacsat-call;
   window = record { some = is.some; fewer = omega (arith, is.few) };
   most = subst (λ n. n ≤ 8) (sym (length-map schedule.calls (first_party pacsat (window_of schedule.size)))) is.most;
-  are_calls = each-first (λ (party : Party). IsCall party.client.me) schedule.calls (λ call is_call. is_call) is.are_calls;
-  distinct = λ c other party that. first-distinct pacsat (window_of schedule.size) schedule.calls c other party that is.distinct;
-  servers = each-first (λ (party : Party). party.client.server ≡ pacsat) schedule.calls (λ call is_call. refl) is.are_calls;
-  windows = each-first (λ (party : Party). party.client.window ≡ window_of schedule.size) schedule.calls (λ call is_call. refl) is.are_calls;
+  are_calls = each-first (λ (party : Party). IsCall party.client.me) schedule.calls
+      (λ call is_call. is_call) is.are_calls;
+  distinct = λ c other party that. first-distinct pacsat
+      (window_of schedule.size) schedule.calls c other party that is.distinct;
+  servers = each-first (λ (party : Party). party.client.server ≡ pacsat) schedule.calls
+      (λ call is_call. refl) is.are_calls;
+  windows = each-first (λ (party : Party). party.client.window ≡ window_of schedule.size) schedule.calls
+      (λ call is_call. refl) is.are_calls;
 }
   where
     each-first : (P : Party → Type 0) (calls : List CallSign)
-        → ((call : CallSign) → IsCall call → P (first_party pacsat (window_of schedule.size) call)) → AllByRecursion IsCall calls
+        → ((call : CallSign) → IsCall call → P (first_party pacsat (window_of schedule.size) call))
+        → AllByRecursion IsCall calls
         → AllByRecursion P (map (first_party pacsat (window_of schedule.size)) calls)
     each-first P [] so are = tt
     each-first P (call ∷ calls) so are = (so call are.0, each-first P calls so are.1)
@@ -132,7 +145,8 @@ first-places schedule = record {
 }
   where
     newest : (calls : List CallSign)
-        → AllByRecursion (λ (party : Party). OnlyNewestUp party.attempts) (map (first_party pacsat (window_of schedule.size)) calls)
+        → AllByRecursion (λ (party : Party). OnlyNewestUp party.attempts)
+        (map (first_party pacsat (window_of schedule.size)) calls)
     newest [] = tt
     newest (call ∷ calls) = (tt, newest calls)
 

@@ -2,6 +2,7 @@ mod ClientBasics
 mod ClientMade
 mod ClientsStay
 mod CutWorld
+mod ExistenceLemmas
 mod FirstLemmas
 mod Granted
 mod HeadlineLemmas
@@ -11,6 +12,7 @@ mod NumberedLemmas
 mod PartsLemmas
 mod Rebuild
 mod ReceivesLemmas
+mod RemovalLemmas
 mod RunLemmas
 mod SayLemmas
 mod Seats

@@ -22,7 +22,8 @@ use Rattle.air_world.specs.Sound.{AreGrantedOnce, IsParty, Sound}
 use Rattle.air_world.specs.World.{PartyAt, World}
 
 -- where the one that is so stands
-pub place-of_one : {X : Type 0} (P : X → Type 0) (xs : List X) → OneIs P xs → (at : ℕ) × (x : X) × (slice_get xs at ≡ Some x) × P x
+pub place-of_one : {X : Type 0} (P : X → Type 0) (xs : List X) → OneIs P xs
+    → (at : ℕ) × (x : X) × (slice_get xs at ≡ Some x) × P x
 place-of_one P [] one = absurd one
 place-of_one P (x ∷ xs) (inl here) = (0, x, refl, here)
 place-of_one P (x ∷ xs) (inr there) = let found = place-of_one P xs there in (suc found.0, found.1, found.2, found.3)
@@ -40,17 +41,20 @@ pub record IsTaskGrant (party : Party) (task number : ℕ) : Type 0 where
   pub grants : Grants side number file_length
 
 -- the file of a task that has a number
-pub task-of : (world : World) (c : ℕ) (party : Party) (task number : ℕ) → IsParty world c party → HasNumber party task number
+pub task-of : (world : World) (c : ℕ) (party : Party) (task number : ℕ) → IsParty world c party
+    → HasNumber party task number
     → (file : List ℕ) × IsFileOf world.files party task file × IsNumbered world.server.store party task number file
 task-of world c party task number is has =
     let its : IsTaskFor world.files c party task has.entry = is.tasks.each task has.entry has.is_entry in
     let file = task-file world.files c party task has.entry its in
     (its.asked.file, file, is.facts.tasks.numbered task number its.asked.file has file)
 
-pub task-grant : (world : World) (c : ℕ) (party : Party) (task number : ℕ) → IsParty world c party → HasNumber party task number
+pub task-grant : (world : World) (c : ℕ) (party : Party) (task number : ℕ) → IsParty world c party
+    → HasNumber party task number
     → IsTaskGrant party task number
 task-grant world c party task number is has =
-    let one = place-of_one (IsGranted task number) party.attempts (task-of world c party task number is has).2.granted in
+    let one = place-of_one (IsGranted task number) party.attempts
+    (task-of world c party task number is has).2.granted in
     record {
       at = one.0;
       attempt = one.1;
@@ -69,12 +73,15 @@ task_in (work.Upload at) = at.task
 task_in (work.Directory at) = 0
 task_in (work.Download at) = 0
 
-pub one-task : (a : Attempt) (task other known that : ℕ) (file those : List ℕ) → AsksUpload a task known file → AsksUpload a other that those → task ≡ other
+pub one-task : (a : Attempt) (task other known that : ℕ) (file those : List ℕ) → AsksUpload a task known file
+    → AsksUpload a other that those → task ≡ other
 one-task a task other known that file those one two = ap task_in (sym one ∙ two)
 
 -- two tasks to whose attempts one number was given are one
-pub same-grant : (world : World) (c other task that number : ℕ) (party others : Party) → AreGrantedOnce world → PartyAt world c party
-    → PartyAt world other others → IsTaskGrant party task number → IsTaskGrant others that number → (c ≡ other) × (task ≡ that)
+pub same-grant : (world : World) (c other task that number : ℕ) (party others : Party) → AreGrantedOnce world
+    → PartyAt world c party
+    → PartyAt world other others → IsTaskGrant party task number → IsTaskGrant others that number
+    → (c ≡ other) × (task ≡ that)
 same-grant world c other task that number party others once there those one two =
     let same = once c one.at other two.at number
     (record {
@@ -93,12 +100,15 @@ same-grant world c other task that number party others once there those one two 
       file_length = two.file_length;
       grants = two.grants;
     }) in
-    let parties : party ≡ others = same_Some party others (sym there ∙ ap (λ n. slice_get world.parties n) same.0 ∙ those) in
+    let parties : party ≡ others = same_Some party others
+    (sym there ∙ ap (λ n. slice_get world.parties n) same.0 ∙ those) in
     let attempts : one.attempt ≡ two.attempt =
     same_Some one.attempt two.attempt
-    (sym one.is_attempt ∙ ap (λ (it : Party). slice_get it.attempts one.at) parties ∙ ap (λ n. slice_get others.attempts n) same.1 ∙ two.is_attempt) in (
+    (sym one.is_attempt ∙ ap (λ (it : Party). slice_get it.attempts one.at) parties ∙ ap
+    (λ n. slice_get others.attempts n) same.1 ∙ two.is_attempt) in (
       same.0,
-      one-task two.attempt task that 0 0 one.file two.file (subst (λ it. AsksUpload it task 0 one.file) attempts one.asks) two.asks,
+      one-task two.attempt task that 0 0 one.file two.file
+          (subst (λ it. AsksUpload it task 0 one.file) attempts one.asks) two.asks,
     )
 
 pub are-numbered : (world : World) → Sound world → AreNumbered world
@@ -107,7 +117,8 @@ are-numbered world sound = record {
       same-grant world c other task that number party others sound.granted there those
       (task-grant world c party task number (sound.parties c party there) has)
       (task-grant world other others that number (sound.parties other others those) its);
-  below = λ c party there task number has. (task-of world c party task number (sound.parties c party there) has).2.below;
+  below = λ c party there task number has. (task-of world c party task number
+      (sound.parties c party there) has).2.below;
   stands = λ c party there task number has.
       let its = task-of world c party task number (sound.parties c party there) has in (its.0, its.1, its.2.stands);
 }
@@ -133,7 +144,9 @@ are-acknowledged world sound = record {
         entry = acked.0;
         is_entry = acked.1;
         number_is = acked-number task number acked.0.number acked.0.progress acked.2;
-        some = later-number number 1 world.server.store.next world.server.store.entries kept.2.entry sound.store.is_store.entries kept.2.is_entry;
+        some =
+            later-number number 1 world.server.store.next world.server.store.entries kept.2.entry
+            sound.store.is_store.entries kept.2.is_entry;
       };
   kept = λ c party there. (sound.parties c party there).facts.tasks.acknowledged;
 }

@@ -1,5 +1,6 @@
 -- The file that a session receives is that of the task that has its number.
-use Rattle.std.proofs.Common.{◌≡◌, ◌⊎◌, ℕ, zero, suc, ◌+◌, ◌≤◌, List, [], ◌++◌, length, take, drop, refl, ap, sym, ◌∙◌, subst, arith, true, Some, inl, inr}
+use Rattle.std.proofs.Common.{◌≡◌, ◌⊎◌, ℕ, zero, suc, ◌+◌, ◌≤◌, List, [], ◌++◌, length, take, drop, refl, ap, sym, ◌∙◌}
+use Rattle.std.proofs.Common.{subst, arith, true, Some, inl, inr}
 use Rattle.std.specs.List.{AllByRecursion}
 use Rattle.std.proofs.lemmas.List.{length-take-le, take-append-drop}
 use Rattle.px_base.specs.Octets.{IsFront}
@@ -15,7 +16,8 @@ use Rattle.air_attempt.specs.Sides.{IsSession, ServerSide}
 use Rattle.air_files.specs.Dialogue.{Serves}
 use Rattle.air_files.specs.Facts.{GoesOnWithTask, HasNumber, Receives}
 use Rattle.air_files.specs.Tasks.{IsWork}
-use Rattle.air_files.specs.UploadDialogue.{AnsweredFirst, GoesOnWith, IsOfferedBy, IsReceivingState, Receiving, ServesUpload, ended, receives, refused, unasked}
+use Rattle.air_files.specs.UploadDialogue.{AnsweredFirst, GoesOnWith, IsOfferedBy, IsReceivingState, Receiving}
+use Rattle.air_files.specs.UploadDialogue.{ServesUpload, ended, receives, refused, unasked}
 use Rattle.air_files.proofs.Offered.{each-at, side-at}
 use Rattle.air_world.proofs.NumberedLemmas.{place-of_one, same-grant, task-grant}
 use Rattle.air_world.specs.Parts.{AreNumbered, ReceivesFile}
@@ -23,7 +25,8 @@ use Rattle.air_world.specs.Sound.{IsParty, Sound}
 use Rattle.air_world.specs.World.{PartyAt, World}
 
 -- the session of an attempt of a client
-pub session-of : (world : World) (c : ℕ) (party : Party) (a : Attempt) (side : ServerSide) → IsParty world c party → Has party.attempts a
+pub session-of : (world : World) (c : ℕ) (party : Party) (a : Attempt) (side : ServerSide) → IsParty world c party
+    → Has party.attempts a
     → a.server ≡ Some side → IsSession side
 session-of world c party a side is has serves =
     let it = each-at (IsAttempt party.client.me party.client.server) party.attempts a is.attempts has in
@@ -39,7 +42,8 @@ number_in state = 0
 offered-number : (known number : ℕ) (file rest : List ℕ) (side : ServerSide) (serves : ServesUpload known file side)
     → AllByRecursion session.IsNotLost side.entries → side.connected.state ≡ receiving number rest
     → ((known ≡ 0) × Grants side number (length file)) ⊎ ((1 ≤ known) × (number ≡ known))
-offered-number known number file rest side serves none_lost is = by serves.stage (serves.state none_lost) serves.offered serves.first
+offered-number known number file rest side serves none_lost is = by serves.stage
+    (serves.state none_lost) serves.offered serves.first
   where
     from : (known number offset : ℕ) → (known ≡ 0 → offset ≡ 0) → (1 ≤ known → number ≡ known)
         → AnsweredFirst known (length file) side (receives number offset [])
@@ -48,18 +52,23 @@ offered-number known number file rest side serves none_lost is = by serves.stage
         inl (refl, subst (λ o. AnsweredFirst 0 (length file) side (receives number o [])) (new refl) first)
     from (suc known) number offset new same first = inr (omega arith, same (omega arith))
 
-    by : (stage : Receiving) → IsReceivingState stage side.connected.state → IsOfferedBy known stage → AnsweredFirst known (length file) side stage
+    by : (stage : Receiving) → IsReceivingState stage side.connected.state → IsOfferedBy known stage
+        → AnsweredFirst known (length file) side stage
         → ((known ≡ 0) × Grants side number (length file)) ⊎ ((1 ≤ known) × (number ≡ known))
-    by unasked at offered first = absurd (let none : command ≡ receiving number rest = sym at ∙ is in let x : ⊥ = cc in x)
-    by (refused code) at offered first = absurd (let none : command ≡ receiving number rest = sym at ∙ is in let x : ⊥ = cc in x)
+    by unasked at offered first = absurd (let none : command ≡ receiving number rest = sym at
+        ∙ is in let x : ⊥ = cc in x)
+    by (refused code) at offered first = absurd
+        (let none : command ≡ receiving number rest = sym at ∙ is in let x : ⊥ = cc in x)
     by (receives that offset parts) at offered first =
         let same : that ≡ number = ap number_in (sym at.1 ∙ is) in
         subst (λ n. ((known ≡ 0) × Grants side n (length file)) ⊎ ((1 ≤ known) × (n ≡ known))) same
         (from known that offset offered.new offered.same first)
-    by (ended that offset parts word) at offered first = absurd (let none : command ≡ receiving number rest = sym at ∙ is in let x : ⊥ = cc in x)
+    by (ended that offset parts word) at offered first = absurd
+        (let none : command ≡ receiving number rest = sym at ∙ is in let x : ⊥ = cc in x)
 
 -- the task of an attempt whose session receives a file is the one that has the file's number
-received-task : (world : World) (c : ℕ) (party : Party) (a : Attempt) (side : ServerSide) (task number : ℕ) (rest : List ℕ) → Sound world
+received-task : (world : World) (c : ℕ) (party : Party) (a : Attempt) (side : ServerSide) (task number : ℕ)
+    (rest : List ℕ) → Sound world
     → AreNumbered world → PartyAt world c party → Has party.attempts a → a.server ≡ Some side → side.is_up ≡ true
     → side.connected.state ≡ receiving number rest → HasNumber party task number
     → (r : Receives world.server.store party a side number rest) → r.task ≡ task
@@ -67,7 +76,8 @@ received-task world c party a side task number rest sound numbered there has is 
     let party_is = sound.parties c party there in
     let serves : ServesUpload r.known r.file side =
     subst (λ asked. Serves world.server.store asked side) r.asks
-    (side-at (λ it those. Serves world.server.store it.client.asked those) party a side party_is.facts.sessions.serves has is) in
+    (side-at (λ it those.
+    Serves world.server.store it.client.asked those) party a side party_is.facts.sessions.serves has is) in
     let session = session-of world c party a side party_is has is in
     let at = place-of_one (λ it. it ≡ a) party.attempts has in
     elim (offered-number r.known number r.file rest side serves (session.none_lost up) state) [
@@ -88,25 +98,35 @@ received-task world c party a side task number rest sound numbered there has is 
       | inr old ↦
           (numbered.distinct c r.task c task number party party there there
           (subst (HasNumber party r.task) (sym old.1)
-          (each-at (GoesOnWithTask party) party.attempts a party_is.facts.tasks.goes_on has r.task r.known r.file r.asks old.0))
+          (each-at (GoesOnWithTask party) party.attempts a party_is.facts.tasks.goes_on has r.task r.known r.file r.asks
+          old.0))
           number_is).1
     ]
 
 -- the first octets of a file are a front of it
 front-of : (count : ℕ) (file octets : List ℕ) → octets ≡ take count file → IsFront octets file
-front-of count file octets first = (drop count file, sym (take-append-drop count file) ∙ ap (λ (it : List ℕ). it ++ drop count file) (sym first))
+front-of count file octets first = (
+  drop count file,
+  sym (take-append-drop count file) ∙ ap
+      (λ (it : List ℕ). it ++ drop count file) (sym first),
+)
 
-pub receives-file : (world : World) (c : ℕ) (party : Party) (a : Attempt) (side : ServerSide) (task number : ℕ) (rest : List ℕ) → Sound world
+pub receives-file : (world : World) (c : ℕ) (party : Party) (a : Attempt) (side : ServerSide) (task number : ℕ)
+    (rest : List ℕ) → Sound world
     → AreNumbered world → PartyAt world c party → Has party.attempts a → a.server ≡ Some side → side.is_up ≡ true
-    → side.connected.state ≡ receiving number rest → HasNumber party task number → ReceivesFile world party a side task number rest
+    → side.connected.state ≡ receiving number rest → HasNumber party task number
+    → ReceivesFile world party a side task number rest
 receives-file world c party a side task number rest sound numbered there has is up state number_is =
     let party_is = sound.parties c party there in
     let r : Receives world.server.store party a side number rest =
-    side-at (λ it those. (number : ℕ) (rest : List ℕ) → those.is_up ≡ true → those.connected.state ≡ receiving number rest
-    → Receives world.server.store party it those number rest) party a side party_is.facts.sessions.receives has is number rest up state in
+    side-at (λ it those. (number : ℕ) (rest : List ℕ) → those.is_up ≡ true
+    → those.connected.state ≡ receiving number rest
+    → Receives world.server.store party it those number rest)
+    party a side party_is.facts.sessions.receives has is number rest up state in
     let same = received-task world c party a side task number rest sound numbered there has is up state number_is r in
     let works : IsWork world.files party (work.Upload (new_upload r.task r.known r.file)) =
-    subst (IsWork world.files party) r.asks (each-at (λ it. IsWork world.files party it.client.asked) party.attempts a party_is.works has) in
+    subst (IsWork world.files party) r.asks (each-at
+    (λ it. IsWork world.files party it.client.asked) party.attempts a party_is.works has) in
     record {
       file = r.file;
       is_file = subst (λ it. IsFileOf world.files party it r.file) same works;
@@ -116,5 +136,6 @@ receives-file world c party a side task number rest sound numbered there has is 
       holds = r.holds;
       front = front-of (r.offset + octets_come side) r.file (r.held ++ rest) r.came;
       goes_on = subst (λ place. GoesOnWith r.file place (said_behind_server side a.client))
-          (sym (ap (λ (octets : List ℕ). length octets) r.came ∙ length-take-le (r.offset + octets_come side) r.file r.within)) r.goes_on;
+          (sym (ap (λ (octets : List ℕ). length octets) r.came ∙ length-take-le
+          (r.offset + octets_come side) r.file r.within)) r.goes_on;
     }

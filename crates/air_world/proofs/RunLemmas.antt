@@ -1,16 +1,16 @@
 -- What is promised holds over a lawful schedule, where it holds of each sound world and each event keeps a world sound.
-use Rattle.std.proofs.Common.{◌≡◌, List, [], ◌∷◌, sym, subst}
+use Rattle.std.proofs.Common.{List, [], ◌∷◌, sym, subst}
 use Rattle.std.specs.List.{AllByRecursion}
 use Rattle.air_files.proofs.Offered.{each-weaker}
 use Rattle.air_world.specs.Cuts.{IsRun, Plays}
-use Rattle.air_world.specs.Headline.{HeadlineIn}
-use Rattle.air_world.specs.Laws.{HoldsDuring, NoCutsLaw, PartsLaw, PrefixesLaw, ScheduleLaw, SoundLaw}
+use Rattle.air_world.specs.Laws.{NoCutsLaw, PartsLaw, PrefixesLaw, ScheduleLaw, SoundLaw}
 use Rattle.air_world.specs.Schedule.{Event, Schedule}
 use Rattle.air_world.specs.Sound.{Sound}
 use Rattle.air_world.specs.World.{World, first_world}
 
 -- each world of a play that begins with a sound one is sound
-pub sound-plays : SoundLaw → (world : World) (events : List Event) (worlds : List World) → Sound world → Plays world events worlds
+pub sound-plays : SoundLaw → (world : World) (events : List Event) (worlds : List World) → Sound world
+    → Plays world events worlds
     → AllByRecursion Sound worlds
 sound-plays law world [] worlds sound plays = subst (AllByRecursion Sound) (sym plays) tt
 sound-plays law world (event ∷ events) worlds sound plays =
@@ -26,8 +26,10 @@ sound-run law schedule worlds run =
 
 pub schedule-law : SoundLaw → PartsLaw → PrefixesLaw → ScheduleLaw
 schedule-law law parts prefixes = record {
-  worlds = λ schedule worlds run. each-weaker (first_world schedule ∷ worlds) parts.headline (sound-run law schedule worlds run);
-  during = λ schedule worlds run. each-weaker (first_world schedule ∷ worlds) prefixes (sound-run law schedule worlds run);
+  worlds = λ schedule worlds run. each-weaker (first_world schedule ∷ worlds) parts.headline
+      (sound-run law schedule worlds run);
+  during = λ schedule worlds run. each-weaker (first_world schedule ∷ worlds) prefixes
+      (sound-run law schedule worlds run);
 }
 
 pub no-cuts-law : ScheduleLaw → NoCutsLaw

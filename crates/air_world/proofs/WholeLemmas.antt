@@ -1,5 +1,6 @@
 -- What was got of a file and has no fault is the whole file.
-use Rattle.std.proofs.Common.{◌≡◌, ℕ, ◌<◌, List, [], ◌∷◌, ◌++◌, refl, ap, sym, ◌∙◌, subst, append-nil, Option, None, Some}
+use Rattle.std.proofs.Common.{◌≡◌, ℕ, ◌<◌, List, [], ◌∷◌, ◌++◌, refl, ap, sym, ◌∙◌, subst, append-nil, Option, None}
+use Rattle.std.proofs.Common.{Some}
 use Rattle.std.specs.List.{AllByRecursion}
 use Rattle.std.specs.Option.{option_map}
 use Rattle.std.proofs.lemmas.List.Elements.{All-from_recursion, recursion_from_All}
@@ -31,15 +32,18 @@ each-front P (x ∷ xs) ys each = (each.0, each-front P xs ys each.1)
 -- the front of octets is octets
 front-octets : (xs ys : List ℕ) → IsOctets (xs ++ ys) → IsOctets xs
 front-octets xs ys all =
-    All-from_recursion (λ octet. octet < 256) xs (each-front (λ octet. octet < 256) xs ys (recursion_from_All (λ octet. octet < 256) (xs ++ ys) all))
+    All-from_recursion (λ octet. octet < 256) xs
+    (each-front (λ octet. octet < 256) xs ys (recursion_from_All (λ octet. octet < 256) (xs ++ ys) all))
 
 -- a front without fault of a file without fault is all of it
-whole-front : HasNoFault → HasNoFront → (file octets : List ℕ) → IsOctets file → fault_code file ≡ None → IsFront octets file
+whole-front : HasNoFault → HasNoFront → (file octets : List ℕ) → IsOctets file → fault_code file ≡ None
+    → IsFront octets file
     → fault_code octets ≡ None → file ≡ octets
 whole-front fault front file octets are good first good_front =
     let same : file ≡ octets ++ first.0 = first.1 in
     let those : IsOctets (octets ++ first.0) = subst IsOctets same are in
-    let whole = (fault (octets ++ first.0) those).1 (no-fault (first_fault (octets ++ first.0)) (ap fault_code (sym same) ∙ good)) in
+    let whole = (fault (octets ++ first.0) those).1
+    (no-fault (first_fault (octets ++ first.0)) (ap fault_code (sym same) ∙ good)) in
     let part = (fault octets (front-octets octets first.0 those)).1 (no-fault (first_fault octets) good_front) in
     let none : first.0 ≡ [] = front whole.0 part.0 whole.1 part.1 octets first.0 whole.2 part.2 in
     same ∙ ap (λ more. octets ++ more) none ∙ append-nil octets
@@ -51,7 +55,8 @@ complete-good (partial held) file is rules octets = absurd (cc)
 complete-good (complete all moment) file is rules octets =
     let same = same_Some all file is in (subst (λ it. fault_code it ≡ None) same rules, subst IsOctets same octets)
 
-pub whole-got : (store : Store) (number : ℕ) (octets : List ℕ) → HasNoFault → HasNoFront → IsSoundStore store → AreFirstIfAny store number octets
+pub whole-got : (store : Store) (number : ℕ) (octets : List ℕ) → HasNoFault → HasNoFront → IsSoundStore store
+    → AreFirstIfAny store number octets
     → fault_code octets ≡ None → file_of store number ≡ Some octets
 whole-got store number octets fault front sound first good =
     let it = first (λ none. empty-fault (ap fault_code (sym none) ∙ good)) in
