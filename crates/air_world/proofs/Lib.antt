@@ -6,6 +6,7 @@ mod ExistenceLemmas
 mod FirstLemmas
 mod Granted
 mod HeadlineLemmas
+mod JobWent
 mod Likes
 mod Marked
 mod NumberedLemmas
