@@ -1,5 +1,6 @@
 mod ClientBasics
 mod ClientMade
+mod ClientQuiet
 mod ClientsStay
 mod CutWorld
 mod ExistenceLemmas
