@@ -25,6 +25,7 @@ use Rattle.ftl0_packets.specs.Layout.{Item, data_end, data_part, packet_text}
 use Rattle.ftl0_packets.specs.Reading.{packets_of}
 use Rattle.ftl0_packets.proofs.SplitLemmas.{texts-append}
 use Rattle.packet_link.specs.Queuing.{enough_free, fits, on_due}
+use Rattle.packet_link.proofs.Queuing.{filling-keeps}
 use Rattle.file_store.specs.Command.{Command, after_all}
 use Rattle.file_store.specs.Store.{Store}
 use Rattle.file_store.proofs.Offered.{after_all-append}
@@ -32,9 +33,9 @@ use Rattle.ftl0_session.specs.Downloads.Table as download
 use Rattle.ftl0_session.specs.Downloads.Sending as due_part
 use Rattle.ftl0_session.specs.Lists.Lists.{CallerList}
 use Rattle.ftl0_session.specs.Run.{Session, session_over}
-use Rattle.ftl0_session.specs.Table.{DuePacket, Row, State, download_part, in_session, next_due}
+use Rattle.ftl0_session.specs.Table.{DuePacket, Row, State, download_part, due_at, in_session, next_due}
 use Rattle.ftl0_server.specs.Connection.Connected.{Connected, caller_of}
-use Rattle.ftl0_server.specs.Connection.Hearing.{parts_as, parts_of_frame, progressed, rest_of_frame}
+use Rattle.ftl0_server.specs.Connection.Hearing.{hearing, parts_as, parts_of_frame, progressed, rest_of_frame}
 use Rattle.ftl0_server.specs.Connection.Taking as taken
 use Rattle.ftl0_server.specs.Connection.Taking.{Progress, after_due, queued, queuing, resting, taking}
 use Rattle.ftl0_server.specs.Entries as entry
@@ -320,6 +321,16 @@ up-by w end frame Ui up other = up
 up-behind : (w : Window) (end : LinkEnd) (frame : FrameValue) → end.state ≡ Up → is_call frame.kind.control ≡ false → IsUpBehind (heard_of w end frame) (after_frame w end frame)
 up-behind w end frame up other = subst (λ (state : LinkState). IsUpAfter (row_of_state state w end frame)) (sym up) (up-by w end frame frame.kind.control up other)
 
+-- what is due leaves the link as it is
+queuing-up : (count : ℕ) (store : Store) (progress : Progress) → progress.end.state ≡ Up → (queuing count store [] progress).end.state ≡ Up
+queuing-up count store progress up = filling-keeps (λ at. at.end) (λ at. due_at store at.state [] at.part) after_due (λ at. at.end.state ≡ Up) (λ at packet is here. here) count progress up
+
+queued-up : (store : Store) (progress : Progress) → (progress.over ≡ false → progress.end.state ≡ Up) → (over : Bool) → progress.over ≡ over
+    → (if over then progress else queuing (free_octets progress.end) (after_all store progress.done) [] progress).over ≡ false
+    → (if over then progress else queuing (free_octets progress.end) (after_all store progress.done) [] progress).end.state ≡ Up
+queued-up store progress up true is goes = absurd cc
+queued-up store progress up false is goes = queuing-up (free_octets progress.end) (after_all store progress.done) progress (up is)
+
 -- ---- a frame
 
 module _ (moment : ℕ) (store : Store) (lists : List CallerList) (c : Connected) (after : LinkEnd) (octets : List ℕ) where
@@ -382,3 +393,11 @@ hearing-law w moment store lists c frame up other =
     let progress : Progress = parts_of_frame w moment store lists c frame [] in
     let h = taken-told moment store lists c (after_frame w c.end frame) frame.kind.information (heard_of w c.end frame) (up-behind w c.end frame up other) in
     heard-by moment store lists c w frame progress _ h progress.over refl
+
+-- a link whose session goes on is up
+pub heard-up : (w : Window) (moment : ℕ) (store : Store) (lists : List CallerList) (c : Connected) (frame : FrameValue) → c.end.state ≡ Up → is_call frame.kind.control ≡ false
+    → (hearing w moment store lists c frame []).over ≡ false → (hearing w moment store lists c frame []).after.end.state ≡ Up
+heard-up w moment store lists c frame up other =
+    let progress : Progress = parts_of_frame w moment store lists c frame [] in
+    let h = taken-told moment store lists c (after_frame w c.end frame) frame.kind.information (heard_of w c.end frame) (up-behind w c.end frame up other) in
+    queued-up store progress h.up progress.over refl

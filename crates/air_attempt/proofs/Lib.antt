@@ -1,0 +1,3 @@
+mod LinkKeeps
+mod PacketLists
+mod SessionAppend
