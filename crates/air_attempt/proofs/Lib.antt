@@ -1,3 +1,6 @@
 mod LinkKeeps
 mod PacketLists
+mod Places
+mod ServerLink
 mod SessionAppend
+mod Transmissions
