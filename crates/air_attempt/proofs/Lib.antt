@@ -1,6 +1,8 @@
 mod LinkKeeps
 mod PacketLists
 mod Places
+mod ServerBetween
+mod ServerHearing
 mod ServerLink
 mod ServerPlaces
 mod SessionAppend
