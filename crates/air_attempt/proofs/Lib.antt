@@ -5,5 +5,6 @@ mod ServerBetween
 mod ServerHearing
 mod ServerLink
 mod ServerPlaces
+mod ServerStays
 mod SessionAppend
 mod Transmissions

@@ -116,7 +116,7 @@ tick-places old moment gives step =
 
 -- a station without a connection
 module _ (server : Server) (frame : FrameValue) (moment : ℕ) where
-  abbrev stranger_by : Bool → Option ℕ → Bool → Server
+  abbrev pub stranger_by : Bool → Option ℕ → Bool → Server
   stranger_by calls place asks =
       if calls then called_by server frame.src frame.poll moment place
       else if asks then refusing server frame.src true
