@@ -1,3 +1,4 @@
+mod Current
 mod LinkKeeps
 mod PacketLists
 mod Places
@@ -7,4 +8,5 @@ mod ServerLink
 mod ServerPlaces
 mod ServerStays
 mod SessionAppend
+mod Sitting
 mod Transmissions

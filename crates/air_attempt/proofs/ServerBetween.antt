@@ -88,10 +88,11 @@ pub length-map : {X Y : Type 0} (f : X → Y) (xs : List X) → length (map f xs
 length-map f [] = refl
 length-map f (x ∷ xs) = ap suc (length-map f xs)
 
--- A place has a connection of this caller now, or none; no other one had one before.
+-- A place has a connection of this caller now, or none, and had so before; no other one had one.
 pub record Resits (old : Server) (caller : CallSign) (place : ℕ) (now : Slot) : Type 0 where
   pub is : (c : Connected) → now ≡ connected c → (c.end.state ≡ Up) × (caller_of c ≡ caller)
   pub only : (other : ℕ) (c : Connected) → IsSeatedIn old other c → caller_of c ≡ caller → other ≡ place
+  pub was : (c : Connected) → IsSeatedIn old place c → caller_of c ≡ caller
 
 -- this caller at this place
 abbrev pub IsAtPlace : CallSign → ℕ → CallSign → ℕ → Type 0

@@ -1,6 +1,7 @@
 -- A server that heard a frame is one between events again.
 use Rattle.std.proofs.Common.{◌≡◌, ℕ, ◌<◌, List, [], Bool, true, false, Option, None, Some, refl, sym, ap, subst, ◌∙◌}
 use Rattle.std.specs.Prelude.{if◌then◌else◌, slice_get, slice_set, ◌&&◌}
+use Rattle.std.proofs.lemmas.Option.{same_Some}
 use Rattle.px_base.specs.CallSign.{CallSign}
 use Rattle.ax25_frames.specs.FrameText.{FrameValue}
 use Rattle.ax25_link.specs.declared.state.LinkState.TheVariants.{Up}
@@ -15,11 +16,11 @@ use Rattle.ftl0_server.specs.Entries.{HearingLaw}
 use Rattle.ftl0_server.specs.Laws as server
 use Rattle.ftl0_server.specs.Server.{Server, hearing_at, hearing_by, hearing_stranger}
 use Rattle.ftl0_server.specs.ServerStep.{ServerStep, Stepped, happening}
-use Rattle.ftl0_server.specs.Slots.{Slot, all_freed, connected, first_empty, free, leaving, place_of, slot_after}
+use Rattle.ftl0_server.specs.Slots.{Slot, all_freed, connected, first_empty, free, is_empty, leaving, place_of, slot_after}
 use Rattle.server_laws.specs.Places.{refusals}
 use Rattle.air_attempt.specs.Laws.{IsBetween, IsKnown, IsSeatedIn, StaysServer}
 use Rattle.air_attempt.proofs.LinkKeeps.{drains-keep}
-use Rattle.air_attempt.proofs.Places.{place-of-is, place-of-not}
+use Rattle.air_attempt.proofs.Places.{place-of-is, place-of-not, position-is}
 use Rattle.air_attempt.proofs.ServerBetween.{IsAtPlace, Reseats, Resits, between-new, known-new, none-reseats, place-reseats, steps-again}
 use Rattle.air_attempt.proofs.ServerHearing.{SlotEnds, StaysUp, drains-peer, frame-stays, left-connected, slot-ends}
 use Rattle.air_attempt.proofs.ServerPlaces.{ChangesNone, ChangesPlace, heard-place, opened-place, passed-places, stranger_by}
@@ -48,6 +49,17 @@ module _ (old : Server) (frame : FrameValue) (moment : ℕ) where
 
 -- ---- the cases of a frame
 
+same-seat : (c d : Connected) → Some (connected c) ≡ Some (connected d) → c ≡ d
+same-seat c d same = cc
+
+-- no connection is at the lowest free place
+empty-seat : (slots : List Slot) (place : ℕ) (c : Connected) → first_empty slots ≡ Some place → slice_get slots place ≡ Some (connected c) → ⊥
+empty-seat slots place c first there =
+    let it = position-is is_empty slots place free first in
+    let same : it.x ≡ connected c = same_Some it.x (connected c) (sym it.at ∙ there) in
+    let no : true ≡ false = sym it.passes ∙ ap is_empty same in
+    cc
+
 module _ (old : Server) (frame : FrameValue) (moment : ℕ) (gives : Stepped) (step : ServerStep old (hears frame moment) [] gives) where
   -- The sender's connection at this place hears it.
   pub record IsHeard : Type 0 where
@@ -65,6 +77,7 @@ module _ (old : Server) (frame : FrameValue) (moment : ℕ) (gives : Stepped) (s
   pub record IsOpened : Type 0 where
     pub place : ℕ
     pub none : place_of frame.src old.slots ≡ None
+    pub first : first_empty old.slots ≡ Some place
     pub calls : is_call frame.kind.control ≡ true
     pub changes :
         ChangesPlace old (hears frame moment) gives step place
@@ -88,6 +101,7 @@ module _ (old : Server) (frame : FrameValue) (moment : ℕ) (gives : Stepped) (s
           (record {
             place = place;
             none = none;
+            first = first;
             calls = calls;
             changes = changes;
             ends = slot-ends old.window false (answering old.me frame.src frame.poll moment (has_left old.lists frame.src)) gives.frames changes.now changes.drains;
@@ -128,6 +142,7 @@ module _ (old : Server) (frame : FrameValue) (moment : ℕ) (gives : Stepped) (s
                 ap caller_of (sym now.1) ∙ drains-peer old.window happened.after.end h.ends.last gives.frames between.window h.ends.drains ∙ stays.peer ∙ h.caller_is,
               );
           only = λ other c there same. between.distinct other h.place c h.c there h.there (same ∙ sym h.caller_is);
+          was = λ c there. ap caller_of (let same : c ≡ h.c = same-seat c h.c (sym there ∙ h.there) in same) ∙ h.caller_is;
         }
 
     pub opened-resits : (h : IsOpened) → Resits old frame.src h.place h.changes.now
@@ -140,6 +155,7 @@ module _ (old : Server) (frame : FrameValue) (moment : ℕ) (gives : Stepped) (s
                 ap caller_of (sym now.1) ∙ drains-peer old.window c.end h.ends.last gives.frames between.window h.ends.drains,
               );
           only = λ other d there same. absurd (place-of-not frame.src old.slots h.none other d there same);
+          was = λ d there. absurd (empty-seat old.slots h.place d h.first there);
         }
 
     pub heard-slots : (h : IsHeard) → gives.new.slots ≡ all_freed (slice_set old.slots h.place h.changes.now)
