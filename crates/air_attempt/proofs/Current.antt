@@ -60,23 +60,24 @@ unanswered-calls a place t one un at =
     let same = at-alone a.by_client un.alone.0 t place un.alone.1 at in
     ap (λ (x : Transmission). is_call (control_of x)) same ∙ first-calls un.alone.0 a.by_client un.alone.1 one
 
-some-side : (side other : ServerSide) → Some side ≡ Some other → side ≡ other
-some-side side other same = same_Some side other same
+-- The attempt has a session that is up, with this connection.
+pub record HasSession (a : Attempt) (c : Connected) : Type 0 where
+  pub side : ServerSide
+  pub is_side : a.server ≡ Some side
+  pub connected_is : side.connected ≡ c
+  pub is_up : side.is_up ≡ true
 
--- the session of the newest attempt
-newest-served : (me server : CallSign) (a : Attempt) (older : List Attempt) (c : Connected) (place : ℕ) (t : Transmission) → IsAttempt me server a
-    → IsAt a.by_client place t → is_call (control_of t) ≡ false → IsNewestSession c (a ∷ older) → IsServedBy (a ∷ older) c
+-- so it is where the caller has a connection, and a frame of the attempt comes that is no SABM
+pub newest-served : (me server : CallSign) (a : Attempt) (older : List Attempt) (c : Connected) (place : ℕ) (t : Transmission) → IsAttempt me server a
+    → IsAt a.by_client place t → is_call (control_of t) ≡ false → IsNewestSession c (a ∷ older) → HasSession a c
 newest-served me server a older c place t is at other newest = by a.server refl is.answered
   where
-    by : (o : Option ServerSide) → a.server ≡ o → IsAnsweredBy a o → IsServedBy (a ∷ older) c
+    by : (o : Option ServerSide) → a.server ≡ o → IsAnsweredBy a o → HasSession a c
     by None has un = absurd (let no : true ≡ false = sym (unanswered-calls a place t is.call un at) ∙ other in cc)
     by (Some side) has answered =
         let same : side ≡ newest.side =
         same_Some side newest.side (ap (λ (o : Option ServerSide). option_or o (newest_side older)) (sym has) ∙ newest.is_newest) in
         record {
-          attempt = a;
-          older = older;
-          attempts_are = refl;
           side = side;
           is_side = has;
           connected_is = ap (λ (s : ServerSide). s.connected) same ∙ newest.connected_is;
@@ -88,7 +89,15 @@ current old frame attempts marked place c calls delivers other is there =
     let comes = comes-by attempts marked frame delivers in
     let newest = calls.sits.some place c is there in
     let all = subst (λ (list : List Attempt). AreAttempts frame.src old.me list) comes.attempts_are calls.attempts_are in
-    subst (λ (list : List Attempt). IsServedBy list c) (sym comes.attempts_are)
-    (newest-served frame.src old.me comes.attempt comes.older c comes.place comes.t all.0 comes.lawful.sent
+    let has = newest-served frame.src old.me comes.attempt comes.older c comes.place comes.t all.0 comes.lawful.sent
     (ap (λ (f : FrameValue). is_call f.kind.control) (sym comes.frame_is) ∙ other)
-    (subst (λ (list : List Attempt). IsNewestSession c list) comes.attempts_are newest))
+    (subst (λ (list : List Attempt). IsNewestSession c list) comes.attempts_are newest) in
+    record {
+      attempt = comes.attempt;
+      older = comes.older;
+      attempts_are = comes.attempts_are;
+      side = has.side;
+      is_side = has.is_side;
+      connected_is = has.connected_is;
+      is_up = has.is_up;
+    }

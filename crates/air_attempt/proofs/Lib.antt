@@ -1,3 +1,4 @@
+mod Connections
 mod Current
 mod LinkKeeps
 mod PacketLists

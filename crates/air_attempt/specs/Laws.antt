@@ -1,5 +1,5 @@
 -- Laws of the attempts of one client: what each event makes of them, and what a side took of what the other one said.
-use Rattle.std.specs.Prelude.{◌≡◌, ◌≢◌, ◌⊎◌, ℕ, ◌^◌, ◌<◌, List, [], ◌∷◌, length, map, slice_get, true, false, None, Some, Ok}
+use Rattle.std.specs.Prelude.{◌≡◌, ◌≢◌, ◌⊎◌, ℕ, ◌^◌, ◌<◌, List, [], ◌∷◌, ◌++◌, length, map, slice_get, true, false, None, Some, Ok}
 use Rattle.std.specs.Prelude.{⊤}
 use Rattle.std.specs.List.{AllByRecursion}
 use Rattle.px_base.specs.CallSign.{CallSign}
@@ -7,12 +7,14 @@ use Rattle.px_base.specs.Octets.{IsOctets}
 use Rattle.ax25_frames.specs.FrameText.{FrameValue}
 use Rattle.ax25_link.specs.Air.{IsLawful, Transmission}
 use Rattle.ax25_link.specs.declared.state.LinkState.TheVariants.{Up}
+use Rattle.ax25_link.specs.Ends.{LinkEnd}
 use Rattle.ax25_link.specs.Rows.{is_call}
 use Rattle.ax25_link.specs.Window.{IsWindow}
 use Rattle.ftl0_packets.specs.Layout.{Fits}
 use Rattle.node.specs.Events.{NodeEvent, hears as frame_comes, ticks as tick_comes}
 use Rattle.file_store.specs.Command.{after_all}
 use Rattle.ftl0_server.specs.Connection.Connected.{Connected, caller_of}
+use Rattle.ftl0_server.specs.Connection.Hearing.{Happened, hearing, with_end}
 use Rattle.ftl0_server.specs.Entries as session
 use Rattle.ftl0_server.specs.Laws as server
 use Rattle.ftl0_server.specs.Server.{Server}
@@ -31,7 +33,7 @@ use Rattle.air_attempt.specs.Lists.{AreFirstOf}
 use Rattle.air_attempt.specs.Party.{AreOver, IsLinkOf, OnlyNewestUp, all_over, newest_side, to_client_delivered}
 use Rattle.air_attempt.specs.Party.{to_server_delivered, with_newest}
 use Rattle.air_attempt.specs.Sides.{ServerSide, said_by_client, said_by_server}
-use Rattle.air_attempt.specs.Transfers.{ServerDid, after_event, after_hearing, after_tick}
+use Rattle.air_attempt.specs.Transfers.{ServerDid, after_event, after_hearing, after_tick, connection_of}
 
 -- each is an attempt of the client at this call with this server
 abbrev pub AreAttempts : CallSign → CallSign → List Attempt → Type 0
@@ -54,6 +56,14 @@ DeliversToClient attempts frame marked = Delivers (λ a. a.by_server) to_client_
 
 abbrev pub DeliversToServer : List Attempt → FrameValue → List Attempt → Type 0
 DeliversToServer attempts frame marked = Delivers (λ a. a.by_client) to_server_delivered attempts frame marked
+
+-- The packets that a session took are the first of those that its client said.
+abbrev pub ServerTookFront : Attempt → ServerSide → Type 0
+ServerTookFront a side = AreFirstOf (session.items_in side.entries) (map Ok (said_by_client a.client))
+
+-- The packets that a job took are the first of those that its session said.
+abbrev pub ClientTookFront : Attempt → ServerSide → Type 0
+ClientTookFront a side = AreFirstOf (job.items_in a.client.entries) (map Ok (said_by_server side))
 
 -- ---- the client's events
 
@@ -183,6 +193,30 @@ pub record ServerHearsLaw : Type 0 where
       → IsBetween old → Calls old me attempts → me ≢ frame.src
       → ServerStep old (frame_comes frame moment) [] gives → Calls gives.new me attempts
 
+-- what a frame of the caller makes of its connection, at what the server did
+abbrev pub heard_in : ServerDid → Connected → FrameValue → Happened
+heard_in did c frame = hearing did.old.window did.moment did.old.store did.old.lists c frame []
+
+-- the caller's connection, the commands and the lists are those that the session makes of the frame
+pub record SessionHears (did : ServerDid) (gives : Stepped) (frame : FrameValue) (c : Connected) : Type 0 where
+  pub end : LinkEnd
+  pub after_is : connection_of did.last frame.src ≡ Some (with_end (heard_in did c frame).after end)
+  pub done_is : gives.done ≡ (heard_in did c frame).done
+  pub lists_are : gives.new.lists ≡ (heard_in did c frame).lists
+
+-- What a frame makes of store and lists: what the session makes of it that hears it; and nothing, where it is a SABM or
+-- no session does.
+pub record HeardLaw : Type 0 where
+  pub heard :
+      (old : Server) (frame : FrameValue) (moment : ℕ) (gives : Stepped) (place : ℕ) (c : Connected) → IsBetween old
+      → is_call frame.kind.control ≡ false → place_of frame.src old.slots ≡ Some place → IsSeatedIn old place c
+      → (step : ServerStep old (frame_comes frame moment) [] gives) → SessionHears (did_in moment step) gives frame c
+  pub unheard :
+      (old : Server) (frame : FrameValue) (moment : ℕ) (gives : Stepped) → IsBetween old
+      → (is_call frame.kind.control ≡ true) ⊎ (place_of frame.src old.slots ≡ None)
+      → ServerStep old (frame_comes frame moment) [] gives
+      → (gives.done ≡ []) × (gives.new.lists ≡ old.lists)
+
 -- And what it makes of a tick, of the attempts of each client.
 pub record ServerTicksLaw : Type 0 where
   pub server :
@@ -210,6 +244,18 @@ CurrentLaw =
     → Calls old frame.src attempts → DeliversToServer attempts frame marked → is_call frame.kind.control ≡ false
     → place_of frame.src old.slots ≡ Some place → IsSeatedIn old place c → IsServedBy attempts c
 
+-- What a session takes by a frame are the next packets that its client said.
+abbrev pub HeardFrontLaw : Type 0
+HeardFrontLaw =
+    (old : Server) (frame : FrameValue) (moment : ℕ) (attempts marked : List Attempt) (place : ℕ) (c : Connected)
+    → IsBetween old → Calls old frame.src attempts → DeliversToServer attempts frame marked
+    → is_call frame.kind.control ≡ false → place_of frame.src old.slots ≡ Some place → IsSeatedIn old place c
+    → (served : IsServedBy attempts c)
+    → ServerTookFront served.attempt
+    (record served.side {
+      entries = served.side.entries ++ session.entries_heard old.window moment old.store old.lists c frame;
+    })
+
 -- ---- what a power cut leaves
 
 -- Attempts stay attempts where their sessions are over, and where a transmission is marked as delivered.
@@ -224,14 +270,6 @@ pub record LeftLaw : Type 0 where
       → AreAttempts me server attempts → DeliversToServer attempts frame marked → AreAttempts me server marked
 
 -- ---- what one side took
-
--- The packets that a session took are the first of those that its client said.
-abbrev pub ServerTookFront : Attempt → ServerSide → Type 0
-ServerTookFront a side = AreFirstOf (session.items_in side.entries) (map Ok (said_by_client a.client))
-
--- The packets that a job took are the first of those that its session said.
-abbrev pub ClientTookFront : Attempt → ServerSide → Type 0
-ClientTookFront a side = AreFirstOf (job.items_in a.client.entries) (map Ok (said_by_server side))
 
 -- So it is in each attempt that a session answered.
 abbrev pub FrontLaw : Type 0
