@@ -6,6 +6,7 @@ mod Places
 mod ServerBetween
 mod ServerHearing
 mod ServerLink
+mod ServerOwn
 mod ServerPlaces
 mod ServerStays
 mod SessionAppend
