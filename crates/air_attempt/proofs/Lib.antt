@@ -5,6 +5,7 @@ mod PacketLists
 mod Places
 mod ServerBetween
 mod ServerHearing
+mod ServerHears
 mod ServerLink
 mod ServerOwn
 mod ServerPlaces

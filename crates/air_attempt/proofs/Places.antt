@@ -110,6 +110,10 @@ callers-place caller free is = absurd cc
 callers-place caller (connected c) is = record { c = c; is = refl; caller_is = caller-is caller c is }
 callers-place caller (leaving c) is = absurd cc
 
+-- one place has one connection
+pub same-seat : (c d : Connected) → Some (connected c) ≡ Some (connected d) → c ≡ d
+same-seat c d same = cc
+
 module _ (caller : CallSign) (slots : List Slot) where
   abbrev IsSeat : ℕ → Connected → Type 0
   IsSeat place c = slice_get slots place ≡ Some (connected c)

@@ -46,39 +46,41 @@ pub record OwnStep (w : Window) (moment : ℕ) (store : Store) (lists : List Cal
   pub goes_on : up ≡ true → (hearing w moment store lists c frame []).over ≡ false
 
 module _ (me server : CallSign) (a : Attempt) (side : ServerSide) (is : IsAttempt me server a) (has : a.server ≡ Some side) (is_up : side.is_up ≡ true)
-    (place : ℕ) (t : Transmission) (lawful : IsLawful a.window a.by_client place t) where
+    (place : ℕ) (t : Transmission) (lawful : IsLawful a.window a.by_client place t) (frame : FrameValue) (frame_is : frame ≡ t.frame) where
   module _ (w : Window) (same : a.window ≡ w) (moment : ℕ) (store : Store) (lists : List CallerList) (frames : List FrameValue) (last : LinkEnd) (up : Bool)
-      (h : OwnStep w moment store lists t.frame frames last up side.connected) where
+      (h : OwnStep w moment store lists frame frames last up side.connected) where
     abbrev c : Connected
     c = side.connected
 
     abbrev entries : List SessionEntry
-    entries = entries_heard w moment store lists c t.frame
+    entries = entries_heard w moment store lists c frame
 
     -- the session gone on
     abbrev pub after_own : ServerSide
-    after_own = gone_by side (hearing w moment store lists c t.frame []) last entries up
+    after_own = gone_by side (hearing w moment store lists c frame []) last entries up
 
-    link-step : LinkStep a.window c.end (step.frame t.frame) (heard_of a.window c.end t.frame) h.heard.doings frames last
+    link-step : LinkStep a.window c.end (step.frame frame) (heard_of a.window c.end frame) h.heard.doings frames last
     link-step =
-        subst (λ (v : Window). LinkStep v c.end (step.frame t.frame) (heard_of v c.end t.frame) h.heard.doings frames last) (sym same)
+        subst (λ (v : Window). LinkStep v c.end (step.frame frame) (heard_of v c.end frame) h.heard.doings frames last) (sym same)
         (record {
           quiet = subst (λ (v : Window). IsQuiet v c.end) same (answered-by me server a side is has).quiet;
           told = refl;
-          end = (hearing w moment store lists c t.frame []).after.end;
+          end = (hearing w moment store lists c frame []).after.end;
           does = h.heard.does;
           drains = h.drains;
         })
 
     linked : AreLinked a.window (record { end = a.client.attempted.end; transmissions = delivering a.by_client place t })
         (record { end = last; transmissions = sending_all a.by_server frames })
-    linked = link-hears me server a side place t (heard_of a.window c.end t.frame) h.heard.doings frames last is has lawful link-step
+    linked =
+        link-hears me server a side place t (heard_of a.window c.end frame) h.heard.doings frames last is has lawful
+        (subst (λ (f : FrameValue). LinkStep a.window c.end (step.frame f) (heard_of a.window c.end frame) h.heard.doings frames last) frame_is link-step)
 
     are-octets : IsOctets (concat last.taken)
     are-octets = taken-octets me server a (delivering a.by_client place t) (sending_all a.by_server frames) last is linked
 
     sends-own : SendsOwn a.window c.end frames last
-    sends-own = stations_law.step a.window c.end last (step.frame t.frame) (heard_of a.window c.end t.frame) h.heard.doings frames is.window link-step
+    sends-own = stations_law.step a.window c.end last (step.frame frame) (heard_of a.window c.end frame) h.heard.doings frames is.window link-step
 
     pub own-goes-on : IsAttempt me server (gone a after_own (delivering a.by_client place t) frames)
     own-goes-on =
@@ -90,7 +92,7 @@ module _ (me server : CallSign) (a : Attempt) (side : ServerSide) (is : IsAttemp
           linked = linked;
           quiet = drains-quiet a.window link-step.end last frames link-step.drains;
           session =
-              session-goes-on w moment store lists t.frame side entries frames last up (answered-by me server a side is has).session
+              session-goes-on w moment store lists frame side entries frames last up (answered-by me server a side is has).session
               (record {
                 is_up = is_up;
                 state = h.state;

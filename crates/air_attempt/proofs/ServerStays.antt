@@ -20,7 +20,7 @@ use Rattle.ftl0_server.specs.Slots.{Slot, all_freed, connected, first_empty, fre
 use Rattle.server_laws.specs.Places.{refusals}
 use Rattle.air_attempt.specs.Laws.{IsBetween, IsKnown, IsSeatedIn, StaysServer}
 use Rattle.air_attempt.proofs.LinkKeeps.{drains-keep}
-use Rattle.air_attempt.proofs.Places.{place-of-is, place-of-not, position-is}
+use Rattle.air_attempt.proofs.Places.{place-of-is, place-of-not, position-is, same-seat}
 use Rattle.air_attempt.proofs.ServerBetween.{IsAtPlace, Reseats, Resits, between-new, known-new, none-reseats, place-reseats, steps-again}
 use Rattle.air_attempt.proofs.ServerHearing.{SlotEnds, StaysUp, drains-peer, frame-stays, left-connected, slot-ends}
 use Rattle.air_attempt.proofs.ServerPlaces.{ChangesNone, ChangesPlace, heard-place, opened-place, passed-places, stranger_by}
@@ -48,9 +48,6 @@ module _ (old : Server) (frame : FrameValue) (moment : ℕ) where
   store-by (Some place) = store-at place (slice_get old.slots place)
 
 -- ---- the cases of a frame
-
-same-seat : (c d : Connected) → Some (connected c) ≡ Some (connected d) → c ≡ d
-same-seat c d same = cc
 
 -- no connection is at the lowest free place
 empty-seat : (slots : List Slot) (place : ℕ) (c : Connected) → first_empty slots ≡ Some place → slice_get slots place ≡ Some (connected c) → ⊥

@@ -10,16 +10,13 @@ use Rattle.ftl0_server.specs.Server.{Server}
 use Rattle.ftl0_server.specs.Slots.{Slot, all_freed, connected, place_of}
 use Rattle.air_attempt.specs.Attempt.{Attempt, IsAttempt}
 use Rattle.air_attempt.specs.Laws.{AreAttempts, Calls, IsBetween, IsNewestSession, IsSeatedIn, SitsBy}
-use Rattle.air_attempt.proofs.Places.{place-of-at, place-of-is, place-of-no, place-of-not, seat-freed}
+use Rattle.air_attempt.proofs.Places.{place-of-at, place-of-is, place-of-no, place-of-not, same-seat, seat-freed}
 use Rattle.air_attempt.proofs.ServerBetween.{Resits, seat-before, seat-is}
 
 -- The connections of a caller are where they were, and no other.
 pub record KeepsSeats (old new : Server) (me : CallSign) : Type 0 where
   pub back : (place : ℕ) (c : Connected) → IsSeatedIn new place c → caller_of c ≡ me → IsSeatedIn old place c
   pub forth : (place : ℕ) (c : Connected) → IsSeatedIn old place c → caller_of c ≡ me → IsSeatedIn new place c
-
-same-seat : (c d : Connected) → Some (connected c) ≡ Some (connected d) → c ≡ d
-same-seat c d same = cc
 
 module _ (old new : Server) (me : CallSign) (between : IsBetween old) (keeps : KeepsSeats old new me) (attempts : List Attempt) where
   sits-kept : SitsBy old me attempts → SitsBy new me attempts
