@@ -42,7 +42,7 @@ comes-by (a ∷ older) marked frame d =
     }
 
 -- the only transmission of one
-at-alone : (list : List Transmission) (call t : Transmission) (place : ℕ) → list ≡ call ∷ [] → IsAt list place t → t ≡ call
+pub at-alone : (list : List Transmission) (call t : Transmission) (place : ℕ) → list ≡ call ∷ [] → IsAt list place t → t ≡ call
 at-alone list call t place alone at = by place (ap (λ (l : List Transmission). slice_get l place) (sym alone) ∙ at)
   where
     by : (n : ℕ) → slice_get (call ∷ []) n ≡ Some t → t ≡ call

@@ -1,5 +1,6 @@
 mod Connections
 mod Current
+mod Left
 mod LinkKeeps
 mod PacketLists
 mod Places
