@@ -8,6 +8,7 @@ mod ServerBetween
 mod ServerHearing
 mod ServerHears
 mod ServerLink
+mod ServerOpens
 mod ServerOwn
 mod ServerPlaces
 mod ServerStays
