@@ -5,6 +5,7 @@ mod LinkKeeps
 mod PacketLists
 mod Places
 mod ServerBetween
+mod ServerCalls
 mod ServerHearing
 mod ServerHears
 mod ServerLink

@@ -57,7 +57,7 @@ pub record GoesOn (me server : CallSign) (a : Attempt) (old new : ServerSide) (l
   pub quiet : IsQuiet a.window new.connected.end
   pub session : IsSession new
 
-serving-end : (me server : CallSign) (a : Attempt) (side : ServerSide) → IsAttempt me server a → a.server ≡ Some side → IsEndOf false server me side.connected.end
+pub serving-end : (me server : CallSign) (a : Attempt) (side : ServerSide) → IsAttempt me server a → a.server ≡ Some side → IsEndOf false server me side.connected.end
 serving-end me server a side is has = by a.server has is.stations.serves
   where
     by : (o : Option ServerSide) → o ≡ Some side → IfSome o (λ (s : ServerSide). IsEndOf false server me s.connected.end) → IsEndOf false server me side.connected.end
