@@ -11,6 +11,8 @@ mod ServerHears
 mod ServerLink
 mod ServerOpens
 mod ServerOwn
+mod ServerOwnLaw
+mod ServerPassed
 mod ServerPlaces
 mod ServerStays
 mod SessionAppend
