@@ -9,8 +9,8 @@ use Rattle.ftl0_server.specs.Server.{Server}
 use Rattle.ftl0_server.specs.Slots.{Slot, all_freed, connected, free, leaving, left_by, place_of}
 use Rattle.air_attempt.specs.Laws.{IsBetween, IsSeatedIn}
 use Rattle.air_attempt.specs.Transfers.{connection_of, has_session}
-use Rattle.air_attempt.proofs.Places.{connection-is, connection-no, get-set, held, place-of-at, place-of-is, place-of-no, place-of-not, seat-freed}
-use Rattle.air_attempt.proofs.ServerBetween.{Resits, seat-is}
+use Rattle.air_attempt.proofs.Places.{connection-is, connection-no, freed-seat, get-set, held, place-of-at, place-of-no, place-of-not, seat-freed}
+use Rattle.air_attempt.proofs.ServerBetween.{Resits}
 
 left-held : (over : Bool) (c : Connected) → held (left_by over c) ≡ Some c
 left-held true c = refl
@@ -37,38 +37,29 @@ module _ (old : Server) (between : IsBetween old) where
   pub old-none : (caller : CallSign) → ((place : ℕ) (c : Connected) → IsSeatedIn old place c → caller_of c ≡ caller → ⊥) → connection_of old caller ≡ None
   old-none caller none = connection-no caller old.slots (λ other slot that at is theirs. none other that (held-seat other slot that at is) theirs)
 
--- ---- behind a step that changed one place
+-- ---- behind a step
 
-module _ (old last new : Server) (between : IsBetween old) (caller : CallSign) (place : ℕ) (now : Slot) (within : place < length old.slots)
-    (slots_are : last.slots ≡ slice_set old.slots place now) (new_are : new.slots ≡ all_freed (slice_set old.slots place now))
-    (sits : Resits old caller place now) (over : Bool) (c : Connected) (now_is : now ≡ left_by over c) (caller_is : caller_of c ≡ caller) where
-  -- what is at a place of the server that sent all
-  last-get : (other : ℕ) (slot : Slot) → slice_get last.slots other ≡ Some slot
-      → ((other ≡ place) × (now ≡ slot)) ⊎ ((other ≢ place) × (slice_get old.slots other ≡ Some slot))
-  last-get other slot at = get-set old.slots place other now slot within (ap (λ (s : List Slot). slice_get s other) (sym slots_are) ∙ at)
+-- A caller's connection when the server has sent all, whose session is over or isn't; and the server then, in which
+-- places are free whose sessions are over.
+pub record IsBehind (last new : Server) (caller : CallSign) (place : ℕ) (over : Bool) (c : Connected) : Type 0 where
+  pub here : slice_get last.slots place ≡ Some (left_by over c)
+  pub caller_is : caller_of c ≡ caller
+  pub only :
+      (other : ℕ) (slot : Slot) (that : Connected) → slice_get last.slots other ≡ Some slot → held slot ≡ Some that
+      → caller_of that ≡ caller → other ≡ place
+  pub new_are : new.slots ≡ all_freed last.slots
 
-  here : slice_get last.slots place ≡ Some now
-  here = ap (λ (s : List Slot). slice_get s place) slots_are ∙ slice_get-set_same old.slots place now within
-
+module _ (last new : Server) (caller : CallSign) (place : ℕ) (over : Bool) (c : Connected) (behind : IsBehind last new caller place over c) where
   pub last-connection : connection_of last caller ≡ Some c
-  last-connection =
-      connection-is caller last.slots place now c here (ap held now_is ∙ left-held over c) caller_is
-      (λ other slot that at is theirs.
-      elim (last-get other slot at) [
-        | inl it ↦ it.0
-        | inr was ↦ sits.only other that (held-seat old between other slot that was.1 is) theirs
-      ])
+  last-connection = connection-is caller last.slots place (left_by over c) c behind.here (left-held over c) behind.caller_is behind.only
+
+  only-seat : (other : ℕ) (that : Connected) → slice_get last.slots other ≡ Some (connected that) → caller_of that ≡ caller_of c → other ≡ place
+  only-seat other that there theirs = behind.only other (connected that) that there refl (theirs ∙ behind.caller_is)
 
   -- it is up unless its session is over
   pub session-up : over ≡ false → has_session last (caller_of c) ≡ true
   session-up goes =
-      ap is_some
-      (place-of-at (caller_of c) last.slots place c (here ∙ ap Some (now_is ∙ ap (λ (b : Bool). left_by b c) goes)) refl
-      (λ other that there theirs.
-      elim (last-get other (connected that) there) [
-        | inl it ↦ it.0
-        | inr was ↦ sits.only other that was.1 (theirs ∙ caller_is)
-      ]))
+      ap is_some (place-of-at (caller_of c) last.slots place c (behind.here ∙ ap (λ (b : Bool). Some (left_by b c)) goes) refl only-seat)
 
   seat-not-over : (d : Connected) → left_by over c ≡ connected d → (over ≡ false) × (c ≡ d)
   seat-not-over d is = by over refl
@@ -77,20 +68,25 @@ module _ (old last new : Server) (between : IsBetween old) (caller : CallSign) (
       by true is_over = absurd (let no : leaving c ≡ connected d = ap (λ (b : Bool). left_by b c) (sym is_over) ∙ is in cc)
       by false goes = (goes, let same : connected c ≡ connected d = ap (λ (b : Bool). left_by b c) (sym goes) ∙ is in cc)
 
+  -- a seat of the caller
+  seat-here : (other : ℕ) (d : Connected) → slice_get last.slots other ≡ Some (connected d) → caller_of d ≡ caller → (over ≡ false) × (c ≡ d)
+  seat-here other d there mine =
+      let at = behind.only other (connected d) d there refl mine in
+      seat-not-over d
+      (same_Some (left_by over c) (connected d) (sym behind.here ∙ ap (λ n. slice_get last.slots n) (sym at) ∙ there))
+
   pub up-goes : has_session last (caller_of c) ≡ true → over ≡ false
   up-goes up = by over refl
     where
-      none-there : over ≡ true → (other : ℕ) (that : Connected) → slice_get last.slots other ≡ Some (connected that) → caller_of that ≡ caller_of c → ⊥
-      none-there is_over other that there theirs =
-          elim (last-get other (connected that) there) [
-            | inl it ↦ (let goes = (seat-not-over that (sym now_is ∙ it.1)).0 in let no : true ≡ false = sym is_over ∙ goes in cc)
-            | inr was ↦ was.0 (sits.only other that was.1 (theirs ∙ caller_is))
-          ]
-
       by : (b : Bool) → over ≡ b → over ≡ false
       by true is_over =
           absurd
-          (let none : place_of (caller_of c) last.slots ≡ None = place-of-no (caller_of c) last.slots (none-there is_over) in
+          (let none : place_of (caller_of c) last.slots ≡ None =
+          place-of-no (caller_of c) last.slots
+          (λ other that there theirs.
+          let goes = (seat-here other that there (theirs ∙ behind.caller_is)).0 in
+          let no : true ≡ false = sym is_over ∙ goes in
+          cc) in
           let no : false ≡ true = sym (ap is_some none) ∙ up in
           cc)
       by false goes = goes
@@ -98,10 +94,7 @@ module _ (old last new : Server) (between : IsBetween old) (caller : CallSign) (
   -- the caller's connection between events is this one, where it has one
   pub new-seat : (other : ℕ) (d : Connected) → IsSeatedIn new other d → caller_of d ≡ caller → (over ≡ false) × (c ≡ d)
   new-seat other d there mine =
-      elim (seat-is old new between caller place now within new_are sits other d there) [
-        | inl it ↦ seat-not-over d (sym now_is ∙ it.1)
-        | inr was ↦ absurd (was.0 (sits.only other d was.1 mine))
-      ]
+      seat-here other d (freed-seat last.slots other d (ap (λ (s : List Slot). slice_get s other) (sym behind.new_are) ∙ there)) mine
 
   -- it has none where the session is over
   pub none-over : place_of caller new.slots ≡ None → has_session last (caller_of c) ≡ false
@@ -112,5 +105,20 @@ module _ (old last new : Server) (between : IsBetween old) (caller : CallSign) (
       by false goes =
           absurd
           (place-of-not caller new.slots none place c
-          (ap (λ (s : List Slot). slice_get s place) new_are ∙ seat-freed (slice_set old.slots place now) place c
-          (slice_get-set_same old.slots place now within ∙ ap Some (now_is ∙ ap (λ (b : Bool). left_by b c) goes))) caller_is)
+          (ap (λ (s : List Slot). slice_get s place) behind.new_are
+          ∙ seat-freed last.slots place c (behind.here ∙ ap (λ (b : Bool). Some (left_by b c)) goes)) behind.caller_is)
+
+-- so it is behind a step that changed the caller's place alone
+pub place-behind : (old last new : Server) → IsBetween old → (caller : CallSign) (place : ℕ) (now : Slot) → place < length old.slots
+    → last.slots ≡ slice_set old.slots place now → new.slots ≡ all_freed last.slots → Resits old caller place now → (over : Bool) (c : Connected)
+    → now ≡ left_by over c → caller_of c ≡ caller → IsBehind last new caller place over c
+place-behind old last new between caller place now within slots_are new_are sits over c now_is caller_is = record {
+  here = ap (λ (s : List Slot). slice_get s place) slots_are ∙ slice_get-set_same old.slots place now within ∙ ap Some now_is;
+  caller_is = caller_is;
+  only = λ other slot that at is theirs.
+      elim (get-set old.slots place other now slot within (ap (λ (s : List Slot). slice_get s other) (sym slots_are) ∙ at)) [
+        | inl it ↦ it.0
+        | inr was ↦ sits.only other that (held-seat old between other slot that was.1 is) theirs
+      ];
+  new_are = new_are;
+}

@@ -22,7 +22,7 @@ use Rattle.air_attempt.specs.Laws.{AreAttempts, Calls, IsBetween, IsNewestSessio
 use Rattle.air_attempt.specs.Party.{all_over, newest_side, server_sends, to_server_delivered}
 use Rattle.air_attempt.specs.Sides.{ServerSide}
 use Rattle.air_attempt.specs.Transfers.{ServerDid, after_hearing, connection_of, has_session, heard_by}
-use Rattle.air_attempt.proofs.Connections.{last-connection, new-seat, none-over, session-up}
+use Rattle.air_attempt.proofs.Connections.{IsBehind, last-connection, new-seat, none-over, place-behind, session-up}
 use Rattle.air_attempt.proofs.Left.{all-attempts-over, are-over, over-windows}
 use Rattle.air_attempt.proofs.ServerBetween.{Resits}
 use Rattle.air_attempt.proofs.ServerHearing.{SlotEnds, drains-peer, hears-call, reopened}
@@ -30,7 +30,7 @@ use Rattle.air_attempt.proofs.ServerHears.{calls-by}
 use Rattle.air_attempt.proofs.ServerLink.{gone, serving-end}
 use Rattle.air_attempt.proofs.ServerOpens.{begins, not-answered, opens}
 use Rattle.air_attempt.proofs.ServerPlaces.{Keeps}
-use Rattle.air_attempt.proofs.ServerStays.{IsHeard, IsOpened, heard-resits, heard-slots, opened-resits, opened-slots}
+use Rattle.air_attempt.proofs.ServerStays.{IsHeard, IsOpened, heard-resits, opened-resits}
 
 -- the end of the newest session is of the server and the client
 newest-end : (me server : CallSign) (attempts : List Attempt) (side : ServerSide) → AreAttempts me server attempts → newest_side attempts ≡ Some side
@@ -58,7 +58,7 @@ module _ (old : Server) (frame : FrameValue) (moment : ℕ) (gives : Stepped) (s
     pub now : Slot
     pub within : at < length old.slots
     pub last_slots : step.last.slots ≡ slice_set old.slots at now
-    pub new_slots : gives.new.slots ≡ all_freed (slice_set old.slots at now)
+    pub new_slots : gives.new.slots ≡ all_freed step.last.slots
     pub resits : Resits old frame.src at now
     pub ends : SlotEnds old.window false (answering old.me frame.src frame.poll moment (has_left old.lists frame.src)) gives.frames now
     pub me_is : gives.new.me ≡ old.me
@@ -72,15 +72,18 @@ module _ (old : Server) (frame : FrameValue) (moment : ℕ) (gives : Stepped) (s
     caller-is : caller_of c ≡ frame.src
     caller-is = drains-peer old.window (answering old.me frame.src frame.poll moment left).end h.ends.last gives.frames between.window h.ends.drains
 
+    behind : IsBehind step.last gives.new frame.src h.at false c
+    behind =
+        place-behind old step.last gives.new between frame.src h.at h.now h.within h.last_slots h.new_slots h.resits false c h.ends.now_is caller-is
+
     abbrev opened_as : Attempt → List Attempt → Bool → List Attempt
     opened_as a older numbers =
         server_sends gives.frames (record a { server = Some (begins h.ends.last moment numbers) }) ∷ all_over older
 
     opened-is : (a : Attempt) (older : List Attempt) → after_hearing did frame (a ∷ older) ≡ opened_as a older left
     opened-is a older =
-        let behind =
-        last-connection old step.last gives.new between frame.src h.at h.now h.within h.last_slots h.new_slots h.resits false c h.ends.now_is caller-is in
-        ap₂ (λ (b : Bool) (o : Option Connected). heard_by b (connection_of old frame.src) o did frame (a ∷ older)) calls_is behind
+        let now = last-connection step.last gives.new frame.src h.at false c behind in
+        ap₂ (λ (b : Bool) (o : Option Connected). heard_by b (connection_of old frame.src) o did frame (a ∷ older)) calls_is now
         ∙ ap (λ (caller : CallSign). opened_as a older (has_left old.lists caller)) caller-is
 
     module _ (a : Attempt) (older : List Attempt) (are : AreAttempts frame.src old.me (a ∷ older))
@@ -96,8 +99,7 @@ module _ (old : Server) (frame : FrameValue) (moment : ℕ) (gives : Stepped) (s
 
       pub opened-calls : Calls gives.new frame.src (after_hearing did frame (to_server_delivered place t a ∷ older))
       opened-calls =
-          let up =
-          session-up old step.last gives.new between frame.src h.at h.now h.within h.last_slots h.new_slots h.resits false c h.ends.now_is caller-is refl in
+          let up = session-up step.last gives.new frame.src h.at false c behind refl in
           subst (λ (list : List Attempt). Calls gives.new frame.src list) (sym (opened-is (to_server_delivered place t a) older))
           (calls-by gives.new frame.src _ (all_over older) (begins h.ends.last moment left) refl
           (subst (λ (server : CallSign). AreAttempts frame.src server (opened_as (to_server_delivered place t a) older left)) (sym h.me_is) new-attempts)
@@ -105,12 +107,10 @@ module _ (old : Server) (frame : FrameValue) (moment : ℕ) (gives : Stepped) (s
           (windows.0, over-windows old.window older windows.1))
           (are-over older)
           (λ none.
-          let down =
-          none-over old step.last gives.new between frame.src h.at h.now h.within h.last_slots h.new_slots h.resits false c h.ends.now_is caller-is none in
+          let down = none-over step.last gives.new frame.src h.at false c behind none in
           sym up ∙ down)
           (λ other d there mine.
-          let seat =
-          new-seat old step.last gives.new between frame.src h.at h.now h.within h.last_slots h.new_slots h.resits false c h.ends.now_is caller-is other d there mine in
+          let seat = new-seat step.last gives.new frame.src h.at false c behind other d there mine in
           (seat.1, refl)))
 
   -- a station without a session
@@ -120,7 +120,7 @@ module _ (old : Server) (frame : FrameValue) (moment : ℕ) (gives : Stepped) (s
     now = h.changes.now;
     within = h.changes.within;
     last_slots = h.changes.slots_are;
-    new_slots = opened-slots old frame moment gives step hearing_law between h;
+    new_slots = h.changes.keeps.slots;
     resits = opened-resits old frame moment gives step hearing_law between h;
     ends = h.ends;
     me_is = h.changes.keeps.me;
@@ -144,7 +144,7 @@ module _ (old : Server) (frame : FrameValue) (moment : ℕ) (gives : Stepped) (s
         now = h.changes.now;
         within = h.changes.within;
         last_slots = h.changes.slots_are;
-        new_slots = heard-slots old frame moment gives step hearing_law between h;
+        new_slots = h.changes.keeps.slots;
         resits = heard-resits old frame moment gives step hearing_law between h;
         ends = subst (by old.me) end.peer_is (subst (λ (me : CallSign). by me h.c.end.peer) end.me_is ends);
         me_is = h.changes.keeps.me;

@@ -20,11 +20,11 @@ use Rattle.air_attempt.specs.Laws.{AreAttempts, Calls, IsBetween, IsNewestSessio
 use Rattle.air_attempt.specs.Party.{AreOver, OnlyNewestUp, newest_side, to_server_delivered, with_answered}
 use Rattle.air_attempt.specs.Sides.{ServerSide}
 use Rattle.air_attempt.specs.Transfers.{ServerDid, after_hearing, connection_of, has_session, heard_by, served}
-use Rattle.air_attempt.proofs.Connections.{last-connection, new-seat, none-over, old-connection, session-up, up-goes}
+use Rattle.air_attempt.proofs.Connections.{IsBehind, last-connection, new-seat, none-over, old-connection, place-behind, session-up, up-goes}
 use Rattle.air_attempt.proofs.Places.{place-of-is, same-seat}
 use Rattle.air_attempt.proofs.ServerHearing.{drains-peer, frame-stays}
 use Rattle.air_attempt.proofs.ServerOwn.{OwnStep, own-goes-on}
-use Rattle.air_attempt.proofs.ServerStays.{IsHeard, heard-resits, heard-slots}
+use Rattle.air_attempt.proofs.ServerStays.{IsHeard, heard-resits}
 
 -- the newest attempt has a session, so that none of the others is up
 older-over : (a : Attempt) (older : List Attempt) (side : ServerSide) → a.server ≡ Some side → OnlyNewestUp (a ∷ older) → AreOver older
@@ -78,6 +78,11 @@ module _ (old : Server) (frame : FrameValue) (moment : ℕ) (gives : Stepped) (s
       drains-peer old.window happened.after.end h.ends.last gives.frames between.window h.ends.drains
       ∙ (frame-stays moment old.store old.lists h.c frame hearing_law old.window (between.ups h.place h.c h.there)).peer ∙ h.caller_is
 
+  pub behind : IsBehind step.last gives.new frame.src h.place happened.over (after_of h.c)
+  behind =
+      place-behind old step.last gives.new between frame.src h.place h.changes.now h.changes.within h.changes.slots_are h.changes.keeps.slots
+      (heard-resits old frame moment gives step hearing_law between h) happened.over (after_of h.c) h.ends.now_is caller-stays
+
   own-step : OwnStep old.window moment old.store old.lists frame gives.frames h.ends.last (up_of h.c) h.c
   own-step =
       let up = between.ups h.place h.c h.there in
@@ -90,9 +95,7 @@ module _ (old : Server) (frame : FrameValue) (moment : ℕ) (gives : Stepped) (s
         drains = h.ends.drains;
         fits = fits.said h.place h.c h.is_place h.there other;
         goes_on =
-            up-goes old step.last gives.new between frame.src h.place h.changes.now h.changes.within h.changes.slots_are
-            (heard-slots old frame moment gives step hearing_law between h) (heard-resits old frame moment gives step hearing_law between h) happened.over
-            (after_of h.c) h.ends.now_is caller-stays;
+            up-goes step.last gives.new frame.src h.place happened.over (after_of h.c) behind;
       }
 
   -- what the attempts are then, of which the newest one has this session
@@ -102,12 +105,9 @@ module _ (old : Server) (frame : FrameValue) (moment : ℕ) (gives : Stepped) (s
   heard-is : (a : Attempt) (older : List Attempt) (side : ServerSide) → a.server ≡ Some side → after_hearing did frame (a ∷ older) ≡ heard_as a older side h.c
   heard-is a older side has =
       let before = old-connection old between frame.src h.place h.c h.there h.caller_is in
-      let behind =
-      last-connection old step.last gives.new between frame.src h.place h.changes.now h.changes.within h.changes.slots_are
-      (heard-slots old frame moment gives step hearing_law between h) (heard-resits old frame moment gives step hearing_law between h) happened.over
-      (after_of h.c) h.ends.now_is caller-stays in
+      let now = last-connection step.last gives.new frame.src h.place happened.over (after_of h.c) behind in
       ap (λ (b : Bool). heard_by b (connection_of old frame.src) (connection_of step.last frame.src) did frame (a ∷ older)) other
-      ∙ ap₂ (λ (one two : Option Connected). heard_by false one two did frame (a ∷ older)) before behind
+      ∙ ap₂ (λ (one two : Option Connected). heard_by false one two did frame (a ∷ older)) before now
       ∙ ap
       (λ (o : Option ServerSide). option_map_or (λ s. served did (after_of h.c) (entries_of h.c) a s ∷ older) o
       (a ∷ with_answered (served did (after_of h.c) (entries_of h.c)) older)) has
@@ -125,21 +125,13 @@ module _ (old : Server) (frame : FrameValue) (moment : ℕ) (gives : Stepped) (s
 
     pub heard-calls : Calls gives.new frame.src (after_hearing did frame (to_server_delivered place t a ∷ older))
     heard-calls =
-        let slots = heard-slots old frame moment gives step hearing_law between h in
-        let resits = heard-resits old frame moment gives step hearing_law between h in
         subst (λ (list : List Attempt). Calls gives.new frame.src list) (sym (heard-is (to_server_delivered place t a) older side has))
         (calls-by gives.new frame.src (served did (after_of h.c) (entries_of h.c) (to_server_delivered place t a) side) older _ refl
         (subst (λ (server : CallSign). AreAttempts frame.src server (heard_as (to_server_delivered place t a) older side h.c)) (sym h.changes.keeps.me)
         (subst (λ (c : Connected). AreAttempts frame.src old.me (heard_as (to_server_delivered place t a) older side c)) connected_is goes-on))
         (subst (λ (w : Window). AllByRecursion (λ (b : Attempt). b.window ≡ w) (a ∷ older)) (sym h.changes.keeps.window) windows)
         (older-over a older side has only)
-        (none-over old step.last gives.new between frame.src h.place h.changes.now h.changes.within h.changes.slots_are slots resits happened.over
-        (after_of h.c) h.ends.now_is caller-stays)
+        (none-over step.last gives.new frame.src h.place happened.over (after_of h.c) behind)
         (λ at c there mine.
-        let seat =
-        new-seat old step.last gives.new between frame.src h.place h.changes.now h.changes.within h.changes.slots_are slots resits happened.over
-        (after_of h.c) h.ends.now_is caller-stays at c there mine in (
-          seat.1,
-          session-up old step.last gives.new between frame.src h.place h.changes.now h.changes.within h.changes.slots_are slots resits happened.over
-              (after_of h.c) h.ends.now_is caller-stays seat.0,
-        )))
+        let seat = new-seat step.last gives.new frame.src h.place happened.over (after_of h.c) behind at c there mine in
+        (seat.1, session-up step.last gives.new frame.src h.place happened.over (after_of h.c) behind seat.0)))
