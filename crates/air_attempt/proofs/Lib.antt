@@ -1,5 +1,6 @@
 mod Connections
 mod Current
+mod Drained
 mod Left
 mod LinkKeeps
 mod PacketLists
@@ -16,5 +17,6 @@ mod ServerPassed
 mod ServerPlaces
 mod ServerStays
 mod SessionAppend
+mod SessionTicks
 mod Sitting
 mod Transmissions
