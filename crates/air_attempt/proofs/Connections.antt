@@ -12,7 +12,7 @@ use Rattle.air_attempt.specs.Transfers.{connection_of, has_session}
 use Rattle.air_attempt.proofs.Places.{connection-is, connection-no, freed-seat, get-set, held, place-of-at, place-of-no, place-of-not, seat-freed}
 use Rattle.air_attempt.proofs.ServerBetween.{Resits}
 
-left-held : (over : Bool) (c : Connected) → held (left_by over c) ≡ Some c
+pub left-held : (over : Bool) (c : Connected) → held (left_by over c) ≡ Some c
 left-held true c = refl
 left-held false c = refl
 

@@ -72,7 +72,7 @@ slot-others w me (leaving c) now frames window other drains =
 -- ---- places
 
 -- at this place is a connection of the caller
-abbrev IsHeldAt : CallSign → List Slot → ℕ → Type 0
+abbrev pub IsHeldAt : CallSign → List Slot → ℕ → Type 0
 IsHeldAt me slots place = (slot : Slot) × (c : Connected) × (slice_get slots place ≡ Some slot) × (held slot ≡ Some c) × (caller_of c ≡ me)
 
 module _ (w : Window) (me : CallSign) (window : IsWindow w) where

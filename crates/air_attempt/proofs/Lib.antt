@@ -1,6 +1,7 @@
 mod Connections
 mod Current
 mod Drained
+mod HeardStore
 mod Left
 mod LinkKeeps
 mod PacketLists
@@ -16,7 +17,9 @@ mod ServerOwnLaw
 mod ServerPassed
 mod ServerPlaces
 mod ServerStays
+mod ServerTicks
 mod SessionAppend
 mod SessionTicks
 mod Sitting
 mod Transmissions
+mod TickedAttempts

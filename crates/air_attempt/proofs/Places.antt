@@ -206,7 +206,7 @@ freed-leaving free c is = cc
 freed-leaving (connected d) c is = cc
 freed-leaving (leaving d) c is = cc
 
-mapped-some : {X Y : Type 0} (f : X → Y) (o : Option X) (y : Y) → option_map f o ≡ Some y → (x : X) × (o ≡ Some x) × (f x ≡ y)
+pub mapped-some : {X Y : Type 0} (f : X → Y) (o : Option X) (y : Y) → option_map f o ≡ Some y → (x : X) × (o ≡ Some x) × (f x ≡ y)
 mapped-some f None y is = absurd cc
 mapped-some f (Some x) y is = (x, refl, same_Some (f x) y is)
 

@@ -74,6 +74,24 @@ module _ (moment : ℕ) (store : Store) (lists : List CallerList) (c : Connected
       ap made_by (call-row w c.end frame up calls ∙ ap (λ (b : Bool). if b then passed_over c.end else outcome (answering_end c.end.me c.end.peer frame.poll) Reopened) answers)
       ∙ ap (progressed []) (filling-none (λ at. at.end) (λ (at : Progress). due_at store at.state [] at.part) after_due (free_octets begun.end) begun refl)
 
+-- a SABM brings no command, and leaves the lists
+abbrev pub DoesNothing : List CallerList → Happened → Type 0
+DoesNothing lists happened = (happened.done ≡ []) × (happened.lists ≡ lists)
+
+module _ (moment : ℕ) (store : Store) (lists : List CallerList) (c : Connected) (frame : FrameValue) where
+  queuing-nothing : (left : List ℕ) (progress : Progress) → progress.done ≡ [] → progress.lists ≡ lists
+      → DoesNothing lists (progressed left (queuing (free_octets progress.end) (after_all store progress.done) [] progress))
+  queuing-nothing left progress done same =
+      filling-keeps (λ at. at.end) (λ (at : Progress). due_at (after_all store progress.done) at.state [] at.part) after_due
+      (λ (at : Progress). (at.done ≡ []) × (at.lists ≡ lists)) (λ at packet is here. here) (free_octets progress.end) progress (done, same)
+
+  pub call-nothing : (w : Window) → c.end.state ≡ Up → is_call frame.kind.control ≡ true → DoesNothing lists (hearing w moment store lists c frame [])
+  call-nothing w up calls =
+      subst (λ (o : Outcome). DoesNothing lists (made_by moment store lists c frame o)) (sym (call-row w c.end frame up calls))
+      (cond_both c.end.called (passed_over c.end) _ (λ (o : Outcome). DoesNothing lists (made_by moment store lists c frame o))
+      (λ b. queuing-nothing c.rest (resting c.end c.state lists 0) refl refl)
+      (λ b. queuing-nothing [] (resting (greeted (answering_end c.end.me c.end.peer frame.poll) moment (has_left lists (caller_of c))) command lists 0) refl refl))
+
 -- ---- any frame
 
 -- What a frame leaves of a connection.

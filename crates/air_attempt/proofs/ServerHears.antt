@@ -56,21 +56,15 @@ calls-by new me a older side has are windows over none some =
     }
 
 module _ (old : Server) (frame : FrameValue) (moment : ℕ) (gives : Stepped) (step : ServerStep old (hears frame moment) [] gives) (hearing_law : HearingLaw)
-    (between : IsBetween old) (h : IsHeard old frame moment gives step) (other : is_call frame.kind.control ≡ false) (fits : SaysFit old frame moment) where
+    (between : IsBetween old) (h : IsHeard old frame moment gives step) where
   abbrev did : ServerDid
   did = did_in moment step
 
   -- what the frame makes of a connection, with the end that the sender's has when all is sent
-  abbrev after_of : Connected → Connected
+  abbrev pub after_of : Connected → Connected
   after_of c = with_end (hearing old.window moment old.store old.lists c frame []).after h.ends.last
 
-  abbrev entries_of : Connected → List SessionEntry
-  entries_of c = entries_heard old.window moment old.store old.lists c frame
-
-  abbrev up_of : Connected → Bool
-  up_of c = has_session step.last (caller_of (after_of c))
-
-  abbrev happened : Happened
+  abbrev pub happened : Happened
   happened = hearing old.window moment old.store old.lists h.c frame []
 
   caller-stays : caller_of (after_of h.c) ≡ frame.src
@@ -83,55 +77,62 @@ module _ (old : Server) (frame : FrameValue) (moment : ℕ) (gives : Stepped) (s
       place-behind old step.last gives.new between frame.src h.place h.changes.now h.changes.within h.changes.slots_are h.changes.keeps.slots
       (heard-resits old frame moment gives step hearing_law between h) happened.over (after_of h.c) h.ends.now_is caller-stays
 
-  own-step : OwnStep old.window moment old.store old.lists frame gives.frames h.ends.last (up_of h.c) h.c
-  own-step =
-      let up = between.ups h.place h.c h.there in
-      let law = hearing_law old.window moment old.store old.lists h.c frame up other in
-      record {
-        state = up;
-        other = other;
-        heard = law.0;
-        goes = law.1;
-        drains = h.ends.drains;
-        fits = fits.said h.place h.c h.is_place h.there other;
-        goes_on =
-            up-goes step.last gives.new frame.src h.place happened.over (after_of h.c) behind;
-      }
+  module _ (other : is_call frame.kind.control ≡ false) (fits : SaysFit old frame moment) where
+    abbrev entries_of : Connected → List SessionEntry
+    entries_of c = entries_heard old.window moment old.store old.lists c frame
 
-  -- what the attempts are then, of which the newest one has this session
-  abbrev heard_as : Attempt → List Attempt → ServerSide → Connected → List Attempt
-  heard_as a older side c = served did (after_of c) (entries_of c) a side ∷ older
+    abbrev up_of : Connected → Bool
+    up_of c = has_session step.last (caller_of (after_of c))
 
-  heard-is : (a : Attempt) (older : List Attempt) (side : ServerSide) → a.server ≡ Some side → after_hearing did frame (a ∷ older) ≡ heard_as a older side h.c
-  heard-is a older side has =
-      let before = old-connection old between frame.src h.place h.c h.there h.caller_is in
-      let now = last-connection step.last gives.new frame.src h.place happened.over (after_of h.c) behind in
-      ap (λ (b : Bool). heard_by b (connection_of old frame.src) (connection_of step.last frame.src) did frame (a ∷ older)) other
-      ∙ ap₂ (λ (one two : Option Connected). heard_by false one two did frame (a ∷ older)) before now
-      ∙ ap
-      (λ (o : Option ServerSide). option_map_or (λ s. served did (after_of h.c) (entries_of h.c) a s ∷ older) o
-      (a ∷ with_answered (served did (after_of h.c) (entries_of h.c)) older)) has
+    own-step : OwnStep old.window moment old.store old.lists frame gives.frames h.ends.last (up_of h.c) h.c
+    own-step =
+        let up = between.ups h.place h.c h.there in
+        let law = hearing_law old.window moment old.store old.lists h.c frame up other in
+        record {
+          state = up;
+          other = other;
+          heard = law.0;
+          goes = law.1;
+          drains = h.ends.drains;
+          fits = fits.said h.place h.c h.is_place h.there other;
+          goes_on =
+              up-goes step.last gives.new frame.src h.place happened.over (after_of h.c) behind;
+        }
 
-  module _ (a : Attempt) (older : List Attempt) (side : ServerSide) (has : a.server ≡ Some side) (connected_is : side.connected ≡ h.c) (is_up : side.is_up ≡ true)
-      (are : AreAttempts frame.src old.me (a ∷ older)) (windows : AllByRecursion (λ (b : Attempt). b.window ≡ old.window) (a ∷ older))
-      (only : OnlyNewestUp (a ∷ older)) (place : ℕ) (t : Transmission) (lawful : IsLawful a.window a.by_client place t) (frame_is : frame ≡ t.frame) where
-    its-step : OwnStep old.window moment old.store old.lists frame gives.frames h.ends.last (up_of side.connected) side.connected
-    its-step = subst (λ (c : Connected). OwnStep old.window moment old.store old.lists frame gives.frames h.ends.last (up_of c) c) (sym connected_is) own-step
+    -- what the attempts are then, of which the newest one has this session
+    abbrev heard_as : Attempt → List Attempt → ServerSide → Connected → List Attempt
+    heard_as a older side c = served did (after_of c) (entries_of c) a side ∷ older
 
-    goes-on : AreAttempts frame.src old.me (heard_as (to_server_delivered place t a) older side side.connected)
-    goes-on =
-        (own-goes-on frame.src old.me a side are.0 has is_up place t lawful frame frame_is old.window windows.0 moment old.store old.lists gives.frames h.ends.last
-        (up_of side.connected) its-step, are.1)
+    heard-is : (a : Attempt) (older : List Attempt) (side : ServerSide) → a.server ≡ Some side → after_hearing did frame (a ∷ older) ≡ heard_as a older side h.c
+    heard-is a older side has =
+        let before = old-connection old between frame.src h.place h.c h.there h.caller_is in
+        let now = last-connection step.last gives.new frame.src h.place happened.over (after_of h.c) behind in
+        ap (λ (b : Bool). heard_by b (connection_of old frame.src) (connection_of step.last frame.src) did frame (a ∷ older)) other
+        ∙ ap₂ (λ (one two : Option Connected). heard_by false one two did frame (a ∷ older)) before now
+        ∙ ap
+        (λ (o : Option ServerSide). option_map_or (λ s. served did (after_of h.c) (entries_of h.c) a s ∷ older) o
+        (a ∷ with_answered (served did (after_of h.c) (entries_of h.c)) older)) has
 
-    pub heard-calls : Calls gives.new frame.src (after_hearing did frame (to_server_delivered place t a ∷ older))
-    heard-calls =
-        subst (λ (list : List Attempt). Calls gives.new frame.src list) (sym (heard-is (to_server_delivered place t a) older side has))
-        (calls-by gives.new frame.src (served did (after_of h.c) (entries_of h.c) (to_server_delivered place t a) side) older _ refl
-        (subst (λ (server : CallSign). AreAttempts frame.src server (heard_as (to_server_delivered place t a) older side h.c)) (sym h.changes.keeps.me)
-        (subst (λ (c : Connected). AreAttempts frame.src old.me (heard_as (to_server_delivered place t a) older side c)) connected_is goes-on))
-        (subst (λ (w : Window). AllByRecursion (λ (b : Attempt). b.window ≡ w) (a ∷ older)) (sym h.changes.keeps.window) windows)
-        (older-over a older side has only)
-        (none-over step.last gives.new frame.src h.place happened.over (after_of h.c) behind)
-        (λ at c there mine.
-        let seat = new-seat step.last gives.new frame.src h.place happened.over (after_of h.c) behind at c there mine in
-        (seat.1, session-up step.last gives.new frame.src h.place happened.over (after_of h.c) behind seat.0)))
+    module _ (a : Attempt) (older : List Attempt) (side : ServerSide) (has : a.server ≡ Some side) (connected_is : side.connected ≡ h.c) (is_up : side.is_up ≡ true)
+        (are : AreAttempts frame.src old.me (a ∷ older)) (windows : AllByRecursion (λ (b : Attempt). b.window ≡ old.window) (a ∷ older))
+        (only : OnlyNewestUp (a ∷ older)) (place : ℕ) (t : Transmission) (lawful : IsLawful a.window a.by_client place t) (frame_is : frame ≡ t.frame) where
+      its-step : OwnStep old.window moment old.store old.lists frame gives.frames h.ends.last (up_of side.connected) side.connected
+      its-step = subst (λ (c : Connected). OwnStep old.window moment old.store old.lists frame gives.frames h.ends.last (up_of c) c) (sym connected_is) own-step
+
+      goes-on : AreAttempts frame.src old.me (heard_as (to_server_delivered place t a) older side side.connected)
+      goes-on =
+          (own-goes-on frame.src old.me a side are.0 has is_up place t lawful frame frame_is old.window windows.0 moment old.store old.lists gives.frames h.ends.last
+          (up_of side.connected) its-step, are.1)
+
+      pub heard-calls : Calls gives.new frame.src (after_hearing did frame (to_server_delivered place t a ∷ older))
+      heard-calls =
+          subst (λ (list : List Attempt). Calls gives.new frame.src list) (sym (heard-is (to_server_delivered place t a) older side has))
+          (calls-by gives.new frame.src (served did (after_of h.c) (entries_of h.c) (to_server_delivered place t a) side) older _ refl
+          (subst (λ (server : CallSign). AreAttempts frame.src server (heard_as (to_server_delivered place t a) older side h.c)) (sym h.changes.keeps.me)
+          (subst (λ (c : Connected). AreAttempts frame.src old.me (heard_as (to_server_delivered place t a) older side c)) connected_is goes-on))
+          (subst (λ (w : Window). AllByRecursion (λ (b : Attempt). b.window ≡ w) (a ∷ older)) (sym h.changes.keeps.window) windows)
+          (older-over a older side has only)
+          (none-over step.last gives.new frame.src h.place happened.over (after_of h.c) behind)
+          (λ at c there mine.
+          let seat = new-seat step.last gives.new frame.src h.place happened.over (after_of h.c) behind at c there mine in
+          (seat.1, session-up step.last gives.new frame.src h.place happened.over (after_of h.c) behind seat.0)))

@@ -28,7 +28,7 @@ use Rattle.air_attempt.proofs.ServerPlaces.{ChangesNone, ChangesPlace, heard-pla
 -- ---- the store
 
 -- the store is the one after the commands
-stranger-store : (old : Server) (frame : FrameValue) (moment : ℕ) (calls : Bool) (place : Option ℕ) (asks : Bool)
+pub stranger-store : (old : Server) (frame : FrameValue) (moment : ℕ) (calls : Bool) (place : Option ℕ) (asks : Bool)
     → ((stranger_by old frame moment calls place asks).store ≡ old.store) × ((stranger_by old frame moment calls place asks).lists ≡ old.lists)
 stranger-store old frame moment true None asks = (refl, refl)
 stranger-store old frame moment true (Some place) asks = (refl, refl)
@@ -87,6 +87,20 @@ module _ (old : Server) (frame : FrameValue) (moment : ℕ) (gives : Stepped) (s
     pub none : place_of frame.src old.slots ≡ None
     pub changes : ChangesNone old (hears frame moment) gives step (refusals old.me (hearing_stranger old frame moment).stray)
 
+  pub heard-at : (place : ℕ) (c : Connected) → place_of frame.src old.slots ≡ Some place → IsSeatedIn old place c → caller_of c ≡ frame.src → IsHeard
+  heard-at place c is there same =
+      let happened : Happened = hearing old.window moment old.store old.lists c frame [] in
+      let changes = heard-place old frame moment gives step place c is there in
+      record {
+        place = place;
+        is_place = is;
+        c = c;
+        there = there;
+        caller_is = same;
+        changes = changes;
+        ends = slot-ends old.window happened.over happened.after gives.frames changes.now changes.drains;
+      }
+
   pub frame-cases : (P : Type 0) → (IsHeard → P) → (IsOpened → P) → (IsPassed → P) → P
   frame-cases P heard opened passed = by (place_of frame.src old.slots) refl
     where
@@ -111,20 +125,7 @@ module _ (old : Server) (frame : FrameValue) (moment : ℕ) (gives : Stepped) (s
 
       by : (place : Option ℕ) → place_of frame.src old.slots ≡ place → P
       by None is = none-by (is_call frame.kind.control) refl is
-      by (Some place) is =
-          let there = place-of-is frame.src old.slots place is in
-          let happened : Happened = hearing old.window moment old.store old.lists there.0 frame [] in
-          let changes = heard-place old frame moment gives step place there.0 is there.1 in
-          heard
-          (record {
-            place = place;
-            is_place = is;
-            c = there.0;
-            there = there.1;
-            caller_is = there.2;
-            changes = changes;
-            ends = slot-ends old.window happened.over happened.after gives.frames changes.now changes.drains;
-          })
+      by (Some place) is = let there = place-of-is frame.src old.slots place is in heard (heard-at place there.0 is there.1 there.2)
 
   module _ (hearing_law : HearingLaw) (between : IsBetween old) where
     -- what is at the place then

@@ -1,6 +1,6 @@
 //! Laws of the attempts of one client, each the contract of a function that does nothing.
 
-ghost use Rattle.air_attempt.specs.Laws.{CurrentLaw, LeftLaw, ServerHearsLaw};
+ghost use Rattle.air_attempt.specs.Laws.{CurrentLaw, HeardLaw, LeftLaw, ServerHearsLaw, ServerTicksLaw};
 
 use ftl0_server::laws::{one_step_law, some_step_law};
 use server_laws::hearing_law;
@@ -11,6 +11,23 @@ pub fn server_hears_law()
     ensures { ServerHearsLaw }
 {
     hearing_law();
+    some_step_law();
+    one_step_law();
+}
+
+/// What a frame makes of store and lists: what the session makes of it that hears it; and nothing, where it is a SABM or
+/// no session does.
+pub fn heard_law()
+    ensures { HeardLaw }
+{
+    hearing_law();
+}
+
+/// What the server makes of a tick: the attempts of each client stay attempts, of which the newest session goes on, or is
+/// over.
+pub fn server_ticks_law()
+    ensures { ServerTicksLaw }
+{
     some_step_law();
     one_step_law();
 }
