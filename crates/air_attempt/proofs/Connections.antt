@@ -1,5 +1,5 @@
 -- The connection of a caller before a step of the server and behind it.
-use Rattle.std.proofs.Common.{◌≡◌, ◌≢◌, ◌⊎◌, inl, inr, ℕ, ◌<◌, List, [], ◌∷◌, length, Bool, true, false, Option, None, Some, refl, sym, ap, subst, ◌∙◌}
+use Rattle.std.proofs.Common.{◌≡◌, inl, inr, ℕ, ◌<◌, List, length, Bool, true, false, None, Some, refl, sym, ap, ◌∙◌}
 use Rattle.std.specs.Prelude.{is_some, slice_get, slice_set}
 use Rattle.std.proofs.lemmas.Option.{same_Some}
 use Rattle.px_base.specs.CallSign.{CallSign}

@@ -1,5 +1,5 @@
 -- Which attempt a frame is of that the server hears.
-use Rattle.std.proofs.Common.{◌≡◌, ℕ, zero, suc, List, [], ◌∷◌, Bool, true, false, Option, None, Some, refl, sym, ap, subst, ◌∙◌}
+use Rattle.std.proofs.Common.{◌≡◌, ℕ, zero, suc, List, [], ◌∷◌, true, false, Option, None, Some, refl, sym, ap, subst, ◌∙◌}
 use Rattle.std.specs.Prelude.{slice_get}
 use Rattle.std.specs.Option.{option_or}
 use Rattle.std.proofs.lemmas.Option.{same_Some}
@@ -8,11 +8,9 @@ use Rattle.ax25_frames.specs.FrameText.{FrameValue}
 use Rattle.ax25_link.specs.Air.{IsAt, IsLawful, Transmission, control_of}
 use Rattle.ax25_link.specs.Rows.{is_call}
 use Rattle.ftl0_server.specs.Connection.Connected.{Connected}
-use Rattle.ftl0_server.specs.Server.{Server}
-use Rattle.ftl0_server.specs.Slots.{place_of}
-use Rattle.air_attempt.specs.Attempt.{Attempt, IsAnswered, IsAnsweredBy, IsAttempt, IsOneCall, IsUnanswered}
-use Rattle.air_attempt.specs.Laws.{AreAttempts, Calls, CurrentLaw, Delivers, DeliversToServer, IsNewestSession, IsSeatedIn, IsServedBy}
-use Rattle.air_attempt.specs.Party.{newest_side, to_server_delivered, with_newest}
+use Rattle.air_attempt.specs.Attempt.{Attempt, IsAnsweredBy, IsAttempt, IsOneCall, IsUnanswered}
+use Rattle.air_attempt.specs.Laws.{AreAttempts, CurrentLaw, DeliversToServer, IsNewestSession}
+use Rattle.air_attempt.specs.Party.{newest_side, to_server_delivered}
 use Rattle.air_attempt.specs.Sides.{ServerSide}
 
 -- The current attempt, and the others; and its transmission that comes.

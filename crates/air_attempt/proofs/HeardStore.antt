@@ -1,22 +1,22 @@
 -- What a frame makes of the server's store and lists.
-use Rattle.std.proofs.Common.{◌≡◌, ◌⊎◌, inl, inr, ℕ, List, [], Bool, true, false, Option, None, Some, refl, sym, ap, subst, ◌∙◌}
+use Rattle.std.proofs.Common.{◌≡◌, ◌⊎◌, inl, inr, ℕ, [], true, Option, None, Some, refl, sym, ap, subst, ◌∙◌}
 use Rattle.std.specs.Prelude.{slice_get, ◌&&◌}
 use Rattle.std.proofs.lemmas.Option.{same_Some}
 use Rattle.ax25_frames.specs.FrameText.{FrameValue}
 use Rattle.ax25_link.specs.Rows.{is_call}
 use Rattle.node.specs.Events.{hears}
 use Rattle.ftl0_server.specs.Connection.Connected.{Connected, caller_of}
-use Rattle.ftl0_server.specs.Connection.Hearing.{Happened, hearing}
+use Rattle.ftl0_server.specs.Connection.Hearing.{hearing}
 use Rattle.ftl0_server.specs.Entries.{HearingLaw}
 use Rattle.ftl0_server.specs.Server.{Server, ServerHappened, heard_at, hearing_at, hearing_by}
 use Rattle.ftl0_server.specs.ServerStep.{ServerStep, Stepped, happening}
-use Rattle.ftl0_server.specs.Slots.{connected, first_empty, place_of}
+use Rattle.ftl0_server.specs.Slots.{first_empty, place_of}
 use Rattle.air_attempt.specs.Laws.{HeardLaw, IsBetween, IsSeatedIn, SessionHears, did_in}
 use Rattle.air_attempt.proofs.Connections.{last-connection}
 use Rattle.air_attempt.proofs.Places.{place-of-is, same-seat}
 use Rattle.air_attempt.proofs.ServerHearing.{call-nothing}
 use Rattle.air_attempt.proofs.ServerHears.{after_of, behind}
-use Rattle.air_attempt.proofs.ServerPlaces.{heard-place, passed-places}
+use Rattle.air_attempt.proofs.ServerPlaces.{heard-place}
 use Rattle.air_attempt.proofs.ServerStays.{IsHeard, frame-cases, heard-at, stranger-store}
 
 -- what happens where the sender's connection hears the frame

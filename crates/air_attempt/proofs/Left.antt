@@ -1,20 +1,19 @@
 -- What a power cut leaves of a client's attempts: attempts, whose sessions are over, and of which a transmission was
 -- delivered.
-use Rattle.std.proofs.Common.{◌≡◌, ℕ, zero, suc, List, [], ◌∷◌, Bool, true, false, Option, None, Some, refl, sym, ap, subst, ◌∙◌, map}
+use Rattle.std.proofs.Common.{◌≡◌, ℕ, zero, suc, List, [], ◌∷◌, true, false, Option, None, Some, refl, sym, ap, subst, ◌∙◌}
 use Rattle.std.specs.Prelude.{IfSome, slice_get}
 use Rattle.std.specs.List.{AllByRecursion}
 use Rattle.std.specs.Option.{option_map}
 use Rattle.px_base.specs.CallSign.{CallSign}
 use Rattle.ax25_frames.specs.FrameText.{FrameValue}
 use Rattle.ax25_link.specs.Air.{IsAt, Transmission, delivering}
-use Rattle.ax25_link.specs.Linked.{AreLinked}
 use Rattle.ax25_link.specs.Window.{IsWindow, Window}
 use Rattle.ax25_link.proofs.Offered.{prefix_law}
-use Rattle.air_attempt.specs.Attempt.{AreStations, Attempt, IsAnswered, IsAnsweredBy, IsAttempt, IsEndOf, IsRefusal, IsUnanswered, client_station, server_station}
+use Rattle.air_attempt.specs.Attempt.{Attempt, IsAnswered, IsAnsweredBy, IsAttempt, IsEndOf, IsRefusal, client_station, server_station}
 use Rattle.air_attempt.specs.Laws.{AreAttempts, DeliversToClient, DeliversToServer, LeftLaw}
-use Rattle.air_attempt.specs.Party.{AreOver, OnlyNewestUp, all_over, over, to_client_delivered, to_server_delivered, with_newest}
+use Rattle.air_attempt.specs.Party.{AreOver, all_over, over, to_client_delivered, to_server_delivered}
 use Rattle.air_attempt.specs.Sides.{IsSession, ServerSide}
-use Rattle.air_attempt.proofs.Current.{at-alone, comes-by}
+use Rattle.air_attempt.proofs.Current.{comes-by}
 use Rattle.air_attempt.proofs.Transmissions.{all-delivered, from-delivered, one-call-delivered}
 
 -- ---- sessions that are over

@@ -16,7 +16,7 @@ use Rattle.ax25_link.specs.declared.state.Why.{Why}
 use Rattle.ax25_link.specs.declared.state.Why.TheVariants as why
 use Rattle.ax25_link.specs.Ends.{Farewell, LinkEnd, Reply, outstanding, ready}
 use Rattle.ax25_link.specs.Frames.{receive_number}
-use Rattle.ax25_link.specs.Rows.{Outcome, accepting, after_frame, heard_of, information_row, is_call, numbered_row, out_of_sequence, outcome, passed_over, refusing, replying, row, row_of_state, sending_again, supervisory_row, up_row, with_busy}
+use Rattle.ax25_link.specs.Rows.{Outcome, accepting, information_row, is_call, numbered_row, out_of_sequence, outcome, passed_over, refusing, replying, row, row_of_state, sending_again, supervisory_row, up_row, with_busy}
 use Rattle.ax25_link.specs.Sending.{Drains, IsQuiet, Sending, has_new, last_sending, later_sending, next_sending, sending_after, sends_again, sends_farewell, sends_new, sends_reply, with_piece}
 use Rattle.ax25_link.specs.Window.{Window}
 use Rattle.ax25_link.proofs.Offered.{acknowledging-keeps}

@@ -1,19 +1,17 @@
 -- Between events a server is as it was before, but for the connections that a step changed.
-use Rattle.std.proofs.Common.{◌≡◌, ◌≢◌, ◌⊎◌, inl, inr, ℕ, zero, suc, ◌<◌, List, [], ◌∷◌, length, map, Bool, true, false, Option, None, Some, refl, sym, ap, subst, ◌∙◌}
+use Rattle.std.proofs.Common.{◌≡◌, ◌≢◌, ◌⊎◌, inl, inr, ℕ, zero, suc, ◌<◌, List, [], ◌∷◌, length, map, Some, refl, sym, ap, subst, ◌∙◌}
 use Rattle.std.specs.Prelude.{slice_get, slice_set}
 use Rattle.px_base.specs.CallSign.{CallSign}
 use Rattle.ax25_link.specs.declared.state.LinkState.TheVariants.{Up}
 use Rattle.ax25_link.specs.Window.{IsWindow, Window}
 use Rattle.node.specs.Events.{NodeEvent}
-use Rattle.file_store.specs.Command.{after_all}
 use Rattle.ftl0_server.specs.Connection.Connected.{Connected, caller_of}
 use Rattle.ftl0_server.specs.Laws as server
 use Rattle.ftl0_server.specs.Server.{Server}
-use Rattle.ftl0_server.specs.ServerStep.{ServerStep, Stepped, happening}
+use Rattle.ftl0_server.specs.ServerStep.{ServerStep, Stepped}
 use Rattle.ftl0_server.specs.Slots.{Slot, all_freed, connected, leaving}
-use Rattle.air_attempt.specs.Laws.{IsBetween, IsKnown, IsSeatedIn, StaysServer}
+use Rattle.air_attempt.specs.Laws.{IsBetween, IsKnown, IsSeatedIn}
 use Rattle.air_attempt.proofs.Places.{freed-none, freed-seat, get-set}
-use Rattle.air_attempt.proofs.ServerPlaces.{ChangesPlace, Keeps}
 
 -- ---- connections at places
 

@@ -7,29 +7,27 @@ use Rattle.px_base.specs.CallSign.{CallSign}
 use Rattle.ax25_frames.specs.FrameText.{FrameValue}
 use Rattle.ax25_link.specs.Air.{IsLawful, Transmission}
 use Rattle.ax25_link.specs.Rows.{is_call}
-use Rattle.ax25_link.specs.Ends.{answering_end}
 use Rattle.ax25_link.specs.Window.{Window}
 use Rattle.node.specs.Events.{hears}
 use Rattle.ftl0_session.specs.Lists.Lists.{has_left}
-use Rattle.ftl0_server.specs.Connection.Connected.{Connected, answering, beginning, caller_of}
-use Rattle.ftl0_server.specs.Connection.Hearing.{Happened, hearing, with_end}
+use Rattle.ftl0_server.specs.Connection.Connected.{Connected, answering, caller_of}
+use Rattle.ftl0_server.specs.Connection.Hearing.{Happened, with_end}
 use Rattle.ftl0_server.specs.Entries.{HearingLaw}
 use Rattle.ftl0_server.specs.Server.{Server}
 use Rattle.ftl0_server.specs.ServerStep.{ServerStep, Stepped}
 use Rattle.ftl0_server.specs.Slots.{Slot, all_freed}
-use Rattle.air_attempt.specs.Attempt.{Attempt, IsAttempt, IsEndOf}
+use Rattle.air_attempt.specs.Attempt.{Attempt, IsEndOf}
 use Rattle.air_attempt.specs.Laws.{AreAttempts, Calls, IsBetween, IsNewestSession, did_in}
 use Rattle.air_attempt.specs.Party.{all_over, newest_side, server_sends, to_server_delivered}
 use Rattle.air_attempt.specs.Sides.{ServerSide}
-use Rattle.air_attempt.specs.Transfers.{ServerDid, after_hearing, connection_of, has_session, heard_by}
+use Rattle.air_attempt.specs.Transfers.{ServerDid, after_hearing, connection_of, heard_by}
 use Rattle.air_attempt.proofs.Connections.{IsBehind, last-connection, new-seat, none-over, place-behind, session-up}
 use Rattle.air_attempt.proofs.Left.{all-attempts-over, are-over, over-windows}
 use Rattle.air_attempt.proofs.ServerBetween.{Resits}
 use Rattle.air_attempt.proofs.ServerHearing.{SlotEnds, drains-peer, hears-call, reopened}
 use Rattle.air_attempt.proofs.ServerHears.{calls-by}
-use Rattle.air_attempt.proofs.ServerLink.{gone, serving-end}
+use Rattle.air_attempt.proofs.ServerLink.{serving-end}
 use Rattle.air_attempt.proofs.ServerOpens.{begins, not-answered, opens}
-use Rattle.air_attempt.proofs.ServerPlaces.{Keeps}
 use Rattle.air_attempt.proofs.ServerStays.{IsHeard, IsOpened, heard-resits, opened-resits}
 
 -- the end of the newest session is of the server and the client

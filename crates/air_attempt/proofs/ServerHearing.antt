@@ -1,8 +1,7 @@
 -- What a frame makes of a server's connection that is up: its caller stays, and where the session goes on its link is up.
-use Rattle.std.proofs.Common.{◌≡◌, ℕ, List, [], ◌++◌, Bool, true, false, Option, None, Some, refl, sym, ap, subst, ◌∙◌}
+use Rattle.std.proofs.Common.{◌≡◌, ℕ, List, [], Bool, true, false, refl, sym, ap, subst, ◌∙◌}
 use Rattle.std.specs.Prelude.{if◌then◌else◌}
 use Rattle.std.proofs.lemmas.Bool.{cond_both}
-use Rattle.px_base.specs.CallSign.{CallSign}
 use Rattle.ax25_frames.specs.declared.control.Control.{Control}
 use Rattle.ax25_frames.specs.declared.control.Control.TheVariants.{I, Rr, Rnr, Rej, Sabm, Disc, Dm, Ua, Frmr, Ui}
 use Rattle.ax25_frames.specs.FrameText.{FrameValue}
@@ -13,7 +12,7 @@ use Rattle.ax25_link.specs.Ends.{LinkEnd, answering_end, free_octets}
 use Rattle.ax25_link.specs.LinkStep as step
 use Rattle.ax25_link.specs.Rows.{Outcome, after_frame, called_again, is_call, outcome, passed_over, row, row_of_state, up_row}
 use Rattle.ax25_link.specs.Sending.{Drains}
-use Rattle.ax25_link.specs.Stations.{Stations, stations_of}
+use Rattle.ax25_link.specs.Stations.{Stations}
 use Rattle.ax25_link.specs.Window.{IsWindow, Window}
 use Rattle.ax25_link.proofs.Offered.{stations_law}
 use Rattle.packet_link.proofs.Queuing.{filling-keeps, filling-none}
@@ -25,10 +24,9 @@ use Rattle.ftl0_server.specs.Connection.Connected.{Connected, beginning, caller_
 use Rattle.ftl0_server.specs.Connection.Hearing.{Happened, hearing, parts_as, progressed, rest_as, with_end}
 use Rattle.ftl0_server.specs.Connection.Taking.{Progress, after_due, goes_on, queued, queuing, resting}
 use Rattle.ftl0_server.specs.Entries.{HearingLaw}
-use Rattle.ftl0_server.specs.Slots.{Slot, connected, leaving, left_by}
+use Rattle.ftl0_server.specs.Slots.{Slot, connected, left_by}
 use Rattle.server_laws.specs.Places.{SlotDrains}
 use Rattle.server_laws.proofs.Offered.{heard-up}
-use Rattle.air_attempt.proofs.LinkKeeps.{drains-keep}
 
 -- ---- a SABM
 

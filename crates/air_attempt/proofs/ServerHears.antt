@@ -1,6 +1,6 @@
 -- What becomes of a client's attempts when its session hears a frame of it that is no SABM.
-use Rattle.std.proofs.Common.{◌≡◌, ℕ, List, [], ◌∷◌, ◌++◌, Bool, true, false, Option, None, Some, refl, sym, ap, ap₂, subst, ◌∙◌}
-use Rattle.std.specs.Prelude.{IfSome, MatchOption, ⊤}
+use Rattle.std.proofs.Common.{◌≡◌, ℕ, List, [], ◌∷◌, Bool, true, false, Option, None, Some, refl, sym, ap, ap₂, subst, ◌∙◌}
+use Rattle.std.specs.Prelude.{IfSome, MatchOption}
 use Rattle.std.specs.List.{AllByRecursion}
 use Rattle.std.specs.Option.{option_map_or, option_or}
 use Rattle.px_base.specs.CallSign.{CallSign}
@@ -15,8 +15,8 @@ use Rattle.ftl0_server.specs.Entries.{HearingLaw, SessionEntry, entries_heard}
 use Rattle.ftl0_server.specs.Server.{Server}
 use Rattle.ftl0_server.specs.ServerStep.{ServerStep, Stepped}
 use Rattle.ftl0_server.specs.Slots.{place_of}
-use Rattle.air_attempt.specs.Attempt.{Attempt, IsAttempt}
-use Rattle.air_attempt.specs.Laws.{AreAttempts, Calls, IsBetween, IsNewestSession, IsSeatedIn, SaysFit, SitsBy, did_in}
+use Rattle.air_attempt.specs.Attempt.{Attempt}
+use Rattle.air_attempt.specs.Laws.{AreAttempts, Calls, IsBetween, IsSeatedIn, SaysFit, did_in}
 use Rattle.air_attempt.specs.Party.{AreOver, OnlyNewestUp, newest_side, to_server_delivered, with_answered}
 use Rattle.air_attempt.specs.Sides.{ServerSide}
 use Rattle.air_attempt.specs.Transfers.{ServerDid, after_hearing, connection_of, has_session, heard_by, served}
@@ -120,9 +120,11 @@ module _ (old : Server) (frame : FrameValue) (moment : ℕ) (gives : Stepped) (s
       its-step = subst (λ (c : Connected). OwnStep old.window moment old.store old.lists frame gives.frames h.ends.last (up_of c) c) (sym connected_is) own-step
 
       goes-on : AreAttempts frame.src old.me (heard_as (to_server_delivered place t a) older side side.connected)
-      goes-on =
-          (own-goes-on frame.src old.me a side are.0 has is_up place t lawful frame frame_is old.window windows.0 moment old.store old.lists gives.frames h.ends.last
-          (up_of side.connected) its-step, are.1)
+      goes-on = (
+        own-goes-on frame.src old.me a side are.0 has is_up place t lawful frame frame_is old.window windows.0 moment old.store old.lists gives.frames h.ends.last
+            (up_of side.connected) its-step,
+        are.1,
+      )
 
       pub heard-calls : Calls gives.new frame.src (after_hearing did frame (to_server_delivered place t a ∷ older))
       heard-calls =

@@ -1,5 +1,5 @@
 -- A session's end of the link makes its step: the attempt goes on.
-use Rattle.std.proofs.Common.{◌≡◌, ℕ, List, [], ◌∷◌, ◌++◌, Bool, true, false, Option, None, Some, refl, sym, ap, ap₂, subst, ◌∙◌}
+use Rattle.std.proofs.Common.{◌≡◌, ℕ, List, Bool, false, Option, None, Some, sym, ap, ap₂, subst, ◌∙◌}
 use Rattle.std.specs.Prelude.{IfSome}
 use Rattle.std.specs.List.{AllByRecursion, concat}
 use Rattle.px_base.specs.CallSign.{CallSign}
@@ -15,14 +15,11 @@ use Rattle.ax25_link.specs.LinkStep as step
 use Rattle.ax25_link.specs.Linked.{AreLinked}
 use Rattle.ax25_link.specs.Sending.{IsQuiet}
 use Rattle.ax25_link.specs.Stations.{IsFrameOf, SendsOwn, Stations, stations_of}
-use Rattle.ax25_link.specs.Window.{Window}
-use Rattle.ax25_link.proofs.Offered.{prefix_law, stations_law}
-use Rattle.air_attempt.specs.Attempt.{AreFromTo, AreStations, Attempt, IsAnswered, IsAnsweredBy, IsAttempt, IsEndOf, IsOneCall, client_station, server_station}
-use Rattle.air_attempt.specs.Party.{server_sends, to_server_delivered}
+use Rattle.ax25_link.proofs.Offered.{prefix_law}
+use Rattle.air_attempt.specs.Attempt.{AreFromTo, Attempt, IsAnswered, IsAnsweredBy, IsAttempt, IsEndOf, IsOneCall, client_station, server_station}
 use Rattle.air_attempt.specs.Sides.{IsSession, ServerSide, said_by_client}
-use Rattle.air_attempt.proofs.LinkKeeps.{drains-quiet}
 use Rattle.air_attempt.proofs.PacketLists.{octets-of_front}
-use Rattle.air_attempt.proofs.Transmissions.{from-delivered, from-sent, one-call-delivered}
+use Rattle.air_attempt.proofs.Transmissions.{from-sent}
 
 -- what an attempt is by its session
 pub answered-by : (me server : CallSign) (a : Attempt) (side : ServerSide) → IsAttempt me server a → a.server ≡ Some side → IsAnswered a side
@@ -97,7 +94,7 @@ pub link-hears : (me server : CallSign) (a : Attempt) (side : ServerSide) (place
     (frames : List FrameValue) (last : LinkEnd) → IsAttempt me server a → a.server ≡ Some side → IsLawful a.window a.by_client place t
     → LinkStep a.window side.connected.end (step.frame t.frame) heard doings frames last
     → AreLinked a.window (record { end = a.client.attempted.end; transmissions = delivering a.by_client place t })
-      (record { end = last; transmissions = sending_all a.by_server frames })
+    (record { end = last; transmissions = sending_all a.by_server frames })
 link-hears me server a side place t heard doings frames last is has lawful steps =
     let answered = answered-by me server a side is has in
     let turned = prefix_law.turned a.window (client_station a) (server_station a side) answered.linked in

@@ -1,6 +1,5 @@
 -- A SABM of a client is answered: the current attempt has a session.
-use Rattle.std.proofs.Common.{◌≡◌, ℕ, zero, suc, ◌<◌, ◌≤◌, ◌^◌, List, [], ◌∷◌, ◌++◌, length, take, Bool, true, false, Option, None, Some, refl, sym, ap, ap₂, subst, ◌∙◌, append-nil, arith}
-use Rattle.std.specs.Prelude.{IsTrue}
+use Rattle.std.proofs.Common.{◌≡◌, ℕ, zero, suc, ◌<◌, ◌≤◌, ◌^◌, List, [], ◌∷◌, length, Bool, true, false, Option, None, Some, refl, sym, ap, subst, ◌∙◌, append-nil, arith}
 use Rattle.std.specs.List.{AllByRecursion, concat}
 use Rattle.std.proofs.lemmas.List.{take_all}
 use Rattle.px_base.specs.CallSign.{CallSign}
@@ -14,20 +13,19 @@ use Rattle.ax25_link.specs.Laws.{IsOpening}
 use Rattle.ax25_link.specs.Linked.{AreLinked, Station}
 use Rattle.ax25_link.specs.Rows.{is_call}
 use Rattle.ax25_link.specs.Sending.{Drains}
-use Rattle.ax25_link.specs.Stations.{SendsOwn, Stations, stations_of}
+use Rattle.ax25_link.specs.Stations.{SendsOwn, Stations}
 use Rattle.ax25_link.specs.Window.{Window}
 use Rattle.ax25_link.proofs.Offered.{prefix_law, stations_law}
-use Rattle.ftl0_packets.specs.Items.{texts}
-use Rattle.ftl0_packets.specs.Layout.{Fits, packet_text}
+use Rattle.ftl0_packets.specs.Layout.{packet_text}
 use Rattle.ftl0_packets.specs.Reading.{packets_of, rest_of}
 use Rattle.ftl0_session.specs.Table.{command, flags, greeting}
-use Rattle.ftl0_server.specs.Connection.Connected.{Connected, greeted}
-use Rattle.air_attempt.specs.Attempt.{Attempt, IsAnswered, IsAnsweredBy, IsAttempt, IsRefusal, IsUnanswered, client_station}
+use Rattle.ftl0_server.specs.Connection.Connected.{greeted}
+use Rattle.air_attempt.specs.Attempt.{Attempt, IsAnsweredBy, IsAttempt, IsRefusal, IsUnanswered}
 use Rattle.air_attempt.specs.Sides.{IsSession, ServerSide}
-use Rattle.air_attempt.proofs.Current.{at-alone, unanswered-calls}
+use Rattle.air_attempt.proofs.Current.{at-alone}
 use Rattle.air_attempt.proofs.Left.{delivered-alone}
 use Rattle.air_attempt.proofs.LinkKeeps.{drains-keep, drains-quiet}
-use Rattle.air_attempt.proofs.ServerLink.{answered-by, gone}
+use Rattle.air_attempt.proofs.ServerLink.{gone}
 use Rattle.air_attempt.proofs.Transmissions.{from-delivered, from-sent, one-call-delivered}
 
 -- ---- before

@@ -1,7 +1,6 @@
 -- A frame of a client comes to its session: the current attempt goes on.
-use Rattle.std.proofs.Common.{◌≡◌, ℕ, List, [], ◌∷◌, ◌++◌, Bool, true, false, Option, None, Some, refl, sym, ap, ap₂, subst, ◌∙◌}
+use Rattle.std.proofs.Common.{◌≡◌, ℕ, List, [], Bool, true, false, Some, refl, sym, ap, subst}
 use Rattle.std.specs.List.{AllByRecursion, concat}
-use Rattle.std.specs.Option.{option_map_or}
 use Rattle.px_base.specs.CallSign.{CallSign}
 use Rattle.px_base.specs.Octets.{IsOctets}
 use Rattle.ax25_frames.specs.FrameText.{FrameValue}
@@ -11,7 +10,7 @@ use Rattle.ax25_link.specs.Ends.{LinkEnd}
 use Rattle.ax25_link.specs.LinkStep.{LinkStep}
 use Rattle.ax25_link.specs.LinkStep as step
 use Rattle.ax25_link.specs.Linked.{AreLinked}
-use Rattle.ax25_link.specs.Rows.{after_frame, heard_of, is_call}
+use Rattle.ax25_link.specs.Rows.{heard_of, is_call}
 use Rattle.ax25_link.specs.Sending.{Drains, IsQuiet}
 use Rattle.ax25_link.specs.Stations.{SendsOwn}
 use Rattle.ax25_link.specs.Window.{Window}
@@ -21,13 +20,13 @@ use Rattle.ftl0_session.specs.Lists.Lists.{CallerList}
 use Rattle.ftl0_session.specs.Run.{session_over}
 use Rattle.file_store.specs.Store.{Store}
 use Rattle.ftl0_server.specs.Connection.Connected.{Connected, caller_of}
-use Rattle.ftl0_server.specs.Connection.Hearing.{hearing, with_end}
+use Rattle.ftl0_server.specs.Connection.Hearing.{hearing}
 use Rattle.ftl0_server.specs.Entries as session
 use Rattle.ftl0_server.specs.Entries.{GoesBy, HeardBy, SessionEntry, entries_heard, session_after}
 use Rattle.air_attempt.specs.Attempt.{Attempt, IsAttempt}
-use Rattle.air_attempt.specs.Sides.{IsSession, ServerSide}
+use Rattle.air_attempt.specs.Sides.{ServerSide}
 use Rattle.air_attempt.proofs.LinkKeeps.{drains-quiet}
-use Rattle.air_attempt.proofs.ServerLink.{GoesOn, answered-by, attempt-goes-on, gone, link-hears, taken-octets}
+use Rattle.air_attempt.proofs.ServerLink.{answered-by, attempt-goes-on, gone, link-hears, taken-octets}
 use Rattle.air_attempt.proofs.SessionAppend.{gone_by, session-goes-on}
 use Rattle.air_attempt.proofs.Transmissions.{from-delivered, one-call-delivered}
 

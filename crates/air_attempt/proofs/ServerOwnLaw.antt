@@ -1,5 +1,5 @@
 -- What the server makes of a frame: of the attempts of the client whose frame it is, and of all others.
-use Rattle.std.proofs.Common.{◌≡◌, ◌≢◌, ℕ, List, [], ◌∷◌, Bool, true, false, Option, None, Some, refl, sym, ap, subst, ◌∙◌}
+use Rattle.std.proofs.Common.{◌≡◌, ◌≢◌, ℕ, List, [], ◌∷◌, Bool, true, false, refl, sym, ap, subst, ◌∙◌}
 use Rattle.px_base.specs.CallSign.{CallSign}
 use Rattle.ax25_frames.specs.FrameText.{FrameValue}
 use Rattle.ax25_link.specs.Rows.{is_call}
@@ -9,7 +9,7 @@ use Rattle.ftl0_server.specs.Laws as server
 use Rattle.ftl0_server.specs.Server.{Server}
 use Rattle.ftl0_server.specs.ServerStep.{ServerStep, Stepped}
 use Rattle.air_attempt.specs.Attempt.{Attempt}
-use Rattle.air_attempt.specs.Laws.{Calls, DeliversToServer, IsBetween, SaysFit, ServerHearsLaw, did_in}
+use Rattle.air_attempt.specs.Laws.{Calls, IsBetween, SaysFit, ServerHearsLaw, did_in}
 use Rattle.air_attempt.specs.Transfers.{after_hearing}
 use Rattle.air_attempt.proofs.Current.{ComesBy, comes-by, newest-served}
 use Rattle.air_attempt.proofs.ServerCalls.{opened-at, opened-calls, reopened-at}

@@ -1,24 +1,24 @@
 -- A frame that no session hears is passed over, or answered by DM.
-use Rattle.std.proofs.Common.{◌≡◌, ◌⊎◌, inl, inr, ℕ, ◌<◌, List, [], ◌∷◌, Bool, true, false, Option, None, Some, refl, sym, ap, ap₂, subst, ◌∙◌, arith}
-use Rattle.std.specs.Prelude.{if◌then◌else◌, ◌&&◌}
+use Rattle.std.proofs.Common.{◌≡◌, ◌⊎◌, inl, inr, ℕ, List, [], ◌∷◌, Bool, true, false, Option, None, Some, refl, sym, ap, ap₂, subst, ◌∙◌, arith}
+use Rattle.std.specs.Prelude.{◌&&◌}
 use Rattle.std.specs.List.{AllByRecursion}
 use Rattle.px_base.specs.CallSign.{CallSign}
 use Rattle.ax25_frames.specs.FrameText.{FrameValue}
-use Rattle.ax25_link.specs.Air.{IsAt, IsLawful, Transmission, fresh, is_numbered}
+use Rattle.ax25_link.specs.Air.{IsAt, Transmission, fresh, is_numbered}
 use Rattle.ax25_link.specs.Laws.{AreAnswers}
 use Rattle.ax25_link.specs.Refusals.{refusal_frame}
 use Rattle.ax25_link.specs.Rows.{is_call}
 use Rattle.ax25_link.specs.Window.{IsWindow, Window}
 use Rattle.ax25_link.proofs.Offered.{prefix_law}
 use Rattle.node.specs.Events.{hears}
-use Rattle.ftl0_server.specs.Connection.Connected.{Connected, caller_of}
+use Rattle.ftl0_server.specs.Connection.Connected.{Connected}
 use Rattle.ftl0_server.specs.Server.{Refused, Server, hearing_stranger}
 use Rattle.ftl0_server.specs.ServerStep.{ServerStep, Stepped}
 use Rattle.ftl0_server.specs.Slots.{all_freed, first_empty}
 use Rattle.server_laws.specs.Places.{refusals}
 use Rattle.server_laws.proofs.Offered.{silent-by}
-use Rattle.air_attempt.specs.Attempt.{AreFromTo, Attempt, IsAnswered, IsAnsweredBy, IsAttempt, IsFromTo, IsRefusal, client_station, server_station}
-use Rattle.air_attempt.specs.Laws.{AreAttempts, Calls, IsBetween, IsSeatedIn, SitsBy, did_in}
+use Rattle.air_attempt.specs.Attempt.{Attempt, IsAnsweredBy, IsAttempt, IsFromTo, IsRefusal, client_station, server_station}
+use Rattle.air_attempt.specs.Laws.{AreAttempts, Calls, IsBetween, SitsBy, did_in}
 use Rattle.air_attempt.specs.Party.{server_sends, to_server_delivered}
 use Rattle.air_attempt.specs.Sides.{ServerSide}
 use Rattle.air_attempt.specs.Transfers.{ServerDid, after_hearing, connection_of, heard_by}
@@ -26,7 +26,7 @@ use Rattle.air_attempt.proofs.Connections.{old-none}
 use Rattle.air_attempt.proofs.Left.{delivered-server}
 use Rattle.air_attempt.proofs.Places.{connection_among, place-of-not}
 use Rattle.air_attempt.proofs.ServerPlaces.{stranger_by}
-use Rattle.air_attempt.proofs.ServerStays.{IsPassed, passed-slots}
+use Rattle.air_attempt.proofs.ServerStays.{IsPassed}
 use Rattle.air_attempt.proofs.Sitting.{calls-kept, none-seats}
 use Rattle.air_attempt.proofs.Transmissions.{all-sent}
 
@@ -47,9 +47,11 @@ dm-refuses me peer frame dm = subst (λ (f : FrameValue). IsRefusal (fresh f)) (
 
 dms-answer : (me peer : CallSign) (frames : List FrameValue) → AllByRecursion (IsDm me peer) frames → AreAnswers frames
 dms-answer me peer [] all = tt
-dms-answer me peer (frame ∷ frames) all =
-    (ap (λ (f : FrameValue). is_numbered f.kind.control) all.0.is, ap (λ (f : FrameValue). is_call f.kind.control) all.0.is,
-      dms-answer me peer frames all.1)
+dms-answer me peer (frame ∷ frames) all = (
+  ap (λ (f : FrameValue). is_numbered f.kind.control) all.0.is,
+  ap (λ (f : FrameValue). is_call f.kind.control) all.0.is,
+  dms-answer me peer frames all.1,
+)
 
 -- ---- an attempt
 
@@ -141,9 +143,10 @@ module _ (old : Server) (frame : FrameValue) (moment : ℕ) (gives : Stepped) (s
       → Calls gives.new frame.src (after_hearing did frame (to_server_delivered place t a ∷ older))
   passed-calls a older place t at calls =
       let b : Attempt = server_sends gives.frames (to_server_delivered place t a) in
-      let all : AreAttempts frame.src old.me (b ∷ older) =
-      (attempt-sends frame.src old.me (to_server_delivered place t a) gives.frames dms (delivered-server frame.src old.me a place t at calls.attempts_are.0),
-        calls.attempts_are.1) in
+      let all : AreAttempts frame.src old.me (b ∷ older) = (
+        attempt-sends frame.src old.me (to_server_delivered place t a) gives.frames dms (delivered-server frame.src old.me a place t at calls.attempts_are.0),
+        calls.attempts_are.1,
+      ) in
       let sits : SitsBy old frame.src (b ∷ older) =
       record {
         none = calls.sits.none;

@@ -1,14 +1,12 @@
 -- A server that heard a frame is one between events again.
-use Rattle.std.proofs.Common.{◌≡◌, ℕ, ◌<◌, List, [], Bool, true, false, Option, None, Some, refl, sym, ap, subst, ◌∙◌}
-use Rattle.std.specs.Prelude.{if◌then◌else◌, slice_get, slice_set, ◌&&◌}
+use Rattle.std.proofs.Common.{◌≡◌, ℕ, List, [], Bool, true, false, Option, None, Some, refl, sym, ap, ◌∙◌}
+use Rattle.std.specs.Prelude.{slice_get, slice_set, ◌&&◌}
 use Rattle.std.proofs.lemmas.Option.{same_Some}
 use Rattle.px_base.specs.CallSign.{CallSign}
 use Rattle.ax25_frames.specs.FrameText.{FrameValue}
-use Rattle.ax25_link.specs.declared.state.LinkState.TheVariants.{Up}
 use Rattle.ax25_link.specs.Rows.{is_call}
 use Rattle.node.specs.Events.{hears}
 use Rattle.file_store.specs.Command.{after_all}
-use Rattle.file_store.specs.Store.{Store}
 use Rattle.ftl0_session.specs.Lists.Lists.{has_left}
 use Rattle.ftl0_server.specs.Connection.Connected.{Connected, answering, caller_of}
 use Rattle.ftl0_server.specs.Connection.Hearing.{Happened, hearing, with_end}
@@ -18,7 +16,7 @@ use Rattle.ftl0_server.specs.Server.{Server, hearing_at, hearing_by, hearing_str
 use Rattle.ftl0_server.specs.ServerStep.{ServerStep, Stepped, happening}
 use Rattle.ftl0_server.specs.Slots.{Slot, all_freed, connected, first_empty, free, is_empty, leaving, place_of, slot_after}
 use Rattle.server_laws.specs.Places.{refusals}
-use Rattle.air_attempt.specs.Laws.{IsBetween, IsKnown, IsSeatedIn, StaysServer}
+use Rattle.air_attempt.specs.Laws.{IsBetween, IsSeatedIn, StaysServer}
 use Rattle.air_attempt.proofs.LinkKeeps.{drains-keep}
 use Rattle.air_attempt.proofs.Places.{place-of-is, place-of-not, position-is, same-seat}
 use Rattle.air_attempt.proofs.ServerBetween.{IsAtPlace, Reseats, Resits, between-new, known-new, none-reseats, place-reseats, steps-again}

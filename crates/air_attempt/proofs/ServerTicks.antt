@@ -1,17 +1,16 @@
 -- What a tick makes of a server's places.
-use Rattle.std.proofs.Common.{◌≡◌, ◌≢◌, inl, inr, ℕ, List, [], ◌∷◌, length, map, Bool, true, false, Option, None, Some, refl, sym, ap, subst, ◌∙◌}
+use Rattle.std.proofs.Common.{◌≡◌, inl, ℕ, List, [], length, map, false, Some, refl, sym, ap, subst, ◌∙◌}
 use Rattle.std.specs.Prelude.{slice_get}
 use Rattle.std.specs.Option.{option_map}
 use Rattle.std.proofs.lemmas.Option.{same_Some, slice_get-map}
 use Rattle.px_base.specs.CallSign.{CallSign}
 use Rattle.ax25_frames.specs.FrameText.{FrameValue}
-use Rattle.ax25_link.specs.declared.state.LinkState.TheVariants.{Up}
 use Rattle.ax25_link.specs.Ends.{LinkEnd}
 use Rattle.ax25_link.specs.LinkStep as step
 use Rattle.ax25_link.specs.Sending.{Drains}
 use Rattle.ax25_link.specs.Stations.{Stations}
 use Rattle.ax25_link.specs.Timer.{after_tick}
-use Rattle.ax25_link.specs.Window.{IsWindow, Window}
+use Rattle.ax25_link.specs.Window.{Window}
 use Rattle.ax25_link.proofs.Offered.{stations_law}
 use Rattle.node.specs.Events.{ticks}
 use Rattle.file_store.specs.Command.{after_all}
@@ -24,9 +23,9 @@ use Rattle.ftl0_server.specs.Slots.{Slot, connected, free, leaving, left_by, slo
 use Rattle.server_laws.specs.Places.{SlotDrains}
 use Rattle.air_attempt.specs.Laws.{IsBetween, IsSeatedIn, StaysServer}
 use Rattle.air_attempt.proofs.Connections.{IsBehind, left-held}
-use Rattle.air_attempt.proofs.Drained.{DrainedAt, IsHeldAt, WasDrained, drained-at, drained-length, to_station, was-drained}
+use Rattle.air_attempt.proofs.Drained.{DrainedAt, IsHeldAt, drained-at, drained-length, to_station, was-drained}
 use Rattle.air_attempt.proofs.LinkKeeps.{drains-keep}
-use Rattle.air_attempt.proofs.Places.{freed-none, freed-seat, held, mapped-some}
+use Rattle.air_attempt.proofs.Places.{held, mapped-some}
 use Rattle.air_attempt.proofs.ServerBetween.{Reseats, between-new, known-new, length-map, none-left, seat-before, steps-again}
 use Rattle.air_attempt.proofs.ServerHearing.{SlotEnds, drains-peer, left-connected, slot-ends}
 use Rattle.air_attempt.proofs.ServerPlaces.{ChangesAll, tick-places}

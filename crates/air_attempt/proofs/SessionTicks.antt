@@ -5,7 +5,6 @@ use Rattle.std.specs.List.{AllByRecursion, concat}
 use Rattle.std.proofs.lemmas.Bool.{cond_both}
 use Rattle.px_base.specs.CallSign.{CallSign}
 use Rattle.ax25_frames.specs.FrameText.{FrameValue}
-use Rattle.ax25_link.specs.declared.state.LinkState.{LinkState}
 use Rattle.ax25_link.specs.declared.state.LinkState.TheVariants.{Down, Up}
 use Rattle.ax25_link.specs.declared.state.Why.{Why}
 use Rattle.ax25_link.specs.declared.state.Why.TheVariants as why
@@ -14,7 +13,7 @@ use Rattle.ax25_link.specs.Kept.{is_there}
 use Rattle.ax25_link.specs.LinkStep.{LinkStep, heard_of_coming}
 use Rattle.ax25_link.specs.LinkStep as step
 use Rattle.ax25_link.specs.Rows.{entering}
-use Rattle.ax25_link.specs.Sending.{Drains, IsQuiet}
+use Rattle.ax25_link.specs.Sending.{Drains}
 use Rattle.ax25_link.specs.Timer.{after_count, after_tick, is_down, is_spent, runs_out, told_of_tick, trying}
 use Rattle.ax25_link.specs.Window.{Window}
 use Rattle.ax25_link.proofs.Offered.{stations_law}
@@ -27,7 +26,7 @@ use Rattle.ftl0_server.specs.Connection.Hearing.{ticking, with_end}
 use Rattle.ftl0_server.specs.Entries as session
 use Rattle.ftl0_server.specs.Entries.{IsNotLost, SessionEntry}
 use Rattle.air_attempt.specs.Attempt.{Attempt, IsAttempt}
-use Rattle.air_attempt.specs.Sides.{IsSession, ServerSide, SessionReaches, said_by_server}
+use Rattle.air_attempt.specs.Sides.{IsSession, ServerSide, SessionReaches}
 use Rattle.air_attempt.proofs.LinkKeeps.{KeepsStreams, drains-keep, drains-quiet}
 use Rattle.air_attempt.proofs.ServerLink.{answered-by, attempt-goes-on, gone, link-ticks}
 

@@ -1,6 +1,6 @@
 -- What becomes of a client's attempts at a tick of the server: the newest session goes on, or is over.
-use Rattle.std.proofs.Common.{◌≡◌, ◌≢◌, ℕ, List, [], ◌∷◌, ◌++◌, Bool, true, false, Option, None, Some, refl, sym, ap, ap₂, subst, ◌∙◌}
-use Rattle.std.specs.Prelude.{IfSome, MatchOption, ⊤}
+use Rattle.std.proofs.Common.{◌≡◌, ℕ, List, [], ◌∷◌, ◌++◌, Bool, false, Option, None, Some, refl, sym, ap, ap₂, subst, ◌∙◌}
+use Rattle.std.specs.Prelude.{IfSome, MatchOption}
 use Rattle.std.specs.List.{AllByRecursion}
 use Rattle.std.specs.Option.{option_map_or, option_or}
 use Rattle.std.proofs.lemmas.Option.{same_Some}
@@ -16,7 +16,7 @@ use Rattle.ftl0_server.specs.ServerStep.{ServerStep, Stepped}
 use Rattle.ftl0_server.specs.Connection.Hearing.{ticking}
 use Rattle.ftl0_server.specs.Slots.{place_of}
 use Rattle.air_attempt.specs.Attempt.{Attempt, IsAttempt}
-use Rattle.air_attempt.specs.Laws.{AreAttempts, Calls, IsBetween, IsNewestSession, IsSeatedIn, ServerTicksLaw, SitsBy, did_in}
+use Rattle.air_attempt.specs.Laws.{AreAttempts, Calls, IsBetween, IsNewestSession, IsSeatedIn, ServerTicksLaw, did_in}
 use Rattle.air_attempt.specs.Party.{AreOver, OnlyNewestUp, newest_side, with_answered}
 use Rattle.air_attempt.specs.Sides.{ServerSide}
 use Rattle.air_attempt.specs.Transfers.{ServerDid, after_tick, connection_of, did_to, has_session, served, ticked_by}
@@ -26,7 +26,7 @@ use Rattle.air_attempt.proofs.Places.{place-of-is, place-of-not, same-seat}
 use Rattle.air_attempt.proofs.ServerHearing.{SlotEnds}
 use Rattle.air_attempt.proofs.ServerLink.{gone}
 use Rattle.air_attempt.proofs.ServerPlaces.{tick-places}
-use Rattle.air_attempt.proofs.ServerTicks.{TickSeat, drained, tick-behind, tick-caller, tick-ends, tick-keeps-server, tick-seat}
+use Rattle.air_attempt.proofs.ServerTicks.{drained, tick-behind, tick-caller, tick-ends, tick-keeps-server, tick-seat}
 use Rattle.air_attempt.proofs.SessionTicks.{attempt-ticks, ticked_to}
 use Rattle.air_attempt.proofs.Sitting.{KeepsSeats, calls-kept}
 
