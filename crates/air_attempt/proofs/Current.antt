@@ -1,5 +1,6 @@
 -- Which attempt a frame is of that the server hears.
-use Rattle.std.proofs.Common.{◌≡◌, ℕ, zero, suc, List, [], ◌∷◌, true, false, Option, None, Some, refl, sym, ap, subst, ◌∙◌}
+use Rattle.std.proofs.Common.{◌≡◌, ℕ, zero, suc, List, [], ◌∷◌, true, false, Option, None, Some, refl, sym, ap, subst}
+use Rattle.std.proofs.Common.{◌∙◌}
 use Rattle.std.specs.Prelude.{slice_get}
 use Rattle.std.specs.Option.{option_or}
 use Rattle.std.proofs.lemmas.Option.{same_Some}
@@ -24,7 +25,8 @@ pub record ComesBy (attempts marked : List Attempt) (frame : FrameValue) : Type 
   pub frame_is : frame ≡ t.frame
   pub marked_is : marked ≡ to_server_delivered place t attempt ∷ older
 
-pub comes-by : (attempts marked : List Attempt) (frame : FrameValue) → DeliversToServer attempts frame marked → ComesBy attempts marked frame
+pub comes-by : (attempts marked : List Attempt) (frame : FrameValue) → DeliversToServer attempts frame marked
+    → ComesBy attempts marked frame
 comes-by [] marked frame d = absurd (let some = d.current in cc)
 comes-by (a ∷ older) marked frame d =
     let same : a ≡ d.attempt = same_Some a d.attempt d.current in
@@ -40,7 +42,8 @@ comes-by (a ∷ older) marked frame d =
     }
 
 -- the only transmission of one
-pub at-alone : (list : List Transmission) (call t : Transmission) (place : ℕ) → list ≡ call ∷ [] → IsAt list place t → t ≡ call
+pub at-alone : (list : List Transmission) (call t : Transmission) (place : ℕ) → list ≡ call ∷ [] → IsAt list place t
+    → t ≡ call
 at-alone list call t place alone at = by place (ap (λ (l : List Transmission). slice_get l place) (sym alone) ∙ at)
   where
     by : (n : ℕ) → slice_get (call ∷ []) n ≡ Some t → t ≡ call
@@ -48,11 +51,13 @@ at-alone list call t place alone at = by place (ap (λ (l : List Transmission). 
     by (suc n) is = absurd cc
 
 -- a SABM is the first of what was sent
-first-calls : (call : Transmission) (list : List Transmission) → list ≡ call ∷ [] → IsOneCall list → is_call (control_of call) ≡ true
+first-calls : (call : Transmission) (list : List Transmission) → list ≡ call ∷ [] → IsOneCall list
+    → is_call (control_of call) ≡ true
 first-calls call list alone one = (subst IsOneCall alone one).0
 
 -- an attempt that no session answered sent its SABM alone
-pub unanswered-calls : (a : Attempt) (place : ℕ) (t : Transmission) → IsOneCall a.by_client → IsUnanswered a → IsAt a.by_client place t
+pub unanswered-calls : (a : Attempt) (place : ℕ) (t : Transmission) → IsOneCall a.by_client → IsUnanswered a
+    → IsAt a.by_client place t
     → is_call (control_of t) ≡ true
 unanswered-calls a place t one un at =
     let same = at-alone a.by_client un.alone.0 t place un.alone.1 at in
@@ -66,7 +71,8 @@ pub record HasSession (a : Attempt) (c : Connected) : Type 0 where
   pub is_up : side.is_up ≡ true
 
 -- so it is where the caller has a connection, and a frame of the attempt comes that is no SABM
-pub newest-served : (me server : CallSign) (a : Attempt) (older : List Attempt) (c : Connected) (place : ℕ) (t : Transmission) → IsAttempt me server a
+pub newest-served : (me server : CallSign) (a : Attempt) (older : List Attempt) (c : Connected) (place : ℕ)
+    (t : Transmission) → IsAttempt me server a
     → IsAt a.by_client place t → is_call (control_of t) ≡ false → IsNewestSession c (a ∷ older) → HasSession a c
 newest-served me server a older c place t is at other newest = by a.server refl is.answered
   where
@@ -74,7 +80,8 @@ newest-served me server a older c place t is at other newest = by a.server refl 
     by None has un = absurd (let no : true ≡ false = sym (unanswered-calls a place t is.call un at) ∙ other in cc)
     by (Some side) has answered =
         let same : side ≡ newest.side =
-        same_Some side newest.side (ap (λ (o : Option ServerSide). option_or o (newest_side older)) (sym has) ∙ newest.is_newest) in
+        same_Some side newest.side (ap (λ (o : Option ServerSide). option_or o (newest_side older)) (sym has)
+        ∙ newest.is_newest) in
         record {
           side = side;
           is_side = has;
@@ -86,7 +93,8 @@ pub current : CurrentLaw
 current old frame attempts marked place c calls delivers other is there =
     let comes = comes-by attempts marked frame delivers in
     let newest = calls.sits.some place c is there in
-    let all = subst (λ (list : List Attempt). AreAttempts frame.src old.me list) comes.attempts_are calls.attempts_are in
+    let all =
+    subst (λ (list : List Attempt). AreAttempts frame.src old.me list) comes.attempts_are calls.attempts_are in
     let has = newest-served frame.src old.me comes.attempt comes.older c comes.place comes.t all.0 comes.lawful.sent
     (ap (λ (f : FrameValue). is_call f.kind.control) (sym comes.frame_is) ∙ other)
     (subst (λ (list : List Attempt). IsNewestSession c list) comes.attempts_are newest) in

@@ -1,13 +1,15 @@
 -- The places of a server: which of them has a caller's connection.
 use Rattle.std.proofs.lemmas.Grind.{common_steps}
-use Rattle.std.proofs.Common.{◌≡◌, ◌≢◌, ◌⊎◌, inl, inr, ℕ, zero, suc, ◌<◌, ◌≤◌, List, [], ◌∷◌, length, get_or, Bool, true, false, Option, None, Some, refl, sym, ap, ◌∙◌, arith}
+use Rattle.std.proofs.Common.{◌≡◌, ◌≢◌, ◌⊎◌, inl, inr, ℕ, zero, suc, ◌<◌, ◌≤◌, List, [], ◌∷◌, length, get_or, Bool}
+use Rattle.std.proofs.Common.{true, false, Option, None, Some, refl, sym, ap, ◌∙◌, arith}
 use Rattle.std.specs.Prelude.{cond, find, is_some, slice_get, slice_set}
 use Rattle.std.specs.List.{position, position_or_len}
 use Rattle.std.specs.Option.{option_and_then, option_map}
 use Rattle.std.proofs.lemmas.Bool.{cases_eq, cond_both}
 use Rattle.std.proofs.lemmas.List.Quantifiers.{position-Some}
 use Rattle.std.proofs.lemmas.List.Sums.{fails_before_first}
-use Rattle.std.proofs.lemmas.Option.{get_or_from_slice_get, same_Some, slice_get-get_or, slice_get-map, slice_get_within}
+use Rattle.std.proofs.lemmas.Option.{get_or_from_slice_get, same_Some, slice_get-get_or, slice_get-map}
+use Rattle.std.proofs.lemmas.Option.{slice_get_within}
 use Rattle.px_base.specs.CallSign.{CallSign}
 use Rattle.ax25_link.proofs.Offered.{slice_get-set_other, slice_get-set_same}
 use Rattle.ftl0_session.specs.Uploads.Session.{is_same_call}
@@ -20,7 +22,8 @@ use Rattle.air_attempt.specs.Transfers.{connection_at}
 
 module _ {X : Type 0} (p : X → Bool) where
   -- none passes
-  pub position-none : (xs : List X) (place : ℕ) (x : X) → position p xs ≡ None → slice_get xs place ≡ Some x → p x ≡ true → ⊥
+  pub position-none : (xs : List X) (place : ℕ) (x : X) → position p xs ≡ None → slice_get xs place ≡ Some x
+      → p x ≡ true → ⊥
   position-none xs place x none at passes =
       let within : place < length xs = slice_get_within xs place x at in
       let behind : length xs ≤ position_or_len p xs = grind (arith, common_steps) in
@@ -50,7 +53,8 @@ module _ {X : Type 0} (p : X → Bool) where
           let there = position-is xs other x is in
           is ∙ ap Some (only other there.x there.at there.passes)
 
-  pub position-no : (xs : List X) (d : X) → ((other : ℕ) (y : X) → slice_get xs other ≡ Some y → p y ≡ true → ⊥) → position p xs ≡ None
+  pub position-no : (xs : List X) (d : X) → ((other : ℕ) (y : X) → slice_get xs other ≡ Some y → p y ≡ true → ⊥)
+      → position p xs ≡ None
   position-no xs d none = by (position p xs) refl
     where
       by : (o : Option ℕ) → position p xs ≡ o → position p xs ≡ None
@@ -65,8 +69,10 @@ module _ {X : Type 0} (p : X → Bool) where
       let here : p y ≡ true = ap p same ∙ passes in
       ap (λ (b : Bool). cond b (Some y) (find p xs)) here ∙ at
   find-at (y ∷ xs) (suc place) x at passes only =
-      cond_both (p y) (Some y) (find p xs) (λ (o : Option X). o ≡ Some x) (λ is. absurd (let same : 0 ≡ suc place = only 0 y refl is in omega arith))
-      (λ is. find-at xs place x at passes (λ other z there passes. let same : suc other ≡ suc place = only (suc other) z there passes in omega arith))
+      cond_both (p y) (Some y) (find p xs) (λ (o : Option X). o ≡ Some x)
+      (λ is. absurd (let same : 0 ≡ suc place = only 0 y refl is in omega arith))
+      (λ is. find-at xs place x at passes
+      (λ other z there passes. let same : suc other ≡ suc place = only (suc other) z there passes in omega arith))
 
   pub find-no : (xs : List X) → ((other : ℕ) (y : X) → slice_get xs other ≡ Some y → p y ≡ true → ⊥) → find p xs ≡ None
   find-no [] none = refl
@@ -75,12 +81,17 @@ module _ {X : Type 0} (p : X → Bool) where
       (λ is. find-no xs (λ other z there passes. none (suc other) z there passes))
 
 -- an element of a list of which one is another now
-pub get-set : {X : Type 0} (xs : List X) (place other : ℕ) (y x : X) → place < length xs → slice_get (slice_set xs place y) other ≡ Some x
+pub get-set : {X : Type 0} (xs : List X) (place other : ℕ) (y x : X) → place < length xs
+    → slice_get (slice_set xs place y) other ≡ Some x
     → ((other ≡ place) × (y ≡ x)) ⊎ ((other ≢ place) × (slice_get xs other ≡ Some x))
 get-set xs place other y x within at =
     elim (cases_eq other place) [
       | inl same ↦
-          inl (same, same_Some y x (sym (slice_get-set_same xs place y within) ∙ ap (λ n. slice_get (slice_set xs place y) n) (sym same) ∙ at))
+          inl (
+            same,
+            same_Some y x (sym (slice_get-set_same xs place y within) ∙ ap
+                (λ n. slice_get (slice_set xs place y) n) (sym same) ∙ at),
+          )
       | inr apart ↦ inr (apart, sym (slice_get-set_other xs place other y apart) ∙ at)
     ]
 
@@ -118,24 +129,29 @@ module _ (caller : CallSign) (slots : List Slot) where
   abbrev IsSeat : ℕ → Connected → Type 0
   IsSeat place c = slice_get slots place ≡ Some (connected c)
 
-  pub place-of-is : (place : ℕ) → place_of caller slots ≡ Some place → (c : Connected) × IsSeat place c × (caller_of c ≡ caller)
+  pub place-of-is : (place : ℕ) → place_of caller slots ≡ Some place
+      → (c : Connected) × IsSeat place c × (caller_of c ≡ caller)
   place-of-is place is =
       let there = position-is (is_callers caller) slots place free is in
       let it = callers-place caller there.x there.passes in
       (it.c, there.at ∙ ap Some it.is, it.caller_is)
 
-  pub place-of-not : place_of caller slots ≡ None → (place : ℕ) (c : Connected) → IsSeat place c → caller_of c ≡ caller → ⊥
-  place-of-not none place c there same = position-none (is_callers caller) slots place (connected c) none there (is-caller caller c same)
+  pub place-of-not : place_of caller slots ≡ None → (place : ℕ) (c : Connected) → IsSeat place c → caller_of c ≡ caller
+      → ⊥
+  place-of-not none place c there same =
+      position-none (is_callers caller) slots place (connected c) none there (is-caller caller c same)
 
   pub place-of-at : (place : ℕ) (c : Connected) → IsSeat place c → caller_of c ≡ caller
-      → ((other : ℕ) (that : Connected) → IsSeat other that → caller_of that ≡ caller → other ≡ place) → place_of caller slots ≡ Some place
+      → ((other : ℕ) (that : Connected) → IsSeat other that → caller_of that ≡ caller → other ≡ place)
+      → place_of caller slots ≡ Some place
   place-of-at place c there same only =
       position-at (is_callers caller) slots place (connected c) there (is-caller caller c same)
       (λ other slot at passes.
       let it = callers-place caller slot passes in
       only other it.c (at ∙ ap Some it.is) it.caller_is)
 
-  pub place-of-no : ((other : ℕ) (that : Connected) → IsSeat other that → caller_of that ≡ caller → ⊥) → place_of caller slots ≡ None
+  pub place-of-no : ((other : ℕ) (that : Connected) → IsSeat other that → caller_of that ≡ caller → ⊥)
+      → place_of caller slots ≡ None
   place-of-no none =
       position-no (is_callers caller) slots free
       (λ other slot at passes.
@@ -156,10 +172,13 @@ holds-some false c is = absurd cc
 
 holding-place : (caller : CallSign) (slot : Slot) → is_some (connection_at caller slot) ≡ true → IsHolding caller slot
 holding-place caller free is = absurd cc
-holding-place caller (connected c) is = record { c = c; is = refl; caller_is = caller-is caller c (holds-some (is_same_call (caller_of c) caller) c is) }
-holding-place caller (leaving c) is = record { c = c; is = refl; caller_is = caller-is caller c (holds-some (is_same_call (caller_of c) caller) c is) }
+holding-place caller (connected c) is =
+    record { c = c; is = refl; caller_is = caller-is caller c (holds-some (is_same_call (caller_of c) caller) c is) }
+holding-place caller (leaving c) is =
+    record { c = c; is = refl; caller_is = caller-is caller c (holds-some (is_same_call (caller_of c) caller) c is) }
 
-connection-at-is : (caller : CallSign) (slot : Slot) (c : Connected) → held slot ≡ Some c → caller_of c ≡ caller → connection_at caller slot ≡ Some c
+connection-at-is : (caller : CallSign) (slot : Slot) (c : Connected) → held slot ≡ Some c → caller_of c ≡ caller
+    → connection_at caller slot ≡ Some c
 connection-at-is caller free c is same = absurd cc
 connection-at-is caller (connected d) c is same =
     let here : d ≡ c = same_Some d c is in
@@ -170,11 +189,14 @@ connection-at-is caller (leaving d) c is same =
 
 -- the connection of a caller among places
 abbrev pub connection_among : CallSign → List Slot → Option Connected
-connection_among caller slots = option_and_then (connection_at caller) (find (λ slot. is_some (connection_at caller slot)) slots)
+connection_among caller slots =
+    option_and_then (connection_at caller) (find (λ slot. is_some (connection_at caller slot)) slots)
 
 module _ (caller : CallSign) (slots : List Slot) where
-  pub connection-is : (place : ℕ) (slot : Slot) (c : Connected) → slice_get slots place ≡ Some slot → held slot ≡ Some c → caller_of c ≡ caller
-      → ((other : ℕ) (s : Slot) (that : Connected) → slice_get slots other ≡ Some s → held s ≡ Some that → caller_of that ≡ caller → other ≡ place)
+  pub connection-is : (place : ℕ) (slot : Slot) (c : Connected) → slice_get slots place ≡ Some slot → held slot ≡ Some c
+      → caller_of c ≡ caller
+      → ((other : ℕ) (s : Slot) (that : Connected) → slice_get slots other ≡ Some s → held s ≡ Some that → caller_of
+      that ≡ caller → other ≡ place)
       → connection_among caller slots ≡ Some c
   connection-is place slot c at is same only =
       let here = connection-at-is caller slot c is same in
@@ -185,7 +207,8 @@ module _ (caller : CallSign) (slots : List Slot) where
       only other s it.c there it.is it.caller_is) in
       ap (option_and_then (connection_at caller)) found ∙ here
 
-  pub connection-no : ((other : ℕ) (s : Slot) (that : Connected) → slice_get slots other ≡ Some s → held s ≡ Some that → caller_of that ≡ caller → ⊥)
+  pub connection-no : ((other : ℕ) (s : Slot) (that : Connected) → slice_get slots other ≡ Some s → held s ≡ Some that
+      → caller_of that ≡ caller → ⊥)
       → connection_among caller slots ≡ None
   connection-no none =
       ap (option_and_then (connection_at caller))
@@ -206,19 +229,23 @@ freed-leaving free c is = cc
 freed-leaving (connected d) c is = cc
 freed-leaving (leaving d) c is = cc
 
-pub mapped-some : {X Y : Type 0} (f : X → Y) (o : Option X) (y : Y) → option_map f o ≡ Some y → (x : X) × (o ≡ Some x) × (f x ≡ y)
+pub mapped-some : {X Y : Type 0} (f : X → Y) (o : Option X) (y : Y) → option_map f o ≡ Some y
+    → (x : X) × (o ≡ Some x) × (f x ≡ y)
 mapped-some f None y is = absurd cc
 mapped-some f (Some x) y is = (x, refl, same_Some (f x) y is)
 
-pub freed-seat : (slots : List Slot) (place : ℕ) (c : Connected) → slice_get (all_freed slots) place ≡ Some (connected c) → slice_get slots place ≡ Some (connected c)
+pub freed-seat : (slots : List Slot) (place : ℕ) (c : Connected)
+    → slice_get (all_freed slots) place ≡ Some (connected c) → slice_get slots place ≡ Some (connected c)
 freed-seat slots place c at =
     let it = mapped-some freed (slice_get slots place) (connected c) (sym (slice_get-map freed slots place) ∙ at) in
     it.1 ∙ ap Some (freed-connected it.0 c it.2)
 
-pub freed-none : (slots : List Slot) (place : ℕ) (c : Connected) → slice_get (all_freed slots) place ≡ Some (leaving c) → ⊥
+pub freed-none : (slots : List Slot) (place : ℕ) (c : Connected) → slice_get (all_freed slots) place ≡ Some (leaving c)
+    → ⊥
 freed-none slots place c at =
     let it = mapped-some freed (slice_get slots place) (leaving c) (sym (slice_get-map freed slots place) ∙ at) in
     freed-leaving it.0 c it.2
 
-pub seat-freed : (slots : List Slot) (place : ℕ) (c : Connected) → slice_get slots place ≡ Some (connected c) → slice_get (all_freed slots) place ≡ Some (connected c)
+pub seat-freed : (slots : List Slot) (place : ℕ) (c : Connected) → slice_get slots place ≡ Some (connected c)
+    → slice_get (all_freed slots) place ≡ Some (connected c)
 seat-freed slots place c at = slice_get-map freed slots place ∙ ap (option_map freed) at

@@ -1,5 +1,6 @@
 -- A SABM of a client is answered: the current attempt has a session.
-use Rattle.std.proofs.Common.{◌≡◌, ℕ, zero, suc, ◌<◌, ◌≤◌, ◌^◌, List, [], ◌∷◌, length, Bool, true, false, Option, None, Some, refl, sym, ap, subst, ◌∙◌, append-nil, arith}
+use Rattle.std.proofs.Common.{◌≡◌, ℕ, zero, suc, ◌<◌, ◌≤◌, ◌^◌, List, [], ◌∷◌, length, Bool, true, false, Option, None}
+use Rattle.std.proofs.Common.{Some, refl, sym, ap, subst, ◌∙◌, append-nil, arith}
 use Rattle.std.specs.List.{AllByRecursion, concat}
 use Rattle.std.proofs.lemmas.List.{take_all}
 use Rattle.px_base.specs.CallSign.{CallSign}
@@ -31,7 +32,8 @@ use Rattle.air_attempt.proofs.Transmissions.{from-delivered, from-sent, one-call
 -- ---- before
 
 -- a SABM of an attempt that a session answered was delivered
-pub not-answered : (me server : CallSign) (a : Attempt) (place : ℕ) (t : Transmission) → IsAttempt me server a → IsLawful a.window a.by_client place t
+pub not-answered : (me server : CallSign) (a : Attempt) (place : ℕ) (t : Transmission) → IsAttempt me server a
+    → IsLawful a.window a.by_client place t
     → is_call (control_of t) ≡ true → IsUnanswered a × (a.server ≡ None)
 not-answered me server a place t is lawful calls = by a.server refl is.answered
   where
@@ -44,7 +46,8 @@ not-answered me server a place t is lawful calls = by a.server refl is.answered
         let no : true ≡ false = sym delivered ∙ fresh in
         cc)
 
-at-all : (P : Transmission → Type 0) (list : List Transmission) (place : ℕ) (t : Transmission) → AllByRecursion P list → IsAt list place t → P t
+at-all : (P : Transmission → Type 0) (list : List Transmission) (place : ℕ) (t : Transmission) → AllByRecursion P list
+    → IsAt list place t → P t
 at-all P [] place t all at = absurd cc
 at-all P (x ∷ list) zero t all at = subst P (let same : x ≡ t = cc in same) all.0
 at-all P (x ∷ list) (suc place) t all at = at-all P list place t all.1 at
@@ -97,7 +100,8 @@ no-rest = refl
 greeted-pushed : (me peer : CallSign) (poll : Bool) (moment : ℕ) (left : Bool)
     → (greeted (answering_end me peer poll) moment left).pushed ≡ packet_text (greeting moment left)
 greeted-pushed me peer poll moment left =
-    take_all (free_octets (answering_end me peer poll)) (packet_text (greeting moment left)) (let few : length (packet_text (greeting moment left)) ≤ 4096 = omega arith in few)
+    take_all (free_octets (answering_end me peer poll)) (packet_text (greeting moment left))
+    (let few : length (packet_text (greeting moment left)) ≤ 4096 = omega arith in few)
 
 few-flags : (left : Bool) → flags left < 256
 few-flags true = omega arith
@@ -113,7 +117,8 @@ begins last moment left =
       is_up = true;
     }
 
-session-begins : (w : Window) (me peer : CallSign) (poll left : Bool) (moment : ℕ) (frames : List FrameValue) (last : LinkEnd) → moment < 2 ^ 32
+session-begins : (w : Window) (me peer : CallSign) (poll left : Bool) (moment : ℕ) (frames : List FrameValue)
+    (last : LinkEnd) → moment < 2 ^ 32
     → Drains w (greeted (answering_end me peer poll) moment left) frames last → IsSession (begins last moment left)
 session-begins w me peer poll left moment frames last low drains =
     let keeps = drains-keep w (greeted (answering_end me peer poll) moment left) last frames drains in
@@ -124,16 +129,19 @@ session-begins w me peer poll left moment frames last low drains =
       all = λ all. refl;
       none_lost = λ up. tt;
       rest = sym (ap (λ (t : List (List ℕ)). rest_of (concat t)) keeps.taken ∙ no-rest);
-      said = keeps.pushed ∙ greeted-pushed me peer poll moment left ∙ sym (append-nil (packet_text (greeting moment left)));
+      said = keeps.pushed ∙ greeted-pushed me peer poll moment left
+          ∙ sym (append-nil (packet_text (greeting moment left)));
       greets = (moment, left, refl);
       fits = ((low, few-flags left), tt);
     }
 
 -- ---- the attempt
 
-module _ (me server : CallSign) (a : Attempt) (is : IsAttempt me server a) (un : IsUnanswered a) (place : ℕ) (t : Transmission) (lawful : IsLawful a.window a.by_client place t)
+module _ (me server : CallSign) (a : Attempt) (is : IsAttempt me server a) (un : IsUnanswered a) (place : ℕ)
+    (t : Transmission) (lawful : IsLawful a.window a.by_client place t)
     (calls : is_call (control_of t) ≡ true) where
-  module _ (w : Window) (same : a.window ≡ w) (poll left : Bool) (moment : ℕ) (low : moment < 2 ^ 32) (frames : List FrameValue) (last : LinkEnd)
+  module _ (w : Window) (same : a.window ≡ w) (poll left : Bool) (moment : ℕ) (low : moment < 2 ^ 32)
+      (frames : List FrameValue) (last : LinkEnd)
       (drained : Drains w (greeted (answering_end server me poll) moment left) frames last) where
     abbrev end : LinkEnd
     end = greeted (answering_end server me poll) moment left
@@ -141,23 +149,31 @@ module _ (me server : CallSign) (a : Attempt) (is : IsAttempt me server a) (un :
     drains : Drains a.window end frames last
     drains = subst (λ (v : Window). Drains v end frames last) (sym same) drained
 
-    opening : AreLinked a.window (record { end = a.client.attempted.end; transmissions = delivering a.by_client place t })
+    opening : AreLinked a.window (record
+        { end = a.client.attempted.end; transmissions = delivering a.by_client place t })
         (record { end = answering_end server me poll; transmissions = a.by_server })
     opening =
-        prefix_law.opening a.window (record { end = a.client.attempted.end; transmissions = delivering a.by_client place t }) server me poll a.by_server is.window un.unused
-        (subst IsOpening (sym (delivered-alone a.by_client un.alone.0 t place un.alone.1 lawful.sent)) (alone-opens t calls))
+        prefix_law.opening a.window (record
+        { end = a.client.attempted.end; transmissions = delivering a.by_client place t }) server me poll a.by_server
+        is.window un.unused
+        (subst IsOpening (sym (delivered-alone a.by_client un.alone.0 t place un.alone.1 lawful.sent))
+        (alone-opens t calls))
         (refusals-open a.by_server un.refused)
 
-    linked : AreLinked a.window (record { end = a.client.attempted.end; transmissions = delivering a.by_client place t })
+    linked : AreLinked a.window (record
+        { end = a.client.attempted.end; transmissions = delivering a.by_client place t })
         (record { end = last; transmissions = sending_all a.by_server frames })
     linked =
         let one : Station = record { end = answering_end server me poll; transmissions = a.by_server } in
         let other : Station = record { end = a.client.attempted.end; transmissions = delivering a.by_client place t } in
         let turned = prefix_law.turned a.window other one opening in
-        let none = prefix_law.no_call.sent a.window (answering_end server me poll) end last (push (packet_text (greeting moment left)) ∷ []) frames
+        let none =
+        prefix_law.no_call.sent a.window (answering_end server me poll) end last
+        (push (packet_text (greeting moment left)) ∷ []) frames
         (λ calls. absurd cc) (refl, refl) drains in
         prefix_law.turned a.window (record { end = last; transmissions = sending_all a.by_server frames }) other
-        (prefix_law.sent a.window one other (push (packet_text (greeting moment left)) ∷ []) frames end last is.window turned (refl, refl) drains none)
+        (prefix_law.sent a.window one other (push (packet_text (greeting moment left)) ∷ []) frames end last is.window
+        turned (refl, refl) drains none)
 
     sends : SendsOwn a.window end frames last
     sends = stations_law.drains a.window end last frames is.window drains
@@ -174,7 +190,8 @@ module _ (me server : CallSign) (a : Attempt) (is : IsAttempt me server a) (un :
         };
         from_client = from-delivered a.window me server a.by_client place t lawful.sent is.stations.from_client;
         from_server =
-            from-sent a.window (record { called = false; me = server; peer = me }) a.by_server frames is.window is.stations.from_server sends.own;
+            from-sent a.window (record { called = false; me = server; peer = me }) a.by_server frames is.window
+            is.stations.from_server sends.own;
       };
       call = one-call-delivered a.by_client place t lawful.sent is.call;
       calling = is.calling;

@@ -32,7 +32,8 @@ use Rattle.air_attempt.proofs.Transmissions.{from-delivered, one-call-delivered}
 
 -- What a frame that is no SABM makes of a connection, whose link then sends these frames; the session is up then, or
 -- over.
-pub record OwnStep (w : Window) (moment : ℕ) (store : Store) (lists : List CallerList) (frame : FrameValue) (frames : List FrameValue) (last : LinkEnd) (up : Bool)
+pub record OwnStep (w : Window) (moment : ℕ) (store : Store) (lists : List CallerList) (frame : FrameValue)
+    (frames : List FrameValue) (last : LinkEnd) (up : Bool)
     (c : Connected) : Type 0 where
   pub state : c.end.state ≡ Up
   pub other : is_call frame.kind.control ≡ false
@@ -44,9 +45,12 @@ pub record OwnStep (w : Window) (moment : ℕ) (store : Store) (lists : List Cal
   pub fits : AllByRecursion Fits (session.said_in (entries_heard w moment store lists c frame))
   pub goes_on : up ≡ true → (hearing w moment store lists c frame []).over ≡ false
 
-module _ (me server : CallSign) (a : Attempt) (side : ServerSide) (is : IsAttempt me server a) (has : a.server ≡ Some side) (is_up : side.is_up ≡ true)
-    (place : ℕ) (t : Transmission) (lawful : IsLawful a.window a.by_client place t) (frame : FrameValue) (frame_is : frame ≡ t.frame) where
-  module _ (w : Window) (same : a.window ≡ w) (moment : ℕ) (store : Store) (lists : List CallerList) (frames : List FrameValue) (last : LinkEnd) (up : Bool)
+module _ (me server : CallSign) (a : Attempt) (side : ServerSide) (is : IsAttempt me server a)
+    (has : a.server ≡ Some side) (is_up : side.is_up ≡ true)
+    (place : ℕ) (t : Transmission) (lawful : IsLawful a.window a.by_client place t) (frame : FrameValue)
+    (frame_is : frame ≡ t.frame) where
+  module _ (w : Window) (same : a.window ≡ w) (moment : ℕ) (store : Store) (lists : List CallerList)
+      (frames : List FrameValue) (last : LinkEnd) (up : Bool)
       (h : OwnStep w moment store lists frame frames last up side.connected) where
     abbrev c : Connected
     c = side.connected
@@ -60,7 +64,8 @@ module _ (me server : CallSign) (a : Attempt) (side : ServerSide) (is : IsAttemp
 
     link-step : LinkStep a.window c.end (step.frame frame) (heard_of a.window c.end frame) h.heard.doings frames last
     link-step =
-        subst (λ (v : Window). LinkStep v c.end (step.frame frame) (heard_of v c.end frame) h.heard.doings frames last) (sym same)
+        subst (λ (v : Window). LinkStep v c.end (step.frame frame) (heard_of v c.end frame) h.heard.doings frames last)
+        (sym same)
         (record {
           quiet = subst (λ (v : Window). IsQuiet v c.end) same (answered-by me server a side is has).quiet;
           told = refl;
@@ -69,17 +74,22 @@ module _ (me server : CallSign) (a : Attempt) (side : ServerSide) (is : IsAttemp
           drains = h.drains;
         })
 
-    linked : AreLinked a.window (record { end = a.client.attempted.end; transmissions = delivering a.by_client place t })
+    linked : AreLinked a.window (record
+        { end = a.client.attempted.end; transmissions = delivering a.by_client place t })
         (record { end = last; transmissions = sending_all a.by_server frames })
     linked =
         link-hears me server a side place t (heard_of a.window c.end frame) h.heard.doings frames last is has lawful
-        (subst (λ (f : FrameValue). LinkStep a.window c.end (step.frame f) (heard_of a.window c.end frame) h.heard.doings frames last) frame_is link-step)
+        (subst (λ (f : FrameValue). LinkStep a.window c.end (step.frame f) (heard_of a.window c.end frame)
+        h.heard.doings frames last) frame_is link-step)
 
     are-octets : IsOctets (concat last.taken)
-    are-octets = taken-octets me server a (delivering a.by_client place t) (sending_all a.by_server frames) last is linked
+    are-octets =
+        taken-octets me server a (delivering a.by_client place t) (sending_all a.by_server frames) last is linked
 
     sends-own : SendsOwn a.window c.end frames last
-    sends-own = stations_law.step a.window c.end last (step.frame frame) (heard_of a.window c.end frame) h.heard.doings frames is.window link-step
+    sends-own =
+        stations_law.step a.window c.end last (step.frame frame) (heard_of a.window c.end frame) h.heard.doings frames
+        is.window link-step
 
     pub own-goes-on : IsAttempt me server (gone a after_own (delivering a.by_client place t) frames)
     own-goes-on =
@@ -91,7 +101,8 @@ module _ (me server : CallSign) (a : Attempt) (side : ServerSide) (is : IsAttemp
           linked = linked;
           quiet = drains-quiet a.window link-step.end last frames link-step.drains;
           session =
-              session-goes-on w moment store lists frame side entries frames last up (answered-by me server a side is has).session
+              session-goes-on w moment store lists frame side entries frames last up
+              (answered-by me server a side is has).session
               (record {
                 is_up = is_up;
                 state = h.state;

@@ -1,5 +1,6 @@
 -- What a step of a server makes of its places, before those of sessions that are over are free.
-use Rattle.std.proofs.Common.{◌≡◌, ℕ, ◌<◌, List, [], ◌++◌, length, get_or, map, Bool, true, false, Option, None, Some, refl, sym, ap, ap₂, subst, ◌∙◌, append-nil}
+use Rattle.std.proofs.Common.{◌≡◌, ℕ, ◌<◌, List, [], ◌++◌, length, get_or, map, Bool, true, false, Option, None, Some}
+use Rattle.std.proofs.Common.{refl, sym, ap, ap₂, subst, ◌∙◌, append-nil}
 use Rattle.std.specs.Prelude.{slice_get, slice_set, if◌then◌else◌, ◌&&◌}
 use Rattle.std.proofs.lemmas.List.Quantifiers.{position-Some}
 use Rattle.std.proofs.lemmas.Option.{slice_get-get_or, slice_get_within}
@@ -9,9 +10,11 @@ use Rattle.ax25_link.specs.Window.{Window}
 use Rattle.ftl0_session.specs.Lists.Lists.{has_left}
 use Rattle.ftl0_server.specs.Connection.Connected.{Connected, answering}
 use Rattle.ftl0_server.specs.Connection.Hearing.{Happened, hearing}
-use Rattle.ftl0_server.specs.Server.{Refused, Server, called_by, heard_at, hearing_at, hearing_by, hearing_stranger, refusing, settled, with_slot}
+use Rattle.ftl0_server.specs.Server.{Refused, Server, called_by, heard_at, hearing_at, hearing_by, hearing_stranger}
+use Rattle.ftl0_server.specs.Server.{refusing, settled, with_slot}
 use Rattle.ftl0_server.specs.ServerStep.{ServerStep, Stepped, happening}
-use Rattle.ftl0_server.specs.Slots.{Slot, all_freed, connected, first_empty, free, is_empty, place_of, slot_after, slot_ticking}
+use Rattle.ftl0_server.specs.Slots.{Slot, all_freed, connected, first_empty, free, is_empty, place_of, slot_after}
+use Rattle.ftl0_server.specs.Slots.{slot_ticking}
 use Rattle.node.specs.Events.{NodeEvent, hears, ticks}
 use Rattle.server_laws.specs.Places.{SlotDrains, SlotsDrain, refusals}
 use Rattle.server_laws.proofs.Offered.{SendsAll, alone-at, places-none, sends-all, silent-by}
@@ -25,7 +28,8 @@ pub record Keeps (old after : Server) (gives : Stepped) (last : Server) : Type 0
   pub slots : gives.new.slots ≡ all_freed last.slots
 
 -- The step sends what this place drains, which is this one before, and leaves all others as they were.
-pub record ChangesPlace (old : Server) (event : NodeEvent) (gives : Stepped) (step : ServerStep old event [] gives) (place : ℕ) (slot : Slot) : Type 0 where
+pub record ChangesPlace (old : Server) (event : NodeEvent) (gives : Stepped) (step : ServerStep old event [] gives)
+    (place : ℕ) (slot : Slot) : Type 0 where
   pub within : place < length old.slots
   pub now : Slot
   pub drains : SlotDrains old.window slot gives.frames now
@@ -33,13 +37,15 @@ pub record ChangesPlace (old : Server) (event : NodeEvent) (gives : Stepped) (st
   pub keeps : Keeps old (happening old event []).after gives step.last
 
 -- The step sends these frames, and leaves all places as they were.
-pub record ChangesNone (old : Server) (event : NodeEvent) (gives : Stepped) (step : ServerStep old event [] gives) (frames : List FrameValue) : Type 0 where
+pub record ChangesNone (old : Server) (event : NodeEvent) (gives : Stepped) (step : ServerStep old event [] gives)
+    (frames : List FrameValue) : Type 0 where
   pub frames_are : gives.frames ≡ frames
   pub slots_are : step.last.slots ≡ old.slots
   pub keeps : Keeps old (happening old event []).after gives step.last
 
 -- The step sends what the places drain, which are these before.
-pub record ChangesAll (old : Server) (event : NodeEvent) (gives : Stepped) (step : ServerStep old event [] gives) (slots : List Slot) : Type 0 where
+pub record ChangesAll (old : Server) (event : NodeEvent) (gives : Stepped) (step : ServerStep old event [] gives)
+    (slots : List Slot) : Type 0 where
   pub drains : SlotsDrain old.window slots gives.frames step.last.slots
   pub keeps : Keeps old (happening old event []).after gives step.last
 
@@ -68,23 +74,29 @@ module _ (old : Server) (event : NodeEvent) (gives : Stepped) (step : ServerStep
 
   -- one place is another one after what happened
   one-place : (place : ℕ) (slot there : Slot) → after.me ≡ old.me → after.window ≡ old.window → after.stray ≡ old.stray
-      → after.slots ≡ slice_set old.slots place slot → slice_get old.slots place ≡ Some there → ChangesPlace old event gives step place slot
+      → after.slots ≡ slice_set old.slots place slot → slice_get old.slots place ≡ Some there
+      → ChangesPlace old event gives step place slot
   one-place place slot there me window stray slots_are is =
-      let frames_are : gives.frames ≡ sent.own = sent.frames_are ∙ ap (λ (o : Option Refused). refusals after.me o ++ sent.own) (stray ∙ stray-none) in
+      let frames_are : gives.frames ≡ sent.own = sent.frames_are
+      ∙ ap (λ (o : Option Refused). refusals after.me o ++ sent.own) (stray ∙ stray-none) in
       let drains : SlotsDrain old.window (slice_set old.slots place slot) sent.own sent.slots =
       subst (λ (slots : List Slot). SlotsDrain old.window slots sent.own sent.slots) slots_are
       (subst (λ (w : Window). SlotsDrain w after.slots sent.own sent.slots) window sent.drains) in
-      let alone = alone-at old.window old.slots sent.slots place slot there sent.own (silent-by old old.stray step.silent).1 is drains in
+      let alone =
+      alone-at old.window old.slots sent.slots place slot there sent.own (silent-by old old.stray step.silent).1 is
+      drains in
       record {
         within = slice_get_within old.slots place there is;
         now = alone.0;
-        drains = subst (λ (frames : List FrameValue). SlotDrains old.window slot frames alone.0) (sym frames_are) alone.1;
+        drains =
+            subst (λ (frames : List FrameValue). SlotDrains old.window slot frames alone.0) (sym frames_are) alone.1;
         slots_are = ap (λ (s : Server). s.slots) sent.last_is ∙ alone.2;
         keeps = step-keeps me window;
       }
 
   -- none is
-  no-place : after.me ≡ old.me → after.window ≡ old.window → after.slots ≡ old.slots → ChangesNone old event gives step (refusals old.me after.stray)
+  no-place : after.me ≡ old.me → after.window ≡ old.window → after.slots ≡ old.slots
+      → ChangesNone old event gives step (refusals old.me after.stray)
   no-place me window slots_are =
       let drains : SlotsDrain old.window old.slots sent.own sent.slots =
       subst (λ (slots : List Slot). SlotsDrain old.window slots sent.own sent.slots) slots_are
@@ -103,11 +115,14 @@ pub tick-places : (old : Server) (moment : ℕ) (gives : Stepped) (step : Server
     → ChangesAll old (ticks moment) gives step (map slot_ticking old.slots)
 tick-places old moment gives step =
     let s = sent old (ticks moment) gives step in
-    let frames_are : gives.frames ≡ s.own = s.frames_are ∙ ap (λ (o : Option Refused). refusals old.me o ++ s.own) (stray-none old (ticks moment) gives step) in
+    let frames_are : gives.frames ≡ s.own = s.frames_are
+    ∙ ap (λ (o : Option Refused). refusals old.me o ++ s.own) (stray-none old (ticks moment) gives step) in
     record {
       drains =
-          subst (λ (frames : List FrameValue). SlotsDrain old.window (map slot_ticking old.slots) frames step.last.slots) (sym frames_are)
-          (subst (λ (last : List Slot). SlotsDrain old.window (map slot_ticking old.slots) s.own last) (sym (ap (λ (x : Server). x.slots) s.last_is)) s.drains);
+          subst (λ (frames : List FrameValue). SlotsDrain old.window (map slot_ticking old.slots) frames
+          step.last.slots) (sym frames_are)
+          (subst (λ (last : List Slot). SlotsDrain old.window (map slot_ticking old.slots) s.own last)
+          (sym (ap (λ (x : Server). x.slots) s.last_is)) s.drains);
       keeps = step-keeps old (ticks moment) gives step refl refl;
     }
 
@@ -122,44 +137,57 @@ module _ (server : Server) (frame : FrameValue) (moment : ℕ) where
       else server
 
   stranger-same : (calls : Bool) (place : Option ℕ) (asks : Bool) → (calls ≡ true → place ≡ None)
-      → ((stranger_by calls place asks).me ≡ server.me) × ((stranger_by calls place asks).window ≡ server.window) × ((stranger_by calls place asks).slots ≡ server.slots)
+      → ((stranger_by calls place asks).me ≡ server.me) × ((stranger_by calls place asks).window ≡ server.window)
+      × ((stranger_by calls place asks).slots ≡ server.slots)
   stranger-same true None asks none = (refl, refl, refl)
   stranger-same true (Some place) asks none = absurd (let is = none refl in cc)
   stranger-same false place true none = (refl, refl, refl)
   stranger-same false place false none = (refl, refl, refl)
 
-module _ (old : Server) (frame : FrameValue) (moment : ℕ) (gives : Stepped) (step : ServerStep old (hears frame moment) [] gives) where
+module _ (old : Server) (frame : FrameValue) (moment : ℕ) (gives : Stepped)
+    (step : ServerStep old (hears frame moment) [] gives) where
   abbrev then_is : Server
   then_is = (happening old (hears frame moment) []).after
 
   -- it is heard by the connection at this place
-  pub heard-place : (place : ℕ) (c : Connected) → place_of frame.src old.slots ≡ Some place → slice_get old.slots place ≡ Some (connected c)
-      → ChangesPlace old (hears frame moment) gives step place (slot_after (hearing old.window moment old.store old.lists c frame []))
+  pub heard-place : (place : ℕ) (c : Connected) → place_of frame.src old.slots ≡ Some place
+      → slice_get old.slots place ≡ Some (connected c)
+      → ChangesPlace old (hears frame moment) gives step place
+      (slot_after (hearing old.window moment old.store old.lists c frame []))
   heard-place place c is there =
       let happened : Happened = hearing old.window moment old.store old.lists c frame [] in
       let by : then_is ≡ (heard_at old place happened).after =
-      ap (λ o. (hearing_by old frame moment [] o).after) is ∙ ap (λ o. (hearing_at old frame moment [] place o).after) there in
-      one-place old (hears frame moment) gives step place (slot_after happened) (connected c) (ap (λ (s : Server). s.me) by) (ap (λ (s : Server). s.window) by)
+      ap (λ o. (hearing_by old frame moment [] o).after) is
+      ∙ ap (λ o. (hearing_at old frame moment [] place o).after) there in
+      one-place old (hears frame moment) gives step place (slot_after happened) (connected c)
+      (ap (λ (s : Server). s.me) by) (ap (λ (s : Server). s.window) by)
       (ap (λ (s : Server). s.stray) by) (ap (λ (s : Server). s.slots) by) there
 
   -- it opens a connection
-  pub opened-place : (place : ℕ) → place_of frame.src old.slots ≡ None → is_call frame.kind.control ≡ true → first_empty old.slots ≡ Some place
-      → ChangesPlace old (hears frame moment) gives step place (connected (answering old.me frame.src frame.poll moment (has_left old.lists frame.src)))
+  pub opened-place : (place : ℕ) → place_of frame.src old.slots ≡ None → is_call frame.kind.control ≡ true
+      → first_empty old.slots ≡ Some place
+      → ChangesPlace old (hears frame moment) gives step place
+      (connected (answering old.me frame.src frame.poll moment (has_left old.lists frame.src)))
   opened-place place is calls first =
       let slot : Slot = connected (answering old.me frame.src frame.poll moment (has_left old.lists frame.src)) in
       let by : then_is ≡ with_slot old place slot =
       ap (λ o. (hearing_by old frame moment [] o).after) is
       ∙ ap₂ (λ (b : Bool) (o : Option ℕ). stranger_by old frame moment b o (frame.command && frame.poll)) calls first in
       let within = (position-Some is_empty old.slots place free first).0 in
-      one-place old (hears frame moment) gives step place slot (get_or old.slots place free) (ap (λ (s : Server). s.me) by) (ap (λ (s : Server). s.window) by)
+      one-place old (hears frame moment) gives step place slot (get_or old.slots place free)
+      (ap (λ (s : Server). s.me) by) (ap (λ (s : Server). s.window) by)
       (ap (λ (s : Server). s.stray) by) (ap (λ (s : Server). s.slots) by) (slice_get-get_or old.slots place free within)
 
   -- no connection hears it
-  pub passed-places : place_of frame.src old.slots ≡ None → (is_call frame.kind.control ≡ true → first_empty old.slots ≡ None)
+  pub passed-places : place_of frame.src old.slots ≡ None
+      → (is_call frame.kind.control ≡ true → first_empty old.slots ≡ None)
       → ChangesNone old (hears frame moment) gives step (refusals old.me (hearing_stranger old frame moment).stray)
   passed-places is none =
       let by : then_is ≡ hearing_stranger old frame moment = ap (λ o. (hearing_by old frame moment [] o).after) is in
-      let same = stranger-same old frame moment (is_call frame.kind.control) (first_empty old.slots) (frame.command && frame.poll) none in
+      let same =
+      stranger-same old frame moment (is_call frame.kind.control) (first_empty old.slots) (frame.command && frame.poll)
+      none in
       subst (λ (s : Server). ChangesNone old (hears frame moment) gives step (refusals old.me s.stray)) by
-      (no-place old (hears frame moment) gives step (ap (λ (s : Server). s.me) by ∙ same.0) (ap (λ (s : Server). s.window) by ∙ same.1)
+      (no-place old (hears frame moment) gives step (ap (λ (s : Server). s.me) by ∙ same.0)
+      (ap (λ (s : Server). s.window) by ∙ same.1)
       (ap (λ (s : Server). s.slots) by ∙ same.2))

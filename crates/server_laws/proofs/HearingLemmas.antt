@@ -25,7 +25,6 @@ use Rattle.ftl0_packets.specs.Layout.{Item, data_end, data_part, packet_text}
 use Rattle.ftl0_packets.specs.Reading.{packets_of}
 use Rattle.ftl0_packets.proofs.SplitLemmas.{texts-append}
 use Rattle.packet_link.specs.Queuing.{enough_free, fits, on_due}
-use Rattle.packet_link.proofs.Queuing.{filling-keeps}
 use Rattle.file_store.specs.Command.{Command, after_all}
 use Rattle.file_store.specs.Store.{Store}
 use Rattle.file_store.proofs.Offered.{after_all-append}
@@ -33,9 +32,9 @@ use Rattle.ftl0_session.specs.Downloads.Table as download
 use Rattle.ftl0_session.specs.Downloads.Sending as due_part
 use Rattle.ftl0_session.specs.Lists.Lists.{CallerList}
 use Rattle.ftl0_session.specs.Run.{Session, session_over}
-use Rattle.ftl0_session.specs.Table.{DuePacket, Row, State, download_part, due_at, in_session, next_due}
+use Rattle.ftl0_session.specs.Table.{DuePacket, Row, State, download_part, in_session, next_due}
 use Rattle.ftl0_server.specs.Connection.Connected.{Connected, caller_of}
-use Rattle.ftl0_server.specs.Connection.Hearing.{hearing, parts_as, parts_of_frame, progressed, rest_of_frame}
+use Rattle.ftl0_server.specs.Connection.Hearing.{parts_as, parts_of_frame, progressed, rest_of_frame}
 use Rattle.ftl0_server.specs.Connection.Taking as taken
 use Rattle.ftl0_server.specs.Connection.Taking.{Progress, after_due, queued, queuing, resting, taking}
 use Rattle.ftl0_server.specs.Entries as entry
@@ -87,7 +86,7 @@ goes-then caller moment session mid now (entry.queued due ∷ some) more all fir
 -- ---- packets that are taken
 
 -- What packets make of a session and its end is what these entries make.
-record Taken (caller : CallSign) (moment : ℕ) (session : Session) (end : LinkEnd) (items : List Item) (progress : Progress) (entries : List SessionEntry) : Type 0 where
+pub record Taken (caller : CallSign) (moment : ℕ) (session : Session) (end : LinkEnd) (items : List Item) (progress : Progress) (entries : List SessionEntry) : Type 0 where
   pub doings : List Doing
   pub does : DoesAll end doings progress.end
   pub said : progress.end.pushed ≡ end.pushed ++ texts (said_in entries)
@@ -266,7 +265,7 @@ module _ (caller : CallSign) (moment : ℕ) (store : Store) (lists : List Caller
 -- ---- what the link tells
 
 -- whether the link is up behind what it tells, of a frame that doesn't call
-abbrev IsUpBehind : Heard → LinkEnd → Type 0
+abbrev pub IsUpBehind : Heard → LinkEnd → Type 0
 IsUpBehind Nothing after = after.state ≡ Up
 IsUpBehind Opened after = ⊥
 IsUpBehind Reopened after = ⊥
@@ -318,24 +317,14 @@ up-by w end frame Frmr up other = tt
 up-by w end frame Ua up other = up
 up-by w end frame Ui up other = up
 
-up-behind : (w : Window) (end : LinkEnd) (frame : FrameValue) → end.state ≡ Up → is_call frame.kind.control ≡ false → IsUpBehind (heard_of w end frame) (after_frame w end frame)
+pub up-behind : (w : Window) (end : LinkEnd) (frame : FrameValue) → end.state ≡ Up → is_call frame.kind.control ≡ false → IsUpBehind (heard_of w end frame) (after_frame w end frame)
 up-behind w end frame up other = subst (λ (state : LinkState). IsUpAfter (row_of_state state w end frame)) (sym up) (up-by w end frame frame.kind.control up other)
-
--- what is due leaves the link as it is
-queuing-up : (count : ℕ) (store : Store) (progress : Progress) → progress.end.state ≡ Up → (queuing count store [] progress).end.state ≡ Up
-queuing-up count store progress up = filling-keeps (λ at. at.end) (λ at. due_at store at.state [] at.part) after_due (λ at. at.end.state ≡ Up) (λ at packet is here. here) count progress up
-
-queued-up : (store : Store) (progress : Progress) → (progress.over ≡ false → progress.end.state ≡ Up) → (over : Bool) → progress.over ≡ over
-    → (if over then progress else queuing (free_octets progress.end) (after_all store progress.done) [] progress).over ≡ false
-    → (if over then progress else queuing (free_octets progress.end) (after_all store progress.done) [] progress).end.state ≡ Up
-queued-up store progress up true is goes = absurd cc
-queued-up store progress up false is goes = queuing-up (free_octets progress.end) (after_all store progress.done) progress (up is)
 
 -- ---- a frame
 
 module _ (moment : ℕ) (store : Store) (lists : List CallerList) (c : Connected) (after : LinkEnd) (octets : List ℕ) where
   -- what was taken, by what the link tells
-  taken-told : (told : Heard) → IsUpBehind told after
+  pub taken-told : (told : Heard) → IsUpBehind told after
       → Taken (caller_of c) moment (session_over store lists c.state) after (packets_told told c octets) (parts_as told moment store lists c after octets [])
       (entries_taken (caller_of c) moment (session_over store lists c.state) after (packets_told told c octets))
   taken-told Nothing up = taken-none (caller_of c) moment false (session_over store lists c.state) after (λ h. up)
@@ -393,11 +382,3 @@ hearing-law w moment store lists c frame up other =
     let progress : Progress = parts_of_frame w moment store lists c frame [] in
     let h = taken-told moment store lists c (after_frame w c.end frame) frame.kind.information (heard_of w c.end frame) (up-behind w c.end frame up other) in
     heard-by moment store lists c w frame progress _ h progress.over refl
-
--- a link whose session goes on is up
-pub heard-up : (w : Window) (moment : ℕ) (store : Store) (lists : List CallerList) (c : Connected) (frame : FrameValue) → c.end.state ≡ Up → is_call frame.kind.control ≡ false
-    → (hearing w moment store lists c frame []).over ≡ false → (hearing w moment store lists c frame []).after.end.state ≡ Up
-heard-up w moment store lists c frame up other =
-    let progress : Progress = parts_of_frame w moment store lists c frame [] in
-    let h = taken-told moment store lists c (after_frame w c.end frame) frame.kind.information (heard_of w c.end frame) (up-behind w c.end frame up other) in
-    queued-up store progress h.up progress.over refl
