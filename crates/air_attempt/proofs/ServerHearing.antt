@@ -113,9 +113,9 @@ module _ (moment : ℕ) (store : Store) (lists : List CallerList) (c : Connected
 queued-up : (store : Store) (progress : Progress) → (progress.over ≡ false → progress.end.state ≡ Up) → (over : Bool)
     → progress.over ≡ over
     → (if over then progress else queuing (free_octets progress.end) (after_all store progress.done) [] progress).over
-      ≡ false
+    ≡ false
     → (if over then progress else queuing (free_octets progress.end) (after_all store progress.done) [] progress).end.state
-      ≡ Up
+    ≡ Up
 queued-up store progress up true is goes = absurd cc
 queued-up store progress up false is goes =
     filling-keeps (λ at. at.end) (λ (at : Progress). due_at (after_all store progress.done) at.state [] at.part) after_due

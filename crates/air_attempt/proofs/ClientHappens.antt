@@ -1,0 +1,64 @@
+-- What a frame and a tick make of an attempt, by the laws of a client's attempts.
+use Rattle.std.proofs.Common.{◌≡◌, [], true, false, Option, None, Some, refl, sym, ◌∙◌}
+use Rattle.ax25_frames.specs.FrameText.{FrameValue}
+use Rattle.ax25_link.specs.declared.state.Why.{Why}
+use Rattle.ax25_link.specs.Ends.{LinkEnd}
+use Rattle.ax25_link.specs.LinkStep.{heard_of_tick}
+use Rattle.ax25_link.specs.Refusals.{refusal_frame}
+use Rattle.ax25_link.specs.Rows.{row}
+use Rattle.ax25_link.specs.Timer.{after_tick, told_of_tick}
+use Rattle.ax25_link.specs.Window.{Window}
+use Rattle.client_notes.specs.Laws.{after_all}
+use Rattle.client_notes.specs.Notes.{Lists}
+use Rattle.ftl0_client.specs.Attempt.Attempted.{Attempted}
+use Rattle.ftl0_client.specs.Attempt.Hearing.{after_told, hearing, packets_told, ticking, with_end}
+use Rattle.ftl0_client.specs.Attempt.Laws.{IsToldDown, OutcomeLaw}
+use Rattle.ftl0_client.specs.Attempt.Settling.{settled}
+use Rattle.ftl0_client.specs.Entries.{HearingLaw, TickingLaw, entries_heard, entries_ticked}
+use Rattle.air_attempt.proofs.ClientJob.{Happens}
+use Rattle.air_attempt.proofs.ClientRows.{frame-comes, tick-comes, tick_outcome}
+use Rattle.air_attempt.proofs.ClientWorks.{after_of}
+
+pub frame-happens : HearingLaw → OutcomeLaw → (w : Window) (lists : Lists) (a : Attempted) (f : FrameValue) → a.end.called ≡ true → IsToldDown a
+    → Happens lists (after_all lists (hearing w lists a f).noted) a (row w a.end f) f.kind.information (entries_heard w lists a f) (hearing w lists a f).after
+frame-happens law outcome w lists a f called told =
+    let heard = law w lists a f in
+    let became = (outcome w lists a f told).0 in
+    record {
+      comes = frame-comes f w a.end called;
+      now_is = refl;
+      doings = heard.0.doings;
+      does = heard.0.does;
+      said = heard.0.said;
+      items = heard.1;
+      goes = heard.2;
+      told_down = became.0;
+      stays = became.1;
+    }
+
+-- a tick brings no packet
+tick-after : (lists : Lists) (a : Attempted) (end : LinkEnd) (o : Option Why) → settled (after_told (heard_of_tick o) (with_end a end) []) ≡ after_of lists a end [] (heard_of_tick o)
+tick-after lists a end None = refl
+tick-after lists a end (Some why) = refl
+
+tick-items : (a : Attempted) (o : Option Why) → packets_told (heard_of_tick o) a [] ≡ []
+tick-items a None = refl
+tick-items a (Some why) = refl
+
+pub tick-happens : TickingLaw → OutcomeLaw → (w : Window) (lists : Lists) (a : Attempted) → IsToldDown a
+    → Happens lists lists a (tick_outcome a.end) [] (entries_ticked a) (ticking a)
+tick-happens law outcome w lists a told =
+    let ticked = law lists a in
+    let some : FrameValue = refusal_frame a.end.me (record { to = a.end.peer; poll = false }) in
+    let became = (outcome w lists a some told).1 in
+    record {
+      comes = tick-comes a.end;
+      now_is = tick-after lists a (after_tick a.end) (told_of_tick a.end);
+      doings = ticked.0.doings;
+      does = ticked.0.does;
+      said = ticked.0.said;
+      items = tick-items a (told_of_tick a.end) ∙ sym ticked.1;
+      goes = ticked.2;
+      told_down = became.0;
+      stays = became.1;
+    }

@@ -1,0 +1,5 @@
+use Rattle.air_attempt.proofs.Fronts.{front-law}
+use Rattle.air_attempt.proofs.laws.front_law.Goals as goal
+
+pub returns : goal.returns
+returns c = front-law
