@@ -1,7 +1,7 @@
 -- A session's end of the link makes its step: the attempt goes on.
-use Rattle.std.proofs.Common.{◌≡◌, ℕ, List, Bool, false, Option, None, Some, sym, ap, ap₂, subst, ◌∙◌}
+use Rattle.std.proofs.Common.{◌≡◌, ℕ, List, false, Option, None, Some, sym, subst, ◌∙◌}
 use Rattle.std.specs.Prelude.{IfSome}
-use Rattle.std.specs.List.{AllByRecursion, concat}
+use Rattle.std.specs.List.{concat}
 use Rattle.px_base.specs.CallSign.{CallSign}
 use Rattle.px_base.specs.Octets.{IsFront, IsOctets}
 use Rattle.ax25_frames.specs.FrameText.{FrameValue}
@@ -14,13 +14,13 @@ use Rattle.ax25_link.specs.LinkStep.{Coming, LinkStep}
 use Rattle.ax25_link.specs.LinkStep as step
 use Rattle.ax25_link.specs.Linked.{AreLinked}
 use Rattle.ax25_link.specs.Sending.{IsQuiet}
-use Rattle.ax25_link.specs.Stations.{IsFrameOf, SendsOwn, Stations, stations_of}
+use Rattle.ax25_link.specs.Stations.{SendsOwn}
 use Rattle.ax25_link.proofs.Offered.{prefix_law}
 use Rattle.air_attempt.specs.Attempt.{AreFromTo, Attempt, IsAnswered, IsAnsweredBy, IsAttempt, IsEndOf, IsOneCall}
 use Rattle.air_attempt.specs.Attempt.{client_station, server_station}
 use Rattle.air_attempt.specs.Sides.{IsSession, ServerSide, said_by_client}
 use Rattle.air_attempt.proofs.PacketLists.{octets-of_front}
-use Rattle.air_attempt.proofs.Transmissions.{from-sent}
+use Rattle.air_attempt.proofs.Sent.{stays-of}
 
 -- what an attempt is by its session
 pub answered-by : (me server : CallSign) (a : Attempt) (side : ServerSide) → IsAttempt me server a
@@ -30,15 +30,6 @@ answered-by me server a side is has = by a.server has is.answered
     by : (o : Option ServerSide) → o ≡ Some side → IsAnsweredBy a o → IsAnswered a side
     by None has answered = absurd cc
     by (Some other) has answered = subst (IsAnswered a) (let same : other ≡ side = cc in same) answered
-
--- an end that is of these stations
-end-of : (called : Bool) (me peer : CallSign) (end last : LinkEnd) → stations_of last ≡ stations_of end
-    → IsEndOf called me peer end → IsEndOf called me peer last
-end-of called me peer end last same is = record {
-  called_is = ap (λ (s : Stations). s.called) same ∙ is.called_is;
-  me_is = ap (λ (s : Stations). s.me) same ∙ is.me_is;
-  peer_is = ap (λ (s : Stations). s.peer) same ∙ is.peer_is;
-}
 
 -- ---- an answered attempt goes on
 
@@ -72,20 +63,19 @@ serving-end me server a side is has = by a.server has is.stations.serves
         serves
 
 pub attempt-goes-on : (me server : CallSign) (a : Attempt) (old new : ServerSide) (list : List Transmission)
-    (frames : List FrameValue) → IsAttempt me server a
-    → a.server ≡ Some old → GoesOn me server a old new list frames → IsAttempt me server (gone a new list frames)
+    (frames : List FrameValue) → IsAttempt me server a → a.server ≡ Some old
+    → GoesOn me server a old new list frames → IsAttempt me server (gone a new list frames)
 attempt-goes-on me server a old new list frames is has on =
-    let end = serving-end me server a old is has in
+    let stays =
+    stays-of a.window false server me a.by_server frames old.connected.end new.connected.end is.window
+    (serving-end me server a old is has) is.stations.from_server on.sends in
     record {
       window = is.window;
       stations = record {
         client = is.stations.client;
-        serves = end-of false server me old.connected.end new.connected.end on.sends.stations end;
+        serves = stays.end;
         from_client = on.from_client;
-        from_server =
-            from-sent a.window (record { called = false; me = server; peer = me }) a.by_server frames is.window
-            is.stations.from_server
-            (subst (λ (s : Stations). AllByRecursion (IsFrameOf a.window s) frames) (stations-are end) on.sends.own);
+        from_server = stays.sent;
       };
       call = on.call;
       calling = is.calling;
@@ -93,13 +83,6 @@ attempt-goes-on me server a old new list frames is has on =
       job = is.job;
       answered = record { linked = on.linked; quiet = on.quiet; session = on.session };
     }
-  where
-    stations-are : IsEndOf false server me old.connected.end
-        → stations_of old.connected.end ≡ record { called = false; me = server; peer = me }
-    stations-are end =
-        ap (λ (called : Bool). record { called = called; me = old.connected.end.me; peer = old.connected.end.peer })
-        end.called_is
-        ∙ ap₂ (λ (one other : CallSign). record { called = false; me = one; peer = other }) end.me_is end.peer_is
 
 -- ---- a step of the link
 

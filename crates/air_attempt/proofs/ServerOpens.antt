@@ -1,5 +1,5 @@
 -- A SABM of a client is answered: the current attempt has a session.
-use Rattle.std.proofs.Common.{◌≡◌, ℕ, zero, suc, ◌<◌, ◌≤◌, ◌^◌, List, [], ◌∷◌, length, Bool, true, false, Option, None}
+use Rattle.std.proofs.Common.{◌≡◌, ℕ, ◌<◌, ◌≤◌, ◌^◌, List, [], ◌∷◌, length, Bool, true, false, Option, None}
 use Rattle.std.proofs.Common.{Some, refl, sym, ap, subst, ◌∙◌, append-nil, arith}
 use Rattle.std.specs.List.{AllByRecursion, concat}
 use Rattle.std.proofs.lemmas.List.{take_all}
@@ -7,7 +7,7 @@ use Rattle.px_base.specs.CallSign.{CallSign}
 use Rattle.ax25_frames.specs.declared.control.Control.{Control}
 use Rattle.ax25_frames.specs.declared.control.Control.TheVariants.{I, Rr, Rnr, Rej, Sabm, Disc, Dm, Ua, Frmr, Ui}
 use Rattle.ax25_frames.specs.FrameText.{FrameValue}
-use Rattle.ax25_link.specs.Air.{IsAt, IsLawful, Transmission, control_of, delivering, is_numbered, sending_all}
+use Rattle.ax25_link.specs.Air.{IsLawful, Transmission, control_of, delivering, is_numbered, sending_all}
 use Rattle.ax25_link.specs.Calls.{push}
 use Rattle.ax25_link.specs.Ends.{LinkEnd, answering_end, free_octets}
 use Rattle.ax25_link.specs.Laws.{IsOpening}
@@ -26,6 +26,7 @@ use Rattle.air_attempt.specs.Sides.{IsSession, ServerSide}
 use Rattle.air_attempt.proofs.Current.{at-alone}
 use Rattle.air_attempt.proofs.Left.{delivered-alone}
 use Rattle.air_attempt.proofs.LinkKeeps.{drains-keep, drains-quiet}
+use Rattle.air_attempt.proofs.Sent.{all-at}
 use Rattle.air_attempt.proofs.ServerLink.{gone}
 use Rattle.air_attempt.proofs.Transmissions.{from-delivered, from-sent, one-call-delivered}
 
@@ -46,12 +47,6 @@ not-answered me server a place t is lawful calls = by a.server refl is.answered
         let no : true ≡ false = sym delivered ∙ fresh in
         cc)
 
-at-all : (P : Transmission → Type 0) (list : List Transmission) (place : ℕ) (t : Transmission) → AllByRecursion P list
-    → IsAt list place t → P t
-at-all P [] place t all at = absurd cc
-at-all P (x ∷ list) zero t all at = subst P (let same : x ≡ t = cc in same) all.0
-at-all P (x ∷ list) (suc place) t all at = at-all P list place t all.1 at
-
 call-unnumbered : (control : Control) → is_call control ≡ true → is_numbered control ≡ false
 call-unnumbered Sabm is = refl
 call-unnumbered (I ns nr) is = absurd cc
@@ -67,10 +62,10 @@ call-unnumbered Ui is = absurd cc
 -- DM alone opens
 refusals-open : (list : List Transmission) → AllByRecursion IsRefusal list → IsOpening list
 refusals-open list all = record {
-  none = λ place t at. ap is_numbered (at-all IsRefusal list place t all at).refuses;
+  none = λ place t at. ap is_numbered (all-at IsRefusal list place t all at).refuses;
   opened = λ place t at calls.
       absurd
-      (let is = (at-all IsRefusal list place t all at).refuses in
+      (let is = (all-at IsRefusal list place t all at).refuses in
       let no : false ≡ true = sym (ap is_call is) ∙ calls in
       cc);
 }
