@@ -17,7 +17,7 @@ use Rattle.ftl0_server.specs.Server.{Refused, Server, hearing_stranger}
 use Rattle.ftl0_server.specs.ServerStep.{ServerStep, Stepped}
 use Rattle.ftl0_server.specs.Slots.{all_freed, first_empty}
 use Rattle.server_laws.specs.Places.{refusals}
-use Rattle.server_laws.proofs.Offered.{silent-by}
+use Rattle.server_laws.proofs.Offered.{silent-by, stranger_by}
 use Rattle.air_attempt.specs.Attempt.{Attempt, IsAnsweredBy, IsAttempt, IsFromTo, IsRefusal, client_station}
 use Rattle.air_attempt.specs.Attempt.{server_station}
 use Rattle.air_attempt.specs.Laws.{AreAttempts, Calls, IsBetween, SitsBy, did_in}
@@ -27,7 +27,6 @@ use Rattle.air_attempt.specs.Transfers.{ServerDid, after_hearing, connection_of,
 use Rattle.air_attempt.proofs.Connections.{old-none}
 use Rattle.air_attempt.proofs.Left.{delivered-server}
 use Rattle.air_attempt.proofs.Places.{connection_among, place-of-not}
-use Rattle.air_attempt.proofs.ServerPlaces.{stranger_by}
 use Rattle.air_attempt.proofs.ServerStays.{IsPassed}
 use Rattle.air_attempt.proofs.Sitting.{calls-kept, none-seats}
 use Rattle.air_attempt.proofs.Transmissions.{all-sent}

@@ -1,7 +1,7 @@
 -- What a step of a server makes of its places, before those of sessions that are over are free.
-use Rattle.std.proofs.Common.{◌≡◌, ℕ, ◌<◌, List, [], ◌++◌, length, get_or, map, Bool, true, false, Option, None, Some}
+use Rattle.std.proofs.Common.{◌≡◌, ℕ, ◌<◌, List, [], ◌++◌, length, get_or, map, Bool, true, Option, None, Some}
 use Rattle.std.proofs.Common.{refl, sym, ap, ap₂, subst, ◌∙◌, append-nil}
-use Rattle.std.specs.Prelude.{slice_get, slice_set, if◌then◌else◌, ◌&&◌}
+use Rattle.std.specs.Prelude.{slice_get, slice_set, ◌&&◌}
 use Rattle.std.proofs.lemmas.List.Quantifiers.{position-Some}
 use Rattle.std.proofs.lemmas.Option.{slice_get-get_or, slice_get_within}
 use Rattle.ax25_frames.specs.FrameText.{FrameValue}
@@ -10,14 +10,14 @@ use Rattle.ax25_link.specs.Window.{Window}
 use Rattle.ftl0_session.specs.Lists.Lists.{has_left}
 use Rattle.ftl0_server.specs.Connection.Connected.{Connected, answering}
 use Rattle.ftl0_server.specs.Connection.Hearing.{Happened, hearing}
-use Rattle.ftl0_server.specs.Server.{Refused, Server, called_by, heard_at, hearing_at, hearing_by, hearing_stranger}
-use Rattle.ftl0_server.specs.Server.{refusing, settled, with_slot}
+use Rattle.ftl0_server.specs.Server.{Refused, Server, heard_at, hearing_at, hearing_by, hearing_stranger}
+use Rattle.ftl0_server.specs.Server.{settled, with_slot}
 use Rattle.ftl0_server.specs.ServerStep.{ServerStep, Stepped, happening}
 use Rattle.ftl0_server.specs.Slots.{Slot, all_freed, connected, first_empty, free, is_empty, place_of, slot_after}
 use Rattle.ftl0_server.specs.Slots.{slot_ticking}
 use Rattle.node.specs.Events.{NodeEvent, hears, ticks}
 use Rattle.server_laws.specs.Places.{SlotDrains, SlotsDrain, refusals}
-use Rattle.server_laws.proofs.Offered.{SendsAll, alone-at, places-none, sends-all, silent-by}
+use Rattle.server_laws.proofs.Offered.{SendsAll, alone-at, passed-same, places-none, sends-all, silent-by, stranger_by}
 
 -- What a step keeps of the server, which is this one before it sends anything.
 pub record Keeps (old after : Server) (gives : Stepped) (last : Server) : Type 0 where
@@ -128,22 +128,6 @@ tick-places old moment gives step =
 
 -- ---- a frame
 
--- a station without a connection
-module _ (server : Server) (frame : FrameValue) (moment : ℕ) where
-  abbrev pub stranger_by : Bool → Option ℕ → Bool → Server
-  stranger_by calls place asks =
-      if calls then called_by server frame.src frame.poll moment place
-      else if asks then refusing server frame.src true
-      else server
-
-  stranger-same : (calls : Bool) (place : Option ℕ) (asks : Bool) → (calls ≡ true → place ≡ None)
-      → ((stranger_by calls place asks).me ≡ server.me) × ((stranger_by calls place asks).window ≡ server.window)
-      × ((stranger_by calls place asks).slots ≡ server.slots)
-  stranger-same true None asks none = (refl, refl, refl)
-  stranger-same true (Some place) asks none = absurd (let is = none refl in cc)
-  stranger-same false place true none = (refl, refl, refl)
-  stranger-same false place false none = (refl, refl, refl)
-
 module _ (old : Server) (frame : FrameValue) (moment : ℕ) (gives : Stepped)
     (step : ServerStep old (hears frame moment) [] gives) where
   abbrev then_is : Server
@@ -185,7 +169,7 @@ module _ (old : Server) (frame : FrameValue) (moment : ℕ) (gives : Stepped)
   passed-places is none =
       let by : then_is ≡ hearing_stranger old frame moment = ap (λ o. (hearing_by old frame moment [] o).after) is in
       let same =
-      stranger-same old frame moment (is_call frame.kind.control) (first_empty old.slots) (frame.command && frame.poll)
+      passed-same old frame moment (is_call frame.kind.control) (first_empty old.slots) (frame.command && frame.poll)
       none in
       subst (λ (s : Server). ChangesNone old (hears frame moment) gives step (refusals old.me s.stray)) by
       (no-place old (hears frame moment) gives step (ap (λ (s : Server). s.me) by ∙ same.0)

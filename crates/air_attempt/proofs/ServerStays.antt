@@ -17,6 +17,7 @@ use Rattle.ftl0_server.specs.ServerStep.{ServerStep, Stepped, happening}
 use Rattle.ftl0_server.specs.Slots.{Slot, all_freed, connected, first_empty, free, is_empty, leaving, place_of}
 use Rattle.ftl0_server.specs.Slots.{slot_after}
 use Rattle.server_laws.specs.Places.{refusals}
+use Rattle.server_laws.proofs.Offered.{stranger_by}
 use Rattle.air_attempt.specs.Laws.{IsBetween, IsSeatedIn, StaysServer}
 use Rattle.air_attempt.proofs.LinkKeeps.{drains-keep}
 use Rattle.air_attempt.proofs.Places.{place-of-is, place-of-not, position-is, same-seat}
@@ -24,7 +25,6 @@ use Rattle.air_attempt.proofs.ServerBetween.{IsAtPlace, Reseats, Resits, between
 use Rattle.air_attempt.proofs.ServerBetween.{place-reseats, steps-again}
 use Rattle.air_attempt.proofs.ServerHearing.{SlotEnds, StaysUp, drains-peer, frame-stays, left-connected, slot-ends}
 use Rattle.air_attempt.proofs.ServerPlaces.{ChangesNone, ChangesPlace, heard-place, opened-place, passed-places}
-use Rattle.air_attempt.proofs.ServerPlaces.{stranger_by}
 
 -- ---- the store
 

@@ -23,7 +23,7 @@ use Rattle.server_laws.specs.Places.{ChangesAt, HearsByPlaces, SendsByPlaces, Sl
 -- ---- one place
 
 -- an end that has nothing to send drains nothing
-pub drains-none : (w : Window) (end last : LinkEnd) (frames : List FrameValue) → IsQuiet w end → Drains w end frames last → (frames ≡ []) × (last ≡ end)
+drains-none : (w : Window) (end last : LinkEnd) (frames : List FrameValue) → IsQuiet w end → Drains w end frames last → (frames ≡ []) × (last ≡ end)
 drains-none w end last [] quiet drains = (refl, drains.1)
 drains-none w end last (frame ∷ frames) quiet drains = absurd (let some = drains.1 in cc)
 
@@ -251,14 +251,14 @@ module _ (old : Server) (gives : Stepped) (stray : old.stray ≡ None) (quiet : 
 -- ---- a frame of a station without a connection
 
 module _ (server : Server) (frame : FrameValue) (moment : ℕ) where
-  abbrev stranger_by : Bool → Option ℕ → Bool → Server
+  abbrev pub stranger_by : Bool → Option ℕ → Bool → Server
   stranger_by calls place asks =
       if calls then called_by server frame.src frame.poll moment place
       else if asks then refusing server frame.src true
       else server
 
   -- the places, the call and the window stay
-  passed-same : (calls : Bool) (place : Option ℕ) (asks : Bool) → (calls ≡ true → place ≡ None)
+  pub passed-same : (calls : Bool) (place : Option ℕ) (asks : Bool) → (calls ≡ true → place ≡ None)
       → ((stranger_by calls place asks).me ≡ server.me) × ((stranger_by calls place asks).window ≡ server.window) × ((stranger_by calls place asks).slots ≡ server.slots)
   passed-same true None asks none = (refl, refl, refl)
   passed-same true (Some place) asks none = absurd (let is = none refl in cc)
