@@ -1,4 +1,5 @@
--- What a frame makes of a server's connection that is up: its caller stays, and where the session goes on its link is up.
+-- What a frame makes of a server's connection that is up: its caller stays, and where the session goes on its link is
+-- up.
 use Rattle.std.proofs.Common.{◌≡◌, ℕ, List, [], Bool, true, false, refl, sym, ap, subst, ◌∙◌}
 use Rattle.std.specs.Prelude.{if◌then◌else◌}
 use Rattle.std.proofs.lemmas.Bool.{cond_both}
@@ -10,7 +11,8 @@ use Rattle.ax25_link.specs.declared.state.LinkState.TheVariants.{Up}
 use Rattle.ax25_link.specs.declared.state.Heard.TheVariants.{Reopened}
 use Rattle.ax25_link.specs.Ends.{LinkEnd, answering_end, free_octets}
 use Rattle.ax25_link.specs.LinkStep as step
-use Rattle.ax25_link.specs.Rows.{Outcome, after_frame, called_again, heard_of, is_call, outcome, passed_over, row, row_of_state}
+use Rattle.ax25_link.specs.Rows.{Outcome, after_frame, called_again, heard_of, is_call, outcome, passed_over, row}
+use Rattle.ax25_link.specs.Rows.{row_of_state}
 use Rattle.ax25_link.specs.Rows.{up_row}
 use Rattle.ax25_link.specs.Sending.{Drains}
 use Rattle.ax25_link.specs.Stations.{Stations}
@@ -22,7 +24,8 @@ use Rattle.ftl0_session.specs.Table.{command, due_at}
 use Rattle.file_store.specs.Command.{after_all}
 use Rattle.file_store.specs.Store.{Store}
 use Rattle.ftl0_server.specs.Connection.Connected.{Connected, beginning, caller_of, greeted}
-use Rattle.ftl0_server.specs.Connection.Hearing.{Happened, hearing, parts_as, parts_of_frame, progressed, rest_as, with_end}
+use Rattle.ftl0_server.specs.Connection.Hearing.{Happened, hearing, parts_as, parts_of_frame, progressed, rest_as}
+use Rattle.ftl0_server.specs.Connection.Hearing.{with_end}
 use Rattle.ftl0_server.specs.Connection.Taking.{Progress, after_due, goes_on, queued, queuing, resting}
 use Rattle.ftl0_server.specs.Entries.{HearingLaw}
 use Rattle.ftl0_server.specs.Slots.{Slot, connected, left_by}
@@ -114,11 +117,13 @@ queued-up : (store : Store) (progress : Progress) → (progress.over ≡ false �
     → progress.over ≡ over
     → (if over then progress else queuing (free_octets progress.end) (after_all store progress.done) [] progress).over
     ≡ false
-    → (if over then progress else queuing (free_octets progress.end) (after_all store progress.done) [] progress).end.state
+    → (if over then progress else queuing (free_octets progress.end) (after_all store progress.done) []
+    progress).end.state
     ≡ Up
 queued-up store progress up true is goes = absurd cc
 queued-up store progress up false is goes =
-    filling-keeps (λ at. at.end) (λ (at : Progress). due_at (after_all store progress.done) at.state [] at.part) after_due
+    filling-keeps (λ at. at.end) (λ (at : Progress). due_at (after_all store progress.done) at.state [] at.part)
+    after_due
     (λ (at : Progress). at.end.state ≡ Up) (λ at packet is here. here) (free_octets progress.end) progress (up is)
 
 heard-up : (w : Window) (moment : ℕ) (store : Store) (lists : List CallerList) (c : Connected) (frame : FrameValue)

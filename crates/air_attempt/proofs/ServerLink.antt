@@ -38,8 +38,8 @@ abbrev pub gone : Attempt → ServerSide → List Transmission → List FrameVal
 gone a side list frames =
     record a { server = Some side; by_client = list; by_server = sending_all a.by_server frames }
 
--- What an attempt needs to go on so: its client's transmissions are as they were but for a delivery, the ends are linked
--- still, and the session went on.
+-- What an attempt needs to go on so: its client's transmissions are as they were but for a delivery, the ends are
+-- linked still, and the session went on.
 pub record GoesOn (me server : CallSign) (a : Attempt) (old new : ServerSide) (list : List Transmission)
     (frames : List FrameValue) : Type 0 where
   pub call : IsOneCall list

@@ -158,7 +158,8 @@ module _ (old : Server) (frame : FrameValue) (moment : ℕ) (gives : Stepped)
         frame-stays moment old.store old.lists h.c frame hearing_law old.window (between.ups h.place h.c h.there) in
         record {
           is = λ c is.
-              let now = left-connected happened.over (with_end happened.after h.ends.last) c (sym h.ends.now_is ∙ is) in (
+              let now =
+              left-connected happened.over (with_end happened.after h.ends.last) c (sym h.ends.now_is ∙ is) in (
                 ap (λ (d : Connected). d.end.state) (sym now.1)
                     ∙ (drains-keep old.window happened.after.end h.ends.last gives.frames h.ends.drains).state
                     ∙ stays.up now.0,
