@@ -68,7 +68,21 @@ session_gone entries state up a side =
 abbrev pub with_attempt : Party → Attempt → List Attempt → Party
 with_attempt party a older = record party { attempts = a ∷ older }
 
--- A session of the client's current attempt, which is up, over this store and these lists.
+-- a session of the client's attempt at this place gave the number to a new upload
+pub record GrantedAt (party : Party) (at number : ℕ) : Type 0 where
+  pub attempt : Attempt
+  pub is_attempt : slice_get party.attempts at ≡ Some attempt
+  pub side : ServerSide
+  pub is_side : attempt.server ≡ Some side
+  pub file_length : ℕ
+  pub grants : Grants side number file_length
+
+-- no number was given twice by the client's sessions
+abbrev pub GrantsOnce : Party → Type 0
+GrantsOnce party = (at that number : ℕ) → GrantedAt party at number → GrantedAt party that number → at ≡ that
+
+-- A session of the client's current attempt, which is up, over this store and these lists. It began with LOGIN_RESP,
+-- the client took the first of the packets that it said, and older sessions are over.
 pub record IsServed (files : List Asked) (c : ℕ) (party : Party) (now : Session) : Type 0 where
   pub stands : Stands files c party
   pub attempt : Attempt
@@ -80,6 +94,10 @@ pub record IsServed (files : List Asked) (c : ℕ) (party : Party) (now : Sessio
   pub caller_is : caller_of side.connected ≡ party.client.me
   pub state_is : now.state ≡ side.connected.state
   pub none_lost : AllByRecursion session.IsNotLost side.entries
+  pub greets : IsGreeting side.greeting
+  pub heard : ClientTookFront attempt side
+  pub older_over : AreOver older
+  pub once : GrantsOnce party
   pub store : IsSoundStore now.store
   pub lists : AreComplete now.store now.lists
   pub facts : HasFacts now.store files party
