@@ -1,1 +1,3 @@
+mod LiftLemmas
 mod StableLemmas
+mod UploadNext

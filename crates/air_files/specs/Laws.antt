@@ -1,7 +1,7 @@
 -- Laws of what one client's tasks, attempts and files that it got have of the store: what each thing that a session or a
 -- job does keeps of it, between its commands too.
 use Rattle.std.specs.Prelude.{◌≡◌, ◌≢◌, ◌⊎◌, ℕ, ◌<◌, ◌≤◌, List, [], ◌∷◌, ◌++◌, length, Bool, true, Option, None, Some}
-use Rattle.std.specs.Prelude.{⊤}
+use Rattle.std.specs.Prelude.{slice_get, ⊤}
 use Rattle.std.specs.List.{AllByRecursion}
 use Rattle.px_base.specs.CallSign.{CallSign, IsCall}
 use Rattle.ax25_link.specs.Window.{Window}
@@ -34,7 +34,8 @@ use Rattle.ftl0_client.specs.Entries as job
 use Rattle.ftl0_client.specs.Entries.{JobEntry}
 use Rattle.air_attempt.specs.Attempt.{Attempt}
 use Rattle.air_attempt.specs.Laws.{ClientTookFront, ServerTookFront}
-use Rattle.air_attempt.specs.Party.{Asked, EachAttempt, EachSide, Party, all_over, first_party, newest, sessions_over}
+use Rattle.air_attempt.specs.Party.{AreOver, Asked, EachAttempt, EachSide, Party, all_over, first_party, newest}
+use Rattle.air_attempt.specs.Party.{sessions_over}
 use Rattle.air_attempt.specs.Said.{Grants}
 use Rattle.air_attempt.specs.Sides.{IsGreeting, ServerSide}
 use Rattle.air_files.specs.Facts.{GoesOnWithTask, HasFacts}
