@@ -1,3 +1,4 @@
 mod LiftLemmas
 mod StableLemmas
 mod UploadNext
+mod UploadRows
