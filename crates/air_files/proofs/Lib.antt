@@ -1,3 +1,4 @@
+mod GrowingLemmas
 mod LiftLemmas
 mod StableLemmas
 mod UploadNext
