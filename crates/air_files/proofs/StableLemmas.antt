@@ -1,6 +1,6 @@
 -- What a store that follows another keeps of a client's facts.
-use Rattle.std.proofs.Common.{◌≡◌, ◌≢◌, ℕ, ◌≤◌, ◌<◌, List, [], length, refl, ap, sym, ◌∙◌, subst, arith, Option, None, Some}
-use Rattle.std.specs.Prelude.{IfSome, IsTrue, ⊤, option_and_then}
+use Rattle.std.proofs.Common.{◌≡◌, ℕ, List, refl, ap, sym, ◌∙◌, subst, arith, Option, None, Some}
+use Rattle.std.specs.Prelude.{IfSome, IsTrue, option_and_then}
 use Rattle.file_entries.specs.Follows.{KeepsEntries}
 use Rattle.file_store.specs.EntriesKept.{KeepsComplete}
 use Rattle.file_store.specs.Info.{IsCompleteIn, is_complete}
@@ -20,7 +20,7 @@ use Rattle.air_attempt.specs.Attempt.{Attempt}
 use Rattle.air_attempt.specs.Party.{Asked, Party, newest}
 use Rattle.air_attempt.specs.Sides.{ServerSide}
 use Rattle.air_files.specs.Dialogue.{IsDueNow, Serves}
-use Rattle.air_files.specs.DownloadDialogue.{AreAllSent, AreSent, AreSentFrom, Sending, ServesDownload, ended, refused, sends, unasked, waits}
+use Rattle.air_files.specs.DownloadDialogue.{AreSent, AreSentFrom, Sending, ended, refused, sends, unasked, waits}
 use Rattle.air_files.specs.Facts.{AreFirstIfAny, AreFirstOf, Fetches, FetchesBy, FetchesIn, HasGotFacts, IsFetching, IsOfferKept}
 use Rattle.air_files.specs.Kept.{HoldsTo, IsKept, IsTaskKept}
 
