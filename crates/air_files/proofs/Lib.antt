@@ -3,6 +3,7 @@ mod GoneLemmas
 mod GrowingLemmas
 mod LiftLemmas
 mod LikeLemmas
+mod MovedLemmas
 mod StableLemmas
 mod UploadNext
 mod UploadRows
