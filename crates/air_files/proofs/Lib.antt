@@ -1,5 +1,6 @@
 mod ApartLemmas
 mod GoneLemmas
+mod GoneOnLemmas
 mod GrowingLemmas
 mod LiftLemmas
 mod LikeLemmas

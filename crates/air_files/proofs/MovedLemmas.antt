@@ -68,7 +68,7 @@ file-stays before now number file caller same (inr (inr k)) =
     }))
 
 module _ (files : List Asked) (party : Party) (before now : Store) (n : ℕ) (moves : MovesAt files party before now n) where
-  file-moved : (task number : ℕ) (file : List ℕ) → HasNumber party task number → IsFileOf files party task file
+  pub file-moved : (task number : ℕ) (file : List ℕ) → HasNumber party task number → IsFileOf files party task file
       → IsFileAt before number file party.client.me → IsFileAt now number file party.client.me
   file-moved task number file has is at =
       elim (eqb_tells number n) [
