@@ -1,10 +1,13 @@
 mod ApartLemmas
+mod EntryLemmas
 mod GoneLemmas
 mod GoneOnLemmas
 mod GrowingLemmas
 mod LiftLemmas
 mod LikeLemmas
 mod MovedLemmas
+mod OtherLemmas
 mod StableLemmas
+mod StoreLemmas
 mod UploadNext
 mod UploadRows

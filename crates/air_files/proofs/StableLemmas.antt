@@ -101,7 +101,7 @@ pub keeps-fetching : (before now : Store) (party : Party) (a : Attempt) → Keep
 keeps-fetching before now party a keeps fetching link =
     keeps-fetches_by a.client.attempted.job.ending a.client.attempted.job.work before now party a keeps (fetching link)
 
-keeps-fetching_some : (before now : Store) (party : Party) (o : Option Attempt) → KeepsComplete before now → IfSome o (IsFetching before party)
+pub keeps-fetching_some : (before now : Store) (party : Party) (o : Option Attempt) → KeepsComplete before now → IfSome o (IsFetching before party)
     → IfSome o (IsFetching now party)
 keeps-fetching_some before now party None keeps fetching = tt
 keeps-fetching_some before now party (Some a) keeps fetching = keeps-fetching before now party a keeps fetching
@@ -144,7 +144,7 @@ keeps-serves before now (work.Download at) side keeps serves = record {
   sent = keeps-sent before now at.number serves.file serves.stage keeps serves.sent;
 }
 
--- by the law of what is due, `downloads_law` of `ftl0_session`
+-- by the law of what is due, `stays_law` of `ftl0_session`
 pub keeps-due : (before now : Store) (side : ServerSide) → DueStaysLaw → KeepsComplete before now → IsDueNow before side → IsDueNow now side
 keeps-due before now side law keeps due =
     let stays = law before now (download_part side.connected.state) keeps due.lies in

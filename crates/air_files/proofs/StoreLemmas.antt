@@ -1,0 +1,85 @@
+-- A sound store stays sound by commands that bring octets; and what it has of an entry that is dropped.
+use Rattle.std.proofs.Common.{◌≡◌, ℕ, ◌+◌, ◌≤◌, not, List, [], ◌∷◌, filter, refl, sym, subst, arith, None, Some, ◌==◌}
+use Rattle.std.specs.Prelude.{find, IsTrue}
+use Rattle.std.specs.List.{AllByRecursion}
+use Rattle.std.proofs.lemmas.Bool.Decides.{nat_tests}
+use Rattle.px_base.specs.Octets.{IsOctets}
+use Rattle.file_entries.specs.Follows.{BringsOctets, FollowsLaw, HaveFiles, KeepsEntries}
+use Rattle.file_store.specs.Command.{Command, DoesAll, HaveCalls, after, drop_entry, is_partial, passes}
+use Rattle.file_store.specs.Headers.{KeepsRules}
+use Rattle.file_store.specs.IsStore.{AreEntries, IsStore}
+use Rattle.file_store.specs.Store.{Entry, Store, entry_of, octets_of, partial}
+use Rattle.file_store.proofs.Offered.{has_number}
+use Rattle.air_files.specs.SoundStore.{IsSoundStore}
+
+-- an entry that is found is so, if each one is
+pub found-so : (P : Entry → Type 0) (number : ℕ) (entries : List Entry) (entry : Entry) → AllByRecursion P entries
+    → find (has_number number) entries ≡ Some entry → P entry
+found-so P number [] entry each found = absurd (cc)
+found-so P number (x ∷ xs) entry each found = grind (arith, nat_tests, found-so P number xs entry each.1)
+
+-- the numbers rise
+later-number : (number low next : ℕ) (entries : List Entry) (entry : Entry) → AreEntries low entries next
+    → find (has_number number) entries ≡ Some entry → low ≤ number
+later-number number low next [] entry are found = absurd (cc)
+later-number number low next (x ∷ xs) entry are found = grind (arith, nat_tests, later-number number (x.number + 1) next xs entry are.4)
+
+found-first : (x : Entry) (xs : List Entry) → find (has_number x.number) (x ∷ xs) ≡ Some x
+found-first x xs = grind (arith, nat_tests)
+
+found-later : (number next : ℕ) (x : Entry) (xs : List Entry) (entry : Entry) → AreEntries (x.number + 1) xs next
+    → find (has_number number) xs ≡ Some entry → find (has_number number) (x ∷ xs) ≡ Some entry
+found-later number next x xs entry are found = grind (arith, nat_tests, later-number number (x.number + 1) next xs entry are found)
+
+-- and each one is so, if each one that is found is
+pub each-found : (P : Entry → Type 0) (low next : ℕ) (entries : List Entry) → AreEntries low entries next
+    → ((number : ℕ) (entry : Entry) → find (has_number number) entries ≡ Some entry → P entry) → AllByRecursion P entries
+each-found P low next [] are holds = tt
+each-found P low next (x ∷ xs) are holds =
+    (holds x.number x (found-first x xs),
+     each-found P (x.number + 1) next xs are.4
+     (λ number entry found. holds number entry (found-later number next x xs entry are.4 found)))
+
+pub sound-files : (store : Store) → IsSoundStore store → HaveFiles store
+sound-files store sound number entry found = record {
+  octets = found-so (λ it. IsOctets (octets_of it.holding)) number store.entries entry sound.octets found;
+  rules = found-so (λ it. KeepsRules it.holding) number store.entries entry sound.keeps_rules found;
+}
+
+pub files-sound : (store : Store) → IsStore store → HaveFiles store → IsSoundStore store
+files-sound store is have = record {
+  is_store = is;
+  keeps_rules = each-found (λ it. KeepsRules it.holding) 1 store.next store.entries is.entries (λ number entry found. (have number entry found).rules);
+  octets = each-found (λ it. IsOctets (octets_of it.holding)) 1 store.next store.entries is.entries (λ number entry found. (have number entry found).octets);
+}
+
+-- by the law of what follows, `follows_law` of `file_entries`
+pub sound-kept : (before now : Store) (commands : List Command) → FollowsLaw → IsSoundStore before → HaveCalls commands
+    → AllByRecursion BringsOctets commands → DoesAll before now commands → IsSoundStore now
+sound-kept before now commands law sound calls brings does =
+    files-sound now
+    (law.entries before now sound.is_store (record { commands = commands; calls = calls; does = does })).rules
+    (law.files before now commands sound.is_store (sound-files before sound) calls brings does)
+
+-- ---- an entry under way that is dropped
+
+pub dropped-none : (number : ℕ) (entries : List Entry) → find (has_number number) (filter (λ e. not (e.number == number)) entries) ≡ None
+dropped-none number [] = refl
+dropped-none number (x ∷ xs) = grind (arith, nat_tests, dropped-none number xs)
+
+pub drop-does : (store : Store) (number : ℕ) (entry : Entry) (held : List ℕ) → entry_of store number ≡ Some entry
+    → entry.holding ≡ partial held → DoesAll store (after store (drop_entry number)) (drop_entry number ∷ [])
+drop-does store number entry held there holds =
+    ((subst (λ o. IsTrue (passes (λ e. is_partial e.holding) o)) (sym there) (subst (λ h. IsTrue (is_partial h)) (sym holds) refl), tt), refl)
+
+pub drop-keeps : (store : Store) (number : ℕ) (entry : Entry) (held : List ℕ) → FollowsLaw → IsStore store → entry_of store number ≡ Some entry
+    → entry.holding ≡ partial held → KeepsEntries store (after store (drop_entry number))
+drop-keeps store number entry held law is there holds =
+    law.entries store (after store (drop_entry number)) is
+    (record { commands = drop_entry number ∷ []; calls = (tt, tt); does = drop-does store number entry held there holds })
+
+pub drop-sound : (store : Store) (number : ℕ) (entry : Entry) (held : List ℕ) → FollowsLaw → IsSoundStore store → entry_of store number ≡ Some entry
+    → entry.holding ≡ partial held → IsSoundStore (after store (drop_entry number))
+drop-sound store number entry held law sound there holds =
+    sound-kept store (after store (drop_entry number)) (drop_entry number ∷ []) law sound (tt, tt) (tt, tt)
+    (drop-does store number entry held there holds)
