@@ -12,3 +12,4 @@ mod StableLemmas
 mod StoreLemmas
 mod UploadNext
 mod UploadRows
+mod UploadServed
