@@ -7,6 +7,7 @@ mod LiftLemmas
 mod LikeLemmas
 mod MovedLemmas
 mod OtherLemmas
+mod OwnerLemmas
 mod SideLemmas
 mod StableLemmas
 mod StoreLemmas
