@@ -30,7 +30,7 @@ use Rattle.air_files.proofs.StoreLemmas.{sound-kept}
 
 -- ---- lists of entries
 
-said-more : (entries : List SessionEntry) (x : SessionEntry) → session.said_in (entries ++ x ∷ []) ≡ session.said_in entries ++ session.packets_said x
+pub said-more : (entries : List SessionEntry) (x : SessionEntry) → session.said_in (entries ++ x ∷ []) ≡ session.said_in entries ++ session.packets_said x
 said-more entries x =
     flat_map-append session.packets_said entries (x ∷ []) ∙ ap (λ (packets : List PacketValue). session.said_in entries ++ packets) (append-nil (session.packets_said x))
 

@@ -8,8 +8,9 @@ use Rattle.px_base.specs.CallSign.{CallSign}
 use Rattle.pfh_items.specs.Faults.{fault_code}
 use Rattle.pfh_items.specs.Stamp.{stamped}
 use Rattle.file_entries.proofs.Offered.{AreAllowed-append, grows-allowed, last_grow-allowed}
-use Rattle.file_store.proofs.Offered.{after_all-append, find-map-changed, find-map-changed_other, find-push, found-number, grows-after, has_number, last_grow-after}
+use Rattle.file_store.proofs.Offered.{after_all-append, find-map-changed, find-map-changed_other, find-push, find_past, grows-after, has_number, last_grow-after}
 use Rattle.file_store.specs.Command.{AreAllowed, Command, IsAllowed, after, after_all, begin, grow, grown, grows, is_allowed, is_good, last_grow, passes, seal, sealed, stamp_of, whole_grows, with_holding, with_more}
+use Rattle.file_store.specs.IsStore.{IsStore}
 use Rattle.file_store.specs.OnDisk.{after_first}
 use Rattle.file_store.specs.Store.{Entry, Holding, Store, complete, entry_of, new_entry, partial}
 
@@ -85,6 +86,19 @@ pub begun-others : (store : Store) (number : ℕ) (caller : CallSign) (file_leng
     → StayOthers number store (after store (begin number caller file_length moment))
 begun-others store number caller file_length moment other differs =
     find-other other store.entries (new_entry number caller file_length moment) (λ same. differs (sym same))
+
+pub begun-first : (store : Store) (number : ℕ) (caller : CallSign) (file_length moment count : ℕ)
+    → StayOthers number store (after_first count store (begin number caller file_length moment ∷ []))
+begun-first store number caller file_length moment zero other differs = refl
+begun-first store number caller file_length moment (suc zero) other differs = begun-others store number caller file_length moment other differs
+begun-first store number caller file_length moment (suc (suc count)) other differs = begun-others store number caller file_length moment other differs
+
+-- the entry of the next number is the one that was begun
+pub begun-there : (store : Store) (caller : CallSign) (file_length moment : ℕ) → IsStore store
+    → entry_of (after store (begin store.next caller file_length moment)) store.next ≡ Some (new_entry store.next caller file_length moment)
+begun-there store caller file_length moment is =
+    find-push (has_number store.next) store.entries (new_entry store.next caller file_length moment)
+    (find_past store.next 1 store.next store.entries is.entries (omega arith)) ((Decides-eqb store.next store.next).1 refl)
 
 module _ (store : Store) (number : ℕ) (entry : Entry) (held : List ℕ) (found : entry_of store number ≡ Some entry) (holds : entry.holding ≡ partial held) where
   pub front-entry : (octets : List ℕ) (count : ℕ)

@@ -11,6 +11,7 @@ mod OwnerLemmas
 mod SideLemmas
 mod StableLemmas
 mod StoreLemmas
+mod UploadAsked
 mod UploadNext
 mod UploadRows
 mod UploadServed

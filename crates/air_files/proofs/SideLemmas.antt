@@ -1,5 +1,5 @@
 -- The facts of a session with one more entry, and what an entry's row has to do that the client keeps its facts.
-use Rattle.std.proofs.Common.{◌≡◌, ◌⊎◌, inl, inr, ℕ, ◌≤◌, List, [], ◌∷◌, ◌++◌, length, refl, ap, sym, ◌∙◌, subst, append-nil, Bool, true, false, Option, None, Some}
+use Rattle.std.proofs.Common.{◌≡◌, ◌⊎◌, inl, inr, ℕ, zero, suc, ◌≤◌, List, [], ◌∷◌, ◌++◌, length, refl, ap, sym, ◌∙◌, subst, append-nil, Bool, true, false, Option, None, Some}
 use Rattle.std.specs.Prelude.{IfSome, Ok}
 use Rattle.std.specs.List.{AllByRecursion}
 use Rattle.ftl0_packets.specs.Layout.{Fits, Item, PacketValue, ul_ack_resp, ul_error_resp, ul_go_resp, upload_cmd}
@@ -7,7 +7,7 @@ use Rattle.file_store.proofs.Offered.{after_first-all}
 use Rattle.file_store.specs.Command.{Command, after_all}
 use Rattle.file_store.specs.Info.{IsCompleteIn}
 use Rattle.file_store.specs.OnDisk.{after_first}
-use Rattle.file_store.specs.Store.{Store}
+use Rattle.file_store.specs.Store.{Store, entry_of}
 use Rattle.ftl0_session.specs.Run.{Session}
 use Rattle.ftl0_session.specs.Table.{Row, State}
 use Rattle.ftl0_server.specs.Entries as session
@@ -27,6 +27,7 @@ use Rattle.air_files.proofs.GrowingLemmas.{StayOthers}
 use Rattle.air_files.proofs.LiftLemmas.{some-at}
 use Rattle.air_files.proofs.LikeLemmas.{like-side}
 use Rattle.air_files.proofs.MovedLemmas.{MovesAt, OwnGrants, facts-left, side-moved}
+use Rattle.air_files.proofs.OwnerLemmas.{next-none, own-next}
 
 -- ---- what the row of an entry does
 
@@ -57,6 +58,13 @@ module _ (files : List Asked) (c : ℕ) (party : Party) (before : Session) (serv
   newest-side P each =
       some-at (P served.attempt) served.attempt.server served.side
       (subst (AllByRecursion (λ a. IfSome a.server (P a))) served.attempts_are each).0 served.is_side
+
+  -- the newest attempt with its session gone on, and the client then
+  abbrev pub gone_attempt : ServerSide → Attempt
+  gone_attempt gone = record served.attempt { server = Some gone }
+
+  abbrev pub done : ServerSide → Party
+  done gone = with_attempt party (gone_attempt gone) served.older
 
   module _ (item : Item) (row : Row) (does : RowDoes files party before item row) where
     pub row-moves : (count : ℕ) → MovesAt files party before.store (after_first count before.store row.commands) does.n
@@ -89,13 +97,7 @@ module _ (files : List Asked) (c : ℕ) (party : Party) (before : Session) (serv
 
     -- the facts of the session as it was, over the store then
     module _ (gone : ServerSide) where
-      abbrev gone_attempt : Attempt
-      gone_attempt = record served.attempt { server = Some gone }
-
-      abbrev done : Party
-      done = with_attempt party gone_attempt served.older
-
-      pub side-kept : HasSideFacts store_then done gone_attempt (over served.side)
+      pub side-kept : HasSideFacts store_then (done gone) (gone_attempt gone) (over served.side)
       side-kept =
           let a : Attempt = served.attempt in
           let side : ServerSide = served.side in
@@ -104,7 +106,44 @@ module _ (files : List Asked) (c : ℕ) (party : Party) (before : Session) (serv
           let before_over : HasSideFacts before.store party a (over side) = like-side before.store party party a a side (over side) (λ is. absurd (cc)) facts in
           let now_over : HasSideFacts store_then party a (over side) =
           side-moved files party before.store store_then does.n row-all a (over side) (λ is. absurd (cc)) own before_over in
-          like-side store_then party done a gone_attempt (over side) (over side) (λ is. is) now_over
+          like-side store_then party (done gone) a (gone_attempt gone) (over side) (over side) (λ is. is) now_over
+
+-- ---- a row without commands
+
+none-first : (count : ℕ) (store : Store) → after_first count store [] ≡ store
+none-first zero store = refl
+none-first (suc count) store = refl
+
+-- the row of a packet at which only the state changes, and something is said
+abbrev pub idle_row : Session → State → List PacketValue → Row
+idle_row before state replies = record { state = state; lists = before.lists; commands = []; replies = replies }
+
+module _ (files : List Asked) (c : ℕ) (party : Party) (before : Session) (served : IsServed files c party before) where
+  pub idle-does : (item : Item) (state : State) (replies : List PacketValue) → AllByRecursion Fits replies
+      → AllByRecursion (λ p. octets_of_data p ≡ []) replies
+      → ((number file_length : ℕ) → item ≡ Ok (upload_cmd 0 file_length) → replies ≡ ul_go_resp number 0 ∷ [] → before.store.next ≤ number)
+      → RowDoes files party before item (idle_row before state replies)
+  idle-does item state replies fits quiet new = record {
+    commands = record { own = tt; allowed = tt; brings = tt };
+    lists = refl;
+    fits = fits;
+    quiet = quiet;
+    n = before.store.next;
+    others = λ count other differs. ap (λ (s : Store). entry_of s other) (none-first count before.store);
+    file = λ count task file has is. absurd (next-none before.store files party served.facts served.once task file has is);
+    own = own-next before.store files party served.facts served.once;
+    new = λ number file_length is. new number file_length is.0 is.1;
+  }
+
+  -- What an entry of the session does: its row does so, and the session with it has its facts, up or over.
+  pub record EntryDoes (item : Item) (row : Row) : Type 0 where
+    pub does : RowDoes files party before item row
+    pub sides :
+        (up : Bool)
+        → HasSideFacts (after_all before.store row.commands)
+          (done files c party before served (with_entry served.side (session.took item row) row.state up))
+          (gone_attempt files c party before served (with_entry served.side (session.took item row) row.state up))
+          (with_entry served.side (session.took item row) row.state up)
 
 -- ---- the facts of a session with one more entry
 

@@ -1,5 +1,5 @@
 -- The rows of an upload's packets.
-use Rattle.std.proofs.Common.{◌≡◌, ◌≢◌, ◌⊎◌, inl, inr, ℕ, suc, zero, ◌+◌, ◌≤◌, ◌==◌, ◌&&◌, Bool, true, false, not, List, [], ◌∷◌, ◌++◌, length, refl, ap, ap₂, sym, ◌∙◌, subst, arith, length-append, Option, None, Some}
+use Rattle.std.proofs.Common.{◌≡◌, ◌≢◌, ◌⊎◌, inl, inr, ℕ, suc, zero, ◌+◌, ◌≤◌, ◌<◌, ◌==◌, ◌&&◌, Bool, true, false, not, List, [], ◌∷◌, ◌++◌, length, refl, ap, ap₂, sym, ◌∙◌, subst, arith, length-append, Option, None, Some}
 use Rattle.std.proofs.lemmas.Bool.Decides.{Decides-eqb, nat_tests}
 use Rattle.std.proofs.lemmas.Slice.Eq.{bytes_eq-Decides}
 use Rattle.std.specs.Prelude.{Ok, bytes_eq, nat_le, nat_eq, if◌then◌else◌, IsTrue}
@@ -77,6 +77,7 @@ pub record IsBegunBy (caller : CallSign) (moment : ℕ) (store : Store) (known f
 -- It was refused: with code 12 only where the file of the number is complete.
 pub record IsRefusedBy (store : Store) (known : ℕ) (row : upload.Row) : Type 0 where
   pub code : ℕ
+  pub small : code < 256
   pub row_is : row ≡ refused_row upload.command code
   pub complete : code ≡ 12 → IsCompleteIn store known
 
@@ -88,13 +89,13 @@ module _ (caller : CallSign) (moment : ℕ) (store : Store) (known file_length :
   abbrev Asked : upload.Row → Type 0
   Asked row = IsAskedBy caller moment store known file_length row
 
-  refused-by : (code : ℕ) → (code ≡ 12 → IsCompleteIn store known) → Asked (refused_row upload.command code)
-  refused-by code whole = inl (record { code = code; row_is = refl; complete = whole })
+  refused-by : (code : ℕ) → code < 256 → (code ≡ 12 → IsCompleteIn store known) → Asked (refused_row upload.command code)
+  refused-by code small whole = inl (record { code = code; small = small; row_is = refl; complete = whole })
 
   begins : known ≡ 0 → (b : Bool) → can_begin store file_length ≡ b
       → Asked (if b then granted_row caller moment store.next file_length else refused_row upload.command 13)
   begins new true may = inr (inl (record { new = new; may = may; row_is = refl }))
-  begins new false may = refused-by 13 (λ same. absurd (let x : ⊥ = omega (arith, same) in x))
+  begins new false may = refused-by 13 (omega arith) (λ same. absurd (let x : ⊥ = omega (arith, same) in x))
 
   goes-on-held : (entry : Entry) (holding : Holding) → 1 ≤ known → entry_of store known ≡ Some entry → entry.caller ≡ caller → entry.length ≡ file_length
       → entry.holding ≡ holding
@@ -102,17 +103,17 @@ module _ (caller : CallSign) (moment : ℕ) (store : Store) (known file_length :
   goes-on-held entry (partial held) some found by long is =
       inr (inr (record { some = some; entry = entry; is_entry = found; held = held; holds = is; caller_is = by; length_is = long; row_is = refl }))
   goes-on-held entry (complete octets at) some found by long is =
-      refused-by 12 (λ same. (entry, found, subst (λ (h : Holding). IsTrue (is_complete h)) (sym is) refl))
+      refused-by 12 (omega arith) (λ same. (entry, found, subst (λ (h : Holding). IsTrue (is_complete h)) (sym is) refl))
 
   goes-on-theirs : (entry : Entry) (b : Bool) → 1 ≤ known → entry_of store known ≡ Some entry → is_theirs caller file_length entry ≡ b
       → Asked (if not b then refused_row upload.command 2 else if is_complete entry.holding then refused_row upload.command 12 else resumed_row known (length (octets_of entry.holding)))
   goes-on-theirs entry true some found theirs =
       let both = both-hold (is_same_call entry.caller caller) (entry.length == file_length) theirs in
       goes-on-held entry entry.holding some found (same-call entry.caller caller both.0) ((Decides-eqb entry.length file_length).0 both.1) refl
-  goes-on-theirs entry false some found theirs = refused-by 2 (λ same. absurd (let x : ⊥ = omega (arith, same) in x))
+  goes-on-theirs entry false some found theirs = refused-by 2 (omega arith) (λ same. absurd (let x : ⊥ = omega (arith, same) in x))
 
   goes-on-by : (o : Option Entry) → 1 ≤ known → entry_of store known ≡ o → Asked (continue_row caller known file_length o)
-  goes-on-by None some gone = refused-by 4 (λ same. absurd (let x : ⊥ = omega (arith, same) in x))
+  goes-on-by None some gone = refused-by 4 (omega arith) (λ same. absurd (let x : ⊥ = omega (arith, same) in x))
   goes-on-by (Some entry) some found = goes-on-theirs entry (is_theirs caller file_length entry) some found refl
 
   by-number : (b : Bool) → (known == 0) ≡ b → Asked (if b then begin_row caller moment store file_length else continue_row caller known file_length (entry_of store known))

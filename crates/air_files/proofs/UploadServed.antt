@@ -111,7 +111,7 @@ number-noted (suc known) task number offset file party a noted goes_on asks offe
 
 module _ (files : List Asked) (c : ℕ) (party : Party) (before : Session) (served : IsServed files c party before)
     (at : Upload) (asked_is : served.attempt.client.asked ≡ work.Upload at) where
-  abbrev Stage : Receiving → Type 0
+  abbrev pub Stage : Receiving → Type 0
   Stage stage = (serves-upload files c party before served at asked_is).stage ≡ stage
 
   pub unasked-alone : Stage unasked → drop 1 (said_by_client served.attempt.client) ≡ []
