@@ -12,6 +12,7 @@ mod SideLemmas
 mod StableLemmas
 mod StoreLemmas
 mod UploadAsked
+mod UploadContinued
 mod UploadNext
 mod UploadRows
 mod UploadServed

@@ -41,12 +41,12 @@ pub due-receiving : (store : Store) (side : ServerSide) (x : SessionEntry) (numb
 due-receiving store side x number rest up = record { lies = tt; octets = All-nil _ }
 
 -- one reply is this packet
-alone-is : (answer packet : PacketValue) → Has (answer ∷ []) packet → answer ≡ packet
+pub alone-is : (answer packet : PacketValue) → Has (answer ∷ []) packet → answer ≡ packet
 alone-is answer packet (inl is) = is
 alone-is answer packet (inr none) = absurd none
 
 -- UPLOAD_CMD of one number is of no other
-cmd-number : (item : Item) (number other file_length that : ℕ) → item ≡ Ok (upload_cmd number file_length) → item ≡ Ok (upload_cmd other that)
+pub cmd-number : (item : Item) (number other file_length that : ℕ) → item ≡ Ok (upload_cmd number file_length) → item ≡ Ok (upload_cmd other that)
     → (number ≡ other) × (file_length ≡ that)
 cmd-number item number other file_length that one two = (cc, cc)
 
@@ -64,7 +64,7 @@ front-take held file more none front =
 module _ (files : List Asked) (c : ℕ) (party : Party) (before : Session) (served : IsServed files c party before)
     (at : Upload) (asked_is : served.attempt.client.asked ≡ work.Upload at)
     (is : Stage files c party before served at asked_is unasked) where
-  abbrev asking : Item
+  abbrev pub asking : Item
   asking = Ok (upload_cmd at.known (length at.file))
 
   abbrev serves : ServesUpload at.known at.file served.side
@@ -77,16 +77,16 @@ module _ (files : List Asked) (c : ℕ) (party : Party) (before : Session) (serv
   none-said = serves.said ∙ ap receiving_said is
 
   module _ (row : Row) (state : State) (up : Bool) where
-    abbrev gone : ServerSide
+    abbrev pub gone : ServerSide
     gone = with_entry served.side (session.took asking row) state up
 
-    one-answered : answered_in gone.entries ≡ asking ∷ []
+    pub one-answered : answered_in gone.entries ≡ asking ∷ []
     one-answered = answered-more served.side.entries (session.took asking row) ∙ ap (λ (items : List Item). items ++ asking ∷ []) none-answered
 
-    one-said : session.said_in gone.entries ≡ row.replies
+    pub one-said : session.said_in gone.entries ≡ row.replies
     one-said = said-more served.side.entries (session.took asking row) ∙ ap (λ (packets : List PacketValue). packets ++ row.replies) none-said
 
-    serves-as : (store : Store) → ServesUpload at.known at.file gone → Serves store served.attempt.client.asked gone
+    pub serves-as : (store : Store) → ServesUpload at.known at.file gone → Serves store served.attempt.client.asked gone
     serves-as store those = subst (λ (doing : Work). Serves store doing gone) (sym asked_is) those
 
   -- ---- refused
@@ -138,7 +138,7 @@ module _ (files : List Asked) (c : ℕ) (party : Party) (before : Session) (serv
 
   -- the session receives the file of this number, from this offset on, as many octets as are held
   module _ (number offset : ℕ) (row : Row) (up : Bool) (replies_are : row.replies ≡ ul_go_resp number offset ∷ []) where
-    abbrev offering : ServerSide
+    abbrev pub offering : ServerSide
     offering = with_entry served.side (session.took asking row) (receiving number []) up
 
     said-offer : said_by_server offering ≡ served.side.greeting ∷ ul_go_resp number offset ∷ []
@@ -147,7 +147,7 @@ module _ (files : List Asked) (c : ℕ) (party : Party) (before : Session) (serv
     offers-it : Offers offering number offset
     offers-it = subst (λ (packets : List PacketValue). Has packets (ul_go_resp number offset)) (sym said-offer) (inr (inl refl))
 
-    none-acked : (n : ℕ) → Acknowledges offering n → ⊥
+    pub none-acked : (n : ℕ) → Acknowledges offering n → ⊥
     none-acked n acks =
         no-ack served.side.greeting number offset served.greets
         (subst (λ (packets : List PacketValue). Has packets ul_ack_resp) said-offer acks.1)
@@ -167,7 +167,7 @@ module _ (files : List Asked) (c : ℕ) (party : Party) (before : Session) (serv
         ∙ unasked-alone files c party before served at asked_is is
 
     -- what it offers, once it is the upload's
-    serves-offer : IsOfferFor at.known number offset → ServesUpload at.known at.file offering
+    pub serves-offer : IsOfferFor at.known number offset → ServesUpload at.known at.file offering
     serves-offer offer = record {
       stage = receives number offset [];
       items = one-answered row (receiving number []) up;
@@ -177,7 +177,7 @@ module _ (files : List Asked) (c : ℕ) (party : Party) (before : Session) (serv
       first = answers-now served.side (session.took asking row) (receiving number []) up asking (ul_go_resp number offset) (refl, replies_are);
     }
 
-    receives-offer : (store : Store) (entry : Entry) (held : List ℕ) → entry_of store number ≡ Some entry → entry.holding ≡ partial held
+    pub receives-offer : (store : Store) (entry : Entry) (held : List ℕ) → entry_of store number ≡ Some entry → entry.holding ≡ partial held
         → entry.caller ≡ party.client.me → entry.length ≡ length at.file → length held ≡ offset → IsFront held at.file
         → Receives store (done files c party before served offering) (gone_attempt files c party before served offering) offering number []
     receives-offer store entry held found holds by long count front = record {
