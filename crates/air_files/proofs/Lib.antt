@@ -14,5 +14,6 @@ mod StoreLemmas
 mod UploadAsked
 mod UploadContinued
 mod UploadNext
+mod UploadReceived
 mod UploadRows
 mod UploadServed
