@@ -13,6 +13,7 @@ mod StableLemmas
 mod StoreLemmas
 mod UploadAsked
 mod UploadContinued
+mod UploadData
 mod UploadNext
 mod UploadReceived
 mod UploadRows

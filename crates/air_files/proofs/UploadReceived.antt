@@ -130,10 +130,10 @@ module _ (files : List Asked) (c : ℕ) (party : Party) (before : Session) (serv
   received =
       newest-side files c party before served (ReceiveFact before.store party) served.facts.sessions.receives number waiting served.is_up receiving-state.1
 
-  abbrev pub place : ℕ
-  place = received.offset + octets_come served.side
+  abbrev pub place_come : ℕ
+  place_come = received.offset + octets_come served.side
 
-  pub takes : TakesFile before.store party.client.me served.attempt served.side at.file number place waiting
+  pub takes : TakesFile before.store party.client.me served.attempt served.side at.file number place_come waiting
   takes =
       takes-file before.store party served.attempt served.side at.file number waiting received
       (same-upload served.attempt at.task at.known received.task received.known at.file received.file

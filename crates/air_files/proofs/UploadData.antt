@@ -1,0 +1,177 @@
+-- DATA to a session that receives a file.
+use Rattle.std.proofs.Common.{◌≡◌, ◌⊎◌, inl, inr, ℕ, suc, zero, ◌+◌, ◌-◌, ◌*◌, ◌/◌, ◌≤◌, ◌<◌, min, List, [], ◌∷◌, ◌++◌, length, map, take, drop, refl, ap, sym, ◌∙◌, subst, arith, append-nil, append_assoc, length-append, length-take, length-drop, take-add, take-append-drop, Bool, false, Option, None, Some}
+use Rattle.std.specs.Prelude.{IfSome, Ok}
+use Rattle.std.specs.List.{AllByRecursion}
+use Rattle.std.proofs.lemmas.List.{drop_at, length-take-le, map-append}
+use Rattle.std.proofs.lemmas.List.Elements.{All-drop, All-take}
+use Rattle.std.proofs.lemmas.Option.{same_Some}
+use Rattle.px_base.specs.CallSign.{CallSign}
+use Rattle.px_base.specs.Octets.{IsFront, IsOctets}
+use Rattle.ftl0_packets.specs.Layout.{Item, PacketValue, data_part, upload_cmd}
+use Rattle.file_entries.specs.Follows.{AreOf, BringsOctets}
+use Rattle.file_store.proofs.Offered.{grows-after}
+use Rattle.file_store.specs.Command.{AreAllowed, Command, after_all, grow, grows, unfilled_block, whole_grows}
+use Rattle.file_store.specs.OnDisk.{after_first}
+use Rattle.file_store.specs.Store.{Entry, Holding, Store, entry_of, partial}
+use Rattle.ftl0_session.specs.Laws.{UploadsLaw}
+use Rattle.ftl0_session.specs.Run.{Session}
+use Rattle.ftl0_session.specs.Table.{Row, State, by_upload, receiving, session_row}
+use Rattle.ftl0_session.specs.Uploads.Session as upload
+use Rattle.ftl0_server.specs.Entries as session
+use Rattle.ftl0_server.specs.Entries.{SessionEntry}
+use Rattle.server_laws.specs.Rows.{CallerLaw}
+use Rattle.ftl0_job.specs.declared.work.Work.{Work}
+use Rattle.ftl0_job.specs.declared.work.Work.TheVariants as work
+use Rattle.ftl0_job.specs.Upload.{Upload}
+use Rattle.air_attempt.specs.Party.{Asked, IsFileOf, Party}
+use Rattle.air_attempt.specs.Said.{said_behind_server}
+use Rattle.air_attempt.specs.Sides.{ServerSide}
+use Rattle.air_files.specs.Facts.{HasNumber, Receives}
+use Rattle.air_files.specs.Kept.{IsFileAt}
+use Rattle.air_files.specs.Laws.{IsServed}
+use Rattle.air_files.specs.UploadDialogue.{GoesOnWith, ServesUpload, data_items, receives}
+use Rattle.air_files.proofs.EntryLemmas.{answered-more, answers-still, said-more, says-still, with_entry}
+use Rattle.air_files.proofs.GrowingLemmas.{front-entry, front-others, grows-allowed-here, grows-first, with_front}
+use Rattle.air_files.proofs.OwnerLemmas.{one-file, own-number}
+use Rattle.air_files.proofs.SideLemmas.{EntryDoes, RowDoes, done, gone_attempt, side-kept, side-new, silent-true}
+use Rattle.air_files.proofs.UploadAsked.{due-receiving}
+use Rattle.air_files.proofs.UploadReceived.{TakesFile, come-then, place_come, takes, waiting}
+use Rattle.air_files.proofs.UploadRows.{data-taken, row-taken}
+use Rattle.air_files.proofs.UploadServed.{Stage, asks-upload, file-of-upload, serves-upload}
+
+-- ---- lists
+
+-- the next octets of a list from a place on are no more than there are
+next-within : (octets file : List ℕ) (place : ℕ) → octets ≡ take (length octets) (drop place file) → place ≤ length file
+    → place + length octets ≤ length file
+next-within octets file place is within =
+    let count : length octets ≡ min (length octets) (length file - place) =
+    ap length is ∙ length-take (length octets) (drop place file) ∙ ap (λ (n : ℕ). min (length octets) n) (length-drop place file) in
+    omega (arith, count, within)
+
+-- with the octets that come next what came is the front still
+came-next : (held rest octets file : List ℕ) (place : ℕ) → held ++ rest ≡ take place file → octets ≡ take (length octets) (drop place file)
+    → held ++ (rest ++ octets) ≡ take (place + length octets) file
+came-next held rest octets file place came is =
+    sym (append_assoc held rest octets) ∙ ap (λ (front : List ℕ). front ++ octets) came
+    ∙ ap (λ (more : List ℕ). take place file ++ more) is ∙ sym (take-add place (length octets) file)
+
+-- what is held with the first of what waits is a front of the file
+pub front-of : (held all file : List ℕ) (place k : ℕ) → held ++ all ≡ take place file → IsFront (held ++ take k all) file
+front-of held all file place k came =
+    (drop k all ++ drop place file,
+     sym (take-append-drop place file) ∙ ap (λ (front : List ℕ). front ++ drop place file) (sym came)
+     ∙ ap (λ (octets : List ℕ). (held ++ octets) ++ drop place file) (sym (take-append-drop k all))
+     ∙ ap (λ (front : List ℕ). front ++ drop place file) (sym (append_assoc held (take k all) (drop k all)))
+     ∙ append_assoc (held ++ take k all) (drop k all) (drop place file))
+
+-- what waits are octets of the file
+pub waiting-octets : (held all file : List ℕ) (place : ℕ) → held ++ all ≡ take place file → IsOctets file → IsOctets all
+waiting-octets held all file place came octets =
+    subst IsOctets (drop_at held all (length held) refl)
+    (All-drop (λ octet. octet < 256) (length held) (held ++ all)
+     (subst IsOctets (sym came) (All-take (λ octet. octet < 256) place file octets)))
+
+grows-bring : (number n : ℕ) (octets : List ℕ) → IsOctets octets → AllByRecursion BringsOctets (grows number n octets)
+grows-bring number zero octets are = tt
+grows-bring number (suc n) octets are =
+    (All-take (λ octet. octet < 256) 512 octets are, grows-bring number n (drop 512 octets) (All-drop (λ octet. octet < 256) 512 octets are))
+
+-- ---- the row
+
+module _ (files : List Asked) (c : ℕ) (party : Party) (before : Session) (served : IsServed files c party before)
+    (at : Upload) (asked_is : served.attempt.client.asked ≡ work.Upload at) (number offset : ℕ) (parts : List (List ℕ))
+    (is : Stage files c party before served at asked_is (receives number offset parts)) (has : HasNumber party at.task number)
+    (octets : List ℕ) where
+  abbrev pub part : Item
+  part = Ok (data_part octets)
+
+  abbrev rest : List ℕ
+  rest = waiting files c party before served at asked_is number offset parts is
+
+  abbrev from : ℕ
+  from = place_come files c party before served at asked_is number offset parts is
+
+  abbrev file_taken : TakesFile before.store party.client.me served.attempt served.side at.file number from rest
+  file_taken = takes files c party before served at asked_is number offset parts is
+
+  abbrev all : List ℕ
+  all = rest ++ octets
+
+  abbrev data_row : Row
+  data_row =
+      record {
+        state = receiving number (unfilled_block all);
+        lists = before.lists;
+        commands = whole_grows number all;
+        replies = [];
+      }
+
+  module _ (next : octets ≡ take (length octets) (drop from at.file)) where
+    room : from + length octets ≤ length at.file
+    room = next-within octets at.file from next file_taken.within
+
+    came : file_taken.held ++ all ≡ take (from + length octets) at.file
+    came = came-next file_taken.held rest octets at.file from file_taken.came next
+
+    -- as many octets as have come
+    counted : length file_taken.held + (length rest + length octets) ≡ from + length octets
+    counted =
+        sym (ap (λ (n : ℕ). length file_taken.held + n) (length-append rest octets)) ∙ sym (length-append file_taken.held all) ∙ ap length came
+        ∙ length-take-le (from + length octets) at.file room
+
+    fitting : length file_taken.held + (length rest + length octets) ≤ file_taken.entry.length
+    fitting = omega (arith, counted, room, file_taken.length_is)
+
+    row-is : UploadsLaw → (moment : ℕ)
+        → session_row party.client.me moment before.store before.lists (receiving number rest) part false ≡ data_row
+    row-is law moment =
+        row-taken law party.client.me moment before.store before.lists number rest octets
+        ∙ ap (λ (row : upload.Row). by_upload before.lists row)
+        (data-taken before.store number file_taken.entry file_taken.held rest file_taken.is_entry file_taken.holds octets fitting)
+
+    own-commands : UploadsLaw → CallerLaw → (moment : ℕ) → AreOf party.client.me before.store (whole_grows number all)
+    own-commands law caller_law moment =
+        subst (λ (row : Row). AreOf party.client.me before.store row.commands) (row-is law moment)
+        (caller_law party.client.me moment before.store before.lists (receiving number rest) part false
+         (λ entry found.
+         ap (λ (e : Entry). e.caller) (same_Some entry file_taken.entry (sym found ∙ file_taken.is_entry)) ∙ file_taken.caller_is))
+
+    -- the entry on its way to the file, with the first of these octets held too
+    under-way : (k : ℕ) → IsFileAt (with_front before.store number all k) number at.file party.client.me
+    under-way k =
+        inr (inl (record {
+          entry = record file_taken.entry { holding = partial (file_taken.held ++ take k all) };
+          is_entry = front-entry before.store number file_taken.entry file_taken.held file_taken.is_entry file_taken.holds all k;
+          caller_is = file_taken.caller_is;
+          length_is = file_taken.length_is;
+          held = file_taken.held ++ take k all;
+          holds = refl;
+          front = front-of file_taken.held all at.file (from + length octets) k came;
+        }))
+
+    data-does : UploadsLaw → CallerLaw → (moment : ℕ) → IsOctets at.file → RowDoes files party before part data_row
+    data-does law caller_law moment are = record {
+      commands = record {
+        own = own-commands law caller_law moment;
+        allowed =
+            grows-allowed-here before.store number file_taken.entry file_taken.held file_taken.is_entry file_taken.holds all
+            (subst (λ (n : ℕ). length file_taken.held + n ≤ file_taken.entry.length) (sym (length-append rest octets)) fitting);
+        brings = grows-bring number (length all / 512) all (waiting-octets file_taken.held all at.file (from + length octets) came are);
+      };
+      lists = refl;
+      fits = tt;
+      quiet = tt;
+      n = number;
+      others = λ count other differs.
+          let front = grows-first before.store number all count in
+          ap (λ (s : Store). entry_of s other) front.1 ∙ front-others before.store number all front.0 other differs;
+      file = λ count task that has_that is_that.
+          let front = grows-first before.store number all count in
+          let same = one-file before.store files party served.facts served.once at.task task number at.file that has
+          (file-of-upload files c party before served at asked_is) has_that is_that in
+          subst (λ (f : List ℕ). IsFileAt (after_first count before.store (whole_grows number all)) number f party.client.me) same
+          (subst (λ (s : Store). IsFileAt s number at.file party.client.me) (sym front.1) (under-way front.0));
+      own = own-number before.store files party served.facts served.once at.task number at.file has (file-of-upload files c party before served at asked_is);
+      new = λ number file_length answer. absurd (let no = answer.0 in cc);
+    }
