@@ -7,7 +7,7 @@ use Rattle.std.proofs.lemmas.List.Elements.{All-drop, All-take}
 use Rattle.std.proofs.lemmas.Option.{same_Some}
 use Rattle.px_base.specs.CallSign.{CallSign}
 use Rattle.px_base.specs.Octets.{IsFront, IsOctets}
-use Rattle.ftl0_packets.specs.Layout.{Item, PacketValue, data_part, upload_cmd}
+use Rattle.ftl0_packets.specs.Layout.{Item, data_part, ul_go_resp, upload_cmd}
 use Rattle.file_entries.specs.Follows.{AreOf, BringsOctets}
 use Rattle.file_store.proofs.Offered.{grows-after}
 use Rattle.file_store.specs.Command.{AreAllowed, Command, after_all, grow, grows, unfilled_block, whole_grows}
@@ -24,18 +24,20 @@ use Rattle.ftl0_job.specs.declared.work.Work.{Work}
 use Rattle.ftl0_job.specs.declared.work.Work.TheVariants as work
 use Rattle.ftl0_job.specs.Upload.{Upload}
 use Rattle.air_attempt.specs.Party.{Asked, IsFileOf, Party}
-use Rattle.air_attempt.specs.Said.{said_behind_server}
-use Rattle.air_attempt.specs.Sides.{ServerSide}
+use Rattle.air_attempt.specs.Said.{octets_come, said_behind_server}
+use Rattle.air_attempt.specs.Sides.{ServerSide, said_by_client}
+use Rattle.air_files.specs.Dialogue.{Serves}
 use Rattle.air_files.specs.Facts.{HasNumber, Receives}
 use Rattle.air_files.specs.Kept.{IsFileAt}
 use Rattle.air_files.specs.Laws.{IsServed}
-use Rattle.air_files.specs.UploadDialogue.{GoesOnWith, ServesUpload, data_items, receives}
+use Rattle.air_files.specs.UploadDialogue.{AnsweredFirst, GoesOnWith, IsOfferedBy, ServesUpload, received_items, receives, receiving_said}
 use Rattle.air_files.proofs.EntryLemmas.{answered-more, answers-still, said-more, says-still, with_entry}
 use Rattle.air_files.proofs.GrowingLemmas.{front-entry, front-others, grows-allowed-here, grows-first, with_front}
 use Rattle.air_files.proofs.OwnerLemmas.{one-file, own-number}
 use Rattle.air_files.proofs.SideLemmas.{EntryDoes, RowDoes, done, gone_attempt, side-kept, side-new, silent-true}
 use Rattle.air_files.proofs.UploadAsked.{due-receiving}
-use Rattle.air_files.proofs.UploadReceived.{TakesFile, come-then, place_come, takes, waiting}
+use Rattle.air_files.proofs.UploadNext.{SaidNext}
+use Rattle.air_files.proofs.UploadReceived.{TakesFile, behind-then, come-then, place_come, takes, waiting}
 use Rattle.air_files.proofs.UploadRows.{data-taken, row-taken}
 use Rattle.air_files.proofs.UploadServed.{Stage, asks-upload, file-of-upload, serves-upload}
 
@@ -175,3 +177,92 @@ module _ (files : List Asked) (c : ℕ) (party : Party) (before : Session) (serv
       own = own-number before.store files party served.facts served.once at.task number at.file has (file-of-upload files c party before served at asked_is);
       new = λ number file_length answer. absurd (let no = answer.0 in cc);
     }
+
+    -- ---- the session behind it
+
+    abbrev behind : List ℕ
+    behind = unfilled_block all
+
+    abbrev took_it : SessionEntry
+    took_it = session.took part data_row
+
+    abbrev gone : Bool → ServerSide
+    gone up = with_entry served.side took_it (receiving number behind) up
+
+    abbrev store_now : Store
+    store_now = after_all before.store (whole_grows number all)
+
+    serves-data : (up : Bool) → ServesUpload at.known at.file (gone up)
+    serves-data up =
+        let was = serves-upload files c party before served at asked_is in
+        record {
+          stage = receives number offset (parts ++ octets ∷ []);
+          items =
+              answered-more served.side.entries took_it
+              ∙ ap (λ (items : List Item). items ++ part ∷ []) (was.items ∙ ap (received_items at.known (length at.file)) is)
+              ∙ ap (λ (items : List Item). Ok (upload_cmd at.known (length at.file)) ∷ items)
+              (sym (map-append (λ (os : List ℕ). Ok (data_part os)) parts (octets ∷ [])));
+          said = said-more served.side.entries took_it ∙ append-nil (session.said_in served.side.entries) ∙ was.said ∙ ap receiving_said is;
+          state = λ none_lost. (behind, refl);
+          offered = subst (IsOfferedBy at.known) is was.offered;
+          first =
+              answers-still served.side took_it (receiving number behind) up (Ok (upload_cmd at.known (length at.file))) (ul_go_resp number offset)
+              (subst (AnsweredFirst at.known (length at.file) served.side) is was.first);
+        }
+
+    module _ (more : List Item) (said : SaidNext (session.items_in served.side.entries) more part (said_by_client served.attempt.client))
+        (goes : GoesOnWith at.file (from + length octets) said.rest) where
+      receives-data : (up : Bool)
+          → Receives store_now (done files c party before served (gone up)) (gone_attempt files c party before served (gone up)) (gone up) number behind
+      receives-data up =
+          let q : ℕ = 512 * (length all / 512) in
+          let come : octets_come (gone up) ≡ octets_come served.side + length octets = come-then served.attempt served.side part took_it refl (receiving number behind) up in
+          let on : file_taken.offset + octets_come (gone up) ≡ from + length octets = omega (arith, come, file_taken.place_is) in
+          record {
+            task = at.task;
+            known = at.known;
+            file = at.file;
+            asks = asks-upload files c party before served at asked_is;
+            entry = record file_taken.entry { holding = partial (file_taken.held ++ take q all) };
+            is_entry =
+                ap (λ (s : Store). entry_of s number) (grows-after number (length all / 512) all before.store)
+                ∙ front-entry before.store number file_taken.entry file_taken.held file_taken.is_entry file_taken.holds all q;
+            held = file_taken.held ++ take q all;
+            holds = refl;
+            caller_is = file_taken.caller_is;
+            length_is = file_taken.length_is;
+            few = let left : length behind ≡ length all - q = length-drop q all in omega (arith, left);
+            offset = file_taken.offset;
+            offers = says-still served.side took_it (receiving number behind) up (ul_go_resp number file_taken.offset) file_taken.offers;
+            came =
+                append_assoc file_taken.held (take q all) behind ∙ ap (λ (os : List ℕ). file_taken.held ++ os) (take-append-drop q all) ∙ came
+                ∙ ap (λ (n : ℕ). take n at.file) (sym on);
+            within = omega (arith, on, room);
+            goes_on =
+                subst (λ (n : ℕ). GoesOnWith at.file n (said_behind_server (gone up) served.attempt.client)) (sym on)
+                (subst (GoesOnWith at.file (from + length octets)) (sym (behind-then served.attempt served.side part took_it refl (receiving number behind) up more said))
+                 goes);
+          }
+
+      pub data-entry : UploadsLaw → CallerLaw → (moment : ℕ) → IsOctets at.file → EntryDoes files c party before served part data_row
+      data-entry law caller_law moment are =
+          let does = data-does law caller_law moment are in
+          record {
+            does = does;
+            sides = λ up.
+                side-new store_now (done files c party before served (gone up)) (gone_attempt files c party before served (gone up)) served.side took_it
+                (receiving number behind) up (side-kept files c party before served part data_row does (gone up))
+                (silent-true store_now (done files c party before served (gone up)) (gone_attempt files c party before served (gone up)) served.side took_it
+                 (receiving number behind) up refl (λ item answer is_answer. let no = is_answer.1 in cc))
+                (λ n those is_up state.
+                let same : number ≡ n = cc in
+                let octets_same : behind ≡ those = cc in
+                subst
+                (λ (rs : List ℕ). Receives store_now (done files c party before served (gone up)) (gone_attempt files c party before served (gone up)) (gone up) n rs)
+                octets_same
+                (subst
+                 (λ (k : ℕ). Receives store_now (done files c party before served (gone up)) (gone_attempt files c party before served (gone up)) (gone up) k behind)
+                 same (receives-data up)))
+                (λ is_up. due-receiving store_now served.side took_it number behind up)
+                (subst (λ (doing : Work). Serves store_now doing (gone up)) (sym asked_is) (serves-data up));
+          }
