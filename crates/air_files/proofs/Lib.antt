@@ -14,6 +14,7 @@ mod StoreLemmas
 mod UploadAsked
 mod UploadContinued
 mod UploadData
+mod UploadEnd
 mod UploadNext
 mod UploadReceived
 mod UploadRows

@@ -44,7 +44,7 @@ use Rattle.air_files.proofs.UploadServed.{Stage, asks-upload, file-of-upload, se
 -- ---- lists
 
 -- the next octets of a list from a place on are no more than there are
-next-within : (octets file : List ℕ) (place : ℕ) → octets ≡ take (length octets) (drop place file) → place ≤ length file
+pub next-within : (octets file : List ℕ) (place : ℕ) → octets ≡ take (length octets) (drop place file) → place ≤ length file
     → place + length octets ≤ length file
 next-within octets file place is within =
     let count : length octets ≡ min (length octets) (length file - place) =
@@ -74,7 +74,7 @@ waiting-octets held all file place came octets =
     (All-drop (λ octet. octet < 256) (length held) (held ++ all)
      (subst IsOctets (sym came) (All-take (λ octet. octet < 256) place file octets)))
 
-grows-bring : (number n : ℕ) (octets : List ℕ) → IsOctets octets → AllByRecursion BringsOctets (grows number n octets)
+pub grows-bring : (number n : ℕ) (octets : List ℕ) → IsOctets octets → AllByRecursion BringsOctets (grows number n octets)
 grows-bring number zero octets are = tt
 grows-bring number (suc n) octets are =
     (All-take (λ octet. octet < 256) 512 octets are, grows-bring number n (drop 512 octets) (All-drop (λ octet. octet < 256) 512 octets are))
