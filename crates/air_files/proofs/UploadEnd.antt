@@ -1,18 +1,18 @@
 -- DATA_END to a session that receives a file.
 use Rattle.std.proofs.Common.{◌≡◌, ◌≢◌, ◌⊎◌, inl, inr, ℕ, suc, zero, ◌+◌, ◌≤◌, ◌<◌, List, [], ◌∷◌, ◌++◌, length, take, refl, ap, ap₂, sym, ◌∙◌, subst, arith, append_assoc, length-append, Bool, false, Option, None, Some}
-use Rattle.std.specs.Prelude.{IfSome, Ok}
+use Rattle.std.specs.Prelude.{IfSome, IsTrue, Ok}
 use Rattle.std.specs.List.{AllByRecursion}
 use Rattle.std.proofs.lemmas.List.{take_all}
 use Rattle.std.proofs.lemmas.Option.{same_Some}
 use Rattle.px_base.specs.CallSign.{CallSign, IsCall}
 use Rattle.px_base.specs.Octets.{IsOctets}
-use Rattle.ftl0_packets.specs.Layout.{Item, data_end, ul_ack_resp, ul_go_resp, upload_cmd}
+use Rattle.ftl0_packets.specs.Layout.{Item, PacketValue, data_end, ul_ack_resp, ul_go_resp, upload_cmd}
 use Rattle.pfh_items.specs.Faults.{fault_code}
 use Rattle.pfh_items.specs.Stamp.{stamped}
 use Rattle.file_entries.specs.Follows.{AreOf, BringsOctets}
 use Rattle.file_store.proofs.Offered.{found-number}
 use Rattle.file_store.specs.Command.{Command, after_all, last_grow, seal, stamp_of}
-use Rattle.file_store.specs.Info.{IsCompleteIn}
+use Rattle.file_store.specs.Info.{IsCompleteIn, is_complete}
 use Rattle.file_store.specs.OnDisk.{after_first}
 use Rattle.file_store.specs.Store.{Entry, Holding, Store, complete, entry_of, partial}
 use Rattle.ftl0_session.specs.Laws.{Acknowledges, AcknowledgedLaw, UploadsLaw}
@@ -28,6 +28,7 @@ use Rattle.ftl0_job.specs.declared.work.Work.TheVariants as work
 use Rattle.ftl0_job.specs.Upload.{Upload}
 use Rattle.air_attempt.specs.Lists.{Has}
 use Rattle.air_attempt.specs.Party.{Asked, IsFileOf, Party}
+use Rattle.air_attempt.specs.Said.{Offers}
 use Rattle.air_attempt.specs.Sides.{ServerSide, said_by_server}
 use Rattle.air_files.specs.Dialogue.{Serves}
 use Rattle.air_files.specs.Facts.{HasNumber, Receives}
@@ -181,4 +182,68 @@ module _ (files : List Asked) (c : ℕ) (party : Party) (before : Session) (serv
           subst (λ (f : List ℕ). IsFileAt (store_at count) number f party.client.me) same (end-file count);
       own = own-number before.store files party served.facts served.once at.task number at.file has (file-of-upload files c party before served at asked_is);
       new = λ n file_length answer. absurd (let no = answer.0 in cc);
+    }
+
+    -- ---- the session behind it
+
+    abbrev took_it : SessionEntry
+    took_it = session.took last end_row
+
+    abbrev gone : Bool → ServerSide
+    gone up = with_entry served.side took_it command up
+
+    serves-end : (up : Bool) → ServesUpload at.known at.file (gone up)
+    serves-end up =
+        let was = serves-upload files c party before served at asked_is in
+        record {
+          stage = ended number offset parts ul_ack_resp;
+          items =
+              answered-more served.side.entries took_it
+              ∙ ap (λ (items : List Item). items ++ last ∷ []) (was.items ∙ ap (received_items at.known (length at.file)) is);
+          said =
+              said-more served.side.entries took_it
+              ∙ ap (λ (packets : List PacketValue). packets ++ ul_ack_resp ∷ []) (was.said ∙ ap receiving_said is);
+          state = λ none_lost. refl;
+          offered = (subst (IsOfferedBy at.known) is was.offered, inl refl);
+          first =
+              answers-still served.side took_it command up (Ok (upload_cmd at.known (length at.file))) (ul_go_resp number offset)
+              (subst (AnsweredFirst at.known (length at.file) served.side) is was.first);
+        }
+
+    is-complete : IsCompleteIn store_now number
+    is-complete = (is-kept.entry, is-kept.is_entry, subst (λ (h : Holding). IsTrue (is_complete h)) (sym is-kept.whole) refl)
+
+    -- what it offered is the number of this file
+    offered-it : (n from_place : ℕ) → Has (said_by_server served.side) (ul_go_resp n from_place) → number ≡ n
+    offered-it n from_place offers =
+        let was = serves-upload files c party before served at asked_is in
+        let said : Has (served.side.greeting ∷ receiving_said was.stage) (ul_go_resp n from_place) =
+        subst (λ (packets : List PacketValue). Has (served.side.greeting ∷ packets) (ul_go_resp n from_place)) was.said offers in
+        let both : IsOfferIn (receives number offset parts) n from_place =
+        subst (λ stage. IsOfferIn stage n from_place) is
+        (offers-in at.known was.stage served.side.greeting n from_place served.greets was.offered said) in
+        both.0
+
+    acknowledges-it : (up : Bool) (n from_place : ℕ) → Offers (gone up) n from_place → IsCompleteIn store_now n
+    acknowledges-it up n from_place offers = by (says-cases served.side took_it command up (ul_go_resp n from_place) offers)
+      where
+        by : Has (said_by_server served.side) (ul_go_resp n from_place) ⊎ Has (ul_ack_resp ∷ []) (ul_go_resp n from_place) → IsCompleteIn store_now n
+        by (inl before) = subst (IsCompleteIn store_now) (offered-it n from_place before) is-complete
+        by (inr now) = absurd (let same = alone-is ul_ack_resp (ul_go_resp n from_place) now in cc)
+
+    pub end-entry : EntryDoes files c party before served last end_row
+    end-entry = record {
+      does = end-does;
+      sides = λ up.
+          side-new store_now (done files c party before served (gone up)) (gone_attempt files c party before served (gone up)) served.side took_it command up
+          (side-kept files c party before served last end_row end-does (gone up))
+          (record {
+            grants = λ n file_length answer. absurd (let no = answer.0 in cc);
+            offers = λ n from_place says. absurd (let same = alone-is ul_ack_resp (ul_go_resp n from_place) says in cc);
+            acks = λ n acks. inr (acknowledges-it up n acks.0.0 acks.0.1);
+            tells = λ n file_length answer. absurd (let no = answer.0 in cc);
+          })
+          (λ n those is_up state. absurd (cc))
+          (λ is_up. due-command store_now served.side took_it up)
+          (subst (λ (doing : Work). Serves store_now doing (gone up)) (sym asked_is) (serves-end up));
     }
