@@ -15,6 +15,7 @@ mod UploadAsked
 mod UploadContinued
 mod UploadData
 mod UploadEnd
+mod UploadEntry
 mod UploadNext
 mod UploadReceived
 mod UploadRows

@@ -88,19 +88,19 @@ module _ (files : List Asked) (c : ℕ) (party : Party) (before : Session) (serv
   abbrev pub part : Item
   part = Ok (data_part octets)
 
-  abbrev rest : List ℕ
+  abbrev pub rest : List ℕ
   rest = waiting files c party before served at asked_is number offset parts is
 
-  abbrev from : ℕ
+  abbrev pub from : ℕ
   from = place_come files c party before served at asked_is number offset parts is
 
   abbrev file_taken : TakesFile before.store party.client.me served.attempt served.side at.file number from rest
   file_taken = takes files c party before served at asked_is number offset parts is
 
-  abbrev all : List ℕ
+  abbrev pub all : List ℕ
   all = rest ++ octets
 
-  abbrev data_row : Row
+  abbrev pub data_row : Row
   data_row =
       record {
         state = receiving number (unfilled_block all);
@@ -125,7 +125,7 @@ module _ (files : List Asked) (c : ℕ) (party : Party) (before : Session) (serv
     fitting : length file_taken.held + (length rest + length octets) ≤ file_taken.entry.length
     fitting = omega (arith, counted, room, file_taken.length_is)
 
-    row-is : UploadsLaw → (moment : ℕ)
+    pub row-is : UploadsLaw → (moment : ℕ)
         → session_row party.client.me moment before.store before.lists (receiving number rest) part false ≡ data_row
     row-is law moment =
         row-taken law party.client.me moment before.store before.lists number rest octets

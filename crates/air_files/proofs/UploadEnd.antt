@@ -55,10 +55,10 @@ module _ (files : List Asked) (c : ℕ) (party : Party) (before : Session) (serv
     (at : Upload) (asked_is : served.attempt.client.asked ≡ work.Upload at) (number offset : ℕ) (parts : List (List ℕ))
     (is : Stage files c party before served at asked_is (receives number offset parts)) (has : HasNumber party at.task number)
     (moment : ℕ) where
-  abbrev rest : List ℕ
+  abbrev pub rest : List ℕ
   rest = waiting files c party before served at asked_is number offset parts is
 
-  abbrev from : ℕ
+  abbrev pub from : ℕ
   from = place_come files c party before served at asked_is number offset parts is
 
   abbrev file_taken : TakesFile before.store party.client.me served.attempt served.side at.file number from rest
@@ -70,7 +70,7 @@ module _ (files : List Asked) (c : ℕ) (party : Party) (before : Session) (serv
   abbrev pub last : Item
   last = Ok data_end
 
-  abbrev end_row : Row
+  abbrev pub end_row : Row
   end_row =
       record {
         state = command;
@@ -90,7 +90,7 @@ module _ (files : List Asked) (c : ℕ) (party : Party) (before : Session) (serv
     faultless : fault_code (file_taken.held ++ rest) ≡ None
     faultless = ap fault_code is-file ∙ good.faultless
 
-    row-is : session_row party.client.me moment before.store before.lists (receiving number rest) last false ≡ end_row
+    pub row-is : session_row party.client.me moment before.store before.lists (receiving number rest) last false ≡ end_row
     row-is =
         row-ended uploads_law party.client.me moment before.store before.lists number rest
         ∙ ap (λ (row : upload.Row). by_upload before.lists row)
