@@ -8,6 +8,7 @@ mod LikeLemmas
 mod MovedLemmas
 mod OtherLemmas
 mod OwnerLemmas
+mod SessionOne
 mod SideLemmas
 mod StableLemmas
 mod StoreLemmas
