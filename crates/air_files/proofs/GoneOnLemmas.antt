@@ -13,11 +13,11 @@ use Rattle.air_files.specs.Facts.{HasFacts, HasNumber, IsFetching, IsGranted, Is
 use Rattle.air_files.specs.Laws.{with_attempt}
 use Rattle.air_files.proofs.ApartLemmas.{HasClientFacts, HasFactsApart, HasSideFacts, apart, together}
 use Rattle.air_files.proofs.LikeLemmas.{like-client, like-side, number-like}
-use Rattle.air_files.proofs.MovedLemmas.{MovesAt, OwnGrants, fetching-as, file-moved, side-moved}
+use Rattle.air_files.proofs.MovedLemmas.{GrantsBegun, MovesTo, fetching-as, side-moved}
 use Rattle.air_files.proofs.StableLemmas.{keeps-fetching, keeps-first_any, keeps-task_kept}
 
 -- The newest session of the client, and as it is once it went on. Older ones are over.
-module _ (files : List Asked) (party : Party) (before now : Store) (n : ℕ) (moves : MovesAt files party before now n)
+module _ (files : List Asked) (party : Party) (before now : Store) (moves : MovesTo files party before now)
     (a : Attempt) (older : List Attempt) (side gone : ServerSide) (attempts_are : party.attempts ≡ a ∷ older)
     (is_side : a.server ≡ Some side) (are_over : AreOver older) where
   abbrev gone_attempt : Attempt
@@ -30,17 +30,17 @@ module _ (files : List Asked) (party : Party) (before now : Store) (n : ℕ) (mo
   clients-on [] facts = tt
   clients-on (x ∷ xs) facts = (like-client party done x x facts.0, clients-on xs facts.1)
 
-  sides-on : (attempts : List Attempt) → AreOver attempts → AllByRecursion (λ x. IfSome x.server (OwnGrants party n x)) attempts
+  sides-on : (attempts : List Attempt) → AreOver attempts → AllByRecursion (λ x. IfSome x.server (GrantsBegun now party x)) attempts
       → AllByRecursion (λ x. IfSome x.server (HasSideFacts before party x)) attempts
       → AllByRecursion (λ x. IfSome x.server (HasSideFacts now done x)) attempts
   sides-on [] all_over own facts = tt
   sides-on (x ∷ xs) all_over own facts = (by x.server all_over.0 own.0 facts.0, sides-on xs all_over.1 own.1 facts.1)
     where
-      by : (o : Option ServerSide) → IfSome o (λ it. it.is_up ≡ false) → IfSome o (OwnGrants party n x) → IfSome o (HasSideFacts before party x)
+      by : (o : Option ServerSide) → IfSome o (λ it. it.is_up ≡ false) → IfSome o (GrantsBegun now party x) → IfSome o (HasSideFacts before party x)
           → IfSome o (HasSideFacts now done x)
       by None down mine its = tt
       by (Some it) down mine its =
-          like-side now party done x x it it (λ up. up) (side-moved files party before now n moves x it (λ up. absurd (cc)) mine its)
+          like-side now party done x x it it (λ up. up) (side-moved files party before now moves x it (λ up. absurd (cc)) mine its)
 
   granted-on : (task number : ℕ) → ((file_length : ℕ) → Grants side number file_length → Grants gone number file_length)
       → OneIs (IsGranted task number) party.attempts → OneIs (IsGranted task number) (gone_attempt ∷ older)
@@ -57,7 +57,7 @@ module _ (files : List Asked) (party : Party) (before now : Store) (n : ℕ) (mo
       → IsNumbered now done task number file
   numbered-on task number file more has is was = record {
     below = omega (arith, was.below, moves.keeps.next);
-    stands = file-moved files party before now n moves task number file has is was.stands;
+    stands = moves.file task number file has is;
     granted = granted-on task number more was.granted;
   }
 
@@ -68,7 +68,7 @@ module _ (files : List Asked) (party : Party) (before now : Store) (n : ℕ) (mo
       let each = apart before files party facts in
       let clients = subst (AllByRecursion (HasClientFacts party)) attempts_are each.attempts in
       let sides = subst (AllByRecursion (λ x. IfSome x.server (HasSideFacts before party x))) attempts_are each.sides in
-      let own = subst (AllByRecursion (λ x. IfSome x.server (OwnGrants party n x))) attempts_are moves.own in
+      let own = subst (AllByRecursion (λ x. IfSome x.server (GrantsBegun now party x))) attempts_are moves.begun in
       let fetching : IsFetching before party a =
       subst (λ (xs : List Attempt). IfSome (slice_get xs 0) (IsFetching before party)) attempts_are each.fetching in
       together now files done

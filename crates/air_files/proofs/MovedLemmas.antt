@@ -15,6 +15,7 @@ use Rattle.ftl0_job.specs.declared.phases.DownloadPhase.TheVariants as fetch
 use Rattle.ftl0_job.specs.declared.work.Work.{Work}
 use Rattle.ftl0_job.specs.declared.work.Work.TheVariants as work
 use Rattle.ftl0_job.specs.Download.{Download}
+use Rattle.ftl0_job.specs.Upload.{Upload, new_upload}
 use Rattle.air_attempt.specs.Attempt.{Attempt}
 use Rattle.air_attempt.specs.Lists.{Has, OneIs}
 use Rattle.air_attempt.specs.Party.{AreOver, Asked, IsFileOf, Party, all_over, over, sessions_over}
@@ -23,7 +24,7 @@ use Rattle.air_attempt.specs.Sides.{ServerSide}
 use Rattle.air_files.specs.Facts.{AreFirstIfAny, Fetches, FetchesBy, FetchesIn, HasFacts, HasNumber, IsBegun, IsFetching, IsGrantKept, IsGranted, IsNumbered, coming_by, got}
 use Rattle.air_files.specs.Kept.{IsFileAt, WhereStands}
 use Rattle.air_files.specs.Laws.{with_attempt}
-use Rattle.air_files.proofs.ApartLemmas.{HasClientFacts, HasFactsApart, HasSideFacts, apart, together}
+use Rattle.air_files.proofs.ApartLemmas.{GrantFact, HasClientFacts, HasFactsApart, HasSideFacts, apart, together}
 use Rattle.air_files.proofs.GrowingLemmas.{StayOthers}
 use Rattle.air_files.proofs.LiftLemmas.{one-map}
 use Rattle.air_files.proofs.LikeLemmas.{like-client, like-side, number-like}
@@ -34,6 +35,12 @@ abbrev pub OwnGrants : Party → ℕ → Attempt → ServerSide → Type 0
 OwnGrants party n a side =
     (file_length task : ℕ) (file : List ℕ) → Grants side n file_length → AsksUpload a task 0 file → HasNumber party task n
 
+-- of a number that it gave to a new upload nothing is held, as long as the task hasn't it
+abbrev pub GrantsBegun : Store → Party → Attempt → ServerSide → Type 0
+GrantsBegun now party a side =
+    (number file_length task : ℕ) (file : List ℕ) → Grants side number file_length → AsksUpload a task 0 file
+    → (HasNumber party task number → ⊥) → WhereStands now number (IsBegun party.client.me file_length)
+
 -- The store came to another one by commands on the entry of this number. The entry is on the way to the file of each task
 -- that has the number, and it was given for those alone.
 pub record MovesAt (files : List Asked) (party : Party) (before now : Store) (n : ℕ) : Type 0 where
@@ -41,6 +48,22 @@ pub record MovesAt (files : List Asked) (party : Party) (before now : Store) (n 
   pub others : StayOthers n before now
   pub file : (task : ℕ) (file : List ℕ) → HasNumber party task n → IsFileOf files party task file → IsFileAt now n file party.client.me
   pub own : AllByRecursion (λ a. IfSome a.server (OwnGrants party n a)) party.attempts
+
+-- The store came to another one, in which the entries of the client's tasks are on the way to their files, and nothing is
+-- held of what was given and isn't noted.
+pub record MovesTo (files : List Asked) (party : Party) (before now : Store) : Type 0 where
+  pub keeps : KeepsEntries before now
+  pub file :
+      (task number : ℕ) (file : List ℕ) → HasNumber party task number → IsFileOf files party task file
+      → IsFileAt now number file party.client.me
+  pub begun : AllByRecursion (λ a. IfSome a.server (GrantsBegun now party a)) party.attempts
+
+-- an attempt is of one task
+pub same-task : (a : Attempt) (task other : ℕ) (file that : List ℕ) → AsksUpload a task 0 file → AsksUpload a other 0 that → task ≡ other
+same-task a task other file that one two =
+    let both : work.Upload (new_upload task 0 file) ≡ work.Upload (new_upload other 0 that) = sym one ∙ two in
+    let uploads : new_upload task 0 file ≡ new_upload other 0 that = cc in
+    ap (λ (at : Upload). at.task) uploads
 
 -- ---- entries that stay
 
@@ -67,42 +90,68 @@ file-stays before now number file caller same (inr (inr k)) =
       keeps = k.keeps;
     }))
 
-module _ (files : List Asked) (party : Party) (before now : Store) (n : ℕ) (moves : MovesAt files party before now n) where
-  pub file-moved : (task number : ℕ) (file : List ℕ) → HasNumber party task number → IsFileOf files party task file
-      → IsFileAt before number file party.client.me → IsFileAt now number file party.client.me
-  file-moved task number file has is at =
+module _ (files : List Asked) (party : Party) (before now : Store) (n : ℕ) (moves : MovesAt files party before now n)
+    (facts : HasFacts before files party) where
+  file-moved : (task number : ℕ) (file : List ℕ) → HasNumber party task number → IsFileOf files party task file
+      → IsFileAt now number file party.client.me
+  file-moved task number file has is =
       elim (eqb_tells number n) [
         | inl w ↦
             subst (λ (k : ℕ). IsFileAt now k file party.client.me) (sym w.1)
             (moves.file task file (subst (HasNumber party task) w.1 has) is)
-        | inr w ↦ file-stays before now number file party.client.me (moves.others number w.1) at
+        | inr w ↦
+            file-stays before now number file party.client.me (moves.others number w.1) (facts.tasks.numbered task number file has is).stands
       ]
 
-  grant-moved : (a : Attempt) (side : ServerSide) (number file_length : ℕ) → OwnGrants party n a side → Grants side number file_length
+  begun-moved : (a : Attempt) (side : ServerSide) → GrantFact before party a side → OwnGrants party n a side → GrantsBegun now party a side
+  begun-moved a side kept own number file_length task file grants asks none =
+      elim (eqb_tells number n) [
+        | inl w ↦
+            absurd
+            (none
+              (subst (HasNumber party task) (sym w.1)
+               (own file_length task file (subst (λ (k : ℕ). Grants side k file_length) w.1 grants) asks)))
+        | inr w ↦ λ entry there.
+            let it = kept number file_length grants in
+            let same : it.task ≡ task = same-task a it.task task it.file file it.asks asks in
+            it.begun (λ has. none (subst (λ (t : ℕ). HasNumber party t number) same has)) entry (sym (moves.others number w.1) ∙ there)
+      ]
+
+  begun-each : (attempts : List Attempt) → AllByRecursion (λ a. IfSome a.server (GrantFact before party a)) attempts
+      → AllByRecursion (λ a. IfSome a.server (OwnGrants party n a)) attempts → AllByRecursion (λ a. IfSome a.server (GrantsBegun now party a)) attempts
+  begun-each [] kept own = tt
+  begun-each (a ∷ older) kept own = (by a.server kept.0 own.0, begun-each older kept.1 own.1)
+    where
+      by : (o : Option ServerSide) → IfSome o (GrantFact before party a) → IfSome o (OwnGrants party n a) → IfSome o (GrantsBegun now party a)
+      by None its mine = tt
+      by (Some side) its mine = begun-moved a side its mine
+
+  -- commands on one entry lead to such a store
+  pub moves-to : MovesTo files party before now
+  moves-to = record {
+    keeps = moves.keeps;
+    file = file-moved;
+    begun = begun-each party.attempts facts.sessions.granted moves.own;
+  }
+
+module _ (files : List Asked) (party : Party) (before now : Store) (moves : MovesTo files party before now) where
+  grant-moved : (a : Attempt) (side : ServerSide) (number file_length : ℕ) → GrantsBegun now party a side → Grants side number file_length
       → IsGrantKept before party a number file_length → IsGrantKept now party a number file_length
-  grant-moved a side number file_length own grants kept = record {
+  grant-moved a side number file_length begun grants kept = record {
     some = kept.some;
     below = omega (arith, kept.below, moves.keeps.next);
     task = kept.task;
     file = kept.file;
     asks = kept.asks;
     length_is = kept.length_is;
-    begun = λ none.
-        elim (eqb_tells number n) [
-          | inl w ↦
-              absurd
-              (none
-                (subst (HasNumber party kept.task) (sym w.1)
-                 (own file_length kept.task kept.file (subst (λ (k : ℕ). Grants side k file_length) w.1 grants) kept.asks)))
-          | inr w ↦ λ entry there. kept.begun none entry (sym (moves.others number w.1) ∙ there)
-        ];
+    begun = begun number file_length kept.task kept.file grants kept.asks;
   }
 
   -- a session that is over
-  pub side-moved : (a : Attempt) (side : ServerSide) → (side.is_up ≡ true → ⊥) → OwnGrants party n a side
+  pub side-moved : (a : Attempt) (side : ServerSide) → (side.is_up ≡ true → ⊥) → GrantsBegun now party a side
       → HasSideFacts before party a side → HasSideFacts now party a side
-  side-moved a side up own facts = record {
-    granted = λ number file_length grants. grant-moved a side number file_length own grants (facts.granted number file_length grants);
+  side-moved a side up begun facts = record {
+    granted = λ number file_length grants. grant-moved a side number file_length begun grants (facts.granted number file_length grants);
     complete = λ number says. keeps-complete before now number moves.keeps.complete (facts.complete number says);
     offered = λ number offset offers. keeps-offer before now number offset moves.keeps (facts.offered number offset offers);
     receives = λ number rest is. absurd (up is);
@@ -115,7 +164,7 @@ module _ (files : List Asked) (party : Party) (before now : Store) (n : ℕ) (mo
   abbrev over_attempt : Attempt → Attempt
   over_attempt a = record a { server = option_map over a.server }
 
-  side-over : (a : Attempt) (side : ServerSide) → OwnGrants party n a side → HasSideFacts before party a side
+  side-over : (a : Attempt) (side : ServerSide) → GrantsBegun now party a side → HasSideFacts before party a side
       → HasSideFacts now (sessions_over party) (over_attempt a) (over side)
   side-over a side own facts =
       let before_over : HasSideFacts before party (over_attempt a) (over side) =
@@ -124,13 +173,13 @@ module _ (files : List Asked) (party : Party) (before now : Store) (n : ℕ) (mo
       side-moved (over_attempt a) (over side) (λ is. absurd (cc)) own before_over in
       like-side now party (sessions_over party) (over_attempt a) (over_attempt a) (over side) (over side) (λ is. is) now_over
 
-  sides-over : (attempts : List Attempt) → AllByRecursion (λ a. IfSome a.server (OwnGrants party n a)) attempts
+  sides-over : (attempts : List Attempt) → AllByRecursion (λ a. IfSome a.server (GrantsBegun now party a)) attempts
       → AllByRecursion (λ a. IfSome a.server (HasSideFacts before party a)) attempts
       → AllByRecursion (λ a. IfSome a.server (HasSideFacts now (sessions_over party) a)) (all_over attempts)
   sides-over [] own facts = tt
   sides-over (a ∷ older) own facts = (by a.server own.0 facts.0, sides-over older own.1 facts.1)
     where
-      by : (o : Option ServerSide) → IfSome o (OwnGrants party n a) → IfSome o (HasSideFacts before party a)
+      by : (o : Option ServerSide) → IfSome o (GrantsBegun now party a) → IfSome o (HasSideFacts before party a)
           → IfSome (option_map over o) (HasSideFacts now (sessions_over party) (over_attempt a))
       by None mine its = tt
       by (Some side) mine its = side-over a side mine its
@@ -150,7 +199,7 @@ module _ (files : List Asked) (party : Party) (before now : Store) (n : ℕ) (mo
       let was = facts.numbered task number file mine is in
       record {
         below = omega (arith, was.below, moves.keeps.next);
-        stands = file-moved task number file mine is was.stands;
+        stands = moves.file task number file mine is;
         granted = one-map (IsGranted task number) over_attempt party.attempts (granted-over task number) was.granted;
       }
 
@@ -202,17 +251,17 @@ fetching-moved before now party (Some a) keeps f = keeps-fetching before now par
 -- ---- all facts
 
 -- they hold over the store then, with all sessions over
-pub facts-left : (files : List Asked) (party : Party) (before now : Store) (n : ℕ) → MovesAt files party before now n
+pub facts-left : (files : List Asked) (party : Party) (before now : Store) → MovesTo files party before now
     → HasFacts before files party → HasFacts now files (sessions_over party)
-facts-left files party before now n moves facts =
+facts-left files party before now moves facts =
     let each = apart before files party facts in
     together now files (sessions_over party)
     (record {
-      numbered = numbered-over files party before now n moves each;
+      numbered = numbered-over files party before now moves each;
       acknowledged = λ task number holds.
           keeps-task_kept files before now party task number moves.keeps.complete (each.acknowledged task number holds);
-      attempts = clients-over files party before now n moves party.attempts each.attempts;
-      sides = sides-over files party before now n moves party.attempts moves.own each.sides;
+      attempts = clients-over files party before now moves party.attempts each.attempts;
+      sides = sides-over files party before now moves party.attempts moves.begun each.sides;
       got_front = λ number. keeps-first_any before now number (got party number) moves.keeps.complete (each.got_front number);
       fetching =
           fetching-over now party party.attempts (all_over party.attempts)

@@ -16,7 +16,7 @@ use Rattle.air_files.specs.Facts.{HasFacts, HasNumber, IsGranted}
 use Rattle.air_files.specs.Laws.{GrantedAt, GrantsOnce}
 use Rattle.air_files.proofs.ApartLemmas.{GrantFact}
 use Rattle.air_files.proofs.LiftLemmas.{each-side, side-at, some-from}
-use Rattle.air_files.proofs.MovedLemmas.{OwnGrants}
+use Rattle.air_files.proofs.MovedLemmas.{OwnGrants, same-task}
 
 -- ---- places of a list
 
@@ -32,12 +32,6 @@ one-placed P (x ∷ xs) (inl here) = (zero, x, refl, here)
 one-placed P (x ∷ xs) (inr there) = let later = one-placed P xs there in (suc later.0, later.1, later.2, later.3)
 
 -- ---- the task of a number
-
-same-task : (a : Attempt) (task other : ℕ) (file that : List ℕ) → AsksUpload a task 0 file → AsksUpload a other 0 that → task ≡ other
-same-task a task other file that one two =
-    let both : work.Upload (new_upload task 0 file) ≡ work.Upload (new_upload other 0 that) = sym one ∙ two in
-    let uploads : new_upload task 0 file ≡ new_upload other 0 that = cc in
-    ap (λ (at : Upload). at.task) uploads
 
 module _ (store : Store) (files : List Asked) (party : Party) (facts : HasFacts store files party) (once : GrantsOnce party) where
   granted-place : (task number : ℕ) (file : List ℕ) → HasNumber party task number → IsFileOf files party task file

@@ -61,7 +61,7 @@ module _ (files : List Asked) (c : ℕ) (party : Party) (before : Session) (serv
         → HasSideFacts now.store (done files c party before served gone) (gone_attempt files c party before served gone) gone
         → HasFacts now.store files (done files c party before served gone)
     facts-now quiet its =
-        facts-gone_on files party before.store now.store does.n (row-all files c party before served item row does) served.attempt served.older served.side
+        facts-gone_on files party before.store now.store (row-all files c party before served item row does) served.attempt served.older served.side
         gone served.attempts_are served.is_side served.older_over served.facts its
         (ap (coming_by served.attempt) served.is_side ∙ coming-gone served.side x row.state up served.attempt quiet)
         (λ number file_length grants. answers-still served.side x row.state up (Ok (upload_cmd 0 file_length)) (ul_go_resp number 0) grants)

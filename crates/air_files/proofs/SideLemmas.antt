@@ -26,7 +26,7 @@ use Rattle.air_files.proofs.EntryLemmas.{AreRowCommands, answers-cases, row-foll
 use Rattle.air_files.proofs.GrowingLemmas.{StayOthers}
 use Rattle.air_files.proofs.LiftLemmas.{some-at}
 use Rattle.air_files.proofs.LikeLemmas.{like-side}
-use Rattle.air_files.proofs.MovedLemmas.{MovesAt, OwnGrants, facts-left, side-moved}
+use Rattle.air_files.proofs.MovedLemmas.{GrantsBegun, MovesTo, OwnGrants, facts-left, moves-to, side-moved}
 use Rattle.air_files.proofs.OwnerLemmas.{next-none, own-next}
 
 -- ---- what the row of an entry does
@@ -67,18 +67,21 @@ module _ (files : List Asked) (c : ℕ) (party : Party) (before : Session) (serv
   done gone = with_attempt party (gone_attempt gone) served.older
 
   module _ (item : Item) (row : Row) (does : RowDoes files party before item row) where
-    pub row-moves : (count : ℕ) → MovesAt files party before.store (after_first count before.store row.commands) does.n
-    row-moves count = record {
-      keeps = row-keeps party.client.me before.store row.commands served.stands.call served.store does.commands count;
-      others = does.others count;
-      file = does.file count;
-      own = does.own;
-    }
+    pub row-moves : (count : ℕ) → MovesTo files party before.store (after_first count before.store row.commands)
+    row-moves count =
+        moves-to files party before.store (after_first count before.store row.commands) does.n
+        (record {
+          keeps = row-keeps party.client.me before.store row.commands served.stands.call served.store does.commands count;
+          others = does.others count;
+          file = does.file count;
+          own = does.own;
+        })
+        served.facts
 
     -- what a power cut leaves behind some of its commands
     pub row-left : (count : ℕ) → LeftIn files party before.store (after_first count before.store row.commands)
     row-left count = record {
-      facts = facts-left files party before.store _ does.n (row-moves count) served.facts;
+      facts = facts-left files party before.store (after_first count before.store row.commands) (row-moves count) served.facts;
       store = row-sound party.client.me before.store row.commands served.stands.call served.store does.commands count;
       follows = row-follows party.client.me before.store row.commands served.stands.call served.store does.commands count;
     }
@@ -86,9 +89,9 @@ module _ (files : List Asked) (c : ℕ) (party : Party) (before : Session) (serv
     abbrev store_then : Store
     store_then = after_all before.store row.commands
 
-    pub row-all : MovesAt files party before.store store_then does.n
+    pub row-all : MovesTo files party before.store store_then
     row-all =
-        subst (λ (s : Store). MovesAt files party before.store s does.n) (after_first-all row.commands before.store)
+        subst (MovesTo files party before.store) (after_first-all row.commands before.store)
         (row-moves (length row.commands))
 
     pub left-all : LeftIn files party before.store store_then
@@ -102,10 +105,10 @@ module _ (files : List Asked) (c : ℕ) (party : Party) (before : Session) (serv
           let a : Attempt = served.attempt in
           let side : ServerSide = served.side in
           let facts = newest-side (HasSideFacts before.store party) (apart before.store files party served.facts).sides in
-          let own = newest-side (OwnGrants party does.n) does.own in
+          let begun = newest-side (GrantsBegun store_then party) row-all.begun in
           let before_over : HasSideFacts before.store party a (over side) = like-side before.store party party a a side (over side) (λ is. absurd (cc)) facts in
           let now_over : HasSideFacts store_then party a (over side) =
-          side-moved files party before.store store_then does.n row-all a (over side) (λ is. absurd (cc)) own before_over in
+          side-moved files party before.store store_then row-all a (over side) (λ is. absurd (cc)) begun before_over in
           like-side store_then party (done gone) a (gone_attempt gone) (over side) (over side) (λ is. is) now_over
 
 -- ---- a row without commands
