@@ -8,6 +8,7 @@ mod LikeLemmas
 mod MovedLemmas
 mod OtherLemmas
 mod OwnerLemmas
+mod SessionAll
 mod SessionFirst
 mod SessionOne
 mod SideLemmas
