@@ -78,7 +78,7 @@ module _ (files : List Asked) (c : ℕ) (party : Party) (moment : ℕ) (before :
     digest_is = is.digest_is;
   }
 
-  stands-mid : Stands files c party_mid
+  pub stands-mid : Stands files c party_mid
   stands-mid = record {
     call = served.stands.call;
     good = served.stands.good;
@@ -89,14 +89,14 @@ module _ (files : List Asked) (c : ℕ) (party : Party) (moment : ℕ) (before :
     works = subst (AllByRecursion (λ a. IsWork files party a.client.asked)) served.attempts_are served.stands.works;
   }
 
-  heard-mid : ClientTookFront attempt_mid side_mid
+  pub heard-mid : ClientTookFront attempt_mid side_mid
   heard-mid =
       (served.heard.0 ++ map Ok (session.packets_said x),
        ap (λ (packets : List PacketValue). map Ok packets) (said-gone served.side x mid.state true)
        ∙ map-append (λ (p : PacketValue). Ok p) (said_by_server served.side) (session.packets_said x)
        ∙ ap (λ (items : List Item). items ++ map Ok (session.packets_said x)) served.heard.1 ∙ append_assoc _ served.heard.0 (map Ok (session.packets_said x)))
 
-  none_lost-mid : AllByRecursion session.IsNotLost side_mid.entries
+  pub none_lost-mid : AllByRecursion session.IsNotLost side_mid.entries
   none_lost-mid = each-append session.IsNotLost served.side.entries (x ∷ []) served.none_lost (kept, tt)
 
   module _ (keeps : SessionKeeps files party party_mid before mid (x ∷ []) served.side) where
@@ -133,7 +133,7 @@ module _ (files : List Asked) (c : ℕ) (party : Party) (moment : ℕ) (before :
           grants = granted.grants;
         })
 
-    once-mid : GrantsOnce party_mid
+    pub once-mid : GrantsOnce party_mid
     once-mid at that number one two =
         elim (was-granted at number one) [
           | inl first ↦
@@ -148,7 +148,7 @@ module _ (files : List Asked) (c : ℕ) (party : Party) (moment : ℕ) (before :
               ]
         ]
 
-    pub served-mid : IsServed files c party_mid mid
+    abbrev pub served-mid : IsServed files c party_mid mid
     served-mid = record {
       stands = stands-mid;
       attempt = attempt_mid;
