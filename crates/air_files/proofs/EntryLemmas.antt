@@ -1,31 +1,26 @@
 -- One more entry of a session: what it says, what it answers, and what its row's commands leave.
-use Rattle.std.proofs.Common.{◌≡◌, ◌≢◌, ◌⊎◌, inl, inr, ℕ, suc, zero, ◌+◌, ◌≤◌, ◌<◌, List, [], ◌∷◌, ◌++◌, length, drop, take, refl, ap, sym, ◌∙◌, subst, arith, append-nil, Bool, Option, None, Some}
-use Rattle.std.specs.Prelude.{IfSome, Ok}
+use Rattle.std.proofs.Common.{◌≡◌, ◌⊎◌, inl, inr, ℕ, suc, zero, List, [], ◌∷◌, ◌++◌, length, drop, take, refl, ap, sym, ◌∙◌, subst, append-nil, Bool, Some}
 use Rattle.std.specs.List.{AllByRecursion}
 use Rattle.std.proofs.lemmas.List.Concat.{flat_map-append}
 use Rattle.px_base.specs.CallSign.{CallSign, IsCall}
-use Rattle.ftl0_packets.specs.Layout.{Fits, Item, PacketValue, ul_ack_resp, ul_error_resp, ul_go_resp, upload_cmd}
+use Rattle.ftl0_packets.specs.Layout.{Item, PacketValue}
 use Rattle.file_entries.proofs.Offered.{follows_law}
 use Rattle.file_entries.specs.Follows.{AreOf, BringsOctets, FollowsBy, IsOf, KeepsEntries}
-use Rattle.file_store.specs.Command.{AreAllowed, Command, HasCall, HaveCalls, after, after_all, begin, drop_entry, grow, seal}
+use Rattle.file_store.specs.Command.{AreAllowed, Command, HasCall, HaveCalls, after, begin, drop_entry, grow, seal}
 use Rattle.file_store.specs.OnDisk.{after_first}
 use Rattle.file_store.specs.Store.{Store}
 use Rattle.ftl0_server.specs.Entries as session
 use Rattle.ftl0_server.specs.Entries.{SessionEntry}
-use Rattle.ftl0_session.specs.Table.{Row, State}
+use Rattle.ftl0_session.specs.Table.{State}
 use Rattle.ftl0_client.specs.Entries as job
 use Rattle.air_attempt.specs.Attempt.{Attempt}
 use Rattle.air_attempt.specs.Lists.{Has, OneIs}
-use Rattle.air_attempt.specs.Party.{Asked, IsFileOf, Party}
-use Rattle.air_attempt.specs.Said.{Answers, Grants, IsAnswer, Offers, octets_of_data, octets_said}
+use Rattle.air_attempt.specs.Said.{Answers, IsAnswer, octets_of_data, octets_said}
 use Rattle.air_attempt.specs.Sides.{ServerSide, said_by_server}
-use Rattle.air_files.specs.Facts.{HasNumber, coming_by}
-use Rattle.air_files.specs.Kept.{IsFileAt}
+use Rattle.air_files.specs.Facts.{coming_by}
 use Rattle.air_files.specs.SoundStore.{IsSoundStore}
 use Rattle.air_files.specs.UploadDialogue.{answered_by, answered_in}
-use Rattle.air_files.proofs.GrowingLemmas.{StayOthers}
 use Rattle.air_files.proofs.LiftLemmas.{one-cases, one-left, one-right}
-use Rattle.air_files.proofs.MovedLemmas.{MovesAt, OwnGrants}
 use Rattle.air_files.proofs.StoreLemmas.{sound-kept}
 
 -- ---- lists of entries

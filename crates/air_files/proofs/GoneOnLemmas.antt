@@ -1,5 +1,5 @@
 -- What a client's facts become where its newest session goes on, over the store after its commands.
-use Rattle.std.proofs.Common.{◌≡◌, ◌⊎◌, inl, inr, ℕ, List, [], ◌∷◌, length, refl, sym, ◌∙◌, subst, arith, false, Option, None, Some}
+use Rattle.std.proofs.Common.{◌≡◌, inl, inr, ℕ, List, [], ◌∷◌, length, refl, sym, ◌∙◌, subst, arith, false, Option, None, Some}
 use Rattle.std.specs.Prelude.{IfSome, slice_get}
 use Rattle.std.specs.List.{AllByRecursion}
 use Rattle.std.proofs.lemmas.Option.{same_Some}
@@ -11,7 +11,7 @@ use Rattle.air_attempt.specs.Said.{Grants}
 use Rattle.air_attempt.specs.Sides.{ServerSide}
 use Rattle.air_files.specs.Facts.{HasFacts, HasNumber, IsFetching, IsGranted, IsNumbered, coming_by, got}
 use Rattle.air_files.specs.Laws.{with_attempt}
-use Rattle.air_files.proofs.ApartLemmas.{HasClientFacts, HasFactsApart, HasSideFacts, apart, together}
+use Rattle.air_files.proofs.ApartLemmas.{HasClientFacts, HasSideFacts, apart, together}
 use Rattle.air_files.proofs.LikeLemmas.{like-client, like-side, number-like}
 use Rattle.air_files.proofs.MovedLemmas.{GrantsBegun, MovesTo, fetching-as, side-moved}
 use Rattle.air_files.proofs.StableLemmas.{keeps-fetching, keeps-first_any, keeps-task_kept}

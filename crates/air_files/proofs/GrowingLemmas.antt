@@ -1,18 +1,16 @@
 -- The store after some of the commands of an upload's row.
-use Rattle.std.proofs.Common.{◌≡◌, ◌≢◌, ◌⊎◌, inl, inr, ℕ, suc, zero, ◌+◌, ◌*◌, ◌/◌, ◌≤◌, ◌<◌, ◌==◌, ◌&&◌, Bool, true, false, List, [], ◌∷◌, ◌++◌, length, take, drop, refl, ap, sym, ◌∙◌, subst, arith, length-append, Option, None, Some}
+use Rattle.std.proofs.Common.{◌≡◌, ◌≢◌, ◌⊎◌, inl, inr, ℕ, suc, zero, ◌+◌, ◌*◌, ◌/◌, ◌≤◌, ◌<◌, ◌==◌, true, false, List, [], ◌∷◌, ◌++◌, length, take, drop, refl, ap, sym, ◌∙◌, subst, arith, length-append, Option, None, Some}
 use Rattle.std.proofs.lemmas.Bool.Decides.{Decides-eqb, nat_tests}
 use Rattle.std.proofs.lemmas.List.{take_all}
-use Rattle.std.specs.Prelude.{find, IsTrue, is_none}
-use Rattle.std.specs.List.{AllByRecursion}
+use Rattle.std.specs.Prelude.{find, IsTrue}
 use Rattle.px_base.specs.CallSign.{CallSign}
 use Rattle.pfh_items.specs.Faults.{fault_code}
-use Rattle.pfh_items.specs.Stamp.{stamped}
 use Rattle.file_entries.proofs.Offered.{AreAllowed-append, grows-allowed, last_grow-allowed}
 use Rattle.file_store.proofs.Offered.{after_all-append, find-map-changed, find-map-changed_other, find-push, find_past, grows-after, has_number, last_grow-after}
-use Rattle.file_store.specs.Command.{AreAllowed, Command, IsAllowed, after, after_all, begin, grow, grown, grows, is_allowed, is_good, last_grow, passes, seal, sealed, stamp_of, whole_grows, with_holding, with_more}
+use Rattle.file_store.specs.Command.{AreAllowed, Command, after, after_all, begin, grow, grown, grows, is_good, last_grow, passes, seal, sealed, whole_grows, with_holding, with_more}
 use Rattle.file_store.specs.IsStore.{IsStore}
 use Rattle.file_store.specs.OnDisk.{after_first}
-use Rattle.file_store.specs.Store.{Entry, Holding, Store, complete, entry_of, new_entry, partial}
+use Rattle.file_store.specs.Store.{Entry, Holding, Store, entry_of, new_entry, partial}
 
 -- ---- the first of the commands
 

@@ -1,6 +1,6 @@
 -- What a client's facts become where commands change one entry of the store: over the store then, with the sessions over,
 -- and with the newest one gone on.
-use Rattle.std.proofs.Common.{◌≡◌, ◌≢◌, ◌⊎◌, inl, inr, ℕ, ◌≤◌, ◌<◌, List, [], ◌∷◌, ◌++◌, map, refl, ap, sym, ◌∙◌, subst, arith, true, false, Option, None, Some}
+use Rattle.std.proofs.Common.{◌≡◌, inl, inr, ℕ, List, [], ◌∷◌, ◌++◌, refl, ap, sym, ◌∙◌, subst, arith, true, Option, None, Some}
 use Rattle.std.specs.Prelude.{IfSome, slice_get}
 use Rattle.std.specs.List.{AllByRecursion}
 use Rattle.std.specs.Option.{option_map}
@@ -17,13 +17,11 @@ use Rattle.ftl0_job.specs.declared.work.Work.TheVariants as work
 use Rattle.ftl0_job.specs.Download.{Download}
 use Rattle.ftl0_job.specs.Upload.{Upload, new_upload}
 use Rattle.air_attempt.specs.Attempt.{Attempt}
-use Rattle.air_attempt.specs.Lists.{Has, OneIs}
-use Rattle.air_attempt.specs.Party.{AreOver, Asked, IsFileOf, Party, all_over, over, sessions_over}
+use Rattle.air_attempt.specs.Party.{Asked, IsFileOf, Party, all_over, over, sessions_over}
 use Rattle.air_attempt.specs.Said.{AsksUpload, Grants}
 use Rattle.air_attempt.specs.Sides.{ServerSide}
 use Rattle.air_files.specs.Facts.{AreFirstIfAny, Fetches, FetchesBy, FetchesIn, HasFacts, HasNumber, IsBegun, IsFetching, IsGrantKept, IsGranted, IsNumbered, coming_by, got}
 use Rattle.air_files.specs.Kept.{IsFileAt, WhereStands}
-use Rattle.air_files.specs.Laws.{with_attempt}
 use Rattle.air_files.proofs.ApartLemmas.{GrantFact, HasClientFacts, HasFactsApart, HasSideFacts, apart, together}
 use Rattle.air_files.proofs.GrowingLemmas.{StayOthers}
 use Rattle.air_files.proofs.LiftLemmas.{one-map}
@@ -109,8 +107,8 @@ module _ (files : List Asked) (party : Party) (before now : Store) (n : ℕ) (mo
         | inl w ↦
             absurd
             (none
-              (subst (HasNumber party task) (sym w.1)
-               (own file_length task file (subst (λ (k : ℕ). Grants side k file_length) w.1 grants) asks)))
+            (subst (HasNumber party task) (sym w.1)
+            (own file_length task file (subst (λ (k : ℕ). Grants side k file_length) w.1 grants) asks)))
         | inr w ↦ λ entry there.
             let it = kept number file_length grants in
             let same : it.task ≡ task = same-task a it.task task it.file file it.asks asks in

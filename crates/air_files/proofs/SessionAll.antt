@@ -4,30 +4,29 @@ use Rattle.std.specs.Prelude.{IfSome, Ok, slice_get, ⊤}
 use Rattle.std.specs.List.{AllByRecursion}
 use Rattle.std.specs.Option.{option_map}
 use Rattle.std.proofs.lemmas.Option.{same_Some}
-use Rattle.ftl0_packets.specs.Layout.{Fits, PacketValue, ul_go_resp, upload_cmd}
+use Rattle.ftl0_packets.specs.Layout.{Fits, ul_go_resp, upload_cmd}
 use Rattle.file_entries.proofs.Offered.{follows_law}
 use Rattle.file_entries.specs.Follows.{FollowsBy}
 use Rattle.file_store.proofs.Offered.{after_all-append}
 use Rattle.file_store.specs.Command.{Command, after_all}
 use Rattle.file_store.specs.OnDisk.{after_first}
-use Rattle.file_store.specs.Store.{Entry, Store}
+use Rattle.file_store.specs.Store.{Store}
 use Rattle.ftl0_session.specs.Run.{Session}
 use Rattle.ftl0_server.specs.Entries as session
 use Rattle.ftl0_server.specs.Entries.{SessionEntry}
 use Rattle.ftl0_job.specs.declared.work.Work.{Work}
 use Rattle.ftl0_job.specs.declared.work.Work.TheVariants as work
 use Rattle.air_attempt.specs.Attempt.{Attempt}
-use Rattle.air_attempt.specs.Party.{Asked, IsFileOf, Party, all_over, over, sessions_over}
+use Rattle.air_attempt.specs.Party.{Asked, Party, all_over, over, sessions_over}
 use Rattle.air_attempt.specs.Said.{AsksUpload, Grants, IsAnswer}
 use Rattle.air_attempt.specs.Sides.{ServerSide}
-use Rattle.air_files.specs.Facts.{HasFacts, HasNumber, IsBegun}
-use Rattle.air_files.specs.Kept.{IsFileAt}
-use Rattle.air_files.specs.Laws.{AreNewGrants, IsDirectoryOf, IsDownloadOf, IsOne, IsServed, IsUploadOf, LeftIn, LookLike, LooksServed, SessionGoes, SessionKeeps, SessionLaw, SessionLawOf, session_gone, with_attempt}
+use Rattle.air_files.specs.Facts.{HasFacts, HasNumber}
+use Rattle.air_files.specs.Laws.{IsDirectoryOf, IsDownloadOf, IsOne, IsServed, IsUploadOf, LeftIn, LookLike, LooksServed, SessionGoes, SessionKeeps, SessionLaw, SessionLawOf, session_gone, with_attempt}
 use Rattle.air_files.proofs.ApartLemmas.{GrantFact}
 use Rattle.air_files.proofs.GoneLemmas.{alike-itself, facts-over, facts-same}
 use Rattle.air_files.proofs.LikeLemmas.{number-like}
 use Rattle.air_files.proofs.LiftLemmas.{each-append, one-left}
-use Rattle.air_files.proofs.MovedLemmas.{GrantsBegun, MovesTo, facts-left, same-task}
+use Rattle.air_files.proofs.MovedLemmas.{GrantsBegun, facts-left, same-task}
 use Rattle.air_files.proofs.SessionFirst.{attempt_mid, first-goes, front-first, party_mid, served-mid, side_mid}
 
 -- ---- one entry, whatever the work
@@ -54,16 +53,17 @@ module _ (files : List Asked) (c : ℕ) (party : Party) (before : Session) (serv
 
   none-alike : LookLike party.attempts (none_attempt ∷ served.older)
   none-alike =
-      subst (λ (attempts : List Attempt). LookLike attempts (none_attempt ∷ served.older)) (sym served.attempts_are)
-      (record {
-        asked = refl;
-        entries = refl;
-        job = refl;
-        served =
-            subst (λ (o : Option ServerSide). LooksServed o none_attempt.server) (sym served.is_side)
-            (record { greeting = refl; entries = append-nil served.side.entries; state = served.state_is; up = λ is_up. served.is_up });
-       },
-       alike-itself served.older)
+      subst (λ (attempts : List Attempt). LookLike attempts (none_attempt ∷ served.older)) (sym served.attempts_are) (
+        record {
+          asked = refl;
+          entries = refl;
+          job = refl;
+          served =
+              subst (λ (o : Option ServerSide). LooksServed o none_attempt.server) (sym served.is_side)
+              (record { greeting = refl; entries = append-nil served.side.entries; state = served.state_is; up = λ is_up. served.is_up });
+        },
+        alike-itself served.older,
+      )
 
   none-link : (a b : Attempt) → slice_get party.attempts 0 ≡ Some a → Some none_attempt ≡ Some b → party.client.attempt ≡ Some b.client.attempted
       → party.client.attempt ≡ Some a.client.attempted
@@ -137,11 +137,12 @@ module _ (files : List Asked) (c : ℕ) (party : Party) (moment : ℕ) (before :
   begun-all : (now : Store) → HasFacts now files (sessions_over mid_party) → AllByRecursion (λ a. IfSome a.server (GrantsBegun now party a)) party.attempts
   begun-all now facts =
       let granted = facts.sessions.granted in
-      subst (AllByRecursion (λ a. IfSome a.server (GrantsBegun now party a))) (sym served.attempts_are)
-      (subst (λ (o : Option ServerSide). IfSome o (GrantsBegun now party served.attempt)) (sym served.is_side)
-       (begun-from now served.attempt (record mid_attempt { server = option_map over mid_attempt.server }) served.side (over mid_side) refl
-        (λ number file_length grants. one-left (IsAnswer (Ok (upload_cmd 0 file_length)) (ul_go_resp number 0)) served.side.entries (x ∷ []) grants) granted.0),
-       begun-older now served.older granted.1)
+      subst (AllByRecursion (λ a. IfSome a.server (GrantsBegun now party a))) (sym served.attempts_are) (
+        subst (λ (o : Option ServerSide). IfSome o (GrantsBegun now party served.attempt)) (sym served.is_side)
+            (begun-from now served.attempt (record mid_attempt { server = option_map over mid_attempt.server }) served.side (over mid_side) refl
+            (λ number file_length grants. one-left (IsAnswer (Ok (upload_cmd 0 file_length)) (ul_go_resp number 0)) served.side.entries (x ∷ []) grants) granted.0),
+        begun-older now served.older granted.1,
+      )
 
   -- the earlier client has its facts where the later one has
   left-earlier : (now : Store) → FollowsBy party.client.me before.store mid.store → LeftIn files mid_party mid.store now → LeftIn files party before.store now
@@ -180,12 +181,12 @@ module _ (files : List Asked) (c : ℕ) (party : Party) (moment : ℕ) (before :
           subst Left (ap (take count) (append-nil (session.commands_of x)) ∙ sym same) (first count)
       by (inr more) =
           let there : after_all before.store (session.commands_of x ++ take more.0 (session.commands_in later))
-              ≡ after_first more.0 mid.store (session.commands_in later) =
+          ≡ after_first more.0 mid.store (session.commands_in later) =
           after_all-append (session.commands_of x) (take more.0 (session.commands_in later)) before.store
           ∙ ap (λ (s : Store). after_all s (take more.0 (session.commands_in later))) (sym store_is) in
           subst Left (sym more.1)
           (subst (LeftIn files party before.store) (sym there)
-           (left-earlier (after_first more.0 mid.store (session.commands_in later)) follows (others more.0)))
+          (left-earlier (after_first more.0 mid.store (session.commands_in later)) follows (others more.0)))
 
 -- ---- one entry after another
 
@@ -195,7 +196,7 @@ KeepAll entries =
     (files : List Asked) (c : ℕ) (party : Party) (moment : ℕ) (before now : Session) (up : Bool) (served : IsServed files c party before)
     → SessionGoes party moment before now entries up served.attempt served.side
     → SessionKeeps files party (with_attempt party (session_gone entries now.state up served.attempt served.side) served.older) before now entries
-      served.side
+    served.side
 
 both-keep : (x y : SessionEntry) (ys : List SessionEntry) → SessionLawOf (λ asked. ⊤) IsOne → KeepAll (y ∷ ys) → KeepAll (x ∷ y ∷ ys)
 both-keep x y ys one later files c party moment before now up served goes =
@@ -225,12 +226,12 @@ both-keep x y ys one later files c party moment before now up served goes =
       facts =
           subst
           (λ (entries : List SessionEntry).
-            HasFacts now.store files
-            (with_attempt party
-             (record a {
-               server = Some (record side { connected = record side.connected { state = now.state }; entries = entries; is_up = up });
-             })
-             served.older))
+          HasFacts now.store files
+          (with_attempt party
+          (record a {
+            server = Some (record side { connected = record side.connected { state = now.state }; entries = entries; is_up = up });
+          })
+          served.older))
           (sym joins) those.facts;
       store = those.store;
       lists = those.lists;
@@ -239,12 +240,12 @@ both-keep x y ys one later files c party moment before now up served goes =
       grants = λ number file_length grants.
           elim
           (those.grants number file_length
-           (subst (λ (entries : List SessionEntry). Grants (record side { entries = entries }) number file_length) joins grants)) [
+          (subst (λ (entries : List SessionEntry). Grants (record side { entries = entries }) number file_length) joins grants)) [
             | inl were ↦ first.grants number file_length were
             | inr new ↦
                 let rises =
                 (follows_law.entries before.store mid.store served.store.is_store
-                 (follows_law.others party.client.me before.store mid.store served.store.is_store served.stands.call first.follows).0).next in
+                (follows_law.others party.client.me before.store mid.store served.store.is_store served.stands.call first.follows).0).next in
                 inr (omega (arith, rises, new))
           ];
       fits =
@@ -260,7 +261,7 @@ none-keep : KeepAll []
 none-keep files c party moment before now up served goes =
     subst
     (λ (s : Session).
-      SessionKeeps files party (with_attempt party (session_gone [] s.state up served.attempt served.side) served.older) before s [] served.side)
+    SessionKeeps files party (with_attempt party (session_gone [] s.state up served.attempt served.side) served.older) before s [] served.side)
     (sym goes.goes) (none-keeps files c party before served up)
 
 all-keep : (entries : List SessionEntry) → SessionLawOf (λ asked. ⊤) IsOne → KeepAll entries

@@ -1,6 +1,6 @@
 -- Entries of a session one after another: the first one, and the client behind it.
-use Rattle.std.proofs.Common.{◌≡◌, ◌⊎◌, inl, inr, ℕ, suc, zero, ◌≤◌, ◌<◌, List, [], ◌∷◌, ◌++◌, map, take, refl, ap, sym, ◌∙◌, subst, arith, append_assoc, Bool, true, None, Some}
-use Rattle.std.specs.Prelude.{IfSome, Ok, slice_get}
+use Rattle.std.proofs.Common.{◌≡◌, ◌⊎◌, inl, inr, ℕ, suc, zero, ◌≤◌, ◌<◌, List, [], ◌∷◌, ◌++◌, map, refl, ap, sym, ◌∙◌, subst, arith, append_assoc, true}
+use Rattle.std.specs.Prelude.{Ok, slice_get}
 use Rattle.std.specs.List.{AllByRecursion}
 use Rattle.std.proofs.lemmas.List.{map-append}
 use Rattle.std.proofs.lemmas.List.Concat.{flat_map-append}
@@ -16,9 +16,9 @@ use Rattle.air_attempt.specs.Attempt.{Attempt}
 use Rattle.air_attempt.specs.Laws.{ClientTookFront, ServerTookFront}
 use Rattle.air_attempt.specs.Party.{Asked, Party}
 use Rattle.air_attempt.specs.Said.{Grants}
-use Rattle.air_attempt.specs.Sides.{ServerSide, said_by_client, said_by_server}
-use Rattle.air_files.specs.Laws.{GrantedAt, GrantsOnce, IsServed, SessionGoes, SessionKeeps, Stands, session_gone, with_attempt}
-use Rattle.air_files.specs.Tasks.{AreTasks, IsTaskFor, IsWork}
+use Rattle.air_attempt.specs.Sides.{ServerSide, said_by_server}
+use Rattle.air_files.specs.Laws.{GrantedAt, GrantsOnce, IsServed, SessionKeeps, Stands, session_gone, with_attempt}
+use Rattle.air_files.specs.Tasks.{IsTaskFor, IsWork}
 use Rattle.air_files.proofs.ApartLemmas.{GrantFact}
 use Rattle.air_files.proofs.EntryLemmas.{said-gone, with_entry}
 use Rattle.air_files.proofs.LiftLemmas.{each-append, has-at, side-at}
@@ -45,11 +45,12 @@ first-goes caller moment before now (session.queued due) y ys goes =
 pub front-first : (a : Attempt) (side : ServerSide) (x : SessionEntry) (later : List SessionEntry)
     → ServerTookFront a (record side { entries = side.entries ++ x ∷ later }) → ServerTookFront a (record side { entries = side.entries ++ x ∷ [] })
 front-first a side x later front =
-    let split : side.entries ++ x ∷ later ≡ (side.entries ++ x ∷ []) ++ later = sym (append_assoc side.entries (x ∷ []) later) in
-    (session.items_in later ++ front.0,
-     front.1 ∙ ap (λ (entries : List SessionEntry). session.items_in entries ++ front.0) split
-     ∙ ap (λ (items : List Item). items ++ front.0) (flat_map-append session.items_of (side.entries ++ x ∷ []) later)
-     ∙ append_assoc (session.items_in (side.entries ++ x ∷ [])) (session.items_in later) front.0)
+    let split : side.entries ++ x ∷ later ≡ (side.entries ++ x ∷ []) ++ later = sym (append_assoc side.entries (x ∷ []) later) in (
+      session.items_in later ++ front.0,
+      front.1 ∙ ap (λ (entries : List SessionEntry). session.items_in entries ++ front.0) split
+          ∙ ap (λ (items : List Item). items ++ front.0) (flat_map-append session.items_of (side.entries ++ x ∷ []) later)
+          ∙ append_assoc (session.items_in (side.entries ++ x ∷ [])) (session.items_in later) front.0,
+    )
 
 -- ---- the client behind it
 
@@ -90,11 +91,12 @@ module _ (files : List Asked) (c : ℕ) (party : Party) (moment : ℕ) (before :
   }
 
   pub heard-mid : ClientTookFront attempt_mid side_mid
-  heard-mid =
-      (served.heard.0 ++ map Ok (session.packets_said x),
-       ap (λ (packets : List PacketValue). map Ok packets) (said-gone served.side x mid.state true)
-       ∙ map-append (λ (p : PacketValue). Ok p) (said_by_server served.side) (session.packets_said x)
-       ∙ ap (λ (items : List Item). items ++ map Ok (session.packets_said x)) served.heard.1 ∙ append_assoc _ served.heard.0 (map Ok (session.packets_said x)))
+  heard-mid = (
+    served.heard.0 ++ map Ok (session.packets_said x),
+    ap (λ (packets : List PacketValue). map Ok packets) (said-gone served.side x mid.state true)
+        ∙ map-append (λ (p : PacketValue). Ok p) (said_by_server served.side) (session.packets_said x)
+        ∙ ap (λ (items : List Item). items ++ map Ok (session.packets_said x)) served.heard.1 ∙ append_assoc _ served.heard.0 (map Ok (session.packets_said x)),
+  )
 
   pub none_lost-mid : AllByRecursion session.IsNotLost side_mid.entries
   none_lost-mid = each-append session.IsNotLost served.side.entries (x ∷ []) served.none_lost (kept, tt)
@@ -104,7 +106,7 @@ module _ (files : List Asked) (c : ℕ) (party : Party) (moment : ℕ) (before :
     granted-below at number granted =
         let has = has-at party.attempts at granted.attempt granted.is_attempt in
         (side-at (GrantFact before.store party) party granted.attempt granted.side served.facts.sessions.granted has granted.is_side number granted.file_length
-          granted.grants).below
+        granted.grants).below
 
     was-granted : (at number : ℕ) → GrantedAt party_mid at number → GrantedAt party at number ⊎ ((at ≡ zero) × (before.store.next ≤ number))
     was-granted zero number granted =

@@ -1,5 +1,5 @@
 -- One entry of a session of an upload keeps the client's facts.
-use Rattle.std.proofs.Common.{◌≡◌, ◌⊎◌, inl, inr, ℕ, ◌≤◌, List, [], ◌∷◌, ◌++◌, length, refl, ap, sym, ◌∙◌, subst, append-nil, Bool, true, false, Option, None, Some}
+use Rattle.std.proofs.Common.{◌≡◌, inl, inr, ℕ, List, [], ◌∷◌, ◌++◌, length, refl, ap, sym, ◌∙◌, subst, append-nil, Bool, true}
 use Rattle.std.specs.Prelude.{Ok}
 use Rattle.std.specs.List.{AllByRecursion}
 use Rattle.ftl0_packets.specs.Layout.{Fits, Item, ul_error_resp, ul_go_resp, upload_cmd}
@@ -9,9 +9,8 @@ use Rattle.file_store.specs.Store.{Store}
 use Rattle.ftl0_session.specs.Downloads.Laws.{ListsStayLaw}
 use Rattle.ftl0_session.specs.Downloads.Needs.{AreComplete}
 use Rattle.ftl0_session.specs.Laws.{AcknowledgedLaw, UploadsLaw}
-use Rattle.ftl0_session.specs.Lists.Lists.{CallerList}
 use Rattle.ftl0_session.specs.Run.{Session}
-use Rattle.ftl0_session.specs.Table.{Row, State}
+use Rattle.ftl0_session.specs.Table.{Row}
 use Rattle.ftl0_server.specs.Entries as session
 use Rattle.ftl0_server.specs.Entries.{SessionEntry, after_row, row_of}
 use Rattle.server_laws.specs.Rows.{CallerLaw}
@@ -21,7 +20,7 @@ use Rattle.ftl0_job.specs.Upload.{Upload}
 use Rattle.air_attempt.specs.Attempt.{Attempt}
 use Rattle.air_attempt.specs.Laws.{ServerTookFront}
 use Rattle.air_attempt.specs.Party.{Asked, Party}
-use Rattle.air_attempt.specs.Said.{IsAnswer, octets_of_data}
+use Rattle.air_attempt.specs.Said.{octets_of_data}
 use Rattle.air_attempt.specs.Sides.{ServerSide, said_by_client}
 use Rattle.air_files.specs.Dialogue.{Serves}
 use Rattle.air_files.specs.Facts.{HasFacts, coming_by}
@@ -69,7 +68,7 @@ module _ (files : List Asked) (c : ℕ) (party : Party) (before : Session) (serv
     keeps-now : (same : session.commands_in (x ∷ []) ≡ row.commands) (fits : AllByRecursion Fits (session.packets_said x))
         → HasFacts now.store files (done files c party before served gone) → AreNewGrants before.store.next served.side (x ∷ [])
         → SessionKeeps files party (with_attempt party (session_gone (x ∷ []) now.state up served.attempt served.side) served.older) before now (x ∷ [])
-          served.side
+        served.side
     keeps-now same fits facts new = record {
       facts = facts;
       store = (left-all files c party before served item row does).store;
@@ -85,8 +84,8 @@ module _ (files : List Asked) (c : ℕ) (party : Party) (before : Session) (serv
 took-keeps : (files : List Asked) (c : ℕ) (party : Party) (before : Session) (served : IsServed files c party before) (lists_law : ListsStayLaw)
     (item : Item) (row : Row) (up : Bool) → EntryDoes files c party before served item row
     → SessionKeeps files party
-      (with_attempt party (session_gone (session.took item row ∷ []) row.state up served.attempt served.side) served.older) before (after_row before row)
-      (session.took item row ∷ []) served.side
+    (with_attempt party (session_gone (session.took item row ∷ []) row.state up served.attempt served.side) served.older) before (after_row before row)
+    (session.took item row ∷ []) served.side
 took-keeps files c party before served lists_law item row up e =
     let x : SessionEntry = session.took item row in
     keeps-now files c party before served lists_law item row e.does x up (append-nil row.commands) e.does.fits
@@ -128,8 +127,8 @@ lost-keeps : (files : List Asked) (c : ℕ) (party : Party) (before : Session) (
     (at : Upload) → served.attempt.client.asked ≡ work.Upload at → (item : Item) (row : Row) (up : Bool) → (up ≡ true → ⊥)
     → EntryDoes files c party before served item row
     → SessionKeeps files party
-      (with_attempt party (session_gone (session.lost item row ∷ []) row.state up served.attempt served.side) served.older) before (after_row before row)
-      (session.lost item row ∷ []) served.side
+    (with_attempt party (session_gone (session.lost item row ∷ []) row.state up served.attempt served.side) served.older) before (after_row before row)
+    (session.lost item row ∷ []) served.side
 lost-keeps files c party before served lists_law at asked_is item row up down e =
     let x : SessionEntry = session.lost item row in
     let gone : ServerSide = with_entry served.side x row.state up in
@@ -171,11 +170,11 @@ module _ (uploads_law : UploadsLaw) (acknowledged_law : AcknowledgedLaw) (caller
   one-keeps (session.took item row) now goes =
       subst (λ (s : Session). Keeps s (session.took item row ∷ [])) (sym goes.goes.1)
       (took-keeps files c party before served lists_law item row up
-       (does-row (session.took item row) item row refl goes.goes.0 goes.front goes.client_fits))
+      (does-row (session.took item row) item row refl goes.goes.0 goes.front goes.client_fits))
   one-keeps (session.lost item row) now goes =
       subst (λ (s : Session). Keeps s (session.lost item row ∷ [])) (sym goes.goes.2)
       (lost-keeps files c party before served lists_law at asked_is item row up (λ is_up. (goes.none_lost is_up).0)
-       (does-row (session.lost item row) item row refl goes.goes.0 goes.front goes.client_fits))
+      (does-row (session.lost item row) item row refl goes.goes.0 goes.front goes.client_fits))
   one-keeps (session.queued due) now goes =
       absurd
       (let none = upload-none-due uploads_law acknowledged_law caller_law files c party moment before served at asked_is in
@@ -186,6 +185,6 @@ pub session-of-upload : UploadsLaw → AcknowledgedLaw → CallerLaw → ListsSt
 session-of-upload uploads_law acknowledged_law caller_law lists_law files c party moment before now entries up served kind one =
     subst
     (λ (es : List SessionEntry).
-      SessionGoes party moment before now es up served.attempt served.side
-      → SessionKeeps files party (with_attempt party (session_gone es now.state up served.attempt served.side) served.older) before now es served.side)
+    SessionGoes party moment before now es up served.attempt served.side
+    → SessionKeeps files party (with_attempt party (session_gone es now.state up served.attempt served.side) served.older) before now es served.side)
     (sym one.1) (one-keeps uploads_law acknowledged_law caller_law lists_law files c party moment before served kind.0 kind.1 up one.0 now)

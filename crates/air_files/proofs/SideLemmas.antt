@@ -1,10 +1,10 @@
 -- The facts of a session with one more entry, and what an entry's row has to do that the client keeps its facts.
-use Rattle.std.proofs.Common.{◌≡◌, ◌⊎◌, inl, inr, ℕ, zero, suc, ◌≤◌, List, [], ◌∷◌, ◌++◌, length, refl, ap, sym, ◌∙◌, subst, append-nil, Bool, true, false, Option, None, Some}
+use Rattle.std.proofs.Common.{◌≡◌, ◌⊎◌, inl, inr, ℕ, zero, suc, ◌≤◌, List, [], ◌∷◌, length, refl, ap, subst, Bool, Some}
 use Rattle.std.specs.Prelude.{IfSome, Ok}
 use Rattle.std.specs.List.{AllByRecursion}
 use Rattle.ftl0_packets.specs.Layout.{Fits, Item, PacketValue, ul_ack_resp, ul_error_resp, ul_go_resp, upload_cmd}
 use Rattle.file_store.proofs.Offered.{after_first-all}
-use Rattle.file_store.specs.Command.{Command, after_all}
+use Rattle.file_store.specs.Command.{after_all}
 use Rattle.file_store.specs.Info.{IsCompleteIn}
 use Rattle.file_store.specs.OnDisk.{after_first}
 use Rattle.file_store.specs.Store.{Store, entry_of}
@@ -144,9 +144,9 @@ module _ (files : List Asked) (c : ℕ) (party : Party) (before : Session) (serv
     pub sides :
         (up : Bool)
         → HasSideFacts (after_all before.store row.commands)
-          (done files c party before served (with_entry served.side (session.took item row) row.state up))
-          (gone_attempt files c party before served (with_entry served.side (session.took item row) row.state up))
-          (with_entry served.side (session.took item row) row.state up)
+        (done files c party before served (with_entry served.side (session.took item row) row.state up))
+        (gone_attempt files c party before served (with_entry served.side (session.took item row) row.state up))
+        (with_entry served.side (session.took item row) row.state up)
 
 -- ---- the facts of a session with one more entry
 

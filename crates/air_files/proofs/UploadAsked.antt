@@ -1,7 +1,6 @@
 -- UPLOAD_CMD to a session of an upload: the file is refused, begun, or goes on.
-use Rattle.std.proofs.Common.{◌≡◌, ◌≢◌, ◌⊎◌, inl, inr, ℕ, suc, zero, ◌+◌, ◌≤◌, ◌<◌, List, [], ◌∷◌, ◌++◌, length, drop, take, append-nil, length-append, refl, ap, sym, ◌∙◌, subst, arith, Bool, true, Option, None, Some}
+use Rattle.std.proofs.Common.{◌≡◌, inl, inr, ℕ, ◌+◌, ◌<◌, List, [], ◌∷◌, ◌++◌, length, drop, take, append-nil, length-append, refl, ap, sym, ◌∙◌, subst, arith, Bool, true, Some}
 use Rattle.std.specs.Prelude.{Ok}
-use Rattle.std.specs.List.{AllByRecursion}
 use Rattle.std.proofs.lemmas.Bool.Decides.{Decides-eqb, nat_tests}
 use Rattle.std.proofs.lemmas.List.{take_at}
 use Rattle.std.proofs.lemmas.List.Elements.{All-nil}
@@ -282,13 +281,13 @@ module _ (files : List Asked) (c : ℕ) (party : Party) (before : Session) (serv
             tells = λ number file_length answer. absurd (let no = answer.1 in cc);
           })
           (λ number rest is_up state.
-            let it : next ≡ number = cc in
-            let none : [] ≡ rest = cc in
-            subst (λ (r : List ℕ). Receives store_begun (done files c party before served now) (gone_attempt files c party before served now) now number r) none
-            (subst (λ (n : ℕ). Receives store_begun (done files c party before served now) (gone_attempt files c party before served now) now n []) it
-             (receives-offer next 0 begun_row up refl store_begun (new_entry next party.client.me (length at.file) moment) [] begun-entry refl refl refl refl
-              (at.file, refl))))
+          let it : next ≡ number = cc in
+          let none : [] ≡ rest = cc in
+          subst (λ (r : List ℕ). Receives store_begun (done files c party before served now) (gone_attempt files c party before served now) now number r) none
+          (subst (λ (n : ℕ). Receives store_begun (done files c party before served now) (gone_attempt files c party before served now) now n []) it
+          (receives-offer next 0 begun_row up refl store_begun (new_entry next party.client.me (length at.file) moment) [] begun-entry refl refl refl refl
+          (at.file, refl))))
           (λ is_up. due-receiving store_begun served.side x next [] up)
           (serves-as begun_row (receiving next []) up store_begun (serves-offer next 0 begun_row up refl
-           (record { new = λ zero. refl; same = λ some. absurd (let x : ⊥ = omega (arith, new, some) in x) })));
+          (record { new = λ zero. refl; same = λ some. absurd (let x : ⊥ = omega (arith, new, some) in x) })));
     }

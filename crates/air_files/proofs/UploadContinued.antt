@@ -1,14 +1,12 @@
 -- UPLOAD_CMD to a session of an upload: a file that goes on; and each of its rows.
-use Rattle.std.proofs.Common.{◌≡◌, ◌⊎◌, inl, inr, ℕ, ◌+◌, ◌≤◌, ◌<◌, ◌^◌, List, [], ◌∷◌, ◌++◌, length, refl, ap, sym, ◌∙◌, subst, arith, Bool, false, None, Some}
-use Rattle.std.specs.Prelude.{Ok}
-use Rattle.std.specs.List.{AllByRecursion}
+use Rattle.std.proofs.Common.{◌≡◌, inl, inr, ℕ, ◌≤◌, ◌<◌, ◌^◌, List, [], ◌∷◌, length, refl, ap, sym, ◌∙◌, subst, arith, false, Some}
 use Rattle.std.proofs.lemmas.Option.{same_Some}
 use Rattle.px_base.specs.CallSign.{CallSign}
 use Rattle.px_base.specs.Octets.{IsFront}
 use Rattle.ftl0_packets.specs.Layout.{ul_go_resp}
 use Rattle.file_store.proofs.Offered.{found-fits}
 use Rattle.file_store.specs.IsStore.{FitsLength}
-use Rattle.file_store.specs.Store.{Entry, Holding, Store, complete, entry_of, octets_of, partial}
+use Rattle.file_store.specs.Store.{Entry, Holding, Store, entry_of, octets_of, partial}
 use Rattle.ftl0_session.specs.Laws.{UploadsLaw}
 use Rattle.ftl0_session.specs.Run.{Session}
 use Rattle.ftl0_session.specs.Table.{Row, by_upload, command, receiving, session_row}
@@ -16,13 +14,12 @@ use Rattle.ftl0_session.specs.Uploads.Session as upload
 use Rattle.ftl0_session.specs.Uploads.Session.{resumed_row}
 use Rattle.ftl0_server.specs.Entries as session
 use Rattle.ftl0_server.specs.Entries.{SessionEntry}
-use Rattle.ftl0_job.specs.declared.work.Work.{Work}
 use Rattle.ftl0_job.specs.declared.work.Work.TheVariants as work
 use Rattle.ftl0_job.specs.Upload.{Upload}
 use Rattle.air_attempt.specs.Party.{Asked, Party}
 use Rattle.air_attempt.specs.Sides.{ServerSide}
 use Rattle.air_files.specs.Facts.{GoesOnWithTask, HasNumber, Receives}
-use Rattle.air_files.specs.Kept.{HoldsTo, IsFileAt}
+use Rattle.air_files.specs.Kept.{IsFileAt}
 use Rattle.air_files.specs.Laws.{IsServed}
 use Rattle.air_files.specs.UploadDialogue.{unasked}
 use Rattle.air_files.proofs.EntryLemmas.{with_entry}
@@ -95,34 +92,35 @@ module _ (files : List Asked) (c : ℕ) (party : Party) (before : Session) (serv
             offers = λ number offset has.
                 let same = alone-is (ul_go_resp at.known count) (ul_go_resp number offset) has in
                 let it : at.known ≡ number = cc in
-                let from : count ≡ offset = cc in
-                (subst (λ (n : ℕ). n < before.store.next) it fits-here.2,
-                 λ entry there.
-                 let mine : entry_of before.store at.known ≡ Some entry = subst (λ (n : ℕ). entry_of before.store n ≡ Some entry) (sym it) there in
-                 let held : octets_of entry.holding ≡ r.held =
-                 ap (λ (e : Entry). octets_of e.holding) (same_Some entry r.entry (sym mine ∙ r.is_entry)) ∙ ap octets_of r.holds in
-                 let as_many : length (octets_of entry.holding) ≡ count = ap (λ (octets : List ℕ). length octets) held in
-                 omega (arith, as_many, from));
+                let from : count ≡ offset = cc in (
+                  subst (λ (n : ℕ). n < before.store.next) it fits-here.2,
+                  λ entry there.
+                      let mine : entry_of before.store at.known ≡ Some entry = subst (λ (n : ℕ). entry_of before.store n ≡ Some entry) (sym it) there in
+                      let held : octets_of entry.holding ≡ r.held =
+                      ap (λ (e : Entry). octets_of e.holding) (same_Some entry r.entry (sym mine ∙ r.is_entry)) ∙ ap octets_of r.holds in
+                      let as_many : length (octets_of entry.holding) ≡ count = ap (λ (octets : List ℕ). length octets) held in
+                      omega (arith, as_many, from),
+                );
             acks = λ number acks. absurd (none-acked files c party before served at asked_is is at.known count on_row up refl number acks);
             tells = λ number file_length answer. absurd (let no = answer.1 in cc);
           })
           (λ number rest is_up state.
-            let it : at.known ≡ number = cc in
-            let none : [] ≡ rest = cc in
-            subst (λ (rs : List ℕ). Receives before.store (done files c party before served now) (gone_attempt files c party before served now) now number rs) none
-            (subst (λ (n : ℕ). Receives before.store (done files c party before served now) (gone_attempt files c party before served now) now n []) it
-             (receives-offer files c party before served at asked_is is at.known count on_row up refl before.store r.entry r.held r.is_entry r.holds r.caller_is
-              r.length_is refl held-of-file)))
+          let it : at.known ≡ number = cc in
+          let none : [] ≡ rest = cc in
+          subst (λ (rs : List ℕ). Receives before.store (done files c party before served now) (gone_attempt files c party before served now) now number rs) none
+          (subst (λ (n : ℕ). Receives before.store (done files c party before served now) (gone_attempt files c party before served now) now n []) it
+          (receives-offer files c party before served at asked_is is at.known count on_row up refl before.store r.entry r.held r.is_entry r.holds r.caller_is
+          r.length_is refl held-of-file)))
           (λ is_up. due-receiving before.store served.side x at.known [] up)
           (serves-as files c party before served at asked_is is on_row (receiving at.known []) up before.store
-           (serves-offer files c party before served at asked_is is at.known count on_row up refl
-            (record { new = λ zero. absurd (let x : ⊥ = omega (arith, zero, r.some) in x); same = λ some. refl })));
+          (serves-offer files c party before served at asked_is is at.known count on_row up refl
+          (record { new = λ zero. absurd (let x : ⊥ = omega (arith, zero, r.some) in x); same = λ some. refl })));
     }
 
   -- whichever row it has
   pub asked-does : UploadsLaw → (moment : ℕ) → at.known < 2 ^ 32
       → EntryDoes files c party before served (asking files c party before served at asked_is is)
-        (session_row party.client.me moment before.store before.lists command (asking files c party before served at asked_is is) false)
+      (session_row party.client.me moment before.store before.lists command (asking files c party before served at asked_is is) false)
   asked-does law moment small =
       let caller : CallSign = party.client.me in
       let all : upload.Row = upload.upload_row caller moment before.store at.known (length at.file) in

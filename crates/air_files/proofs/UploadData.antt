@@ -1,21 +1,20 @@
 -- DATA to a session that receives a file.
-use Rattle.std.proofs.Common.{◌≡◌, ◌⊎◌, inl, inr, ℕ, suc, zero, ◌+◌, ◌-◌, ◌*◌, ◌/◌, ◌≤◌, ◌<◌, min, List, [], ◌∷◌, ◌++◌, length, map, take, drop, refl, ap, sym, ◌∙◌, subst, arith, append-nil, append_assoc, length-append, length-take, length-drop, take-add, take-append-drop, Bool, false, Option, None, Some}
-use Rattle.std.specs.Prelude.{IfSome, Ok}
+use Rattle.std.proofs.Common.{◌≡◌, inl, inr, ℕ, suc, zero, ◌+◌, ◌-◌, ◌*◌, ◌/◌, ◌≤◌, ◌<◌, min, List, [], ◌∷◌, ◌++◌, length, take, drop, refl, ap, sym, ◌∙◌, subst, arith, append-nil, append_assoc, length-append, length-take, length-drop, take-add, take-append-drop, Bool, false}
+use Rattle.std.specs.Prelude.{Ok}
 use Rattle.std.specs.List.{AllByRecursion}
 use Rattle.std.proofs.lemmas.List.{drop_at, length-take-le, map-append}
 use Rattle.std.proofs.lemmas.List.Elements.{All-drop, All-take}
 use Rattle.std.proofs.lemmas.Option.{same_Some}
-use Rattle.px_base.specs.CallSign.{CallSign}
 use Rattle.px_base.specs.Octets.{IsFront, IsOctets}
 use Rattle.ftl0_packets.specs.Layout.{Item, data_part, ul_go_resp, upload_cmd}
 use Rattle.file_entries.specs.Follows.{AreOf, BringsOctets}
 use Rattle.file_store.proofs.Offered.{grows-after}
-use Rattle.file_store.specs.Command.{AreAllowed, Command, after_all, grow, grows, unfilled_block, whole_grows}
+use Rattle.file_store.specs.Command.{after_all, grows, unfilled_block, whole_grows}
 use Rattle.file_store.specs.OnDisk.{after_first}
-use Rattle.file_store.specs.Store.{Entry, Holding, Store, entry_of, partial}
+use Rattle.file_store.specs.Store.{Entry, Store, entry_of, partial}
 use Rattle.ftl0_session.specs.Laws.{UploadsLaw}
 use Rattle.ftl0_session.specs.Run.{Session}
-use Rattle.ftl0_session.specs.Table.{Row, State, by_upload, receiving, session_row}
+use Rattle.ftl0_session.specs.Table.{Row, by_upload, receiving, session_row}
 use Rattle.ftl0_session.specs.Uploads.Session as upload
 use Rattle.ftl0_server.specs.Entries as session
 use Rattle.ftl0_server.specs.Entries.{SessionEntry}
@@ -23,7 +22,7 @@ use Rattle.server_laws.specs.Rows.{CallerLaw}
 use Rattle.ftl0_job.specs.declared.work.Work.{Work}
 use Rattle.ftl0_job.specs.declared.work.Work.TheVariants as work
 use Rattle.ftl0_job.specs.Upload.{Upload}
-use Rattle.air_attempt.specs.Party.{Asked, IsFileOf, Party}
+use Rattle.air_attempt.specs.Party.{Asked, Party}
 use Rattle.air_attempt.specs.Said.{octets_come, said_behind_server}
 use Rattle.air_attempt.specs.Sides.{ServerSide, said_by_client}
 use Rattle.air_files.specs.Dialogue.{Serves}
@@ -60,19 +59,20 @@ came-next held rest octets file place came is =
 
 -- what is held with the first of what waits is a front of the file
 pub front-of : (held all file : List ℕ) (place k : ℕ) → held ++ all ≡ take place file → IsFront (held ++ take k all) file
-front-of held all file place k came =
-    (drop k all ++ drop place file,
-     sym (take-append-drop place file) ∙ ap (λ (front : List ℕ). front ++ drop place file) (sym came)
-     ∙ ap (λ (octets : List ℕ). (held ++ octets) ++ drop place file) (sym (take-append-drop k all))
-     ∙ ap (λ (front : List ℕ). front ++ drop place file) (sym (append_assoc held (take k all) (drop k all)))
-     ∙ append_assoc (held ++ take k all) (drop k all) (drop place file))
+front-of held all file place k came = (
+  drop k all ++ drop place file,
+  sym (take-append-drop place file) ∙ ap (λ (front : List ℕ). front ++ drop place file) (sym came)
+      ∙ ap (λ (octets : List ℕ). (held ++ octets) ++ drop place file) (sym (take-append-drop k all))
+      ∙ ap (λ (front : List ℕ). front ++ drop place file) (sym (append_assoc held (take k all) (drop k all)))
+      ∙ append_assoc (held ++ take k all) (drop k all) (drop place file),
+)
 
 -- what waits are octets of the file
 pub waiting-octets : (held all file : List ℕ) (place : ℕ) → held ++ all ≡ take place file → IsOctets file → IsOctets all
 waiting-octets held all file place came octets =
     subst IsOctets (drop_at held all (length held) refl)
     (All-drop (λ octet. octet < 256) (length held) (held ++ all)
-     (subst IsOctets (sym came) (All-take (λ octet. octet < 256) place file octets)))
+    (subst IsOctets (sym came) (All-take (λ octet. octet < 256) place file octets)))
 
 pub grows-bring : (number n : ℕ) (octets : List ℕ) → IsOctets octets → AllByRecursion BringsOctets (grows number n octets)
 grows-bring number zero octets are = tt
@@ -136,8 +136,8 @@ module _ (files : List Asked) (c : ℕ) (party : Party) (before : Session) (serv
     own-commands law caller_law moment =
         subst (λ (row : Row). AreOf party.client.me before.store row.commands) (row-is law moment)
         (caller_law party.client.me moment before.store before.lists (receiving number rest) part false
-         (λ entry found.
-         ap (λ (e : Entry). e.caller) (same_Some entry file_taken.entry (sym found ∙ file_taken.is_entry)) ∙ file_taken.caller_is))
+        (λ entry found.
+        ap (λ (e : Entry). e.caller) (same_Some entry file_taken.entry (sym found ∙ file_taken.is_entry)) ∙ file_taken.caller_is))
 
     -- the entry on its way to the file, with the first of these octets held too
     under-way : (k : ℕ) → IsFileAt (with_front before.store number all k) number at.file party.client.me
@@ -241,7 +241,7 @@ module _ (files : List Asked) (c : ℕ) (party : Party) (before : Session) (serv
             goes_on =
                 subst (λ (n : ℕ). GoesOnWith at.file n (said_behind_server (gone up) served.attempt.client)) (sym on)
                 (subst (GoesOnWith at.file (from + length octets)) (sym (behind-then served.attempt served.side part took_it refl (receiving number behind) up more said))
-                 goes);
+                goes);
           }
 
       pub data-entry : UploadsLaw → CallerLaw → (moment : ℕ) → IsOctets at.file → EntryDoes files c party before served part data_row
@@ -253,7 +253,7 @@ module _ (files : List Asked) (c : ℕ) (party : Party) (before : Session) (serv
                 side-new store_now (done files c party before served (gone up)) (gone_attempt files c party before served (gone up)) served.side took_it
                 (receiving number behind) up (side-kept files c party before served part data_row does (gone up))
                 (silent-true store_now (done files c party before served (gone up)) (gone_attempt files c party before served (gone up)) served.side took_it
-                 (receiving number behind) up refl (λ item answer is_answer. let no = is_answer.1 in cc))
+                (receiving number behind) up refl (λ item answer is_answer. let no = is_answer.1 in cc))
                 (λ n those is_up state.
                 let same : number ≡ n = cc in
                 let octets_same : behind ≡ those = cc in
@@ -261,8 +261,8 @@ module _ (files : List Asked) (c : ℕ) (party : Party) (before : Session) (serv
                 (λ (rs : List ℕ). Receives store_now (done files c party before served (gone up)) (gone_attempt files c party before served (gone up)) (gone up) n rs)
                 octets_same
                 (subst
-                 (λ (k : ℕ). Receives store_now (done files c party before served (gone up)) (gone_attempt files c party before served (gone up)) (gone up) k behind)
-                 same (receives-data up)))
+                (λ (k : ℕ). Receives store_now (done files c party before served (gone up)) (gone_attempt files c party before served (gone up)) (gone up) k behind)
+                same (receives-data up)))
                 (λ is_up. due-receiving store_now served.side took_it number behind up)
                 (subst (λ (doing : Work). Serves store_now doing (gone up)) (sym asked_is) (serves-data up));
           }

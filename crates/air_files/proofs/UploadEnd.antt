@@ -1,6 +1,6 @@
 -- DATA_END to a session that receives a file.
-use Rattle.std.proofs.Common.{◌≡◌, ◌≢◌, ◌⊎◌, inl, inr, ℕ, suc, zero, ◌+◌, ◌≤◌, ◌<◌, List, [], ◌∷◌, ◌++◌, length, take, refl, ap, ap₂, sym, ◌∙◌, subst, arith, append_assoc, length-append, Bool, false, Option, None, Some}
-use Rattle.std.specs.Prelude.{IfSome, IsTrue, Ok}
+use Rattle.std.proofs.Common.{◌≡◌, ◌≢◌, ◌⊎◌, inl, inr, ℕ, ◌+◌, List, [], ◌∷◌, ◌++◌, length, take, refl, ap, ap₂, sym, ◌∙◌, subst, arith, length-append, Bool, false, None}
+use Rattle.std.specs.Prelude.{IsTrue, Ok}
 use Rattle.std.specs.List.{AllByRecursion}
 use Rattle.std.proofs.lemmas.List.{take_all}
 use Rattle.std.proofs.lemmas.Option.{same_Some}
@@ -11,13 +11,13 @@ use Rattle.pfh_items.specs.Faults.{fault_code}
 use Rattle.pfh_items.specs.Stamp.{stamped}
 use Rattle.file_entries.specs.Follows.{AreOf, BringsOctets}
 use Rattle.file_store.proofs.Offered.{found-number}
-use Rattle.file_store.specs.Command.{Command, after_all, last_grow, seal, stamp_of}
+use Rattle.file_store.specs.Command.{after_all}
 use Rattle.file_store.specs.Info.{IsCompleteIn, is_complete}
 use Rattle.file_store.specs.OnDisk.{after_first}
 use Rattle.file_store.specs.Store.{Entry, Holding, Store, complete, entry_of, partial}
 use Rattle.ftl0_session.specs.Laws.{Acknowledges, AcknowledgedLaw, UploadsLaw}
 use Rattle.ftl0_session.specs.Run.{Session}
-use Rattle.ftl0_session.specs.Table.{Row, State, by_upload, command, receiving, session_row}
+use Rattle.ftl0_session.specs.Table.{Row, by_upload, command, receiving, session_row}
 use Rattle.ftl0_session.specs.Uploads.Laws.{kept}
 use Rattle.ftl0_session.specs.Uploads.Session as upload
 use Rattle.ftl0_server.specs.Entries as session
@@ -27,14 +27,14 @@ use Rattle.ftl0_job.specs.declared.work.Work.{Work}
 use Rattle.ftl0_job.specs.declared.work.Work.TheVariants as work
 use Rattle.ftl0_job.specs.Upload.{Upload}
 use Rattle.air_attempt.specs.Lists.{Has}
-use Rattle.air_attempt.specs.Party.{Asked, IsFileOf, Party}
+use Rattle.air_attempt.specs.Party.{Asked, Party}
 use Rattle.air_attempt.specs.Said.{Offers}
 use Rattle.air_attempt.specs.Sides.{ServerSide, said_by_server}
 use Rattle.air_files.specs.Dialogue.{Serves}
-use Rattle.air_files.specs.Facts.{HasNumber, Receives}
+use Rattle.air_files.specs.Facts.{HasNumber}
 use Rattle.air_files.specs.Kept.{IsFileAt, IsKept}
 use Rattle.air_files.specs.Laws.{IsServed}
-use Rattle.air_files.specs.UploadDialogue.{AnsweredFirst, IsOfferedBy, ServesUpload, data_items, ended, received_items, receives, receiving_said}
+use Rattle.air_files.specs.UploadDialogue.{AnsweredFirst, IsOfferedBy, ServesUpload, ended, received_items, receives, receiving_said}
 use Rattle.air_files.specs.Uploads.{IsGoodFile}
 use Rattle.air_files.proofs.EntryLemmas.{answered-more, answers-still, said-more, says-cases, with_entry}
 use Rattle.air_files.proofs.GrowingLemmas.{ended-first, ended-store, ending-allowed, ending_commands, front-entry, front-others, sealed-others, sealed_store, with_front}
@@ -100,14 +100,14 @@ module _ (files : List Asked) (c : ℕ) (party : Party) (before : Session) (serv
     own-commands =
         subst (λ (row : Row). AreOf party.client.me before.store row.commands) row-is
         (caller_law party.client.me moment before.store before.lists (receiving number rest) last false
-         (λ entry found.
-         ap (λ (e : Entry). e.caller) (same_Some entry file_taken.entry (sym found ∙ file_taken.is_entry)) ∙ file_taken.caller_is))
+        (λ entry found.
+        ap (λ (e : Entry). e.caller) (same_Some entry file_taken.entry (sym found ∙ file_taken.is_entry)) ∙ file_taken.caller_is))
 
     acknowledged : Acknowledges before.store before.lists number file_taken.entry (file_taken.held ++ rest) moment end_row
     acknowledged =
         subst (Acknowledges before.store before.lists number file_taken.entry (file_taken.held ++ rest) moment) row-is
         (acknowledged_law party.client.me moment before.store before.lists number file_taken.entry file_taken.held rest false
-         (file_taken.is_entry, file_taken.holds) counted faultless)
+        (file_taken.is_entry, file_taken.holds) counted faultless)
 
     abbrev store_now : Store
     store_now = after_all before.store (ending_commands number rest moment)

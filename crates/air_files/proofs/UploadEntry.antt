@@ -1,16 +1,14 @@
 -- Whatever comes next to a session of an upload, its entry does what it has to.
-use Rattle.std.proofs.Common.{◌≡◌, ◌⊎◌, inl, inr, ℕ, suc, zero, ◌<◌, ◌^◌, List, [], ◌∷◌, ◌++◌, length, drop, refl, ap, sym, ◌∙◌, subst, arith, Bool, false, None, Some}
+use Rattle.std.proofs.Common.{◌≡◌, inl, inr, ℕ, suc, zero, ◌<◌, ◌^◌, List, [], ◌∷◌, ◌++◌, length, drop, refl, ap, sym, ◌∙◌, subst, false, None}
 use Rattle.std.specs.Prelude.{Ok}
 use Rattle.std.specs.List.{AllByRecursion}
-use Rattle.px_base.specs.CallSign.{CallSign}
 use Rattle.ftl0_packets.specs.Layout.{Fits, Item, PacketValue, data_end, data_part, upload_cmd}
 use Rattle.ftl0_session.specs.Laws.{AcknowledgedLaw, UploadsLaw}
 use Rattle.ftl0_session.specs.Run.{Session}
-use Rattle.ftl0_session.specs.Table.{State, command, next_due, receiving, session_row}
+use Rattle.ftl0_session.specs.Table.{State, next_due, receiving, session_row}
 use Rattle.ftl0_server.specs.Entries as session
 use Rattle.ftl0_server.specs.Entries.{SessionEntry, row_of}
 use Rattle.server_laws.specs.Rows.{CallerLaw}
-use Rattle.ftl0_job.specs.declared.work.Work.{Work}
 use Rattle.ftl0_job.specs.declared.work.Work.TheVariants as work
 use Rattle.ftl0_job.specs.Upload.{Upload}
 use Rattle.air_attempt.specs.Laws.{ServerTookFront}
@@ -47,7 +45,7 @@ module _ (uploads_law : UploadsLaw) (acknowledged_law : AcknowledgedLaw) (caller
   state-in stage is =
       subst (IsReceivingState stage) (sym served.state_is)
       (subst (λ s. IsReceivingState s served.side.connected.state) is
-       ((serves-upload files c party before served at asked_is).state served.none_lost))
+      ((serves-upload files c party before served at asked_is).state served.none_lost))
 
   -- nothing is due
   pub none-due : (stage : Receiving) → IsStage stage → next_due before.store before.state false ≡ None
@@ -80,10 +78,10 @@ module _ (uploads_law : UploadsLaw) (acknowledged_law : AcknowledgedLaw) (caller
         let item_is = next unasked is in
         subst (λ (it : Item). Does it) (sym item_is)
         (subst
-         (λ (s : State).
-           EntryDoes files c party before served (Ok (upload_cmd at.known (length at.file)))
-           (session_row party.client.me moment before.store before.lists s (Ok (upload_cmd at.known (length at.file))) false))
-         (sym (state-in unasked is)) (asked-does files c party before served at asked_is is uploads_law moment (known-small item_is)))
+        (λ (s : State).
+        EntryDoes files c party before served (Ok (upload_cmd at.known (length at.file)))
+        (session_row party.client.me moment before.store before.lists s (Ok (upload_cmd at.known (length at.file))) false))
+        (sym (state-in unasked is)) (asked-does files c party before served at asked_is is uploads_law moment (known-small item_is)))
 
     -- DATA and DATA_END
     module _ (number offset : ℕ) (parts : List (List ℕ)) (is : IsStage (receives number offset parts)) where
@@ -108,7 +106,7 @@ module _ (uploads_law : UploadsLaw) (acknowledged_law : AcknowledgedLaw) (caller
       by-row it same does =
           subst (λ (i : Item). Does i) (sym same)
           (subst (λ (s : State). EntryDoes files c party before served it (session_row party.client.me moment before.store before.lists s it false))
-           (sym receiving-now) does)
+          (sym receiving-now) does)
 
       takes-data : (octets : List ℕ) → said.packet ≡ data_part octets → Does item
       takes-data octets is_data =
@@ -118,9 +116,9 @@ module _ (uploads_law : UploadsLaw) (acknowledged_law : AcknowledgedLaw) (caller
           record { packet = said.packet; is_item = sym same ∙ said.is_item; rest = said.rest; here = said.here; behind = said.behind; others = said.others } in
           by-row (Ok (data_part octets)) same
           (subst (EntryDoes files c party before served (Ok (data_part octets)))
-           (sym (data_lemmas.row-is files c party before served at asked_is number offset parts is has-number octets on.0 uploads_law moment))
-           (data_lemmas.data-entry files c party before served at asked_is number offset parts is has-number octets on.0 front.0 those on.1 uploads_law caller_law
-            moment (is-good files c party before served at asked_is number offset parts is).octets))
+          (sym (data_lemmas.row-is files c party before served at asked_is number offset parts is has-number octets on.0 uploads_law moment))
+          (data_lemmas.data-entry files c party before served at asked_is number offset parts is has-number octets on.0 front.0 those on.1 uploads_law caller_law
+          moment (is-good files c party before served at asked_is number offset parts is).octets))
 
       takes-end : said.packet ≡ data_end → Does item
       takes-end is_end =
@@ -128,8 +126,8 @@ module _ (uploads_law : UploadsLaw) (acknowledged_law : AcknowledgedLaw) (caller
           let on = subst (λ (p : PacketValue). GoesOnWith at.file from (p ∷ said.rest)) is_end goes in
           by-row (Ok data_end) same
           (subst (EntryDoes files c party before served (Ok data_end))
-           (sym (end_lemmas.row-is files c party before served at asked_is number offset parts is has-number moment on.0 uploads_law caller_law acknowledged_law))
-           (end_lemmas.end-entry files c party before served at asked_is number offset parts is has-number moment on.0 uploads_law caller_law acknowledged_law))
+          (sym (end_lemmas.row-is files c party before served at asked_is number offset parts is has-number moment on.0 uploads_law caller_law acknowledged_law))
+          (end_lemmas.end-entry files c party before served at asked_is number offset parts is has-number moment on.0 uploads_law caller_law acknowledged_law))
 
       takes-next : Does item
       takes-next =

@@ -1,8 +1,8 @@
 -- Which packet comes next to a session of an upload, and what the session has offered.
-use Rattle.std.proofs.Common.{◌≡◌, ◌⊎◌, inl, inr, ℕ, suc, zero, ◌+◌, List, [], ◌∷◌, ◌++◌, length, map, drop, refl, ap, sym, ◌∙◌, subst, append_assoc}
-use Rattle.std.specs.Prelude.{Ok, Err, ⊤}
+use Rattle.std.proofs.Common.{◌≡◌, ◌⊎◌, inl, inr, ℕ, suc, ◌+◌, List, [], ◌∷◌, ◌++◌, length, map, drop, refl, ap, sym, ◌∙◌, subst, append_assoc}
+use Rattle.std.specs.Prelude.{Ok, ⊤}
 use Rattle.std.specs.List.{AllByRecursion}
-use Rattle.ftl0_packets.specs.Layout.{Item, PacketValue, data_end, data_part, ul_ack_resp, ul_error_resp, ul_go_resp, ul_nak_resp, upload_cmd}
+use Rattle.ftl0_packets.specs.Layout.{Item, PacketValue, data_end, data_part, ul_go_resp, upload_cmd}
 use Rattle.ftl0_server.specs.Entries as session
 use Rattle.ftl0_server.specs.Entries.{SessionEntry}
 use Rattle.ftl0_client.specs.Entries as job
@@ -11,7 +11,7 @@ use Rattle.air_attempt.specs.Attempt.{Attempt}
 use Rattle.air_attempt.specs.Laws.{ClientTookFront}
 use Rattle.air_attempt.specs.Lists.{Has, OneIs}
 use Rattle.air_attempt.specs.Said.{IsTaken, Took}
-use Rattle.air_attempt.specs.Sides.{ClientSide, IsGreeting, ServerSide, said_by_client, said_by_server}
+use Rattle.air_attempt.specs.Sides.{ClientSide, IsGreeting, ServerSide, said_by_server}
 use Rattle.air_files.proofs.LiftLemmas.{one-left, one-right}
 use Rattle.air_files.specs.UploadDialogue.{GoesOnWith, IsOfferedBy, IsSendingFile, IsWord, Receiving, Sending, answered_in, asked, data_items, ended, received_items, receives, receiving_said, refused, sending_said, sends, silent, unasked}
 

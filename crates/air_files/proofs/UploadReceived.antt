@@ -1,23 +1,18 @@
 -- A file that a session receives, by the upload of its attempt, and the packet that comes next of it.
-use Rattle.std.proofs.Common.{◌≡◌, ◌⊎◌, inl, inr, ℕ, suc, zero, ◌+◌, ◌≤◌, ◌<◌, List, [], ◌∷◌, ◌++◌, length, take, drop, refl, ap, sym, ◌∙◌, subst, arith, append-nil, length-append, slice_get, Bool, Option, None, Some}
-use Rattle.std.specs.Prelude.{IfSome, Ok}
+use Rattle.std.proofs.Common.{◌≡◌, ℕ, suc, ◌+◌, ◌≤◌, ◌<◌, List, [], ◌∷◌, ◌++◌, length, take, drop, refl, ap, sym, ◌∙◌, subst, arith, append-nil, length-append, slice_get, Bool, Option, None, Some}
 use Rattle.std.specs.List.{AllByRecursion}
 use Rattle.std.specs.Option.{option_and_then, option_map}
 use Rattle.std.proofs.lemmas.List.Concat.{flat_map-append}
-use Rattle.std.proofs.Math.Seq.{take-add}
 use Rattle.px_base.specs.CallSign.{CallSign}
-use Rattle.px_base.specs.Octets.{IsFront, IsOctets}
-use Rattle.ftl0_packets.specs.Layout.{Item, PacketValue, data_end, data_part}
+use Rattle.ftl0_packets.specs.Layout.{Item}
 use Rattle.file_store.specs.Store.{Entry, Store, entry_of, partial}
 use Rattle.ftl0_session.specs.Run.{Session}
 use Rattle.ftl0_session.specs.Table.{State, receiving}
 use Rattle.ftl0_server.specs.Entries as session
 use Rattle.ftl0_server.specs.Entries.{SessionEntry}
-use Rattle.ftl0_job.specs.declared.work.Work.{Work}
 use Rattle.ftl0_job.specs.declared.work.Work.TheVariants as work
 use Rattle.ftl0_job.specs.Upload.{Upload, new_upload}
 use Rattle.air_attempt.specs.Attempt.{Attempt}
-use Rattle.air_attempt.specs.Laws.{ServerTookFront}
 use Rattle.air_attempt.specs.Party.{Asked, IsFileOf, Party, upload_of}
 use Rattle.air_attempt.specs.Said.{AsksUpload, Offers, octets_come, octets_of_item, octets_taken, said_behind_server}
 use Rattle.air_attempt.specs.Sides.{ServerSide, said_by_client}
@@ -30,7 +25,7 @@ use Rattle.air_files.proofs.EntryLemmas.{items-more, with_entry}
 use Rattle.air_files.proofs.LiftLemmas.{each-at, has-at}
 use Rattle.air_files.proofs.SideLemmas.{newest-side}
 use Rattle.air_files.proofs.UploadNext.{SaidNext}
-use Rattle.air_files.proofs.UploadServed.{Stage, asks-upload, file-of-upload, serves-upload, upload-said}
+use Rattle.air_files.proofs.UploadServed.{Stage, asks-upload, file-of-upload, serves-upload}
 
 -- The session receives this file under this number: what is held and what waits is its front, up to this place, and what
 -- the client has said behind goes on with it.
@@ -88,6 +83,7 @@ good-file files party task file good is = by (upload_of party task) refl is
     at place (Some asked) there is_file =
         let same : asked.file ≡ file = cc in
         subst IsGoodFile same (each-at (λ it. IsGoodFile it.file) files asked good (has-at files place asked there))
+
     by : (o : Option ℕ) → upload_of party task ≡ o → option_map (λ (asked : Asked). asked.file) (option_and_then (slice_get files) o) ≡ Some file → IsGoodFile file
     by None there is_file = absurd (cc)
     by (Some place) there is_file = at place (slice_get files place) refl is_file
@@ -137,7 +133,7 @@ module _ (files : List Asked) (c : ℕ) (party : Party) (before : Session) (serv
   takes =
       takes-file before.store party served.attempt served.side at.file number waiting received
       (same-upload served.attempt at.task at.known received.task received.known at.file received.file
-       (asks-upload files c party before served at asked_is) received.asks)
+      (asks-upload files c party before served at asked_is) received.asks)
 
   pub is-good : IsGoodFile at.file
   is-good = good-file files party at.task at.file served.stands.good (file-of-upload files c party before served at asked_is)

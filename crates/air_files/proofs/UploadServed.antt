@@ -1,30 +1,26 @@
 -- A session of an upload with the packet that comes next, and whose the file is that it receives.
-use Rattle.std.proofs.Common.{◌≡◌, ◌≢◌, ◌⊎◌, inl, inr, ℕ, suc, zero, ◌≤◌, ◌<◌, List, [], ◌∷◌, ◌++◌, length, map, drop, refl, ap, sym, ◌∙◌, subst, arith, append_assoc, Option, None, Some}
-use Rattle.std.specs.Prelude.{IfSome, Ok, slice_get}
-use Rattle.std.specs.List.{AllByRecursion}
-use Rattle.std.proofs.lemmas.Option.{same_Some}
+use Rattle.std.proofs.Common.{◌≡◌, ℕ, suc, zero, ◌≤◌, List, [], ◌∷◌, ◌++◌, length, map, drop, refl, ap, sym, ◌∙◌, subst, arith, append_assoc}
+use Rattle.std.specs.Prelude.{Ok}
 use Rattle.ftl0_packets.specs.Layout.{Item, PacketValue, ul_go_resp, upload_cmd}
-use Rattle.file_store.specs.Store.{Store}
 use Rattle.ftl0_session.specs.Run.{Session}
 use Rattle.ftl0_server.specs.Entries as session
 use Rattle.ftl0_server.specs.Entries.{SessionEntry}
 use Rattle.ftl0_job.specs.declared.work.Work.{Work}
 use Rattle.ftl0_job.specs.declared.work.Work.TheVariants as work
 use Rattle.ftl0_job.specs.JobState.{IsNotBegun}
-use Rattle.ftl0_job.specs.Upload.{Upload, new_upload}
+use Rattle.ftl0_job.specs.Upload.{Upload}
 use Rattle.air_attempt.specs.Attempt.{Attempt}
 use Rattle.air_attempt.specs.Laws.{ServerTookFront}
-use Rattle.air_attempt.specs.Lists.{Has, OneIs}
-use Rattle.air_attempt.specs.Party.{Asked, EachAttempt, IsFileOf, Party}
-use Rattle.air_attempt.specs.Said.{AsksUpload, Grants, Took}
+use Rattle.air_attempt.specs.Lists.{Has}
+use Rattle.air_attempt.specs.Party.{Asked, IsFileOf, Party}
+use Rattle.air_attempt.specs.Said.{AsksUpload, Took}
 use Rattle.air_attempt.specs.Sides.{ClientSide, said_by_client}
 use Rattle.air_files.specs.Dialogue.{Says, Serves}
-use Rattle.air_files.specs.Facts.{GoesOnWithTask, HasNumber, IsGranted, NotesGrant}
-use Rattle.air_files.specs.Laws.{GrantedAt, IsServed}
+use Rattle.air_files.specs.Facts.{GoesOnWithTask, HasNumber, NotesGrant}
+use Rattle.air_files.specs.Laws.{IsServed}
 use Rattle.air_files.specs.Tasks.{IsWork}
-use Rattle.air_files.specs.UploadDialogue.{IsOfferFor, IsOfferedBy, IsSendingFile, Receiving, SaysUpload, Sending, ServesUpload, answered_in, asked, data_items, received_items, receives, receiving_said, sending_said, sends, silent, unasked}
+use Rattle.air_files.specs.UploadDialogue.{IsOfferFor, IsOfferedBy, IsSendingFile, Receiving, SaysUpload, Sending, ServesUpload, asked, data_items, received_items, receives, sending_said, sends, silent, unasked}
 use Rattle.air_files.proofs.EntryLemmas.{items-more}
-use Rattle.air_files.proofs.MovedLemmas.{OwnGrants}
 use Rattle.air_files.proofs.SideLemmas.{newest-client, newest-side}
 use Rattle.air_files.proofs.UploadNext.{IsNextIn, IsOfferIn, SaidNext, TookOffered, answered-all, next-in, next-said, offers-in, took-said}
 
@@ -53,7 +49,7 @@ module _ (files : List Asked) (c : ℕ) (party : Party) (before : Session) (serv
   took-offered number offset took =
       offers-in at.known serves-upload.stage served.side.greeting number offset served.greets serves-upload.offered
       (subst (λ (said : List PacketValue). Has (served.side.greeting ∷ said) (ul_go_resp number offset)) serves-upload.said
-       (took-said served.attempt served.side (ul_go_resp number offset) served.heard took))
+      (took-said served.attempt served.side (ul_go_resp number offset) served.heard took))
 
   -- what was taken
   pub items-taken : session.items_in served.side.entries ≡ received_items at.known (length at.file) serves-upload.stage
@@ -75,7 +71,7 @@ module _ (files : List Asked) (c : ℕ) (party : Party) (before : Session) (serv
   upload-next x item is front =
       next-in at.known at.file served.attempt.client serves-upload.stage says-upload.stage item front.0 took-offered says-upload.sends_file
       (ap (λ (said : List PacketValue). map Ok said) (sym says-upload.said) ∙ front-next x item is front
-       ∙ ap (λ (items : List Item). items ++ item ∷ front.0) items-taken)
+      ∙ ap (λ (items : List Item). items ++ item ∷ front.0) items-taken)
 
   pub upload-said : (x : SessionEntry) (item : Item) → session.items_of x ≡ item ∷ []
       → (front : ServerTookFront served.attempt (record served.side { entries = served.side.entries ++ x ∷ [] }))
@@ -129,7 +125,7 @@ module _ (files : List Asked) (c : ℕ) (party : Party) (before : Session) (serv
       let says = says-upload files c party before served at asked_is in
       let serves = serves-upload files c party before served at asked_is in
       let whole : map Ok (sending_said at.known (length at.file) says.stage)
-          ≡ (Ok (upload_cmd at.known (length at.file)) ∷ data_items parts) ++ item ∷ front.0 =
+      ≡ (Ok (upload_cmd at.known (length at.file)) ∷ data_items parts) ++ item ∷ front.0 =
       ap (λ (said : List PacketValue). map Ok said) (sym says.said) ∙ front-next files c party before served at asked_is x item takes front
       ∙ ap (λ (items : List Item). items ++ item ∷ front.0)
       (items-taken files c party before served at asked_is ∙ ap (received_items at.known (length at.file)) is) in
