@@ -76,6 +76,8 @@ pub record IsServed (files : List Asked) (c : ℕ) (party : Party) (now : Sessio
   pub attempts_are : party.attempts ≡ attempt ∷ older
   pub side : ServerSide
   pub is_side : attempt.server ≡ Some side
+  pub greets : IsGreeting side.greeting
+  pub heard : ClientTookFront attempt side
   pub is_up : side.is_up ≡ true
   pub caller_is : caller_of side.connected ≡ party.client.me
   pub state_is : now.state ≡ side.connected.state

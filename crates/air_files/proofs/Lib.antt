@@ -1,0 +1,3 @@
+mod DownloadRows
+mod QuietKeeps
+mod QuietLemmas
