@@ -1,3 +1,6 @@
+mod FileOctets
+mod FetchesOn
+mod DownloadDue
 mod DownloadRows
 mod QuietKeeps
 mod QuietLemmas

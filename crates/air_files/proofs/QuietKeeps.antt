@@ -1,5 +1,7 @@
 -- What an entry of a session keeps that has no command of the store and says nothing of uploading.
 use Rattle.std.proofs.Common.{◌≡◌, ◌≢◌, ℕ, zero, suc, List, [], ◌∷◌, ◌++◌, take, refl, ap, sym, ◌∙◌, subst, Bool, Some}
+use Rattle.std.specs.List.{AllByRecursion}
+use Rattle.ftl0_packets.specs.Layout.{Fits}
 use Rattle.file_entries.specs.Follows.{FollowsBy}
 use Rattle.file_store.specs.Command.{Command}
 use Rattle.file_store.specs.OnDisk.{after_first}
@@ -37,6 +39,7 @@ follows-none party store = record { commands = []; own = tt; does = (tt, refl) }
 pub record StaysQuiet (store : Store) (party : Party) (a : Attempt) (old new : ServerSide) (older : List Attempt) (entries : List SessionEntry) (now : Session) : Type 0 where
   pub stays : now.store ≡ store
   pub commands : session.commands_in entries ≡ []
+  pub fits : AllByRecursion Fits (session.said_in entries)
   pub lists : AreComplete store now.lists
   pub quiet : IsQuiet store a.client.asked old new
   pub fetching : IsFetching store (with_attempt party (record a { server = Some new }) older) (record a { server = Some new })
@@ -60,4 +63,5 @@ module _ (over : (store : Store) (files : List Asked) (party : Party) → HasFac
         (sym (ap (after_first count before.store) it.commands ∙ first-none count before.store))
         (record { facts = over before.store files party served.facts; store = served.store; follows = follows-none party before.store });
     grants = λ number file_length grants. absurd (grants-none new_side it.quiet.none number file_length grants);
+    fits = it.fits;
   }
