@@ -1,6 +1,11 @@
-mod FileOctets
-mod FetchesOn
+mod ApartLemmas
 mod DownloadDue
 mod DownloadRows
+mod FetchesOn
+mod FileOctets
+mod GoneLemmas
+mod LiftLemmas
+mod LikeLemmas
 mod QuietKeeps
 mod QuietLemmas
+mod StableLemmas
