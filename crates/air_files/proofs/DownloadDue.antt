@@ -49,7 +49,7 @@ module _ (store : Store) (number offset : ℕ) (file : List ℕ) (parts : List (
   abbrev pub left_then : List ℕ
   left_then = sent.sent.0
 
-  left-is : drop place_then file ≡ left_then
+  pub left-is : drop place_then file ≡ left_then
   left-is =
       sym (drop-drop (length (concat parts)) offset file) ∙ ap (λ (l : List ℕ). drop (length (concat parts)) l) sent.sent.1
       ∙ ap (λ (n : ℕ). drop n (concat parts ++ left_then)) (sym (add-zero (length (concat parts)))) ∙ drop-append-add (concat parts) left_then 0

@@ -1,3 +1,6 @@
+mod DownloadServed
+mod DownloadComing
+mod DownloadNext
 mod ApartLemmas
 mod DownloadDue
 mod DownloadRows

@@ -19,31 +19,7 @@ use Rattle.air_attempt.specs.Sides.{ServerSide, said_by_server}
 use Rattle.air_files.specs.Dialogue.{IsDueNow, Says, Serves}
 use Rattle.air_files.specs.Facts.{AskedWithin, GoesOnWithTask, HasFacts, HasFetched, HasGotFacts, HasNumber, HasSessionFacts, HasTaskFacts, IsFetching, IsGrantKept, IsGranted, IsNumbered, IsOfferKept, NotesGrant, Receives}
 use Rattle.air_files.specs.Laws.{with_attempt}
-
--- ---- lists
-
-pub all-weaker : {X : Type 0} (P Q : X → Type 0) → ((x : X) → P x → Q x) → (xs : List X) → AllByRecursion P xs → AllByRecursion Q xs
-all-weaker P Q weaker [] all = tt
-all-weaker P Q weaker (x ∷ xs) all = (weaker x all.0, all-weaker P Q weaker xs all.1)
-
-pub all-append : {X : Type 0} (P : X → Type 0) (xs ys : List X) → AllByRecursion P xs → AllByRecursion P ys → AllByRecursion P (xs ++ ys)
-all-append P [] ys all more = more
-all-append P (x ∷ xs) ys all more = (all.0, all-append P xs ys all.1 more)
-
--- one of them is, and so are all
-pub one-of-all : {X : Type 0} (P : X → Type 0) (xs : List X) (x : X) → Has xs x → AllByRecursion P xs → P x
-one-of-all P [] x has all = absurd has
-one-of-all P (y ∷ ys) x (inl is) all = subst P is all.0
-one-of-all P (y ∷ ys) x (inr has) all = one-of-all P ys x has all.1
-
-pub one-left : {X : Type 0} (P : X → Type 0) (xs ys : List X) → OneIs P xs → OneIs P (xs ++ ys)
-one-left P [] ys one = absurd one
-one-left P (x ∷ xs) ys (inl here) = inl here
-one-left P (x ∷ xs) ys (inr there) = inr (one-left P xs ys there)
-
-pub one-right : {X : Type 0} (P : X → Type 0) (xs ys : List X) → OneIs P ys → OneIs P (xs ++ ys)
-one-right P [] ys one = one
-one-right P (x ∷ xs) ys one = inr (one-right P xs ys one)
+use Rattle.air_files.proofs.LiftLemmas.{each-at, each-weaker, one-left, one-right}
 
 -- ---- what was said of uploading
 
@@ -69,12 +45,12 @@ answer-said (entry ∷ entries) item answer (inr one) =
 module _ (side : ServerSide) (none : AllByRecursion IsNoUpload (session.said_in side.entries)) where
   pub grants-none : (number file_length : ℕ) → ¬ Grants side number file_length
   grants-none number file_length grants =
-      one-of-all IsNoUpload (session.said_in side.entries) (ul_go_resp number 0) (answer-said side.entries _ _ grants) none
+      each-at IsNoUpload (session.said_in side.entries) (ul_go_resp number 0) none (answer-said side.entries _ _ grants)
 
   -- but by its greeting
   pub offers-none : (number offset : ℕ) → Offers side number offset → side.greeting ≡ ul_go_resp number offset
   offers-none number offset (inl is) = is
-  offers-none number offset (inr has) = absurd (one-of-all IsNoUpload (session.said_in side.entries) (ul_go_resp number offset) has none)
+  offers-none number offset (inr has) = absurd (each-at IsNoUpload (session.said_in side.entries) (ul_go_resp number offset) none has)
 
 -- ---- the same client with other attempts
 
@@ -166,7 +142,7 @@ module _ (store : Store) (files : List Asked) (party : Party) (a : Attempt) (old
   sides : (R S : Attempt → ServerSide → Type 0) → ((b : Attempt) (side : ServerSide) → R b side → S b side) → EachAttempt party (λ b. IfSome b.server (R b)) → S now_is new
       → EachAttempt done (λ b. IfSome b.server (S b))
   sides R S weaker all here =
-      (here, all-weaker (λ b. IfSome b.server (R b)) (λ b. IfSome b.server (S b)) (side-weaker R S weaker) older (each (λ b. IfSome b.server (R b)) all).1)
+      (here, each-weaker older (side-weaker R S weaker) (each (λ b. IfSome b.server (R b)) all).1)
 
   granted : (task number : ℕ) → OneIs (IsGranted task number) (a ∷ older) → OneIs (IsGranted task number) (now_is ∷ older)
   granted task number (inl is) = absurd (other (new_upload task 0 is.0) is.2)
@@ -184,10 +160,10 @@ module _ (store : Store) (files : List Asked) (party : Party) (a : Attempt) (old
     acknowledged = facts.tasks.acknowledged;
     noted =
         let were = each (NotesGrant party) facts.tasks.noted in
-        (notes-grant party (now_is ∷ older) now_is were.0, all-weaker (NotesGrant party) (NotesGrant done) (notes-grant party (now_is ∷ older)) older were.1);
+        (notes-grant party (now_is ∷ older) now_is were.0, each-weaker older (notes-grant party (now_is ∷ older)) were.1);
     goes_on =
         let were = each (GoesOnWithTask party) facts.tasks.goes_on in
-        (goes-on party (now_is ∷ older) now_is were.0, all-weaker (GoesOnWithTask party) (GoesOnWithTask done) (goes-on party (now_is ∷ older)) older were.1);
+        (goes-on party (now_is ∷ older) now_is were.0, each-weaker older (goes-on party (now_is ∷ older)) were.1);
   }
 
   -- what the new session offers the old one offered
@@ -197,9 +173,9 @@ module _ (store : Store) (files : List Asked) (party : Party) (a : Attempt) (old
   complete : (number : ℕ) → ¬ SaysComplete new number
   complete number (inl ((offset, offers), (inl is))) =
       absurd (let it = offers-none new quiet.none number offset offers in let no : ul_go_resp number offset ≡ ul_ack_resp = sym it ∙ is in cc)
-  complete number (inl ((offset, offers), (inr has))) = one-of-all IsNoUpload (session.said_in new.entries) ul_ack_resp has quiet.none
+  complete number (inl ((offset, offers), (inr has))) = each-at IsNoUpload (session.said_in new.entries) ul_ack_resp quiet.none has
   complete number (inr (file_length, answers)) =
-      one-of-all IsNoUpload (session.said_in new.entries) (ul_error_resp 12) (answer-said new.entries _ _ answers) quiet.none
+      each-at IsNoUpload (session.said_in new.entries) (ul_error_resp 12) quiet.none (answer-said new.entries _ _ answers)
 
   sessions : HasSessionFacts store done
   sessions =
