@@ -20,7 +20,7 @@ use Rattle.air_attempt.specs.Sides.{IsGreeting, ServerSide, said_by_client, said
 use Rattle.air_files.specs.DownloadDialogue.{AreSentFrom, Fetching, IsFetchingFile, IsWord, SaysDownload, asked, fetching_said, silent, told}
 use Rattle.air_files.specs.Facts.{AreFirstIfAny, Fetches, coming_by, got}
 use Rattle.air_files.proofs.DownloadDue.{left-is, left_then, place_then}
-use Rattle.air_files.proofs.FetchesOn.{ComesFirst, ComesOn, coming-more, octets-behind}
+use Rattle.air_files.proofs.FetchesOn.{ComesOn, coming-more, octets-behind}
 
 -- ---- what a client asked
 
@@ -56,7 +56,7 @@ greeting-silent : (packet : PacketValue) → IsGreeting packet → octets_of_dat
 greeting-silent packet greets = ap octets_of_data greets.2
 
 -- the first of a file, or nothing
-front-if-any : (store : Store) (number : ℕ) (file octets : List ℕ) → file_of store number ≡ Some file → AreFirstIfAny store number octets → IsFront octets file
+pub front-if-any : (store : Store) (number : ℕ) (file octets : List ℕ) → file_of store number ≡ Some file → AreFirstIfAny store number octets → IsFront octets file
 front-if-any store number file [] is_file first = (file, refl)
 front-if-any store number file (octet ∷ octets) is_file first =
     let it = first (λ none. absurd (cc)) in
@@ -70,9 +70,9 @@ module _ (store : Store) (party : Party) (a : Attempt) (old : ServerSide) (numbe
   came-length greets said heard =
       sym (length-append (octets_taken (job.items_in a.client.entries)) (coming_by a (Some old)))
       ∙ ap length
-        (octets-behind (job.items_in a.client.entries) (said_by_server old) heard
-        ∙ ap (λ (l : List ℕ). l ++ octets_said (session.said_in old.entries)) (greeting-silent old.greeting greets) ∙ ap octets_said said
-        ∙ said-parts parts)
+      (octets-behind (job.items_in a.client.entries) (said_by_server old) heard
+      ∙ ap (λ (l : List ℕ). l ++ octets_said (session.said_in old.entries)) (greeting-silent old.greeting greets) ∙ ap octets_said said
+      ∙ said-parts parts)
 
   -- with those that the client has got they lead up to the place
   place-is : (at : Download) (fetches : Fetches store party a at) → fetches.offset ≡ offset
@@ -109,13 +109,12 @@ module _ (store : Store) (party : Party) (a : Attempt) (old new : ServerSide) (n
       let now : got party at.number ++ (at.rest ++ coming_by a (Some new)) ≡ were ++ piece =
       ap (λ (l : List ℕ). got party at.number ++ (at.rest ++ l)) (coming-more store party a old new heard (data_part piece ∷ []) more ∙ ap (λ (l : List ℕ). coming_by a (Some old) ++ l) (append-nil piece))
       ∙ ap (λ (l : List ℕ). got party at.number ++ l) (sym (append_assoc at.rest (coming_by a (Some old)) piece))
-      ∙ sym (append_assoc (got party at.number) (at.rest ++ coming_by a (Some old)) piece) in
-      (
+      ∙ sym (append_assoc (got party at.number) (at.rest ++ coming_by a (Some old)) piece) in (
         file,
         is_file,
         (
           drop most_data left,
           all ∙ ap (λ (l : List ℕ). were ++ l) (sym (take-append-drop most_data left)) ∙ sym (append_assoc were piece (drop most_data left))
-          ∙ ap (λ (l : List ℕ). l ++ drop most_data left) (sym now),
+              ∙ ap (λ (l : List ℕ). l ++ drop most_data left) (sym now),
         ),
       )

@@ -1,19 +1,16 @@
 -- What a session of a download sends of itself: the rest of the file, piece by piece, and then DATA_END.
-use Rattle.std.proofs.Common.{◌≡◌, ◌≢◌, ⊎_elim, ◌⊎◌, inl, inr, ℕ, zero, suc, ◌+◌, ◌-◌, ◌≤◌, ◌==◌, min, List, [], ◌∷◌, ◌++◌, length, take, drop, refl, ap, sym, ◌∙◌, subst, Bool, true, false, Option, None, Some, arith, length-append, length-drop, length-take, append_assoc, append-nil, take-append-drop, add-zero}
-use Rattle.std.specs.Prelude.{if◌then◌else◌}
+use Rattle.std.proofs.Common.{◌≡◌, ℕ, ◌+◌, ◌-◌, ◌≤◌, ◌==◌, min, List, [], ◌∷◌, ◌++◌, length, take, drop, refl, ap, sym, ◌∙◌, false, Some, arith, length-append, length-drop, length-take, append_assoc, append-nil, take-append-drop, add-zero}
 use Rattle.std.specs.List.{concat}
 use Rattle.std.proofs.lemmas.Bool.Decides.{nat_tests}
 use Rattle.std.proofs.lemmas.List.{drop-drop}
 use Rattle.std.proofs.lemmas.List.Folds.{concat-append}
-use Rattle.std.proofs.Math.Seq.{take-length, drop-append-add, take-append-add}
-use Rattle.px_base.specs.Octets.{IsFront}
-use Rattle.ftl0_packets.specs.Layout.{PacketValue, data_end, data_part}
+use Rattle.std.proofs.Math.Seq.{drop-append-add}
+use Rattle.ftl0_packets.specs.Layout.{data_end, data_part}
 use Rattle.file_store.specs.Store.{Store}
-use Rattle.ftl0_session.specs.Downloads.Sending as due
 use Rattle.ftl0_session.specs.Downloads.Sending.{most_data, octets_due}
 use Rattle.ftl0_session.specs.Downloads.Table as download
 use Rattle.ftl0_session.specs.Downloads.Table.{file_of, octets_in}
-use Rattle.ftl0_session.specs.Table.{DuePacket, State, next_due, sending, waiting}
+use Rattle.ftl0_session.specs.Table.{DuePacket, next_due, sending, waiting}
 use Rattle.ftl0_session.proofs.downloads.DueLemmas.{take-all}
 use Rattle.ftl0_session.proofs.downloads.FileLemmas.{file-complete}
 use Rattle.air_files.specs.DownloadDialogue.{AreAllSent, AreSentFrom}
@@ -78,13 +75,12 @@ module _ (store : Store) (number offset : ℕ) (file : List ℕ) (parts : List (
   more-sent = record {
     is_file = sent.is_file;
     within = sent.within;
-    sent =
-        (
-          drop most_data left_then,
-          sent.sent.1 ∙ ap (λ (l : List ℕ). concat parts ++ l) (sym (take-append-drop most_data left_then))
+    sent = (
+      drop most_data left_then,
+      sent.sent.1 ∙ ap (λ (l : List ℕ). concat parts ++ l) (sym (take-append-drop most_data left_then))
           ∙ sym (append_assoc (concat parts) (take most_data left_then) (drop most_data left_then))
           ∙ ap (λ (l : List ℕ). l ++ drop most_data left_then) (sym (concat-more (take most_data left_then))),
-        );
+    );
   }
 
   pub place-more : offset + length (concat (parts ++ take most_data left_then ∷ [])) ≡ place_then + min most_data (length file - place_then)

@@ -1,8 +1,8 @@
 -- Which packet of a client of a download comes next to its session, by how far both have come.
-use Rattle.std.proofs.Common.{◌≡◌, ◌≢◌, inl, inr, ℕ, List, [], ◌∷◌, ◌++◌, map, refl, ap, sym, ◌∙◌, subst, ap₂, Some}
+use Rattle.std.proofs.Common.{◌≡◌, ◌≢◌, inl, inr, ℕ, List, [], ◌∷◌, ◌++◌, map, refl, ap, sym, ◌∙◌, subst, ap₂}
 use Rattle.std.specs.Prelude.{Ok}
 use Rattle.std.specs.List.{AllByRecursion}
-use Rattle.ftl0_packets.specs.Layout.{Item, PacketValue, data_end, data_part, dl_ack_cmd, dl_error_resp, dl_nak_cmd, download_cmd}
+use Rattle.ftl0_packets.specs.Layout.{Item, PacketValue, data_end, data_part, download_cmd}
 use Rattle.ftl0_server.specs.Entries as session
 use Rattle.ftl0_server.specs.Entries.{SessionEntry}
 use Rattle.ftl0_client.specs.Entries as job
@@ -11,7 +11,7 @@ use Rattle.air_attempt.specs.Attempt.{Attempt}
 use Rattle.air_attempt.specs.Laws.{ClientTookFront, ServerTookFront}
 use Rattle.air_attempt.specs.Lists.{AreFirstOf, Has, OneIs}
 use Rattle.air_attempt.specs.Said.{IsTaken, Took}
-use Rattle.air_attempt.specs.Sides.{ClientSide, IsGreeting, ServerSide, said_by_client, said_by_server}
+use Rattle.air_attempt.specs.Sides.{IsGreeting, ServerSide, said_by_client, said_by_server}
 use Rattle.air_files.specs.DownloadDialogue.{Fetching, IsFetchingFile, IsWord, SaysDownload, Sending, asked, ended, fetching_said, refused, sending_items, sending_said, sends, silent, told, unasked, waits}
 use Rattle.air_files.specs.UploadDialogue.{answered_in}
 use Rattle.air_files.proofs.FetchesOn.{flat_map-one}
@@ -103,7 +103,7 @@ module _ (number : ℕ) (a : Attempt) (item : Item) where
 
 -- ---- the packets of a session that lost none
 
-answered-all : (entries : List SessionEntry) → AllByRecursion session.IsNotLost entries → answered_in entries ≡ session.items_in entries
+pub answered-all : (entries : List SessionEntry) → AllByRecursion session.IsNotLost entries → answered_in entries ≡ session.items_in entries
 answered-all [] none = refl
 answered-all (session.took item row ∷ entries) none = ap (λ (l : List Item). item ∷ l) (answered-all entries none.1)
 answered-all (session.lost item row ∷ entries) none = absurd none.0
@@ -118,6 +118,6 @@ next-is number a side stage entry item items said none says greets heard taken f
     let here : session.items_in (side.entries ++ entry ∷ []) ≡ sending_items number stage ++ item ∷ [] =
     flat_map-one session.items_of side.entries entry ∙ ap₂ (λ (l m : List Item). l ++ m) (sym (answered-all side.entries none) ∙ items) taken in
     let end : Took a.client data_end → Has (sending_said stage) data_end = λ took.
-        subst (λ (l : List PacketValue). Has l data_end) said (took-said a side data_end heard took (greeting-other side.greeting greets)) in
+    subst (λ (l : List PacketValue). Has l data_end) said (took-said a side data_end heard took (greeting-other side.greeting greets)) in
     next-by number a item stage says.stage says.said says.fetches end
     (front.0, sym (ap (λ (l : List PacketValue). map {B = Item} Ok l) says.said) ∙ front.1 ∙ ap (λ (l : List Item). l ++ front.0) here)

@@ -1,6 +1,6 @@
 -- The rows of a session of a download: of DOWNLOAD_CMD, and of the word on the file (FTL0 1990, downloading).
-use Rattle.std.proofs.Common.{◌≡◌, ◌≢◌, ⊎_elim, ◌⊎◌, inl, inr, ℕ, ◌≤◌, ◌==◌, List, [], ◌∷◌, length, refl, ap, sym, ◌∙◌, Bool, true, false, Option, None, Some, arith}
-use Rattle.std.specs.Prelude.{Ok, if◌then◌else◌, nat_lt}
+use Rattle.std.proofs.Common.{◌≡◌, ◌≢◌, inl, inr, ℕ, ◌≤◌, ◌==◌, List, [], ◌∷◌, length, refl, ap, ◌∙◌, false, Option, None, Some, arith}
+use Rattle.std.specs.Prelude.{Ok, nat_lt}
 use Rattle.std.proofs.lemmas.Bool.Decides.{nat_tests}
 use Rattle.px_base.specs.CallSign.{CallSign}
 use Rattle.ftl0_packets.specs.Layout.{PacketValue, dl_aborted_resp, dl_ack_cmd, dl_completed_resp, dl_error_resp, dl_nak_cmd, download_cmd}
@@ -9,7 +9,7 @@ use Rattle.ftl0_session.specs.DownloadLaws.{DownloadsLaw}
 use Rattle.ftl0_session.specs.Downloads.Table as download
 use Rattle.ftl0_session.specs.Downloads.Table.{DownloadRow, asked_file, asked_row, ended_row, file_of, file_row, lists_after, refused_row}
 use Rattle.ftl0_session.specs.Lists.Lists.{CallerList}
-use Rattle.ftl0_session.specs.Table.{Row, State, by_download, command, sending, session_row, waiting}
+use Rattle.ftl0_session.specs.Table.{Row, by_download, command, sending, session_row, waiting}
 use Rattle.air_files.specs.DownloadDialogue.{IsLast, IsWord}
 
 -- the row of a command that is refused with this code
@@ -74,11 +74,11 @@ module _ (law : DownloadsLaw) (caller : CallSign) (moment : ℕ) (store : Store)
     dl_completed_resp,
     inl refl,
     ap (λ (p : PacketValue). session_row caller moment store lists waiting (Ok p) false) is
-    ∙ law caller moment store lists download.waiting dl_ack_cmd false (ended_row lists dl_completed_resp) ack-row,
+        ∙ law caller moment store lists download.waiting dl_ack_cmd false (ended_row lists dl_completed_resp) ack-row,
   )
   row-word word (inr is) = (
     dl_aborted_resp,
     inr refl,
     ap (λ (p : PacketValue). session_row caller moment store lists waiting (Ok p) false) is
-    ∙ law caller moment store lists download.waiting dl_nak_cmd false (ended_row lists dl_aborted_resp) nak-row,
+        ∙ law caller moment store lists download.waiting dl_nak_cmd false (ended_row lists dl_aborted_resp) nak-row,
   )

@@ -1,37 +1,32 @@
 -- A session of a download goes on by one entry (FTL0 1990, downloading).
-use Rattle.std.proofs.Common.{◌≡◌, ◌≢◌, inl, inr, ℕ, ◌+◌, ◌≤◌, ◌<◌, List, [], ◌∷◌, ◌++◌, length, map, take, drop, refl, ap, sym, ◌∙◌, subst, Bool, true, Option, None, Some, arith, length-append, append_assoc, append-nil, add-zero}
-use Rattle.std.specs.Prelude.{Ok, ⊤}
-use Rattle.std.specs.List.{AllByRecursion, concat}
+use Rattle.std.proofs.Common.{◌≡◌, ◌≢◌, inl, inr, ℕ, ◌≤◌, List, [], ◌∷◌, ◌++◌, length, map, drop, refl, ap, sym, ◌∙◌, subst, Bool, true, Some, arith, append_assoc, append-nil, add-zero}
+use Rattle.std.specs.Prelude.{Ok}
+use Rattle.std.specs.List.{AllByRecursion}
 use Rattle.std.proofs.lemmas.List.Elements.{All-nil}
-use Rattle.std.proofs.lemmas.List.{map-append}
-use Rattle.px_base.specs.CallSign.{CallSign}
 use Rattle.px_base.specs.Octets.{IsOctets}
-use Rattle.ftl0_packets.specs.Layout.{Fits, Item, PacketValue, data_end, data_part, dl_aborted_resp, dl_completed_resp, dl_error_resp, download_cmd}
+use Rattle.ftl0_packets.specs.Layout.{Fits, Item, PacketValue, data_end, data_part, download_cmd}
 use Rattle.file_store.specs.Command.{after_all}
 use Rattle.file_store.specs.Store.{Store}
-use Rattle.ftl0_session.specs.DownloadLaws.{DownloadsLaw}
 use Rattle.ftl0_session.specs.Downloads.Needs.{IsDueIn}
 use Rattle.ftl0_session.specs.Downloads.Sending.{octets_due}
 use Rattle.ftl0_session.specs.Downloads.Table.{file_of}
-use Rattle.ftl0_session.specs.Lists.Lists.{CallerList}
 use Rattle.ftl0_session.specs.Run.{Session}
-use Rattle.ftl0_session.specs.Table.{Row, State, command, download_part, receiving, sending, session_row, waiting}
+use Rattle.ftl0_session.specs.Table.{Row, State, command, download_part, sending, waiting}
 use Rattle.ftl0_server.specs.Entries as session
 use Rattle.ftl0_server.specs.Entries.{SessionEntry, after_row}
 use Rattle.air_attempt.specs.Attempt.{Attempt}
 use Rattle.air_attempt.specs.Laws.{ClientTookFront}
 use Rattle.air_attempt.specs.Lists.{Has}
 use Rattle.air_attempt.specs.Party.{Party}
-use Rattle.air_attempt.specs.Said.{octets_of_data, octets_said}
+use Rattle.air_attempt.specs.Said.{octets_said}
 use Rattle.air_attempt.specs.Sides.{IsGreeting, ServerSide, said_by_client, said_by_server}
 use Rattle.air_files.specs.Dialogue.{IsDueNow}
-use Rattle.air_files.specs.DownloadDialogue.{AreSent, AreSentFrom, IsLast, IsSendingState, IsWord, SaysDownload, Sending, ServesDownload, ended, refused, sending_items, sending_said, sends, unasked, waits}
+use Rattle.air_files.specs.DownloadDialogue.{AreSent, IsLast, IsWord, SaysDownload, Sending, ServesDownload, ended, refused, sending_items, sending_said, sends, unasked, waits}
 use Rattle.air_files.specs.SoundStore.{IsSoundStore}
 use Rattle.air_files.specs.UploadDialogue.{answered_by, answered_in}
-use Rattle.air_files.proofs.DownloadRows.{last_row, refusal, row-none, row-sends, row-word, sending_row}
+use Rattle.air_files.proofs.DownloadRows.{last_row, refusal, sending_row}
 use Rattle.air_files.proofs.FetchesOn.{ComesOn, comes-silent, flat_map-one}
 use Rattle.air_files.proofs.FileOctets.{due-sending}
-use Rattle.air_files.proofs.LiftLemmas.{each-append}
 use Rattle.air_files.proofs.QuietKeeps.{gone_side}
 
 -- What is known of a session of a download that is up.
@@ -135,7 +130,7 @@ module _ (before : Session) (party : Party) (a : Attempt) (old : ServerSide) (nu
   -- DOWNLOAD_CMD is refused: there is no such file
   pub keeps-refused : (offset : ℕ) → it.serves.stage ≡ unasked
       → KeepsDownload before (after_row before (refusal before.lists 4)) party a old (new_side (session.took (Ok (download_cmd number offset 0)) (refusal before.lists 4)) command) number
-        (session.took (Ok (download_cmd number offset 0)) (refusal before.lists 4))
+      (session.took (Ok (download_cmd number offset 0)) (refusal before.lists 4))
   keeps-refused offset is =
       let item : Item = Ok (download_cmd number offset 0) in
       let row = refusal before.lists 4 in
@@ -153,8 +148,8 @@ module _ (before : Session) (party : Party) (a : Attempt) (old : ServerSide) (nu
   -- it is granted: the file is sent from the offset on
   pub keeps-granted : (offset : ℕ) (file : List ℕ) → it.serves.stage ≡ unasked → file_of before.store number ≡ Some file → offset ≤ length file
       → KeepsDownload before (after_row before (sending_row before.lists number offset file)) party a old
-        (new_side (session.took (Ok (download_cmd number offset 0)) (sending_row before.lists number offset file)) (sending number offset (length file))) number
-        (session.took (Ok (download_cmd number offset 0)) (sending_row before.lists number offset file))
+      (new_side (session.took (Ok (download_cmd number offset 0)) (sending_row before.lists number offset file)) (sending number offset (length file))) number
+      (session.took (Ok (download_cmd number offset 0)) (sending_row before.lists number offset file))
   keeps-granted offset file is is_file within =
       let item : Item = Ok (download_cmd number offset 0) in
       let row = sending_row before.lists number offset file in
@@ -180,7 +175,7 @@ module _ (before : Session) (party : Party) (a : Attempt) (old : ServerSide) (nu
 
   pub keeps-ended : (offset : ℕ) (parts : List (List ℕ)) (word last : PacketValue) → it.serves.stage ≡ waits offset parts → IsWord word → IsLast last
       → KeepsDownload before (after_row before (last_row before.lists last)) party a old (new_side (session.took (Ok word) (last_row before.lists last)) command) number
-        (session.took (Ok word) (last_row before.lists last))
+      (session.took (Ok word) (last_row before.lists last))
   keeps-ended offset parts word last is is_word is_last =
       let row = last_row before.lists last in
       keeps-took (Ok word) row refl refl (fits-last last is_last) (silent-last last is_last)

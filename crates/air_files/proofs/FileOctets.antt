@@ -1,12 +1,11 @@
 -- The octets of a complete file of a sound store, and of what is due of it.
-use Rattle.std.proofs.Common.{◌≡◌, ℕ, ◌-◌, ◌≤◌, ◌<◌, ◌==◌, List, [], ◌∷◌, length, take, drop, refl, ap, sym, ◌∙◌, subst, cond, Bool, true, false, Option, None, Some, arith}
+use Rattle.std.proofs.Common.{◌≡◌, ℕ, ◌-◌, ◌≤◌, ◌<◌, ◌==◌, List, [], ◌∷◌, length, take, drop, refl, ap, sym, subst, cond, Bool, true, false, Option, None, Some, arith}
 use Rattle.std.specs.Prelude.{find}
 use Rattle.std.specs.List.{AllByRecursion}
 use Rattle.std.proofs.lemmas.List.Elements.{All-drop, All-nil, All-take}
 use Rattle.px_base.specs.Octets.{IsOctets}
 use Rattle.file_store.specs.Store.{Entry, Store, entry_of, octets_at, octets_of}
 use Rattle.ftl0_session.specs.Downloads.Needs.{IsDueIn, LiesIn}
-use Rattle.ftl0_session.specs.Downloads.Table as download
 use Rattle.ftl0_session.specs.Downloads.Table.{file_of, octets_in}
 use Rattle.ftl0_session.specs.Downloads.Sending.{octets_due}
 use Rattle.ftl0_session.specs.Table.{State, download_part, sending}

@@ -1,3 +1,6 @@
+mod DownloadSession
+mod DownloadEntry
+mod DownloadQueued
 mod DownloadServed
 mod DownloadComing
 mod DownloadNext

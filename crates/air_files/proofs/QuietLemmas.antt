@@ -1,8 +1,8 @@
 -- What the newest session of a client, which says nothing of uploading, leaves of the client's facts as it goes on.
-use Rattle.std.proofs.Common.{◌≡◌, ◌≢◌, ◌⊎◌, inl, inr, ℕ, List, [], ◌∷◌, ◌++◌, length, refl, ap, sym, ◌∙◌, subst, true, Option, None, Some}
-use Rattle.std.specs.Prelude.{IfSome, ⊤, Ok}
+use Rattle.std.proofs.Common.{◌≡◌, ◌≢◌, inl, inr, ℕ, List, [], ◌∷◌, refl, sym, ◌∙◌, subst, true, Option, None, Some}
+use Rattle.std.specs.Prelude.{IfSome, ⊤}
 use Rattle.std.specs.List.{AllByRecursion}
-use Rattle.ftl0_packets.specs.Layout.{Item, PacketValue, ul_ack_resp, ul_error_resp, ul_go_resp, upload_cmd}
+use Rattle.ftl0_packets.specs.Layout.{Item, PacketValue, ul_ack_resp, ul_error_resp, ul_go_resp}
 use Rattle.file_store.specs.Info.{IsCompleteIn}
 use Rattle.file_store.specs.Store.{Store}
 use Rattle.ftl0_session.specs.Table.{receiving}
@@ -14,10 +14,10 @@ use Rattle.ftl0_job.specs.Upload.{Upload, new_upload}
 use Rattle.air_attempt.specs.Attempt.{Attempt}
 use Rattle.air_attempt.specs.Lists.{Has, OneIs}
 use Rattle.air_attempt.specs.Party.{Asked, EachAttempt, Party}
-use Rattle.air_attempt.specs.Said.{Answers, AsksUpload, Grants, IsAnswer, Offers, SaysComplete}
-use Rattle.air_attempt.specs.Sides.{ServerSide, said_by_server}
+use Rattle.air_attempt.specs.Said.{Grants, IsAnswer, Offers, SaysComplete}
+use Rattle.air_attempt.specs.Sides.{ServerSide}
 use Rattle.air_files.specs.Dialogue.{IsDueNow, Says, Serves}
-use Rattle.air_files.specs.Facts.{AskedWithin, GoesOnWithTask, HasFacts, HasFetched, HasGotFacts, HasNumber, HasSessionFacts, HasTaskFacts, IsFetching, IsGrantKept, IsGranted, IsNumbered, IsOfferKept, NotesGrant, Receives}
+use Rattle.air_files.specs.Facts.{AskedWithin, GoesOnWithTask, HasFacts, HasFetched, HasNumber, HasSessionFacts, HasTaskFacts, IsFetching, IsGrantKept, IsGranted, IsOfferKept, NotesGrant, Receives}
 use Rattle.air_files.specs.Laws.{with_attempt}
 use Rattle.air_files.proofs.LiftLemmas.{each-at, each-weaker, one-left, one-right}
 
