@@ -1,3 +1,8 @@
+mod ListSession
+mod ListServed
+mod ListRows
+mod ListFiles
+mod ShortOctets
 mod DownloadSession
 mod DownloadEntry
 mod DownloadQueued
