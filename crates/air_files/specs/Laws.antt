@@ -36,7 +36,7 @@ use Rattle.air_attempt.specs.Attempt.{Attempt}
 use Rattle.air_attempt.specs.Laws.{ClientTookFront, ServerTookFront}
 use Rattle.air_attempt.specs.Party.{Asked, EachAttempt, EachSide, Party, all_over, first_party, newest, sessions_over}
 use Rattle.air_attempt.specs.Said.{Grants}
-use Rattle.air_attempt.specs.Sides.{IsGreeting, ServerSide}
+use Rattle.air_attempt.specs.Sides.{IsGreeting, JobReaches, ServerSide}
 use Rattle.air_files.specs.Facts.{GoesOnWithTask, HasFacts}
 use Rattle.air_files.specs.SoundStore.{IsSoundStore}
 use Rattle.air_files.specs.Tasks.{AreTasks, IsWork, StandsBy}
@@ -153,7 +153,8 @@ abbrev pub job_gone : List JobEntry → Attempted → Attempt → Attempt
 job_gone entries now a =
     record a { client = record a.client { attempted = now; entries = a.client.entries ++ entries } }
 
--- A client whose link is that of its current attempt, over this store.
+-- A client whose link is that of its current attempt, over this store. Its job came from what was asked by what it took
+-- and queued.
 pub record IsWorking (store : Store) (files : List Asked) (c : ℕ) (party : Party) : Type 0 where
   pub stands : Stands files c party
   pub attempt : Attempt
@@ -161,16 +162,24 @@ pub record IsWorking (store : Store) (files : List Asked) (c : ℕ) (party : Par
   pub attempts_are : party.attempts ≡ attempt ∷ older
   pub link : party.client.attempt ≡ Some attempt.client.attempted
   pub job : StandsBy party (Some attempt)
+  pub begun : IsNotBegun attempt.client.asked
+  pub reached : JobReaches (new_job attempt.client.asked) attempt.client.entries attempt.client.attempted.job
   pub sound : IsSoundStore store
   pub facts : HasFacts store files party
 
--- what a session said, where there is one, came in order; without one nothing came
+-- What a session said, from LOGIN_RESP on, came in order, also by these entries of the job; and so it was before with
+-- what the client said.
+pub record TookFront (a : Attempt) (entries : List JobEntry) (side : ServerSide) : Type 0 where
+  pub is_side : a.server ≡ Some side
+  pub greets : IsGreeting side.greeting
+  pub client :
+      ClientTookFront (record a { client = record a.client { entries = a.client.entries ++ entries } }) side
+  pub server : ServerTookFront a side
+
+-- what a session said, where there is one, came so; without one nothing came
 abbrev pub JobTookFront : Attempt → List JobEntry → Type 0
 JobTookFront a [] = ⊤
-JobTookFront a (entry ∷ entries) =
-    (side : ServerSide) × (a.server ≡ Some side)
-    × ClientTookFront
-      (record a { client = record a.client { entries = a.client.entries ++ (entry ∷ entries) } }) side
+JobTookFront a (entry ∷ entries) = (side : ServerSide) × TookFront a (entry ∷ entries) side
 
 -- the client with its link and job gone on, and these notes
 abbrev pub with_job : Party → Lists → Attempted → Attempt → List Attempt → Party

@@ -7,7 +7,7 @@ use Rattle.ftl0_packets.specs.Layout.{ul_nak_resp, upload_cmd}
 use Rattle.ftl0_session.specs.Table.{State, command, receiving}
 use Rattle.ftl0_server.specs.Entries as session
 use Rattle.ftl0_server.specs.Entries.{SessionEntry}
-use Rattle.air_attempt.specs.Said.{Took}
+use Rattle.air_attempt.specs.Said.{Answers, Took}
 use Rattle.air_attempt.specs.Sides.{ClientSide, ServerSide, said_by_client}
 
 -- the packets to which a session replied: all that it took, but one whose replies didn't fit
@@ -80,6 +80,16 @@ IsOfferedBy known (refused code) = ⊤
 IsOfferedBy known (receives number offset parts) = IsOfferFor known number offset
 IsOfferedBy known (ended number offset parts word) = IsOfferFor known number offset × IsWord word
 
+-- what it said first it said in answer to UPLOAD_CMD
+abbrev pub AnsweredFirst : ℕ → ℕ → ServerSide → Receiving → Type 0
+AnsweredFirst known file_length side unasked = ⊤
+AnsweredFirst known file_length side (refused code) =
+    Answers side (Ok (upload_cmd known file_length)) (ul_error_resp code)
+AnsweredFirst known file_length side (receives number offset parts) =
+    Answers side (Ok (upload_cmd known file_length)) (ul_go_resp number offset)
+AnsweredFirst known file_length side (ended number offset parts word) =
+    Answers side (Ok (upload_cmd known file_length)) (ul_go_resp number offset)
+
 -- A session of an upload of this file, with this number: it answered these packets so, and is in this state, unless
 -- the replies to its last packet didn't fit.
 pub record ServesUpload (known : ℕ) (file : List ℕ) (side : ServerSide) : Type 0 where
@@ -88,6 +98,7 @@ pub record ServesUpload (known : ℕ) (file : List ℕ) (side : ServerSide) : Ty
   pub said : session.said_in side.entries ≡ receiving_said stage
   pub state : AllByRecursion session.IsNotLost side.entries → IsReceivingState stage side.connected.state
   pub offered : IsOfferedBy known stage
+  pub first : AnsweredFirst known (length file) side stage
 
 -- How far a client has come with an upload: it has said nothing; it has asked; or it was offered the number, from an
 -- offset on, and has said these packets since.
