@@ -1,12 +1,15 @@
 -- Laws of the attempts of one client: what each event makes of them, and what a side took of what the other one said.
-use Rattle.std.specs.Prelude.{◌≡◌, ◌≢◌, ◌⊎◌, ℕ, List, [], ◌∷◌, length, map, slice_get, true, false, None, Some, Ok}
+use Rattle.std.specs.Prelude.{◌≡◌, ◌≢◌, ◌⊎◌, ℕ, ◌^◌, ◌<◌, List, [], ◌∷◌, length, map, slice_get, true, false, None, Some, Ok}
+use Rattle.std.specs.Prelude.{⊤}
 use Rattle.std.specs.List.{AllByRecursion}
 use Rattle.px_base.specs.CallSign.{CallSign}
+use Rattle.px_base.specs.Octets.{IsOctets}
 use Rattle.ax25_frames.specs.FrameText.{FrameValue}
 use Rattle.ax25_link.specs.Air.{IsLawful, Transmission}
 use Rattle.ax25_link.specs.declared.state.LinkState.TheVariants.{Up}
 use Rattle.ax25_link.specs.Rows.{is_call}
 use Rattle.ax25_link.specs.Window.{IsWindow}
+use Rattle.ftl0_packets.specs.Layout.{Fits}
 use Rattle.node.specs.Events.{NodeEvent, hears as frame_comes, ticks as tick_comes}
 use Rattle.file_store.specs.Command.{after_all}
 use Rattle.ftl0_server.specs.Connection.Connected.{Connected, caller_of}
@@ -16,7 +19,9 @@ use Rattle.ftl0_server.specs.Server.{Server}
 use Rattle.ftl0_server.specs.ServerStep.{ServerStep, Stepped}
 use Rattle.ftl0_server.specs.Slots.{connected, leaving, place_of}
 use Rattle.client_notes.specs.Command.{NotesCommand}
-use Rattle.ftl0_job.specs.JobState.{IsNew}
+use Rattle.ftl0_job.specs.JobState.{IsNew, NotesGoWith}
+use Rattle.ftl0_job.specs.declared.work.Work.{Work}
+use Rattle.ftl0_job.specs.declared.work.Work.TheVariants as work
 use Rattle.ftl0_client.specs.Client.{Client, ClientEvent, asks, hears, ticks}
 use Rattle.ftl0_client.specs.ClientStep.{ClientStep}
 use Rattle.ftl0_client.specs.Entries as job
@@ -68,12 +73,30 @@ pub record GoesWith (it : Client) (attempts : List Attempt) : Type 0 where
   pub link : IsLinkOf (slice_get attempts 0) it.attempt
   pub may_step : client.MayStep it
 
+-- the fields of the packets by which this work is asked have their ranges
+abbrev pub WorkFits : Work → Type 0
+WorkFits (work.Upload at) = (at.known < 2 ^ 32) × (length at.file < 2 ^ 32) × IsOctets at.file
+WorkFits (work.Directory at) = (length at.tokens < 2048) × IsOctets at.tokens
+WorkFits (work.Download at) = at.number < 2 ^ 32
+
+-- What the job of an attempt needs so that the fields of all that it says have their ranges: its work's have, and the
+-- notes go with it.
+pub record MaySay (it : Client) (a : Attempt) : Type 0 where
+  pub asked : WorkFits a.client.asked
+  pub go_with : NotesGoWith it.lists a.client.attempted.job
+
+-- So it is with the current attempt, where the client's link is its, at an event at which the job may say something.
+abbrev pub MaySayAt : ClientEvent → Client → List Attempt → Type 0
+MaySayAt (asks job) it attempts = ⊤
+MaySayAt event it attempts =
+    (a : Attempt) → slice_get attempts 0 ≡ Some a → it.attempt ≡ Some a.client.attempted → MaySay it a
+
 -- So it is after each event that may come.
 abbrev pub ClientLaw : Type 0
 ClientLaw =
     (old new : Client) (event : ClientEvent) (noted : List NotesCommand) (frames : List FrameValue)
-    (attempts marked : List Attempt) → GoesWith old attempts → MayComeTo event attempts marked
-    → ClientStep old event noted frames new
+    (attempts marked : List Attempt) → GoesWith old attempts → MaySayAt event old attempts
+    → MayComeTo event attempts marked → ClientStep old event noted frames new
     → GoesWith new (after_event event (record { old = old; now = new; frames = frames }) marked)
 
 -- ---- the server's events
@@ -135,6 +158,16 @@ pub record StaysServer (old : Server) (gives : Stepped) (IsNew : CallSign → Ty
   pub store_is : gives.new.store ≡ after_all old.store gives.done
   pub known : (place : ℕ) (c : Connected) → IsSeatedIn gives.new place c → IsKnown old IsNew (caller_of c)
 
+-- The fields of all that the server says at a frame have their ranges: LOGIN_RESP of this moment, and what the session
+-- of the frame's sender says.
+pub record SaysFit (old : Server) (frame : FrameValue) (moment : ℕ) : Type 0 where
+  pub moment_fits : moment < 2 ^ 32
+  pub said :
+      (place : ℕ) (c : Connected) → place_of frame.src old.slots ≡ Some place → IsSeatedIn old place c
+      → is_call frame.kind.control ≡ false
+      → AllByRecursion Fits
+      (session.said_in (session.entries_heard old.window moment old.store old.lists c frame))
+
 -- What the server makes of a frame: of the attempts of the client whose frame it is, and of all others.
 pub record ServerHearsLaw : Type 0 where
   pub server :
@@ -142,8 +175,8 @@ pub record ServerHearsLaw : Type 0 where
       → ServerStep old (frame_comes frame moment) [] gives → StaysServer old gives (λ caller. caller ≡ frame.src)
   pub own :
       (old : Server) (frame : FrameValue) (moment : ℕ) (gives : Stepped) (attempts marked : List Attempt)
-      → IsBetween old → Calls old frame.src attempts → DeliversToServer attempts frame marked
-      → (step : ServerStep old (frame_comes frame moment) [] gives)
+      → IsBetween old → SaysFit old frame moment → Calls old frame.src attempts
+      → DeliversToServer attempts frame marked → (step : ServerStep old (frame_comes frame moment) [] gives)
       → Calls gives.new frame.src (after_hearing (did_in moment step) frame marked)
   pub other :
       (old : Server) (frame : FrameValue) (moment : ℕ) (gives : Stepped) (me : CallSign) (attempts : List Attempt)

@@ -1,10 +1,11 @@
 -- Laws of what one client's tasks, attempts and files that it got have of the store: what each thing that a session or a
 -- job does keeps of it, between its commands too.
 use Rattle.std.specs.Prelude.{◌≡◌, ◌≢◌, ◌⊎◌, ℕ, ◌<◌, ◌≤◌, List, [], ◌∷◌, ◌++◌, length, Bool, true, Option, None, Some}
-use Rattle.std.specs.Prelude.{⊤}
+use Rattle.std.specs.Prelude.{slice_get, ⊤}
 use Rattle.std.specs.List.{AllByRecursion}
 use Rattle.px_base.specs.CallSign.{CallSign, IsCall}
 use Rattle.ax25_link.specs.Window.{Window}
+use Rattle.ftl0_packets.specs.Layout.{Fits}
 use Rattle.file_entries.specs.Follows.{FollowsBy}
 use Rattle.file_store.specs.Command.{after, drop_entry}
 use Rattle.file_store.specs.OnDisk.{after_first}
@@ -34,9 +35,10 @@ use Rattle.ftl0_client.specs.Entries as job
 use Rattle.ftl0_client.specs.Entries.{JobEntry}
 use Rattle.air_attempt.specs.Attempt.{Attempt}
 use Rattle.air_attempt.specs.Laws.{ClientTookFront, ServerTookFront}
-use Rattle.air_attempt.specs.Party.{Asked, EachAttempt, EachSide, Party, all_over, first_party, newest, sessions_over}
+use Rattle.air_attempt.specs.Party.{AreOver, Asked, EachAttempt, EachSide, Party, all_over, first_party, newest}
+use Rattle.air_attempt.specs.Party.{sessions_over}
 use Rattle.air_attempt.specs.Said.{Grants}
-use Rattle.air_attempt.specs.Sides.{IsGreeting, JobReaches, ServerSide}
+use Rattle.air_attempt.specs.Sides.{IsGreeting, JobReaches, ServerSide, said_by_client}
 use Rattle.air_files.specs.Facts.{GoesOnWithTask, HasFacts}
 use Rattle.air_files.specs.SoundStore.{IsSoundStore}
 use Rattle.air_files.specs.Tasks.{AreTasks, IsWork, StandsBy}
@@ -68,7 +70,21 @@ session_gone entries state up a side =
 abbrev pub with_attempt : Party → Attempt → List Attempt → Party
 with_attempt party a older = record party { attempts = a ∷ older }
 
--- A session of the client's current attempt, which is up, over this store and these lists.
+-- a session of the client's attempt at this place gave the number to a new upload
+pub record GrantedAt (party : Party) (at number : ℕ) : Type 0 where
+  pub attempt : Attempt
+  pub is_attempt : slice_get party.attempts at ≡ Some attempt
+  pub side : ServerSide
+  pub is_side : attempt.server ≡ Some side
+  pub file_length : ℕ
+  pub grants : Grants side number file_length
+
+-- no number was given twice by the client's sessions
+abbrev pub GrantsOnce : Party → Type 0
+GrantsOnce party = (at that number : ℕ) → GrantedAt party at number → GrantedAt party that number → at ≡ that
+
+-- A session of the client's current attempt, which is up, over this store and these lists. It began with LOGIN_RESP,
+-- the client took the first of the packets that it said, and older sessions are over.
 pub record IsServed (files : List Asked) (c : ℕ) (party : Party) (now : Session) : Type 0 where
   pub stands : Stands files c party
   pub attempt : Attempt
@@ -80,6 +96,10 @@ pub record IsServed (files : List Asked) (c : ℕ) (party : Party) (now : Sessio
   pub caller_is : caller_of side.connected ≡ party.client.me
   pub state_is : now.state ≡ side.connected.state
   pub none_lost : AllByRecursion session.IsNotLost side.entries
+  pub greets : IsGreeting side.greeting
+  pub heard : ClientTookFront attempt side
+  pub older_over : AreOver older
+  pub once : GrantsOnce party
   pub store : IsSoundStore now.store
   pub lists : AreComplete now.store now.lists
   pub facts : HasFacts now.store files party
@@ -91,6 +111,7 @@ pub record SessionGoes (party : Party) (moment : ℕ) (before now : Session) (en
   pub goes : session.GoesBy party.client.me moment before entries now
   pub none_lost : up ≡ true → AllByRecursion session.IsNotLost entries
   pub front : ServerTookFront a (record side { entries = side.entries ++ entries })
+  pub client_fits : AllByRecursion Fits (said_by_client a.client)
 
 -- The numbers that the entries give to new uploads were not given before.
 abbrev pub AreNewGrants : ℕ → ServerSide → List SessionEntry → Type 0
@@ -117,6 +138,7 @@ pub record SessionKeeps (files : List Asked) (party done : Party) (before now : 
       (count : ℕ)
       → LeftIn files party before.store (after_first count before.store (session.commands_in entries))
   pub grants : AreNewGrants before.store.next side entries
+  pub fits : AllByRecursion Fits (session.said_in entries)
 
 -- So entries do of a session of an attempt at a work of this kind.
 abbrev pub SessionLawOf : (Work → Type 0) → (List SessionEntry → Type 0) → Type 0
@@ -125,8 +147,8 @@ SessionLawOf IsKind AreSuch =
     (up : Bool) (served : IsServed files c party before) → IsKind served.attempt.client.asked → AreSuch entries
     → SessionGoes party moment before now entries up served.attempt served.side
     → SessionKeeps files party
-      (with_attempt party (session_gone entries now.state up served.attempt served.side) served.older) before now
-      entries served.side
+    (with_attempt party (session_gone entries now.state up served.attempt served.side) served.older) before now
+    entries served.side
 
 -- one entry
 abbrev pub IsOne : {X : Type 0} → List X → Type 0
@@ -207,7 +229,7 @@ pub record JobKeeps (store : Store) (files : List Asked) (party done : Party) (e
   pub during :
       (count : ℕ)
       → HasFacts store files
-        (started_with party (notes.after_first count party.client.lists (job.commands_in entries)))
+      (started_with party (notes.after_first count party.client.lists (job.commands_in entries)))
 
 -- So entries do of a job at a work of this kind, with whatever end of the link behind them.
 abbrev pub JobLawOf : (Work → Type 0) → (List JobEntry → Type 0) → Type 0
@@ -216,7 +238,7 @@ JobLawOf IsKind AreSuch =
     (now : Attempted) (works : IsWorking store files c party) → IsKind works.attempt.client.asked → AreSuch entries
     → JobGoes party entries lists_now now works.attempt
     → JobKeeps store files party
-      (with_job party lists_now now (job_gone entries now works.attempt) works.older) entries
+    (with_job party lists_now now (job_gone entries now works.attempt) works.older) entries
 
 abbrev pub JobLaw : Type 0
 JobLaw = JobLawOf (λ asked. ⊤) (λ entries. ⊤)
@@ -281,7 +303,7 @@ pub record StayLaw : Type 0 where
       (store : Store) (files : List Asked) (party : Party) (number : ℕ) (entry : Entry) (held : List ℕ)
       → IsSoundStore store → entry_of store number ≡ Some entry → entry.holding ≡ partial held
       → EachSide party
-        (λ _ side. (rest : List ℕ) → side.is_up ≡ true → side.connected.state ≢ receiving number rest)
+      (λ _ side. (rest : List ℕ) → side.is_up ≡ true → side.connected.state ≢ receiving number rest)
       → HasFacts store files party → HasFacts (after store (drop_entry number)) files party
 
 -- ---- what begins
@@ -307,16 +329,16 @@ pub record BeginLaw : Type 0 where
       (store : Store) (files : List Asked) (party : Party) (a : Attempt) → HasFacts store files party → IsBeginning a
       → GoesOnWithTask party a
       → HasFacts store files
-        (record party {
-          client = record party.client { attempt = Some a.client.attempted };
-          attempts = a ∷ party.attempts;
-        })
+      (record party {
+        client = record party.client { attempt = Some a.client.attempted };
+        attempts = a ∷ party.attempts;
+      })
   pub opened :
       (store : Store) (files : List Asked) (party : Party) (a : Attempt) (older : List Attempt) (side : ServerSide)
       → HasFacts store files party → party.attempts ≡ a ∷ older → a.server ≡ None → a.client.entries ≡ []
       → IsGreeted side
       → HasFacts store files
-        (with_attempt party (record a { server = Some side }) (all_over older))
+      (with_attempt party (record a { server = Some side }) (all_over older))
   pub longer :
       (store : Store) (files : List Asked) (c : ℕ) (party : Party) (asked : List Asked) → Stands files c party
       → HasFacts store files party → HasFacts store (files ++ asked) party
@@ -324,13 +346,13 @@ pub record BeginLaw : Type 0 where
       (store : Store) (files : List Asked) (c : ℕ) (party : Party) (it : Asked) → Stands files c party
       → length party.client.lists.tasks < most_tasks → HasFacts store files party
       → HasFacts store (files ++ it ∷ [])
-        (record party {
-          client =
-              record party.client {
-                lists =
-                    after_all party.client.lists
-                    (fresh_task party.client.lists party.client.server party.client.me it.name (length it.file)
-                     (sha256 it.file) ∷ []);
-              };
-          uploads = party.uploads ++ length files ∷ [];
-        })
+      (record party {
+        client =
+            record party.client {
+              lists =
+                  after_all party.client.lists
+                  (fresh_task party.client.lists party.client.server party.client.me it.name (length it.file)
+                  (sha256 it.file) ∷ []);
+            };
+        uploads = party.uploads ++ length files ∷ [];
+      })

@@ -1,0 +1,4 @@
+mod JobChange
+mod JobReach
+mod JobUploadRows
+mod JobUploadSaid
