@@ -1,4 +1,6 @@
 mod JobChange
+mod JobNotes
 mod JobReach
+mod JobStep
 mod JobUploadRows
 mod JobUploadSaid
