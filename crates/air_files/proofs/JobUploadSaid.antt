@@ -1,6 +1,6 @@
 -- What a job that uploads a file has said, by how far it has come.
 use Rattle.std.proofs.Common.{◌≡◌, ◌≢◌, ◌⊎◌, ℕ, ◌+◌, ◌-◌, ◌≤◌, List, [], ◌∷◌, ◌++◌, Bool, true, false, length, take, drop, min, Option, None, Some, Ok, Err, inl, inr, refl, sym, ◌∙◌, ap, subst, append-nil, arith, suc, zero}
-use Rattle.std.specs.Prelude.{◌==◌, ◌&&◌, nat_le, nat_lt, if◌then◌else◌}
+use Rattle.std.specs.Prelude.{◌==◌, ◌&&◌, nat_le, nat_lt, if◌then◌else◌, ⊤}
 use Rattle.std.specs.Option.{option_map}
 use Rattle.std.proofs.lemmas.Bool.{cond_both}
 use Rattle.std.proofs.lemmas.Bool.Decides.{nat_tests}
@@ -11,6 +11,7 @@ use Rattle.ftl0_packets.specs.Items.{kind_of_item}
 use Rattle.ftl0_packets.specs.Layout.{Item, PacketValue, data_end, data_part, download_cmd, login_resp, ul_go_resp, upload_cmd}
 use Rattle.client_notes.specs.Notes.{Lists}
 use Rattle.ftl0_job.specs.declared.ending.Ending.{Ending}
+use Rattle.ftl0_job.specs.declared.ending.Outcome.TheVariants as outcome
 use Rattle.ftl0_job.specs.declared.phases.UploadPhase.{UploadPhase}
 use Rattle.ftl0_job.specs.declared.phases.UploadPhase.TheVariants as phase
 use Rattle.ftl0_job.specs.declared.work.Work.{Work}
@@ -92,11 +93,17 @@ CameTo phase.Go known file es = said_in es ≡ upload_cmd known (length file) �
 CameTo (phase.Sending number place) known file es = SendsTo known file es number place
 CameTo (phase.Ack number) known file es = SentAll known file es number
 
+-- no outcome is that a file was fetched
+abbrev pub NeverFetched : Option Ending → Type 0
+NeverFetched None = ⊤
+NeverFetched (Some ending) = (number : ℕ) → ending.outcome ≢ outcome.Fetched number
+
 -- A job that uploads a file, after these entries.
 pub record DoesUpload (task known : ℕ) (file : List ℕ) (es : List JobEntry) (job : JobState) : Type 0 where
   pub phase_is : UploadPhase
   pub work_is : job.work ≡ work.Upload (upload_at task known file phase_is)
   pub came : job.ending ≡ None → CameTo phase_is known file es
+  pub ended : NeverFetched job.ending
 
 pub one-left : {X : Type 0} (P : X → Type 0) (xs ys : List X) → OneIs P xs → OneIs P (xs ++ ys)
 one-left P [] ys one = absurd one
@@ -161,28 +168,29 @@ module _ (task known : ℕ) (file : List ℕ) where
   abbrev ItemRow : Lists → UploadPhase → Item → Row Work
   ItemRow lists p item = item_row lists (work.Upload (upload_at task known file p)) item
 
-  -- the row leaves the upload of the same file
+  -- the row leaves the upload of the same file, and fetches nothing
   abbrev IsSame : UploadPhase → PacketValue → Row Upload → Type 0
-  IsSame p packet row = (now : UploadPhase) × (row.state ≡ upload_at task known file now)
+  IsSame p packet row = (now : UploadPhase) × (row.state ≡ upload_at task known file now) × NeverFetched row.ending
 
   same-upload : (p : UploadPhase) (packet : PacketValue) → IsSame p packet (upload_row (upload_at task known file p) packet)
   same-upload p packet = upload-cases task known file IsSame cases p packet
     where
       cases : UploadCases task known file IsSame
       cases = record {
-        strange_rows = λ p packet kind none. (p, refl);
-        login = λ moment flags. (phase.Go, refl);
-        go = λ number offset may. (phase.Sending number offset, refl);
-        complete = λ code is. (phase.Go, refl);
-        refused_go = λ code. (phase.Go, refl);
-        broken_off = λ number place code. (phase.Sending number place, refl);
-        ack = λ number. (phase.Ack number, refl);
-        refused_ack = λ number code. (phase.Ack number, refl);
+        strange_rows = λ p packet kind none. (p, refl, λ number is. cc is);
+        login = λ moment flags. (phase.Go, refl, tt);
+        go = λ number offset may. (phase.Sending number offset, refl, tt);
+        complete = λ code is. (phase.Go, refl, λ number is. cc is);
+        refused_go = λ code. (phase.Go, refl, λ number is. cc is);
+        broken_off = λ number place code. (phase.Sending number place, refl, λ number is. cc is);
+        ack = λ number. (phase.Ack number, refl, λ number is. cc is);
+        refused_ack = λ number code. (phase.Ack number, refl, λ number is. cc is);
       }
 
-  pub same-item : (lists : Lists) (p : UploadPhase) (item : Item) → (now : UploadPhase) × ((ItemRow lists p item).state ≡ work.Upload (upload_at task known file now))
-  same-item lists p (Ok packet) = let same = same-upload p packet in (same.0, ap work.Upload same.1)
-  same-item lists p (Err malformed) = (p, refl)
+  pub same-item : (lists : Lists) (p : UploadPhase) (item : Item)
+      → (now : UploadPhase) × ((ItemRow lists p item).state ≡ work.Upload (upload_at task known file now)) × NeverFetched (ItemRow lists p item).ending
+  same-item lists p (Ok packet) = let same = same-upload p packet in (same.0, ap work.Upload same.1, same.2)
+  same-item lists p (Err malformed) = (p, refl, λ number is. cc is)
 
   -- a packet that goes on with the job leaves it so far
   module _ (es : List JobEntry) where
@@ -223,11 +231,11 @@ module _ (task known : ℕ) (file : List ℕ) where
         → Does (es ++ took item (ItemRow lists p item) ∷ []) (job_after (ItemRow lists p item))
     takes p (Some ending) lists item came is =
         let same = same-item lists p item in
-        record { phase_is = same.0; work_is = same.1; came = λ none. absurd (let no : Some ending ≡ None = sym is ∙ none in cc no) }
+        record { phase_is = same.0; work_is = same.1; came = λ none. absurd (let no : Some ending ≡ None = sym is ∙ none in cc no); ended = same.2 }
     takes p None lists (Err malformed) came is = absurd (cc is)
     takes p None lists (Ok packet) came is =
         let next = comes p packet came is in
-        record { phase_is = next.0; work_is = ap work.Upload next.1; came = λ none. next.2 }
+        record { phase_is = next.0; work_is = ap work.Upload next.1; came = λ none. next.2; ended = (same-upload p packet).2 }
 
     -- what is due, by whether octets are left
     abbrev due_by_left : ℕ → ℕ → Bool → DuePacket Upload
@@ -289,18 +297,18 @@ module _ (task known : ℕ) (file : List ℕ) where
         let is = ap (λ (doing : Work). item_row lists doing item) does.work_is in
         let same = same-item lists does.phase_is item in
         subst (λ (r : Row Work). Does (es ++ lost item r ∷ []) (after_losing (kind_of_item item) r)) (sym is)
-        (record { phase_is = same.0; work_is = same.1; came = λ none. absurd (cc none) });
-    passing = λ es job item ended does. record { phase_is = does.phase_is; work_is = does.work_is; came = λ none. absurd (ended none) };
+        (record { phase_is = same.0; work_is = same.1; came = λ none. absurd (cc none); ended = λ number is. cc is });
+    passing = λ es job item ended does. record { phase_is = does.phase_is; work_is = does.work_is; came = λ none. absurd (ended none); ended = does.ended };
     queuing = λ es job due next does.
         let is = due-of task known file job due does.phase_is does.work_is next in
         let sends : SendsTo known file es is.number is.place = subst (λ (p : UploadPhase). CameTo p known file es) is.phase_is (does.came is.none) in
         let to = dues es is.number is.place (length (drop is.place file) == 0) sends refl in
         subst (λ (d : DuePacket JobState). Does (es ++ queued d ∷ []) d.state) (sym is.due_is)
-        (record { phase_is = to.0; work_is = ap work.Upload to.1; came = λ none. to.2 });
+        (record { phase_is = to.0; work_is = ap work.Upload to.1; came = λ none. to.2; ended = tt });
   }
 
   -- so far an upload came
   pub does-upload : (es : List JobEntry) (job : JobState) → JobReaches (new_job (work.Upload (new_upload task known file))) es job → Does es job
   does-upload es job reached =
       of-reached Does stays es (new_job (work.Upload (new_upload task known file))) job
-      (record { phase_is = phase.Login; work_is = refl; came = λ none. refl }) reached
+      (record { phase_is = phase.Login; work_is = refl; came = λ none. refl; ended = tt }) reached
