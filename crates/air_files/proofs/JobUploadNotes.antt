@@ -7,6 +7,7 @@ use Rattle.px_base.specs.CallSign.{CallSign}
 use Rattle.ftl0_packets.specs.Layout.{Item, PacketValue, ul_ack_resp, ul_error_resp, ul_go_resp, upload_cmd}
 use Rattle.file_store.specs.Info.{IsCompleteIn, is_complete as holds_whole}
 use Rattle.file_store.specs.Store.{Entry, Holding, Store, complete, entry_of, partial}
+use Rattle.ftl0_server.specs.Entries as session
 use Rattle.client_notes.specs.Command.{NotesCommand, acked, after, numbered, refused}
 use Rattle.client_notes.specs.Laws.{after_all}
 use Rattle.client_notes.specs.Notes.{Lists, Task, task_of}
@@ -23,13 +24,13 @@ use Rattle.air_attempt.specs.Attempt.{Attempt}
 use Rattle.air_attempt.specs.Lists.{Has, OneIs}
 use Rattle.air_attempt.specs.Party.{Asked, IsFileOf, Party}
 use Rattle.air_attempt.specs.Said.{Answers, AsksUpload, Grants, IsTaken, Offers, SaysComplete}
-use Rattle.air_attempt.specs.Sides.{IsGreeting, ServerSide, said_by_server}
+use Rattle.air_attempt.specs.Sides.{IsGreeting, ServerSide, said_by_client, said_by_server}
 use Rattle.air_files.specs.Facts.{HasFacts, HasNumber, IsBegun, IsGrantKept, IsNumbered, IsOfferKept}
 use Rattle.air_files.specs.Kept.{IsFileAt, IsKept, IsTaskKept, IsUnderWay}
 use Rattle.air_files.specs.UploadDialogue.{IsOfferFor, ServesUpload}
 use Rattle.air_files.proofs.JobNotes.{NotesKept, kept-same, kept-task}
 use Rattle.air_files.proofs.JobStep.{of_attempts}
-use Rattle.air_files.proofs.JobTook.{offer-answers, refusal-answers, some-at}
+use Rattle.air_files.proofs.JobTook.{offer-answers, some-at, whole}
 use Rattle.air_files.proofs.JobUploadRows.{UploadCases, upload-cases, upload_at}
 use Rattle.air_files.proofs.JobUploadSaid.{CameTo}
 
@@ -70,6 +71,8 @@ pub record Uploading (store : Store) (files : List Asked) (base : Party) (a : At
   pub is_side : a.server ≡ Some side
   pub greets : IsGreeting side.greeting
   pub serves : ServesUpload upload.known upload.file side
+  pub heard : (packet : PacketValue) → OneIs (IsTaken (whole packet)) a.client.entries → Has (said_by_server side) packet
+  pub told : (packet : PacketValue) → Has (session.items_in side.entries) (whole packet) → Has (said_by_client a.client) packet
 
 module _ (store : Store) (files : List Asked) (base : Party) (a : Attempt) (older : List Attempt) (upload : Upload) (side : ServerSide)
     (it : Uploading store files base a older upload side) where

@@ -3,6 +3,7 @@ mod JobNotes
 mod JobReach
 mod JobStep
 mod JobTook
+mod JobUploadCases
 mod JobUploadNotes
 mod JobUploadRows
 mod JobUploadSaid
