@@ -4,6 +4,7 @@ mod JobReach
 mod JobStep
 mod JobTook
 mod JobUploadCases
+mod JobUploadGoes
 mod JobUploadNotes
 mod JobUploadRows
 mod JobUploadSaid
