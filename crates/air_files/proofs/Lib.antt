@@ -1,5 +1,6 @@
 mod JobChange
 mod JobNotes
+mod JobOfUpload
 mod JobReach
 mod JobStep
 mod JobTook
@@ -8,3 +9,4 @@ mod JobUploadGoes
 mod JobUploadNotes
 mod JobUploadRows
 mod JobUploadSaid
+mod JobWorking
