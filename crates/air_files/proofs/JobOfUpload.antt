@@ -1,5 +1,6 @@
 -- One entry of a job that uploads a file keeps its client's facts.
 use Rattle.std.proofs.Common.{◌≡◌, ◌≢◌, ◌⊎◌, ℕ, ◌+◌, List, [], ◌∷◌, ◌++◌, length, map, true, Option, None, Some, Ok, inl, inr, refl, sym, ◌∙◌, ap, subst, append-nil, append_assoc, take_all, le_refl}
+use Rattle.std.proofs.lemmas.List.{map-append}
 use Rattle.std.proofs.lemmas.Option.{same_Some}
 use Rattle.ftl0_packets.specs.Layout.{Item, PacketValue, ul_go_resp}
 use Rattle.file_store.specs.Store.{Store}
@@ -168,3 +169,105 @@ module _ (store : Store) (files : List Asked) (c : ℕ) (base : Party) (a : Atte
         quiet = λ over. absurd (over (ap (λ (j : JobState). j.ending) goes.1.1 ∙ ap (λ (d : DuePacket JobState). d.state.ending) is.due_is));
         number = λ number is new. absurd is;
       }
+
+  -- ---- the attempt then
+
+  module _ (entry : JobEntry) (goes : GoesBy lists job_is (entry ∷ []) lists_now now.job) (front : TookFront a (entry ∷ []) side) where
+    abbrev b : Attempt
+    b = job_gone (entry ∷ []) now a
+
+    abbrev new : Party
+    new = with_job party lists_now now b older
+
+    at : Uploading store files base a older upload side
+    at = it entry goes front
+
+    done : EntryDoes store files base a older upload entry lists_now now
+    done = entry-does entry goes front
+
+    does-now : DoesUpload task known file b.client.entries now.job
+    does-now =
+        does-upload task known file b.client.entries now.job
+        (subst (λ (doing : Work). JobReaches (new_job doing) b.client.entries now.job) asked
+        (reaches-then a.client.entries (entry ∷ []) (new_job a.client.asked) job_is now.job w.reached (reaches-by (entry ∷ []) lists lists_now job_is now.job goes)))
+
+    says-now : SaysUpload known file b.client
+    says-now = by now.job.ending refl
+      where
+        before : SaysUpload known file a.client
+        before = subst (λ (doing : Work). Says doing a.client) asked w.facts.sessions.says.0
+
+        by : (o : Option Ending) → now.job.ending ≡ o → SaysUpload known file b.client
+        by None none = says-came known file b.client does-now.phase_is (does-now.came none)
+        by (Some ending) ended =
+            says-same known file a.client b.client before
+            (said-one a.client.entries entry
+            ∙ ap (λ (l : List PacketValue). said_by_client a.client ++ l) (done.quiet (λ none. (let no : Some ending ≡ None = sym ended ∙ none in cc no)))
+            ∙ append-nil (said_by_client a.client))
+            (λ packet taken. one-left (IsTaken (whole packet)) a.client.entries (entry ∷ []) taken)
+
+    notes-now : NotesKept store files party lists_now
+    notes-now =
+        subst (NotesKept store files party)
+        (ap (after_all lists) (take_all (length (job.commands_in (entry ∷ []))) (job.commands_in (entry ∷ [])) (le_refl (length (job.commands_in (entry ∷ [])))))
+        ∙ sym done.lists_are)
+        (done.fronts (length (job.commands_in (entry ∷ []))))
+
+    noted-now : (task_is number : ℕ) (file_is : List ℕ) → b.client.asked ≡ work.Upload (new_upload task_is 0 file_is)
+        → OneIs (IsTaken (whole (ul_go_resp number 0))) (a.client.entries ++ entry ∷ []) → NumberIn lists_now task_is number
+    noted-now task_is number file_is asks taken = by (one-cases (IsTaken (whole (ul_go_resp number 0))) a.client.entries (entry ∷ []) taken)
+      where
+        same : new_upload task known file ≡ new_upload task_is 0 file_is
+        same = upload-same (new_upload task known file) (new_upload task_is 0 file_is) (sym asked ∙ asks)
+
+        by : OneIs (IsTaken (whole (ul_go_resp number 0))) a.client.entries ⊎ OneIs (IsTaken (whole (ul_go_resp number 0))) (entry ∷ []) → NumberIn lists_now task_is number
+        by (inl old) =
+            let has : HasNumber party task_is number = w.facts.tasks.noted.0 task_is number file_is asks old in
+            notes-now.numbers task_is number (record { entry = has.entry; is_entry = has.is_entry; number_is = has.number_is; some = has.some })
+        by (inr (inl here)) =
+            subst (λ (t : ℕ). NumberIn lists_now t number) (ap (λ (u : Upload). u.task) same)
+            (done.number number here (ap (λ (u : Upload). u.known) same))
+        by (inr (inr none)) = absurd none
+
+    -- the session that receives is this one, and what is said behind what it took goes on with the file
+    receives-now : (that : ServerSide) (number : ℕ) (rest : List ℕ) → side ≡ that → (r : Receives store party a that number rest)
+        → GoesOnWith r.file (r.offset + octets_come that) (said_behind_server that b.client)
+    receives-now that number rest same r =
+        let greets = subst (λ (s : ServerSide). IsGreeting s.greeting) same front.greets in
+        let serves = subst (ServesUpload known file) same at.serves in
+        let heard = subst (λ (s : ServerSide). (packet : PacketValue) → OneIs (IsTaken (whole packet)) b.client.entries → Has (said_by_server s) packet) same
+        (heard-all a entry side front) in
+        let took = subst (λ (s : ServerSide). AreFirstOf (session.items_in s.entries) (map whole (said_by_client b.client))) same more in
+        let file_is : file ≡ r.file =
+        ap (λ (u : Upload). u.file) (upload-same (new_upload task known file) (new_upload r.task r.known r.file) (sym asked ∙ r.asks)) in
+        subst (λ (f : List ℕ). GoesOnWith f (r.offset + octets_come that) (said_behind_server that b.client)) file_is
+        (goes-behind known file that greets serves b.client says-now number r.offset r.offers heard took)
+      where
+        -- what the client says grows at its end
+        more : AreFirstOf (session.items_in side.entries) (map whole (said_by_client b.client))
+        more = (
+          front.server.0 ++ map whole (job.packets_said entry),
+          ap (map whole) (said-one a.client.entries entry) ∙ map-append whole (said_by_client a.client) (job.packets_said entry)
+          ∙ ap (λ (l : List Item). l ++ map whole (job.packets_said entry)) front.server.1
+          ∙ append_assoc (session.items_in side.entries) front.server.0 (map whole (job.packets_said entry)),
+        )
+
+    pub upload-kept : OneKept store files base a older entry lists_now now
+    upload-kept = record {
+      lists_are = done.lists_are;
+      fronts = done.fronts;
+      kept = record {
+        noted = λ task_is number file_is asks taken.
+            let n = noted-now task_is number file_is asks taken in
+            record { entry = n.entry; is_entry = n.is_entry; number_is = n.number_is; some = n.some };
+        receives = λ that number rest is up state r. receives-now that number rest (same_Some side that (sym front.is_side ∙ is)) r;
+        says = subst (λ (doing : Work). Says doing b.client) (sym asked) says-now;
+        fetching = λ is. subst (λ (doing : Work). FetchesBy now.job.ending doing store new b) (sym does-now.work_is) (nothing now.job.ending);
+        fetched = λ number is. absurd (never-fetched now.job.ending now.down number does-now.ended is);
+        asked_within = λ number offset has. absurd (no-download known file b.client number offset says-now has);
+      };
+    }
+      where
+        nothing : (o : Option Ending) → FetchesBy o (work.Upload (upload_at task known file does-now.phase_is)) store new b
+        nothing None = tt
+        nothing (Some ending) = tt
