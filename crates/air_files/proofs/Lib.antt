@@ -25,6 +25,8 @@ mod JobWorking
 mod LiftLemmas
 mod LikeLemmas
 mod ListFiles
+mod ListJob
+mod ListJobSaid
 mod ListRows
 mod ListServed
 mod ListSession
