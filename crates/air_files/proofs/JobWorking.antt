@@ -33,6 +33,7 @@ use Rattle.air_files.proofs.JobUploadSaid.{NeverFetched, one-left}
 -- a client whose current attempt is this one, over this store, before its job goes on
 pub record Working (store : Store) (files : List Asked) (c : ℕ) (base : Party) (a : Attempt) (older : List Attempt) : Type 0 where
   pub stands : Stands files c (of_attempts base a older)
+  pub link : base.client.attempt ≡ Some a.client.attempted
   pub begun : IsNotBegun a.client.asked
   pub reached : JobReaches (new_job a.client.asked) a.client.entries a.client.attempted.job
   pub job : JobStands a.client.asked base.client.lists a.client.attempted.job

@@ -1,6 +1,7 @@
 mod JobChange
 mod JobNotes
 mod JobOfUpload
+mod JobOne
 mod JobReach
 mod JobStep
 mod JobTook
