@@ -1,4 +1,5 @@
 mod JobChange
+mod JobEarlier
 mod JobNotes
 mod JobOfUpload
 mod JobOne
