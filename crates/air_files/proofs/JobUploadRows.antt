@@ -7,7 +7,7 @@ use Rattle.ftl0_job.specs.declared.ending.Outcome.TheVariants as outcome
 use Rattle.ftl0_job.specs.declared.phases.UploadPhase.{UploadPhase}
 use Rattle.ftl0_job.specs.declared.phases.UploadPhase.TheVariants as phase
 use Rattle.ftl0_job.specs.Row.{Row, ends, ends_later, goes_on, strange}
-use Rattle.ftl0_job.specs.Upload.{Upload, ack_row, error_row, go_resp_row, go_row, is_complete, login_row, may_go, number_commands, refusal_of, row_in}
+use Rattle.ftl0_job.specs.Upload.{Upload, ack_row, go_row, is_complete, login_row, may_go, number_commands, refusal_of}
 use Rattle.ftl0_job.specs.Upload.{sending_row, upload_row}
 
 -- the upload of a task's file, come so far

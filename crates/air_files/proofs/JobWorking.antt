@@ -1,6 +1,5 @@
 -- What stands where a job goes on by one entry, and what is to be shown then.
-use Rattle.std.proofs.Common.{◌≡◌, ℕ, List, [], ◌∷◌, ◌++◌, map, Option, None, Some, Ok, refl, sym, ◌∙◌, ap, subst}
-use Rattle.std.proofs.lemmas.List.Concat.{flat_map-append}
+use Rattle.std.proofs.Common.{◌≡◌, ℕ, List, [], ◌∷◌, ◌++◌, map, Option, None, Some}
 use Rattle.ax25_link.specs.declared.state.Why.{Why}
 use Rattle.ftl0_packets.specs.Layout.{Item, PacketValue}
 use Rattle.file_store.specs.Store.{Store}
@@ -33,6 +32,7 @@ use Rattle.air_files.proofs.JobUploadSaid.{NeverFetched, one-left}
 -- a client whose current attempt is this one, over this store, before its job goes on
 pub record Working (store : Store) (files : List Asked) (c : ℕ) (base : Party) (a : Attempt) (older : List Attempt) : Type 0 where
   pub stands : Stands files c (of_attempts base a older)
+  pub link : base.client.attempt ≡ Some a.client.attempted
   pub begun : IsNotBegun a.client.asked
   pub reached : JobReaches (new_job a.client.asked) a.client.entries a.client.attempted.job
   pub job : JobStands a.client.asked base.client.lists a.client.attempted.job

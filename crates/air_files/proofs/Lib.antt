@@ -11,8 +11,10 @@ mod FetchesOn
 mod FileOctets
 mod GoneLemmas
 mod JobChange
+mod JobEarlier
 mod JobNotes
 mod JobOfUpload
+mod JobOne
 mod JobReach
 mod JobStep
 mod JobTook

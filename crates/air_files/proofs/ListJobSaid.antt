@@ -1,8 +1,7 @@
 -- What a job that selects and lists has said, by how far it has come.
-use Rattle.std.proofs.Common.{◌≡◌, ◌≢◌, ◌⊎◌, inl, inr, ℕ, ◌==◌, List, [], ◌∷◌, ◌++◌, length, refl, ap, sym, ◌∙◌, subst, Bool, true, false, Option, None, Some, append-nil}
+use Rattle.std.proofs.Common.{◌≡◌, ◌≢◌, ℕ, ◌==◌, List, [], ◌∷◌, ◌++◌, length, refl, ap, sym, ◌∙◌, subst, Bool, true, false, Option, None, Some, append-nil}
 use Rattle.std.specs.Prelude.{Ok, Err, if◌then◌else◌, nat_lt}
 use Rattle.std.specs.List.{AllByRecursion}
-use Rattle.std.specs.Option.{option_map}
 use Rattle.ftl0_packets.specs.Items.{kind_of_item}
 use Rattle.ftl0_packets.specs.Layout.{Item, PacketValue, data_end, data_part, dir_short_cmd, dl_error_resp, kind_of, login_resp, select_cmd, select_resp}
 use Rattle.client_notes.specs.Notes.{Lists}
@@ -18,7 +17,7 @@ use Rattle.ftl0_job.specs.Due.{DuePacket, due_by, next_due}
 use Rattle.ftl0_job.specs.Row.{Row, ends, goes_on, strange}
 use Rattle.ftl0_job.specs.Short.{are_short_headers}
 use Rattle.ftl0_job.specs.Table.{JobState, item_row, job_after, new_job, row_of}
-use Rattle.ftl0_client.specs.Entries.{JobEntry, after_losing, lost, packets_said, passed, queued, said_in, took}
+use Rattle.ftl0_client.specs.Entries.{JobEntry, after_losing, lost, passed, said_in, took}
 use Rattle.air_attempt.specs.Sides.{JobReaches}
 use Rattle.air_files.specs.Dialogue.{IsListSaid}
 use Rattle.air_files.proofs.JobReach.{Stays, of-reached}

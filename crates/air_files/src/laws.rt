@@ -1,6 +1,6 @@
 //! Laws of what a client's tasks, attempts and files have of the store, each the contract of a function that does nothing.
 
-ghost use Rattle.air_files.specs.Laws.{IsDirectoryOf, IsDownloadOf, IsOne, SessionLawOf};
+ghost use Rattle.air_files.specs.Laws.{IsDirectoryOf, IsDownloadOf, IsOne, IsUploadOf, JobLawOf, SessionLawOf};
 
 use ftl0_session::laws::downloads_law;
 
@@ -17,3 +17,13 @@ pub fn session_of_list_law()
 {
     downloads_law();
 }
+
+/// One entry of a job that uploads a file keeps the client's facts.
+pub fn job_of_upload_law()
+    ensures { JobLawOf IsUploadOf IsOne }
+{}
+
+/// So does one of a job that selects and lists.
+pub fn job_of_list_law()
+    ensures { JobLawOf IsDirectoryOf IsOne }
+{}
