@@ -9,6 +9,7 @@ mod DownloadServed
 mod DownloadSession
 mod FetchesOn
 mod FileOctets
+mod GotKept
 mod GoneLemmas
 mod JobChange
 mod JobEarlier

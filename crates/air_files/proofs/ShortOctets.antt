@@ -88,11 +88,15 @@ whole-rules : (holding : Holding) → IsTrue (is_complete holding) → KeepsRule
 whole-rules (partial held) is keeps = absurd (cc)
 whole-rules (complete octets moment) is keeps = keeps
 
+-- a complete file has no fault
+pub whole-fault : (store : Store) (number : ℕ) → IsSoundStore store → IsCompleteIn store number → fault_code (octets_in store number) ≡ None
+whole-fault store number sound is =
+    let keeps = found-such (λ (e : Entry). KeepsRules e.holding) (λ (e : Entry). e.number == number) store.entries is.0 is.1 sound.keeps_rules in
+    ap (λ (o : Option Entry). fault_code (octets_at o)) is.1 ∙ whole-rules is.0.holding is.2 keeps
+
 pub short-octets : (store : Store) (number : ℕ) → IsSoundStore store → IsCompleteIn store number → IsOctets (short_octets (octets_in store number))
 short-octets store number sound is =
-    let keeps = found-such (λ (e : Entry). KeepsRules e.holding) (λ (e : Entry). e.number == number) store.entries is.0 is.1 sound.keeps_rules in
-    let rules : fault_code (octets_in store number) ≡ None = ap (λ (o : Option Entry). fault_code (octets_at o)) is.1 ∙ whole-rules is.0.holding is.2 keeps in
-    short-octets-of (header_items (octets_in store number)) (file-items (octets_in store number) (octets-entry store number sound) rules)
+    short-octets-of (header_items (octets_in store number)) (file-items (octets_in store number) (octets-entry store number sound) (whole-fault store number sound is))
 
 pub shorts-octets : (store : Store) (numbers : List ℕ) → IsSoundStore store → AreFiles store numbers → IsOctets (flat_map (λ number. short_octets (octets_in store number)) numbers)
 shorts-octets store [] sound are = All-nil _
