@@ -2,6 +2,8 @@ mod ApartLemmas
 mod DownloadComing
 mod DownloadDue
 mod DownloadEntry
+mod DownloadJobRows
+mod DownloadJobSaid
 mod DownloadNext
 mod DownloadQueued
 mod DownloadRows
