@@ -2,6 +2,7 @@ mod ApartLemmas
 mod DownloadComing
 mod DownloadDue
 mod DownloadEntry
+mod DownloadJobHeard
 mod DownloadJobRows
 mod DownloadJobSaid
 mod DownloadNext
