@@ -3,6 +3,7 @@ mod DownloadComing
 mod DownloadDue
 mod DownloadEntry
 mod DownloadJobHeard
+mod DownloadJobNotes
 mod DownloadJobRows
 mod DownloadJobSaid
 mod DownloadNext
