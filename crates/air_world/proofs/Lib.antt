@@ -1,4 +1,5 @@
 mod ClientBasics
+mod ClientBegun
 mod ClientHeard
 mod ClientMade
 mod ClientQuiet
