@@ -47,7 +47,7 @@ fewer-behind file (suc n) place (packet ∷ packets) more goes = fewer-behind fi
 
 -- ---- an outcome stays
 
-reached-none : (down : Option Why) (reached : Outcome) → outcome_by None down ≡ Some (Reached reached) → ⊥
+pub reached-none : (down : Option Why) (reached : Outcome) → outcome_by None down ≡ Some (Reached reached) → ⊥
 reached-none None reached is = cc
 reached-none (Some why) reached is = let no : LinkDown why ≡ Reached reached = cc in cc no
 

@@ -1,10 +1,13 @@
+mod JobAll
 mod JobChange
 mod JobEarlier
 mod JobNotes
 mod JobOfUpload
 mod JobOne
 mod JobReach
+mod JobSays
 mod JobStep
+mod JobStill
 mod JobTook
 mod JobUploadCases
 mod JobUploadGoes
