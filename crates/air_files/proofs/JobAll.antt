@@ -1,5 +1,6 @@
 -- Any entries of a job keep its client's facts, since each one does.
 use Rattle.std.proofs.Common.{◌≡◌, ◌⊎◌, ℕ, ◌+◌, ◌-◌, ◌<◌, ◌≤◌, List, [], ◌∷◌, ◌++◌, length, take, map, Option, None, Some, Ok, inl, inr, refl, sym, ◌∙◌, ap, subst, append_assoc, append-nil, take_all, le_refl, le_of_lt, arith}
+use Rattle.std.specs.Prelude.{⊤}
 use Rattle.std.proofs.lemmas.Bool.{cases_lt}
 use Rattle.std.proofs.lemmas.List.{map-append, take-append-le}
 use Rattle.std.proofs.lemmas.List.Concat.{flat_map-append}
@@ -13,13 +14,15 @@ use Rattle.client_notes.specs.Laws.{after_all}
 use Rattle.client_notes.specs.Notes.{Lists, Task}
 use Rattle.client_notes.specs.Several as notes
 use Rattle.client_notes.proofs.Offered.{after_all-append, after_first-then}
+use Rattle.ftl0_job.specs.declared.ending.Outcome.{Outcome}
 use Rattle.ftl0_job.specs.declared.work.Work.{Work}
 use Rattle.ftl0_job.specs.declared.work.Work.TheVariants as work
 use Rattle.ftl0_job.specs.Laws.{DueLaw, PromisesLaw}
 use Rattle.ftl0_job.specs.Promises.{EndPromises, JobStands}
 use Rattle.ftl0_job.specs.Row.{Row, strange_ending}
 use Rattle.ftl0_job.specs.Table.{JobState, job_after, job_row, new_job}
-use Rattle.ftl0_client.specs.Attempt.Attempted.{Attempted}
+use Rattle.ftl0_client.specs.Attempt.Attempted.{Attempted, outcome_of}
+use Rattle.ftl0_client.specs.declared.attempt.outcome.AttemptOutcome.TheVariants.{Reached}
 use Rattle.ftl0_client.specs.Entries as job
 use Rattle.ftl0_client.specs.Entries.{GoesBy, JobEntry, after_losing, lost, passed, queued, took}
 use Rattle.air_attempt.specs.Attempt.{Attempt}
@@ -155,3 +158,95 @@ module _ (promises : PromisesLaw) (due_stands : DueLaw) where
       subst (λ (l : Lists). JobStands asked l now) (sym goes.1.0) (subst (JobStands asked lists) (sym goes.1.1) stands)
   job-then asked (queued due) lists lists_now before now goes stands =
       subst (λ (l : Lists). JobStands asked l now) (sym goes.1.0) (subst (JobStands asked lists) (sym goes.1.1) (due_stands asked lists before due stands goes.0))
+
+  -- ---- one entry, and the others behind it
+
+  module _ (one : OneLaw (λ asked. ⊤)) (store : Store) (files : List Asked) (c : ℕ) where
+    -- the client behind an entry
+    working-then : (base : Party) (a : Attempt) (older : List Attempt) → Working store files c base a older → (entry : JobEntry) (lists : Lists) (now : Attempted)
+        → GoesBy base.client.lists a.client.attempted.job (entry ∷ []) lists now.job → (kept : OneKept store files base a older entry lists now)
+        → Working store files c (with_job (of_attempts base a older) lists now (job_gone (entry ∷ []) now a) older) (job_gone (entry ∷ []) now a) older
+    working-then base a older w entry lists now goes kept = record {
+      stands = stands-then store files c base a older entry lists now w.stands notes-now;
+      link = refl;
+      begun = w.begun;
+      reached =
+          reaches-then a.client.entries (entry ∷ []) (new_job a.client.asked) a.client.attempted.job now.job w.reached
+          (reaches-by (entry ∷ []) base.client.lists lists a.client.attempted.job now.job goes);
+      job = job-then a.client.asked entry base.client.lists lists a.client.attempted.job now.job goes w.job;
+      sound = w.sound;
+      facts = (keeps-by store files base a older w.facts (entry ∷ []) lists now kept.fronts kept.lists_are kept.kept).facts;
+    }
+      where
+        commands : List NotesCommand
+        commands = job.commands_in (entry ∷ [])
+
+        notes-now : NotesKept store files (of_attempts base a older) lists
+        notes-now =
+            subst (NotesKept store files (of_attempts base a older))
+            (ap (after_all base.client.lists) (take_all (length commands) commands (le_refl (length commands))) ∙ sym kept.lists_are) (kept.fronts (length commands))
+
+    -- what is kept with the first entry and then with the others is kept with all
+    keeps-then : (base : Party) (a : Attempt) (older : List Attempt) → Working store files c base a older → (entry : JobEntry) (entries : List JobEntry)
+        (lists_then lists : Lists) (then_is now : Attempted) → ((reached : Outcome) → outcome_of a.client.attempted ≡ Some (Reached reached) → outcome_of then_is ≡ Some (Reached reached))
+        → OneKept store files base a older entry lists_then then_is
+        → JobKeeps store files (of_attempts (with_job (of_attempts base a older) lists_then then_is (job_gone (entry ∷ []) then_is a) older) (job_gone (entry ∷ []) then_is a) older)
+          (with_job (of_attempts base a older) lists now (job_gone entries now (job_gone (entry ∷ []) then_is a)) older) entries
+        → JobKeeps store files (of_attempts base a older) (with_job (of_attempts base a older) lists now (job_gone (entry ∷ entries) now a) older) (entry ∷ entries)
+    keeps-then base a older w entry entries lists_then lists then_is now stays kept others = record {
+      facts =
+          subst (λ (es : List JobEntry). HasFacts store files (with_job (of_attempts base a older) lists now (moved a now es) older))
+          (append_assoc a.client.entries (entry ∷ []) entries) others.facts;
+      during = λ count. by count (cases_lt count (length (job.commands_of entry)));
+    }
+      where
+        party : Party
+        party = of_attempts base a older
+
+        first : List NotesCommand
+        first = job.commands_of entry
+
+        behind : List NotesCommand
+        behind = job.commands_in entries
+
+        -- with the commands of the first entry alone
+        within : (count : ℕ) → count ≤ length first → HasFacts store files (started_with (of_attempts base a older) (notes.after_first count base.client.lists (first ++ behind)))
+        within count few =
+            subst (λ (cs : List NotesCommand). HasFacts store files (started_with (of_attempts base a older) (after_all base.client.lists cs)))
+            (ap (take count) (append-nil first) ∙ sym (take-append-le count first behind few))
+            (left store files base a older w.facts (notes.after_first count base.client.lists (first ++ [])) (kept.fronts count))
+
+        -- with commands of the others too
+        beyond : (count : ℕ) → HasFacts store files (started_with (of_attempts base a older) (notes.after_first (length first + count) base.client.lists (first ++ behind)))
+        beyond count =
+            subst (λ (l : Lists). HasFacts store files (started_with (of_attempts base a older) l))
+            (ap (λ (l : Lists). notes.after_first count l behind) (kept.lists_are ∙ ap (after_all base.client.lists) (append-nil first))
+            ∙ sym (after_first-then count first behind base.client.lists))
+            (earlier store files base a older entry then_is (notes.after_first count lists_then behind) stays w.facts (others.during count))
+
+        by : (count : ℕ) → (count < length first) ⊎ (length first ≤ count)
+            → HasFacts store files (started_with (of_attempts base a older) (notes.after_first count base.client.lists (first ++ behind)))
+        by count (inl few) = within count (le_of_lt few)
+        by count (inr many) =
+            let sum : length first + (count - length first) ≡ count = omega (arith, many) in
+            subst (λ (n : ℕ). HasFacts store files (started_with (of_attempts base a older) (notes.after_first n base.client.lists (first ++ behind)))) sum
+            (beyond (count - length first))
+
+    keeps-all : (entries : List JobEntry) (base : Party) (a : Attempt) (older : List Attempt) → Working store files c base a older → (lists : Lists) (now : Attempted)
+        → GoesBy base.client.lists a.client.attempted.job entries lists now.job → JobTookFront a entries
+        → JobKeeps store files (of_attempts base a older) (with_job (of_attempts base a older) lists now (job_gone entries now a) older) entries
+    keeps-all [] base a older w lists now goes front = keeps-none store files base a older now goes.1 w.facts w.link lists goes.0
+    keeps-all (entry ∷ entries) base a older w lists now goes front =
+        let split = first-goes base.client.lists a.client.attempted.job entry entries lists now.job goes in
+        let then_is : Attempted = record a.client.attempted { job = split.then_is } in
+        let kept = one store files c base a older w tt entry split.lists_then then_is split.first front.0 (first-front a entry entries front.0 front.1) in
+        keeps-then base a older w entry entries split.lists_then lists then_is now
+        (λ reached is. outcome-stays entry base.client.lists split.lists_then a.client.attempted.job split.then_is a.client.attempted.down reached split.first is) kept
+        (keeps-all entries (with_job (of_attempts base a older) split.lists_then then_is (job_gone (entry ∷ []) then_is a) older) (job_gone (entry ∷ []) then_is a) older
+        (working-then base a older w entry split.lists_then then_is split.first kept) lists now split.others (other-front a entry entries front.0 front.1 then_is))
+
+  -- any entries of a job of whatever work
+  pub job-law : OneLaw (λ asked. ⊤) → JobLaw
+  job-law one store files c party entries lists now works kind such goes =
+      keeps-same store files party (with_job party lists now (job_gone entries now works.attempt) works.older) works.attempt works.older entries works.attempts_are
+      (keeps-all one store files c entries party works.attempt works.older (working store files c party works) lists now goes.goes goes.front)
