@@ -1,6 +1,7 @@
 mod JobAll
 mod JobChange
 mod JobEarlier
+mod JobFetchNotes
 mod JobNotes
 mod JobOfUpload
 mod JobOne
