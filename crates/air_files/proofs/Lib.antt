@@ -1,6 +1,7 @@
 mod JobAll
 mod JobChange
 mod JobEarlier
+mod JobFetchEnd
 mod JobFetchNotes
 mod JobNotes
 mod JobOfUpload
