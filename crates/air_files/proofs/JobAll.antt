@@ -1,26 +1,25 @@
 -- Any entries of a job keep its client's facts, since each one does.
-use Rattle.std.proofs.Common.{◌≡◌, ◌⊎◌, ℕ, ◌+◌, ◌-◌, ◌<◌, ◌≤◌, List, [], ◌∷◌, ◌++◌, length, take, map, Option, None, Some, Ok, inl, inr, refl, sym, ◌∙◌, ap, subst, append_assoc, append-nil, take_all, le_refl, le_of_lt, arith}
+use Rattle.std.proofs.Common.{◌≡◌, ◌⊎◌, ℕ, ◌+◌, ◌-◌, ◌<◌, ◌≤◌, List, [], ◌∷◌, ◌++◌, length, take, map, Some, inl, inr, refl, sym, ◌∙◌, ap, subst, append_assoc, append-nil, take_all, le_refl, le_of_lt, arith}
 use Rattle.std.specs.Prelude.{⊤}
 use Rattle.std.proofs.lemmas.Bool.{cases_lt}
 use Rattle.std.proofs.lemmas.List.{map-append, take-append-le}
 use Rattle.std.proofs.lemmas.List.Concat.{flat_map-append}
-use Rattle.px_base.specs.CallSign.{CallSign}
 use Rattle.ftl0_packets.specs.Items.{kind_of_item}
-use Rattle.ftl0_packets.specs.Layout.{Item, PacketValue}
+use Rattle.ftl0_packets.specs.Layout.{Item}
 use Rattle.file_store.specs.Store.{Store}
 use Rattle.ftl0_server.specs.Entries as session
 use Rattle.client_notes.specs.Command.{NotesCommand}
 use Rattle.client_notes.specs.Laws.{after_all}
 use Rattle.client_notes.specs.Notes.{Lists, Task}
 use Rattle.client_notes.specs.Several as notes
-use Rattle.client_notes.proofs.Offered.{after_all-append, after_first-then}
+use Rattle.client_notes.proofs.Offered.{after_first-then}
 use Rattle.ftl0_job.specs.declared.ending.Outcome.{Outcome}
 use Rattle.ftl0_job.specs.declared.work.Work.{Work}
 use Rattle.ftl0_job.specs.declared.work.Work.TheVariants as work
 use Rattle.ftl0_job.specs.Laws.{DueLaw, PromisesLaw}
 use Rattle.ftl0_job.specs.Promises.{EndPromises, JobStands}
 use Rattle.ftl0_job.specs.Row.{Row, strange_ending}
-use Rattle.ftl0_job.specs.Table.{JobState, job_after, job_row, new_job}
+use Rattle.ftl0_job.specs.Table.{JobState, job_after, new_job}
 use Rattle.ftl0_client.specs.Attempt.Attempted.{Attempted, outcome_of}
 use Rattle.ftl0_client.specs.declared.attempt.outcome.AttemptOutcome.TheVariants.{Reached}
 use Rattle.ftl0_client.specs.Entries as job
@@ -28,10 +27,10 @@ use Rattle.ftl0_client.specs.Entries.{GoesBy, JobEntry, after_losing, lost, pass
 use Rattle.air_attempt.specs.Attempt.{Attempt}
 use Rattle.air_attempt.specs.Lists.{AreFirstOf}
 use Rattle.air_attempt.specs.Party.{Asked, Party}
-use Rattle.air_attempt.specs.Sides.{JobReaches, ServerSide, said_by_client, said_by_server}
+use Rattle.air_attempt.specs.Sides.{ServerSide, said_by_client, said_by_server}
 use Rattle.air_files.specs.Facts.{HasFacts}
 use Rattle.air_files.specs.Laws.{JobKeeps, JobLaw, JobTookFront, Stands, TookFront, job_gone, started_with, with_job}
-use Rattle.air_files.specs.Tasks.{AreTasks, IsWork}
+use Rattle.air_files.specs.Tasks.{IsWork}
 use Rattle.air_files.proofs.JobChange.{each-so, moved}
 use Rattle.air_files.proofs.JobEarlier.{earlier, outcome-stays}
 use Rattle.air_files.proofs.JobNotes.{NotesKept}
@@ -73,7 +72,7 @@ module _ (a : Attempt) (entry : JobEntry) (entries : List JobEntry) (side : Serv
     client = (
       job.items_in entries ++ front.client.0,
       front.client.1 ∙ ap (λ (l : List Item). l ++ front.client.0) items-then
-      ∙ append_assoc (job.items_in (a.client.entries ++ entry ∷ [])) (job.items_in entries) front.client.0,
+          ∙ append_assoc (job.items_in (a.client.entries ++ entry ∷ [])) (job.items_in entries) front.client.0,
     );
     server = front.server;
   }
@@ -92,8 +91,8 @@ module _ (a : Attempt) (entry : JobEntry) (entries : List JobEntry) (side : Serv
           server = (
             front.server.0 ++ map whole (job.packets_said entry),
             ap (map whole) (said-one a.client.entries entry) ∙ map-append whole (said_by_client a.client) (job.packets_said entry)
-            ∙ ap (λ (l : List Item). l ++ map whole (job.packets_said entry)) front.server.1
-            ∙ append_assoc (session.items_in side.entries) front.server.0 (map whole (job.packets_said entry)),
+                ∙ ap (λ (l : List Item). l ++ map whole (job.packets_said entry)) front.server.1
+                ∙ append_assoc (session.items_in side.entries) front.server.0 (map whole (job.packets_said entry)),
           );
         },
       )
@@ -191,7 +190,7 @@ module _ (promises : PromisesLaw) (due_stands : DueLaw) where
         (lists_then lists : Lists) (then_is now : Attempted) → ((reached : Outcome) → outcome_of a.client.attempted ≡ Some (Reached reached) → outcome_of then_is ≡ Some (Reached reached))
         → OneKept store files base a older entry lists_then then_is
         → JobKeeps store files (of_attempts (with_job (of_attempts base a older) lists_then then_is (job_gone (entry ∷ []) then_is a) older) (job_gone (entry ∷ []) then_is a) older)
-          (with_job (of_attempts base a older) lists now (job_gone entries now (job_gone (entry ∷ []) then_is a)) older) entries
+        (with_job (of_attempts base a older) lists now (job_gone entries now (job_gone (entry ∷ []) then_is a)) older) entries
         → JobKeeps store files (of_attempts base a older) (with_job (of_attempts base a older) lists now (job_gone (entry ∷ entries) now a) older) (entry ∷ entries)
     keeps-then base a older w entry entries lists_then lists then_is now stays kept others = record {
       facts =

@@ -83,27 +83,27 @@ module _ (store : Store) (files : List Asked) (base : Party) (lists now_lists : 
       offered = f.sessions.offered;
       receives = (
         some-so a.server
-        (λ side is h number rest up state.
-        let r = h number rest up state in
-        record {
-          task = r.task;
-          known = r.known;
-          file = r.file;
-          asks = r.asks;
-          entry = r.entry;
-          is_entry = r.is_entry;
-          held = r.held;
-          holds = r.holds;
-          caller_is = r.caller_is;
-          length_is = r.length_is;
-          few = r.few;
-          offset = r.offset;
-          offers = r.offers;
-          came = r.came;
-          within = r.within;
-          goes_on = c.receives side number rest is up state r;
-        })
-        f.sessions.receives.0,
+            (λ side is h number rest up state.
+            let r = h number rest up state in
+            record {
+              task = r.task;
+              known = r.known;
+              file = r.file;
+              asks = r.asks;
+              entry = r.entry;
+              is_entry = r.is_entry;
+              held = r.held;
+              holds = r.holds;
+              caller_is = r.caller_is;
+              length_is = r.length_is;
+              few = r.few;
+              offset = r.offset;
+              offers = r.offers;
+              came = r.came;
+              within = r.within;
+              goes_on = c.receives side number rest is up state r;
+            })
+            f.sessions.receives.0,
         each-so older (λ x if. some-so x.server (λ side is h number rest up state. receive x side number rest (h number rest up state)) if) f.sessions.receives.1,
       );
       due = f.sessions.due;

@@ -1,5 +1,5 @@
 -- What holds of a client whose job went on by an entry holds of it as it was before, with the newer notes.
-use Rattle.std.proofs.Common.{◌≡◌, ◌⊎◌, ℕ, ◌+◌, ◌≤◌, List, [], ◌∷◌, ◌++◌, length, drop, Option, None, Some, inl, inr, refl, sym, ◌∙◌, ap, subst, suc, zero, arith}
+use Rattle.std.proofs.Common.{◌≡◌, ℕ, ◌+◌, List, [], ◌∷◌, ◌++◌, length, drop, Option, None, Some, refl, sym, ◌∙◌, ap, subst, suc, zero}
 use Rattle.ax25_link.specs.declared.state.Why.{Why}
 use Rattle.ftl0_packets.specs.Layout.{PacketValue, data_end, data_part, download_cmd, ul_go_resp}
 use Rattle.file_store.specs.Store.{Store}
@@ -9,10 +9,9 @@ use Rattle.ftl0_job.specs.declared.ending.Ending.{Ending}
 use Rattle.ftl0_job.specs.declared.ending.Outcome.{Outcome}
 use Rattle.ftl0_job.specs.declared.ending.Outcome.TheVariants as outcome
 use Rattle.ftl0_job.specs.declared.work.Work.{Work}
-use Rattle.ftl0_job.specs.Due.{DuePacket, due_by, next_due}
+use Rattle.ftl0_job.specs.Due.{DuePacket, due_by}
 use Rattle.ftl0_job.specs.Table.{JobState}
 use Rattle.ftl0_client.specs.Attempt.Attempted.{Attempted, outcome_by, outcome_of}
-use Rattle.ftl0_client.specs.declared.attempt.outcome.AttemptOutcome.{AttemptOutcome}
 use Rattle.ftl0_client.specs.declared.attempt.outcome.AttemptOutcome.TheVariants.{LinkDown, Reached}
 use Rattle.ftl0_client.specs.Entries as job
 use Rattle.ftl0_client.specs.Entries.{GoesBy, JobEntry, lost, passed, queued, took}
@@ -91,9 +90,9 @@ earlier store files base a older entry now lists stays before facts =
       fetched = ((λ number is. facts.files_got.fetched.0 number (stays (outcome.Fetched number) is)), facts.files_got.fetched.1);
       asked_within = (
         (λ number offset has.
-        facts.files_got.asked_within.0 number offset
-        (subst (λ (l : List PacketValue). Has l (download_cmd number offset 0)) (sym (said-one a.client.entries entry))
-        (one-left (λ (p : PacketValue). p ≡ download_cmd number offset 0) (job.said_in a.client.entries) (job.packets_said entry) has))),
+            facts.files_got.asked_within.0 number offset
+            (subst (λ (l : List PacketValue). Has l (download_cmd number offset 0)) (sym (said-one a.client.entries entry))
+            (one-left (λ (p : PacketValue). p ≡ download_cmd number offset 0) (job.said_in a.client.entries) (job.packets_said entry) has))),
         facts.files_got.asked_within.1,
       );
     })

@@ -1,15 +1,14 @@
 -- A file whose DATA_END was taken came whole, and no offset was refused as one above its length.
-use Rattle.std.proofs.Common.{◌≡◌, ◌≢◌, ◌⊎◌, ℕ, ◌+◌, ◌-◌, ◌≤◌, List, [], ◌∷◌, ◌++◌, length, drop, map, Option, None, Some, Ok, inl, inr, refl, sym, ◌∙◌, ap, subst, arith, append_assoc, length-append, length-drop}
+use Rattle.std.proofs.Common.{◌≡◌, ◌≢◌, ◌⊎◌, ℕ, ◌+◌, ◌-◌, List, [], ◌∷◌, ◌++◌, length, drop, map, None, inl, inr, refl, sym, ◌∙◌, ap, subst, arith, append_assoc, length-drop}
 use Rattle.std.specs.List.{concat}
-use Rattle.std.proofs.lemmas.List.{map-append}
-use Rattle.ftl0_packets.specs.Layout.{Item, PacketValue, data_end, data_part, dl_aborted_resp, dl_ack_cmd, dl_completed_resp, dl_error_resp, dl_nak_cmd, download_cmd, login_resp}
+use Rattle.ftl0_packets.specs.Layout.{Item, PacketValue, data_end, data_part, dl_aborted_resp, dl_completed_resp, dl_error_resp, download_cmd, login_resp}
 use Rattle.pfh_items.specs.Faults.{fault_code}
 use Rattle.file_store.specs.Store.{Store}
 use Rattle.ftl0_server.specs.Entries as session
-use Rattle.air_attempt.specs.Lists.{AreFirstOf, Has, OneIs}
+use Rattle.air_attempt.specs.Lists.{AreFirstOf, Has}
 use Rattle.air_attempt.specs.Said.{octets_of_item, octets_taken}
 use Rattle.air_attempt.specs.Sides.{IsGreeting, ServerSide, said_by_server}
-use Rattle.air_files.specs.DownloadDialogue.{AreAllSent, AreSent, IsLast, IsWord, Sending, ServesDownload, ended, refused, sending_items, sending_said, sends, unasked, waits}
+use Rattle.air_files.specs.DownloadDialogue.{AreAllSent, AreSent, IsLast, Sending, ServesDownload, ended, refused, sending_items, sending_said, sends, unasked, waits}
 use Rattle.air_files.specs.Facts.{AreFirstIfAny}
 use Rattle.air_files.specs.SoundStore.{IsSoundStore}
 use Rattle.air_files.proofs.JobFetchNotes.{sound-file, whole-file}

@@ -1,12 +1,12 @@
 -- What is noted of a file that comes keeps the facts: it is the front of a complete file.
-use Rattle.std.proofs.Common.{◌≡◌, ◌≢◌, ◌⊎◌, ℕ, ◌+◌, ◌-◌, ◌*◌, ◌/◌, ◌≤◌, Bool, true, false, List, [], ◌∷◌, ◌++◌, length, take, drop, Option, None, Some, inl, inr, refl, sym, ◌∙◌, ap, subst, suc, zero, arith, append_assoc, append-nil, length-append, take-append-drop, le_refl, ⊎_elim}
-use Rattle.std.specs.Prelude.{◌==◌, ◌&&◌, ◌<◌, All, find, if◌then◌else◌, option_and_then, option_map, slice_get, ⊤}
+use Rattle.std.proofs.Common.{◌≡◌, ◌≢◌, ℕ, ◌+◌, ◌-◌, ◌/◌, ◌≤◌, Bool, true, false, List, [], ◌∷◌, ◌++◌, length, take, drop, Option, None, Some, refl, sym, ◌∙◌, ap, subst, suc, zero, arith, append_assoc, append-nil, length-append, take-append-drop, le_refl, ⊎_elim}
+use Rattle.std.specs.Prelude.{◌==◌, ◌&&◌, ◌<◌, find, if◌then◌else◌, option_and_then, option_map, slice_get, ⊤}
 use Rattle.std.specs.List.{AllByRecursion}
 use Rattle.std.proofs.lemmas.Bool.Decides.{eqb_tells, nat_tests}
-use Rattle.std.proofs.lemmas.List.{append_cancel_left, take-append-le, take_all}
+use Rattle.std.proofs.lemmas.List.{take-append-le, take_all}
 use Rattle.std.proofs.lemmas.List.Elements.{All-take}
 use Rattle.px_base.specs.CallSign.{CallSign}
-use Rattle.px_base.specs.Octets.{IsFront, IsOctets}
+use Rattle.px_base.specs.Octets.{IsOctets}
 use Rattle.pfh_items.specs.declared.fault.FileFault.{FileFault}
 use Rattle.pfh_items.specs.Faults.{code_of, fault_code, first_fault}
 use Rattle.pfh_items.proofs.Offered.{no_fault, no_front}
@@ -15,15 +15,14 @@ use Rattle.file_store.specs.Store.{Entry, Holding, Store, complete, entry_of, oc
 use Rattle.ftl0_session.specs.Downloads.Table.{complete_octets, file_of}
 use Rattle.client_notes.specs.Answers.{noted_as}
 use Rattle.client_notes.specs.Command.{NotesCommand, after, got as got_more, got_file}
-use Rattle.client_notes.specs.Laws.{after_all}
 use Rattle.client_notes.specs.Notes.{Lists, Task, got_of, is_file_of, is_same_call, task_of}
 use Rattle.client_notes.specs.Several as notes
 use Rattle.client_notes.proofs.Offered.{got-append, tasks_law}
 use Rattle.ftl0_job.specs.Download.{gots, last_got, whole_gots}
 use Rattle.air_attempt.specs.Party.{Asked, Party}
-use Rattle.air_files.specs.Facts.{AreFirstIfAny, AreFirstOf, HasFacts, got}
+use Rattle.air_files.specs.Facts.{AreFirstIfAny, HasFacts, got}
 use Rattle.air_files.specs.SoundStore.{IsSoundStore}
-use Rattle.air_files.proofs.JobNotes.{NotesKept, SameTasks}
+use Rattle.air_files.proofs.JobNotes.{NotesKept}
 
 -- ---- complete files
 

@@ -1,31 +1,29 @@
 -- One entry of a job that uploads a file keeps its client's facts.
-use Rattle.std.proofs.Common.{◌≡◌, ◌≢◌, ◌⊎◌, ℕ, ◌+◌, List, [], ◌∷◌, ◌++◌, length, map, true, Option, None, Some, Ok, inl, inr, refl, sym, ◌∙◌, ap, subst, append-nil, append_assoc, take_all, le_refl}
+use Rattle.std.proofs.Common.{◌≡◌, ◌≢◌, ◌⊎◌, ℕ, ◌+◌, List, [], ◌∷◌, ◌++◌, length, map, Option, None, Some, inl, inr, refl, sym, ◌∙◌, ap, subst, append-nil, append_assoc, take_all, le_refl}
 use Rattle.std.proofs.lemmas.List.{map-append}
 use Rattle.std.proofs.lemmas.Option.{same_Some}
 use Rattle.ftl0_packets.specs.Layout.{Item, PacketValue, ul_go_resp}
 use Rattle.file_store.specs.Store.{Store}
-use Rattle.ftl0_session.specs.Table.{receiving}
 use Rattle.ftl0_server.specs.Entries as session
 use Rattle.client_notes.specs.Laws.{after_all}
 use Rattle.client_notes.specs.Notes.{Lists}
 use Rattle.client_notes.specs.Several as notes
 use Rattle.ftl0_job.specs.declared.ending.Ending.{Ending}
-use Rattle.ftl0_job.specs.declared.phases.UploadPhase.{UploadPhase}
 use Rattle.ftl0_job.specs.declared.work.Work.{Work}
 use Rattle.ftl0_job.specs.declared.work.Work.TheVariants as work
 use Rattle.ftl0_job.specs.Due.{DuePacket}
 use Rattle.ftl0_job.specs.JobState.{GoBy, HasTask, IsNotBegun}
 use Rattle.ftl0_job.specs.Row.{Row}
-use Rattle.ftl0_job.specs.Table.{JobState, item_row, job_after, job_row, new_job, row_of}
+use Rattle.ftl0_job.specs.Table.{JobState, item_row, job_row, new_job, row_of}
 use Rattle.ftl0_job.specs.Upload.{Upload, new_upload, upload_row}
 use Rattle.ftl0_client.specs.Attempt.Attempted.{Attempted}
 use Rattle.ftl0_client.specs.Entries as job
 use Rattle.ftl0_client.specs.Entries.{GoesBy, JobEntry, lost, passed, queued, took}
 use Rattle.air_attempt.specs.Attempt.{Attempt}
 use Rattle.air_attempt.specs.Lists.{AreFirstOf, Has, OneIs}
-use Rattle.air_attempt.specs.Party.{Asked, IsFileOf, Party}
+use Rattle.air_attempt.specs.Party.{Asked, Party}
 use Rattle.air_attempt.specs.Said.{IsTaken, octets_come, said_behind_server}
-use Rattle.air_attempt.specs.Sides.{ClientSide, IsGreeting, JobReaches, ServerSide, said_by_client, said_by_server}
+use Rattle.air_attempt.specs.Sides.{IsGreeting, JobReaches, ServerSide, said_by_client, said_by_server}
 use Rattle.air_files.specs.Dialogue.{Says, Serves}
 use Rattle.air_files.specs.Facts.{FetchesBy, HasNumber, Receives}
 use Rattle.air_files.specs.Laws.{TookFront, job_gone, with_job}
@@ -33,13 +31,13 @@ use Rattle.air_files.specs.Tasks.{IsWork}
 use Rattle.air_files.specs.UploadDialogue.{GoesOnWith, SaysUpload, ServesUpload}
 use Rattle.air_files.proofs.JobNotes.{NotesKept, NumberIn}
 use Rattle.air_files.proofs.JobReach.{reaches-by, reaches-then, row-of-work}
-use Rattle.air_files.proofs.JobStep.{JobKept, of_attempts}
+use Rattle.air_files.proofs.JobStep.{of_attempts}
 use Rattle.air_files.proofs.JobTook.{one-cases, some-at, whole}
 use Rattle.air_files.proofs.JobUploadCases.{keeps-notes, notes-number, says-nothing}
 use Rattle.air_files.proofs.JobUploadGoes.{goes-behind, no-download, says-came, says-same}
 use Rattle.air_files.proofs.JobUploadNotes.{Uploading, fronts-none, upload-same}
 use Rattle.air_files.proofs.JobUploadRows.{upload_at}
-use Rattle.air_files.proofs.JobUploadSaid.{CameTo, DoesUpload, does-upload, due-of, one-left, said-one}
+use Rattle.air_files.proofs.JobUploadSaid.{DoesUpload, does-upload, due-of, one-left, said-one}
 use Rattle.air_files.proofs.JobWorking.{OneKept, Working, heard-all, heard-before, heard-last, never-fetched, told-before}
 
 -- What an entry of an upload's job does, beside what it says: the notes are those after its commands, each front of
@@ -248,8 +246,8 @@ module _ (store : Store) (files : List Asked) (c : ℕ) (base : Party) (a : Atte
         more = (
           front.server.0 ++ map whole (job.packets_said entry),
           ap (map whole) (said-one a.client.entries entry) ∙ map-append whole (said_by_client a.client) (job.packets_said entry)
-          ∙ ap (λ (l : List Item). l ++ map whole (job.packets_said entry)) front.server.1
-          ∙ append_assoc (session.items_in side.entries) front.server.0 (map whole (job.packets_said entry)),
+              ∙ ap (λ (l : List Item). l ++ map whole (job.packets_said entry)) front.server.1
+              ∙ append_assoc (session.items_in side.entries) front.server.0 (map whole (job.packets_said entry)),
         )
 
     pub upload-kept : OneKept store files base a older entry lists_now now

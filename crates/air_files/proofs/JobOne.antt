@@ -1,5 +1,5 @@
 -- From what one entry of a job keeps its law.
-use Rattle.std.proofs.Common.{◌≡◌, ℕ, List, [], ◌∷◌, Some, refl, sym, ◌∙◌, ap, subst}
+use Rattle.std.proofs.Common.{◌≡◌, ℕ, List, [], ◌∷◌, sym, subst}
 use Rattle.file_store.specs.Store.{Store}
 use Rattle.client_notes.specs.Notes.{Lists}
 use Rattle.ftl0_job.specs.declared.work.Work.{Work}
@@ -9,7 +9,7 @@ use Rattle.air_attempt.specs.Attempt.{Attempt}
 use Rattle.air_attempt.specs.Party.{Asked, Party}
 use Rattle.air_attempt.specs.Sides.{ServerSide}
 use Rattle.air_files.specs.Facts.{HasFacts}
-use Rattle.air_files.specs.Laws.{IsOne, IsUploadOf, IsWorking, JobGoes, JobKeeps, JobLawOf, JobTookFront, Stands, TookFront, job_gone, with_job}
+use Rattle.air_files.specs.Laws.{IsOne, IsUploadOf, IsWorking, JobGoes, JobKeeps, JobLawOf, Stands, TookFront, job_gone, with_job}
 use Rattle.air_files.proofs.JobOfUpload.{upload-kept}
 use Rattle.air_files.proofs.JobStep.{keeps-by, of_attempts}
 use Rattle.air_files.proofs.JobWorking.{OneKept, Working}

@@ -1,5 +1,5 @@
 -- The facts of a client once its job went on by some entries, and where it starts again from its notes.
-use Rattle.std.proofs.Common.{◌≡◌, ℕ, ◌+◌, ◌≤◌, List, [], ◌∷◌, ◌++◌, length, take, true, Option, None, Some, refl, sym, ◌∙◌, ap, subst, le_trans, take_all, le_refl}
+use Rattle.std.proofs.Common.{◌≡◌, ℕ, ◌+◌, List, ◌∷◌, ◌++◌, length, true, None, Some, refl, sym, ◌∙◌, ap, subst, le_trans, take_all, le_refl}
 use Rattle.file_store.specs.Store.{Store}
 use Rattle.ftl0_session.specs.Table.{receiving}
 use Rattle.client_notes.specs.Command.{NotesCommand}
@@ -10,15 +10,14 @@ use Rattle.ftl0_client.specs.Attempt.Attempted.{Attempted}
 use Rattle.ftl0_client.specs.Entries as job
 use Rattle.ftl0_client.specs.Entries.{JobEntry}
 use Rattle.air_attempt.specs.Attempt.{Attempt}
-use Rattle.air_attempt.specs.Lists.{Has}
-use Rattle.air_attempt.specs.Party.{Asked, IsFileOf, Party}
-use Rattle.air_attempt.specs.Said.{AsksUpload, Took, octets_come, said_behind_server}
+use Rattle.air_attempt.specs.Party.{Asked, Party}
+use Rattle.air_attempt.specs.Said.{octets_come, said_behind_server}
 use Rattle.air_attempt.specs.Sides.{ServerSide}
 use Rattle.air_files.specs.Dialogue.{Says}
 use Rattle.air_files.specs.Facts.{AskedWithin, HasFacts, HasFetched, HasNumber, IsFetching, NotesGrant, Receives}
 use Rattle.air_files.specs.Laws.{JobKeeps, job_gone, started_with, with_job}
 use Rattle.air_files.specs.UploadDialogue.{GoesOnWith}
-use Rattle.air_files.proofs.JobChange.{Changes, change, each-so}
+use Rattle.air_files.proofs.JobChange.{change, each-so}
 use Rattle.air_files.proofs.JobNotes.{NotesKept, NumberIn}
 
 -- the client with these attempts

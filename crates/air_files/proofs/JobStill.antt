@@ -1,7 +1,6 @@
 -- A job that took and queued nothing leaves its client's facts.
-use Rattle.std.proofs.Common.{◌≡◌, ℕ, ◌+◌, List, [], ◌∷◌, ◌++◌, length, Option, None, Some, refl, sym, ◌∙◌, ap, subst, append-nil}
+use Rattle.std.proofs.Common.{◌≡◌, ℕ, List, [], ◌++◌, Option, None, Some, refl, sym, ◌∙◌, ap, subst, append-nil}
 use Rattle.ax25_link.specs.declared.state.Why.{Why}
-use Rattle.pfh_items.specs.Faults.{fault_code}
 use Rattle.file_store.specs.Store.{Store}
 use Rattle.client_notes.specs.Notes.{Lists}
 use Rattle.ftl0_job.specs.declared.ending.Ending.{Ending}
@@ -11,7 +10,6 @@ use Rattle.ftl0_job.specs.declared.phases.DownloadPhase.{DownloadPhase}
 use Rattle.ftl0_job.specs.declared.phases.DownloadPhase.TheVariants as fetch
 use Rattle.ftl0_job.specs.declared.work.Work.{Work}
 use Rattle.ftl0_job.specs.declared.work.Work.TheVariants as work
-use Rattle.ftl0_job.specs.Download.{Download}
 use Rattle.ftl0_job.specs.Table.{JobState}
 use Rattle.ftl0_client.specs.Attempt.Attempted.{Attempted, outcome_by}
 use Rattle.ftl0_client.specs.declared.attempt.outcome.AttemptOutcome.TheVariants.{Reached}
@@ -19,7 +17,7 @@ use Rattle.ftl0_client.specs.Entries.{JobEntry}
 use Rattle.air_attempt.specs.Attempt.{Attempt}
 use Rattle.air_attempt.specs.Party.{Asked, Party}
 use Rattle.air_attempt.specs.Sides.{ServerSide}
-use Rattle.air_files.specs.Facts.{AreFirstIfAny, Fetches, FetchesBy, FetchesIn, HasFacts, HasNumber, coming_by, got}
+use Rattle.air_files.specs.Facts.{AreFirstIfAny, FetchesBy, FetchesIn, HasFacts, coming_by, got}
 use Rattle.air_files.specs.Laws.{JobKeeps, job_gone, with_job}
 use Rattle.air_files.proofs.JobChange.{moved}
 use Rattle.air_files.proofs.JobEarlier.{reached-none}

@@ -1,9 +1,9 @@
 -- What the packets that one side took tell of what the other one has said.
-use Rattle.std.proofs.Common.{◌≡◌, ◌⊎◌, ℕ, ◌+◌, List, [], ◌∷◌, ◌++◌, length, drop, map, Option, None, Some, Ok, Err, inl, inr, refl, sym, ◌∙◌, ap, subst, flat_map, append-nil, append_assoc, suc, zero, add-zero, arith, length-append}
+use Rattle.std.proofs.Common.{◌≡◌, ◌⊎◌, ℕ, List, [], ◌∷◌, ◌++◌, length, map, Option, None, Some, Ok, inl, inr, refl, sym, ◌∙◌, subst}
 use Rattle.std.specs.Prelude.{IfSome}
 use Rattle.std.proofs.lemmas.List.Concat.{flat_map-append}
 use Rattle.std.proofs.lemmas.Option.{same_Some}
-use Rattle.ftl0_packets.specs.Layout.{Item, PacketValue, data_end, data_part, login_resp, ul_ack_resp, ul_error_resp, ul_go_resp, ul_nak_resp, upload_cmd}
+use Rattle.ftl0_packets.specs.Layout.{Item, PacketValue, data_end, login_resp, ul_ack_resp, ul_error_resp, ul_go_resp, ul_nak_resp, upload_cmd}
 use Rattle.ftl0_server.specs.Entries as session
 use Rattle.ftl0_server.specs.Entries.{SessionEntry}
 use Rattle.ftl0_client.specs.Entries as job
@@ -11,7 +11,7 @@ use Rattle.ftl0_client.specs.Entries.{JobEntry}
 use Rattle.air_attempt.specs.Lists.{AreFirstOf, Has, OneIs}
 use Rattle.air_attempt.specs.Said.{Answers, IsTaken}
 use Rattle.air_attempt.specs.Sides.{IsGreeting, ServerSide, said_by_server}
-use Rattle.air_files.specs.UploadDialogue.{AnsweredFirst, GoesOnWith, IsOfferFor, IsOfferedBy, IsWord, Receiving, ServesUpload, answered_by, answered_in, data_items}
+use Rattle.air_files.specs.UploadDialogue.{AnsweredFirst, IsOfferFor, IsOfferedBy, IsWord, Receiving, ServesUpload, answered_in, data_items}
 use Rattle.air_files.specs.UploadDialogue.{ended, received_items, receives, receiving_said, refused, unasked}
 use Rattle.air_files.proofs.JobUploadSaid.{one-last, one-left}
 

@@ -1,20 +1,19 @@
 -- What each packet that a job takes of the upload of a file, by how far it has come, leaves of its client's notes.
-use Rattle.std.proofs.Common.{◌≡◌, ◌≢◌, ◌⊎◌, ℕ, ◌≤◌, Bool, true, false, not, List, [], ◌∷◌, ◌++◌, length, Option, None, Some, Ok, Err, inl, inr, refl, sym, ◌∙◌, ap, subst, arith}
-use Rattle.std.specs.Prelude.{◌==◌, ◌&&◌, if◌then◌else◌, nat_le, nat_lt}
+use Rattle.std.proofs.Common.{◌≡◌, ◌≢◌, ℕ, ◌≤◌, Bool, true, false, not, List, [], ◌∷◌, ◌++◌, length, None, Ok, inl, inr, refl, ◌∙◌, subst, arith}
+use Rattle.std.specs.Prelude.{◌==◌, ◌&&◌, if◌then◌else◌}
 use Rattle.std.proofs.lemmas.Bool.Decides.{nat_tests}
-use Rattle.ftl0_packets.specs.Layout.{PacketValue, data_end, ul_ack_resp, ul_error_resp, ul_go_resp, ul_nak_resp, upload_cmd}
+use Rattle.ftl0_packets.specs.Layout.{PacketValue, data_end, ul_error_resp, ul_go_resp, ul_nak_resp, upload_cmd}
 use Rattle.file_store.specs.Store.{Store}
-use Rattle.client_notes.specs.Command.{NotesCommand, acked, after, numbered}
+use Rattle.client_notes.specs.Command.{NotesCommand, acked, numbered}
 use Rattle.client_notes.specs.Laws.{after_all}
 use Rattle.client_notes.specs.Notes.{Lists, Task}
 use Rattle.client_notes.specs.Several as notes
 use Rattle.client_notes.proofs.Offered.{task-after}
 use Rattle.ftl0_job.specs.declared.phases.UploadPhase.{UploadPhase}
 use Rattle.ftl0_job.specs.declared.phases.UploadPhase.TheVariants as phase
-use Rattle.ftl0_job.specs.declared.work.Work.TheVariants as work
 use Rattle.ftl0_job.specs.JobState.{HasTask}
 use Rattle.ftl0_job.specs.Row.{Row}
-use Rattle.ftl0_job.specs.Upload.{Upload, is_complete, may_go, new_upload, upload_row}
+use Rattle.ftl0_job.specs.Upload.{Upload, may_go, upload_row}
 use Rattle.air_attempt.specs.Attempt.{Attempt}
 use Rattle.air_attempt.specs.Lists.{Has, OneIs}
 use Rattle.air_attempt.specs.Party.{Asked, Party}

@@ -1,5 +1,5 @@
 -- What a job that uploads has said, behind what its session took.
-use Rattle.std.proofs.Common.{◌≡◌, ◌⊎◌, ℕ, ◌+◌, List, [], ◌∷◌, ◌++◌, length, drop, map, Ok, Err, inl, inr, refl, sym, ◌∙◌, ap, subst, suc, zero, arith, length-append, add-zero, add_assoc}
+use Rattle.std.proofs.Common.{◌≡◌, ℕ, ◌+◌, List, [], ◌∷◌, ◌++◌, length, drop, map, inl, inr, refl, sym, ◌∙◌, ap, subst, suc, zero, length-append, add-zero, add_assoc}
 use Rattle.ftl0_packets.specs.Layout.{Item, PacketValue, data_end, data_part, download_cmd, ul_go_resp, upload_cmd}
 use Rattle.ftl0_server.specs.Entries as session
 use Rattle.ftl0_job.specs.declared.phases.UploadPhase.{UploadPhase}

@@ -1,38 +1,32 @@
 -- What a packet that a job takes of the upload of a file keeps of its client's notes.
-use Rattle.std.proofs.Common.{◌≡◌, ◌⊎◌, ℕ, ◌≤◌, ◌<◌, Bool, true, false, not, List, [], ◌∷◌, ◌++◌, length, Option, None, Some, Ok, Err, inl, inr, refl, sym, ◌∙◌, ap, subst, suc, zero, arith}
-use Rattle.std.specs.Prelude.{◌==◌, ◌&&◌, if◌then◌else◌, IsTrue}
-use Rattle.std.proofs.lemmas.Bool.Decides.{nat_tests}
+use Rattle.std.proofs.Common.{◌≡◌, ℕ, ◌≤◌, Bool, true, false, List, [], ◌∷◌, ◌++◌, length, Option, None, Some, Ok, inl, inr, refl, sym, ◌∙◌, ap, subst, suc, zero, arith}
+use Rattle.std.specs.Prelude.{◌==◌, if◌then◌else◌, IsTrue}
 use Rattle.std.proofs.lemmas.Option.{same_Some}
 use Rattle.px_base.specs.CallSign.{CallSign}
-use Rattle.ftl0_packets.specs.Layout.{Item, PacketValue, ul_ack_resp, ul_error_resp, ul_go_resp, upload_cmd}
+use Rattle.ftl0_packets.specs.Layout.{PacketValue, ul_go_resp, upload_cmd}
 use Rattle.file_store.specs.Info.{IsCompleteIn, is_complete as holds_whole}
-use Rattle.file_store.specs.Store.{Entry, Holding, Store, complete, entry_of, partial}
+use Rattle.file_store.specs.Store.{Entry, Holding, Store, entry_of, partial}
 use Rattle.ftl0_server.specs.Entries as session
 use Rattle.client_notes.specs.Command.{NotesCommand, acked, after, numbered, refused}
-use Rattle.client_notes.specs.Laws.{after_all}
-use Rattle.client_notes.specs.Notes.{Lists, Task, task_of}
+use Rattle.client_notes.specs.Notes.{Lists, Task}
 use Rattle.client_notes.specs.Several as notes
-use Rattle.client_notes.specs.declared.progress.Progress.{Progress}
 use Rattle.client_notes.specs.declared.progress.Progress.TheVariants as progress
 use Rattle.ftl0_job.specs.declared.phases.UploadPhase.{UploadPhase}
-use Rattle.ftl0_job.specs.declared.phases.UploadPhase.TheVariants as phase
 use Rattle.ftl0_job.specs.declared.work.Work.TheVariants as work
 use Rattle.ftl0_job.specs.JobState.{HasTask}
-use Rattle.ftl0_job.specs.Row.{Row}
-use Rattle.ftl0_job.specs.Upload.{Upload, is_complete, new_upload, refusal_of, upload_row}
+use Rattle.ftl0_job.specs.Upload.{Upload, new_upload, refusal_of}
 use Rattle.air_attempt.specs.Attempt.{Attempt}
 use Rattle.air_attempt.specs.Lists.{Has, OneIs}
 use Rattle.air_attempt.specs.Party.{Asked, IsFileOf, Party}
-use Rattle.air_attempt.specs.Said.{Answers, AsksUpload, Grants, IsTaken, Offers, SaysComplete}
+use Rattle.air_attempt.specs.Said.{Answers, Grants, IsTaken, Offers, SaysComplete}
 use Rattle.air_attempt.specs.Sides.{IsGreeting, ServerSide, said_by_client, said_by_server}
 use Rattle.air_files.specs.Facts.{HasFacts, HasNumber, IsBegun, IsGrantKept, IsNumbered, IsOfferKept}
-use Rattle.air_files.specs.Kept.{IsFileAt, IsKept, IsTaskKept, IsUnderWay}
-use Rattle.air_files.specs.UploadDialogue.{IsOfferFor, ServesUpload}
+use Rattle.air_files.specs.Kept.{IsFileAt, IsKept, IsTaskKept}
+use Rattle.air_files.specs.UploadDialogue.{ServesUpload}
 use Rattle.air_files.proofs.JobNotes.{NotesKept, kept-same, kept-task}
 use Rattle.air_files.proofs.JobStep.{of_attempts}
 use Rattle.air_files.proofs.JobTook.{offer-answers, some-at, whole}
-use Rattle.air_files.proofs.JobUploadRows.{UploadCases, upload-cases, upload_at}
-use Rattle.air_files.proofs.JobUploadSaid.{CameTo}
+use Rattle.air_files.proofs.JobUploadRows.{upload_at}
 
 -- ---- the first of some commands
 
@@ -112,7 +106,7 @@ module _ (store : Store) (files : List Asked) (base : Party) (a : Attempt) (olde
       let both = offer-answers known file side it.greets it.serves number offset offers in
       let zero_is : offset ≡ 0 = both.1.new new in (
         subst (λ (k : ℕ). Answers side (Ok (upload_cmd k (length file))) (ul_go_resp number 0)) new
-        (subst (λ (k : ℕ). Answers side (Ok (upload_cmd known (length file))) (ul_go_resp number k)) zero_is both.0),
+            (subst (λ (k : ℕ). Answers side (Ok (upload_cmd known (length file))) (ul_go_resp number k)) zero_is both.0),
         zero_is,
       )
 

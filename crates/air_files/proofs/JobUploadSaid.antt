@@ -1,14 +1,13 @@
 -- What a job that uploads a file has said, by how far it has come.
-use Rattle.std.proofs.Common.{◌≡◌, ◌≢◌, ◌⊎◌, ℕ, ◌+◌, ◌-◌, ◌≤◌, List, [], ◌∷◌, ◌++◌, Bool, true, false, length, take, drop, min, Option, None, Some, Ok, Err, inl, inr, refl, sym, ◌∙◌, ap, subst, append-nil, arith, suc, zero}
+use Rattle.std.proofs.Common.{◌≡◌, ◌≢◌, ℕ, ◌+◌, ◌-◌, ◌≤◌, List, [], ◌∷◌, ◌++◌, Bool, true, false, length, take, drop, min, Option, None, Some, Ok, Err, inl, inr, refl, sym, ◌∙◌, ap, subst, append-nil, arith, suc, zero}
 use Rattle.std.specs.Prelude.{◌==◌, ◌&&◌, nat_le, nat_lt, if◌then◌else◌, ⊤}
 use Rattle.std.specs.Option.{option_map}
-use Rattle.std.proofs.lemmas.Bool.{cond_both}
 use Rattle.std.proofs.lemmas.Bool.Decides.{nat_tests}
 use Rattle.std.proofs.lemmas.List.{length-drop, length-take}
 use Rattle.std.proofs.lemmas.List.Concat.{flat_map-append}
 use Rattle.std.proofs.lemmas.Option.{same_Some}
 use Rattle.ftl0_packets.specs.Items.{kind_of_item}
-use Rattle.ftl0_packets.specs.Layout.{Item, PacketValue, data_end, data_part, download_cmd, login_resp, ul_go_resp, upload_cmd}
+use Rattle.ftl0_packets.specs.Layout.{Item, PacketValue, data_end, data_part, ul_go_resp, upload_cmd}
 use Rattle.client_notes.specs.Notes.{Lists}
 use Rattle.ftl0_job.specs.declared.ending.Ending.{Ending}
 use Rattle.ftl0_job.specs.declared.ending.Outcome.TheVariants as outcome
@@ -16,11 +15,11 @@ use Rattle.ftl0_job.specs.declared.phases.UploadPhase.{UploadPhase}
 use Rattle.ftl0_job.specs.declared.phases.UploadPhase.TheVariants as phase
 use Rattle.ftl0_job.specs.declared.work.Work.{Work}
 use Rattle.ftl0_job.specs.declared.work.Work.TheVariants as work
-use Rattle.ftl0_job.specs.Due.{DuePacket, due_by, due_from, due_in, in_job, in_work, most_data, next_due, place_after}
+use Rattle.ftl0_job.specs.Due.{DuePacket, due_by, due_from, due_in, in_job, in_work, most_data, next_due}
 use Rattle.ftl0_job.specs.Row.{Row}
 use Rattle.ftl0_job.specs.Table.{JobState, item_row, job_after, new_job, row_of}
-use Rattle.ftl0_job.specs.Upload.{Upload, may_go, new_upload, upload_row}
-use Rattle.ftl0_client.specs.Entries.{JobEntry, after_losing, lost, packets_said, passed, queued, said_in, took}
+use Rattle.ftl0_job.specs.Upload.{Upload, new_upload, upload_row}
+use Rattle.ftl0_client.specs.Entries.{JobEntry, after_losing, lost, packets_said, queued, said_in, took}
 use Rattle.air_attempt.specs.Lists.{Has, OneIs}
 use Rattle.air_attempt.specs.Said.{IsTaken}
 use Rattle.air_attempt.specs.Sides.{JobReaches}

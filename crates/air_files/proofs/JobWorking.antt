@@ -1,6 +1,5 @@
 -- What stands where a job goes on by one entry, and what is to be shown then.
-use Rattle.std.proofs.Common.{◌≡◌, ℕ, List, [], ◌∷◌, ◌++◌, map, Option, None, Some, Ok, refl, sym, ◌∙◌, ap, subst}
-use Rattle.std.proofs.lemmas.List.Concat.{flat_map-append}
+use Rattle.std.proofs.Common.{◌≡◌, ℕ, List, [], ◌∷◌, ◌++◌, map, Option, None, Some}
 use Rattle.ax25_link.specs.declared.state.Why.{Why}
 use Rattle.ftl0_packets.specs.Layout.{Item, PacketValue}
 use Rattle.file_store.specs.Store.{Store}
