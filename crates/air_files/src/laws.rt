@@ -1,9 +1,29 @@
 //! Laws of what a client's tasks, attempts and files have of the store, each the contract of a function that does nothing.
 
-ghost use Rattle.air_files.specs.Laws.{IsOne, IsUploadOf, JobLawOf};
+ghost use Rattle.air_files.specs.Laws.{IsDirectoryOf, IsDownloadOf, IsOne, IsUploadOf, JobLawOf, SessionLawOf};
 
-/// One entry of a job that uploads a file keeps what holds of its client, also where its client starts again after some
-/// of its notes' commands.
+use ftl0_session::laws::downloads_law;
+
+/// One thing that a session of a download does, a packet that it takes or that it queues, keeps the client's facts.
+pub fn session_of_download_law()
+    ensures { SessionLawOf IsDownloadOf IsOne }
+{
+    downloads_law();
+}
+
+/// So does one of a session that selects and lists.
+pub fn session_of_list_law()
+    ensures { SessionLawOf IsDirectoryOf IsOne }
+{
+    downloads_law();
+}
+
+/// One entry of a job that uploads a file keeps the client's facts.
 pub fn job_of_upload_law()
-    ensures { JobLawOf IsUploadOf (λ entries. IsOne entries) }
+    ensures { JobLawOf IsUploadOf IsOne }
+{}
+
+/// So does one of a job that selects and lists.
+pub fn job_of_list_law()
+    ensures { JobLawOf IsDirectoryOf IsOne }
 {}
