@@ -29,9 +29,10 @@ use Rattle.air_attempt.specs.Lists.{AreFirstOf}
 use Rattle.air_attempt.specs.Party.{Asked, Party}
 use Rattle.air_attempt.specs.Sides.{ServerSide, said_by_client, said_by_server}
 use Rattle.air_files.specs.Facts.{HasFacts}
-use Rattle.air_files.specs.Laws.{JobKeeps, JobLaw, JobTookFront, Stands, TookFront, job_gone, started_with, with_job}
+use Rattle.air_files.specs.Laws.{IsDirectoryOf, IsDownloadOf, IsUploadOf, JobKeeps, JobLaw, JobTookFront, Stands, TookFront, job_gone, started_with, with_job}
 use Rattle.air_files.specs.Tasks.{IsWork}
-use Rattle.air_files.proofs.JobChange.{each-so, moved}
+use Rattle.air_files.proofs.LiftLemmas.{each-weaker}
+use Rattle.air_files.proofs.JobChange.{moved}
 use Rattle.air_files.proofs.JobEarlier.{earlier, outcome-stays}
 use Rattle.air_files.proofs.JobNotes.{NotesKept}
 use Rattle.air_files.proofs.JobOne.{OneLaw, keeps-same, working}
@@ -124,7 +125,7 @@ stands-then store files c base a older entry lists now stands kept = record {
         };
     as_many = stands.tasks.as_many ∙ sym kept.tasks.as_many;
   };
-  works = each-so {Q = λ (x : Attempt). IsWork files new x.client.asked} (a ∷ older) (λ x is. work-then x.client.asked is) stands.works;
+  works = each-weaker {Q = λ (x : Attempt). IsWork files new x.client.asked} (a ∷ older) (λ x is. work-then x.client.asked is) stands.works;
 }
   where
     new : Party
@@ -249,3 +250,13 @@ module _ (promises : PromisesLaw) (due_stands : DueLaw) where
   job-law one store files c party entries lists now works kind such goes =
       keeps-same store files party (with_job party lists now (job_gone entries now works.attempt) works.older) works.attempt works.older entries works.attempts_are
       (keeps-all one store files c entries party works.attempt works.older (working store files c party works) lists now goes.goes goes.front)
+
+-- ---- by the work
+
+pub one-any : OneLaw IsUploadOf → OneLaw IsDirectoryOf → OneLaw IsDownloadOf → OneLaw (λ asked. ⊤)
+one-any upload list download store files c base a older w kind entry lists now goes side front = by a.client.asked refl
+  where
+    by : (doing : Work) → a.client.asked ≡ doing → OneKept store files base a older entry lists now
+    by (work.Upload at) is = upload store files c base a older w (at, is) entry lists now goes side front
+    by (work.Directory at) is = list store files c base a older w (at, is) entry lists now goes side front
+    by (work.Download at) is = download store files c base a older w (at, is) entry lists now goes side front

@@ -25,7 +25,8 @@ use Rattle.air_files.specs.UploadDialogue.{GoesOnWith}
 use Rattle.air_files.proofs.JobChange.{change}
 use Rattle.air_files.proofs.JobStep.{of_attempts}
 use Rattle.air_files.proofs.JobTook.{whole}
-use Rattle.air_files.proofs.JobUploadSaid.{one-left, said-one}
+use Rattle.air_files.proofs.JobUploadSaid.{said-one}
+use Rattle.air_files.proofs.LiftLemmas.{one-left}
 
 -- ---- fewer packets
 

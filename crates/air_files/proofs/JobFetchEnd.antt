@@ -12,7 +12,8 @@ use Rattle.air_files.specs.DownloadDialogue.{AreAllSent, AreSent, IsLast, Sendin
 use Rattle.air_files.specs.Facts.{AreFirstIfAny}
 use Rattle.air_files.specs.SoundStore.{IsSoundStore}
 use Rattle.air_files.proofs.JobFetchNotes.{sound-file, whole-file}
-use Rattle.air_files.proofs.JobTook.{answered-item, front-has, has-ok, one-cases, whole}
+use Rattle.air_files.proofs.JobTook.{first-same, answered-item, front-has, has-ok, whole}
+use Rattle.air_files.proofs.LiftLemmas.{one-cases}
 
 -- ---- lists
 
@@ -29,9 +30,6 @@ no-refusal : (parts : List (List ℕ)) (code : ℕ) → Has (map data_part parts
 no-refusal [] code has = has
 no-refusal (part ∷ parts) code (inl same) = absurd (cc same)
 no-refusal (part ∷ parts) code (inr there) = no-refusal parts code there
-
-first-same : (p : PacketValue) (item : Item) (ps items : List Item) → whole p ∷ ps ≡ item ∷ items → (item ≡ whole p) × (ps ≡ items)
-first-same p item ps items same = (let is : item ≡ whole p = cc in is, let is : ps ≡ items = cc in is)
 
 -- where DATA_END was taken all DATA was before it
 taken-all : (items more : List Item) (parts : List (List ℕ)) (behind : List PacketValue) → (Has behind data_end → ⊥)
