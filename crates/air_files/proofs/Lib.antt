@@ -16,8 +16,6 @@ mod GotKept
 mod JobAll
 mod JobChange
 mod JobEarlier
-mod JobFetchEnd
-mod JobFetchNotes
 mod JobNotes
 mod JobOfUpload
 mod JobOne
