@@ -25,7 +25,7 @@ use Rattle.air_files.proofs.FetchesOn.{ComesOn, coming-more, octets-behind}
 -- ---- what a client asked
 
 -- a word is no command
-word-other : (word : PacketValue) (number offset : ℕ) → IsWord word → word ≢ download_cmd number offset 0
+pub word-other : (word : PacketValue) (number offset : ℕ) → IsWord word → word ≢ download_cmd number offset 0
 word-other word number offset (inl is) same = absurd (let no : dl_ack_cmd ≡ download_cmd number offset 0 = sym is ∙ same in cc)
 word-other word number offset (inr is) same = absurd (let no : dl_nak_cmd ≡ download_cmd number offset 0 = sym is ∙ same in cc)
 
@@ -48,11 +48,11 @@ module _ (a : Attempt) (number offset n from : ℕ) where
 
 -- ---- what comes
 
-said-parts : (parts : List (List ℕ)) → octets_said (map data_part parts) ≡ concat parts
+pub said-parts : (parts : List (List ℕ)) → octets_said (map data_part parts) ≡ concat parts
 said-parts [] = refl
 said-parts (part ∷ parts) = ap (λ (l : List ℕ). part ++ l) (said-parts parts)
 
-greeting-silent : (packet : PacketValue) → IsGreeting packet → octets_of_data packet ≡ []
+pub greeting-silent : (packet : PacketValue) → IsGreeting packet → octets_of_data packet ≡ []
 greeting-silent packet greets = ap octets_of_data greets.2
 
 -- the first of a file, or nothing

@@ -2,6 +2,9 @@ mod ApartLemmas
 mod DownloadComing
 mod DownloadDue
 mod DownloadEntry
+mod DownloadJob
+mod DownloadJobHeard
+mod DownloadJobNotes
 mod DownloadJobRows
 mod DownloadJobSaid
 mod DownloadNext

@@ -27,3 +27,8 @@ pub fn job_of_upload_law()
 pub fn job_of_list_law()
     ensures { JobLawOf IsDirectoryOf IsOne }
 {}
+
+/// So does one of a job that downloads a file.
+pub fn job_of_download_law()
+    ensures { JobLawOf IsDownloadOf IsOne }
+{}
