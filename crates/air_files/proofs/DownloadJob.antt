@@ -41,7 +41,7 @@ use Rattle.air_files.proofs.JobNotes.{NotesKept}
 use Rattle.air_files.proofs.JobOne.{OneLaw, law-of}
 use Rattle.air_files.proofs.JobReach.{reaches-by, reaches-then, row-of-work}
 use Rattle.air_files.proofs.JobStep.{of_attempts}
-use Rattle.air_files.proofs.JobTook.{some-at}
+use Rattle.air_files.proofs.LiftLemmas.{some-at}
 use Rattle.air_files.proofs.JobUploadNotes.{fronts-none}
 use Rattle.air_files.proofs.JobUploadSaid.{said-one}
 use Rattle.air_files.proofs.JobWorking.{OneKept, Working, heard-last}
@@ -175,7 +175,7 @@ module _ (store : Store) (files : List Asked) (c : ℕ) (base : Party) (a : Atte
         sound = w.sound;
         is_side = front.is_side;
         greets = front.greets;
-        serves = subst (λ (doing : Work). Serves store doing side) asked_new (some-at (Serves store a.client.asked) a.server side front.is_side w.facts.sessions.serves.0);
+        serves = subst (λ (doing : Work). Serves store doing side) asked_new (some-at (Serves store a.client.asked) a.server side w.facts.sessions.serves.0 front.is_side);
         says = subst (λ (doing : Work). Says doing a.client) asked_new w.facts.sessions.says.0;
         told = front.server;
       }

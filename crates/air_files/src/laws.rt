@@ -1,7 +1,8 @@
 //! Laws of what a client's tasks, attempts and files have of the store, each the contract of a function that does nothing.
 
-ghost use Rattle.air_files.specs.Laws.{IsDirectoryOf, IsDownloadOf, IsOne, IsUploadOf, JobLawOf, SessionLawOf};
+ghost use Rattle.air_files.specs.Laws.{IsDirectoryOf, IsDownloadOf, IsOne, IsUploadOf, JobLaw, JobLawOf, SessionLawOf};
 
+use ftl0_job::laws::promises_law;
 use ftl0_session::laws::downloads_law;
 
 /// One thing that a session of a download does, a packet that it takes or that it queues, keeps the client's facts.
@@ -32,3 +33,11 @@ pub fn job_of_list_law()
 pub fn job_of_download_law()
     ensures { JobLawOf IsDownloadOf IsOne }
 {}
+
+/// Any entries of a job keep what holds of its client, also where its client starts again after some of its notes'
+/// commands.
+pub fn job_law()
+    ensures { JobLaw }
+{
+    promises_law();
+}
