@@ -30,7 +30,7 @@ use Rattle.air_attempt.specs.Sides.{ClientSide, JobReaches, ServerSide, said_by_
 use Rattle.air_files.specs.Dialogue.{Says, Serves}
 use Rattle.air_files.specs.DownloadDialogue.{Fetching, IsFetchingFile, SaysDownload, asked, silent, told}
 use Rattle.air_files.specs.Facts.{AskedWithin, FetchesBy, FetchesIn}
-use Rattle.air_files.specs.Laws.{IsDownloadOf, IsOne, JobLawOf, TookFront, job_gone, with_job}
+use Rattle.air_files.specs.Laws.{IsDownloadOf, TookFront, job_gone, with_job}
 use Rattle.air_files.specs.Tasks.{IsWork}
 use Rattle.air_files.proofs.DownloadJobHeard.{IsNext, next-of}
 use Rattle.air_files.proofs.DownloadJobNotes.{Downloading, RowKept, packet-kept}
@@ -38,7 +38,7 @@ use Rattle.air_files.proofs.DownloadJobRows.{download_at}
 use Rattle.air_files.proofs.DownloadJobSaid.{DoesDownload, Told, does-download, none-due}
 use Rattle.air_files.proofs.FetchesOn.{flat_map-one}
 use Rattle.air_files.proofs.JobNotes.{NotesKept}
-use Rattle.air_files.proofs.JobOne.{OneLaw, law-of}
+use Rattle.air_files.proofs.JobOne.{OneLaw}
 use Rattle.air_files.proofs.JobReach.{reaches-by, reaches-then, row-of-work}
 use Rattle.air_files.proofs.JobStep.{of_attempts}
 use Rattle.air_files.proofs.LiftLemmas.{some-at}
@@ -308,6 +308,3 @@ module _ (store : Store) (files : List Asked) (c : ℕ) (base : Party) (a : Atte
 pub download-one : OneLaw IsDownloadOf
 download-one store files c base a older w kind entry lists now goes side front =
     one-kept store files c base a older w kind.0 kind.1 side entry lists now goes (entry-kept store files c base a older w kind.0 kind.1 side now entry lists goes front)
-
-pub job-of-download : JobLawOf IsDownloadOf (λ entries. IsOne entries)
-job-of-download = law-of IsDownloadOf download-one

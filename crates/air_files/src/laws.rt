@@ -1,6 +1,6 @@
 //! Laws of what a client's tasks, attempts and files have of the store, each the contract of a function that does nothing.
 
-ghost use Rattle.air_files.specs.Laws.{IsDirectoryOf, IsDownloadOf, IsOne, IsUploadOf, JobLaw, JobLawOf, SessionLawOf};
+ghost use Rattle.air_files.specs.Laws.{IsDirectoryOf, IsDownloadOf, IsOne, JobLaw, SessionLawOf};
 
 use ftl0_job::laws::promises_law;
 use ftl0_session::laws::downloads_law;
@@ -18,21 +18,6 @@ pub fn session_of_list_law()
 {
     downloads_law();
 }
-
-/// One entry of a job that uploads a file keeps the client's facts.
-pub fn job_of_upload_law()
-    ensures { JobLawOf IsUploadOf IsOne }
-{}
-
-/// So does one of a job that selects and lists.
-pub fn job_of_list_law()
-    ensures { JobLawOf IsDirectoryOf IsOne }
-{}
-
-/// So does one of a job that downloads a file.
-pub fn job_of_download_law()
-    ensures { JobLawOf IsDownloadOf IsOne }
-{}
 
 /// Any entries of a job keep what holds of its client, also where its client starts again after some of its notes'
 /// commands.
