@@ -3,6 +3,7 @@ mod ClientBegun
 mod ClientHeard
 mod ClientMade
 mod ClientQuiet
+mod ClientTicked
 mod ClientsStay
 mod CutWorld
 mod ExistenceLemmas
