@@ -1,3 +1,4 @@
+mod Asked
 mod ClientBasics
 mod ClientBegun
 mod ClientHeard
