@@ -26,7 +26,7 @@ use Rattle.air_world.proofs.Served.{done-are, keeps, stands}
 use Rattle.air_world.proofs.ServerCut.{AreMarked, cut, cut-sound}
 use Rattle.air_world.proofs.ServerHeard.{HearingLaws, seat-found}
 
-take-none : {X : Type 0} (count : ℕ) → take {A = X} count [] ≡ []
+pub take-none : {X : Type 0} (count : ℕ) → take {A = X} count [] ≡ []
 take-none zero = refl
 take-none (suc count) = refl
 

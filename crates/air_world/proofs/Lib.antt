@@ -1,3 +1,4 @@
+mod Alike
 mod Asked
 mod ClientAsked
 mod ClientBasics
@@ -25,6 +26,7 @@ mod SayLemmas
 mod Seats
 mod Served
 mod ServerCut
+mod ServerEvents
 mod ServerHeard
 mod ServerTicked
 mod ServerWorld
