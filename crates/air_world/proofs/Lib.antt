@@ -3,6 +3,7 @@ mod Asked
 mod ClientAsked
 mod ClientBasics
 mod ClientBegun
+mod ClientEvents
 mod ClientHeard
 mod ClientMade
 mod ClientQuiet
