@@ -1,4 +1,5 @@
 mod ClientBasics
+mod ClientFront
 mod ClientMade
 mod ClientsStay
 mod CutWorld
