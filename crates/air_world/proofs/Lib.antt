@@ -3,6 +3,7 @@ mod ClientFront
 mod ClientMade
 mod ClientsStay
 mod CutWorld
+mod DuringServer
 mod ExistenceLemmas
 mod FirstLemmas
 mod Granted
