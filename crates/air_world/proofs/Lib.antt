@@ -3,6 +3,8 @@ mod ClientFront
 mod ClientMade
 mod ClientsStay
 mod CutWorld
+mod DuringNotes
+mod DuringRight
 mod DuringServer
 mod ExistenceLemmas
 mod FirstLemmas
