@@ -1,5 +1,4 @@
 mod ClientBasics
-mod ClientFront
 mod ClientMade
 mod ClientsStay
 mod CutWorld
