@@ -24,7 +24,7 @@ use Rattle.client_notes.specs.Several as notes
 use Rattle.ftl0_job.specs.Directory.{Directory}
 use Rattle.ftl0_job.specs.Download.{Download}
 use Rattle.ftl0_job.specs.JobState.{IsNotBegun}
-use Rattle.ftl0_job.specs.Table.{new_job}
+use Rattle.ftl0_job.specs.Table.{JobState, new_job}
 use Rattle.ftl0_job.specs.Upload.{Upload}
 use Rattle.ftl0_job.specs.declared.work.Work.{Work}
 use Rattle.ftl0_job.specs.declared.work.Work.TheVariants as work
@@ -242,6 +242,15 @@ JobLawOf IsKind AreSuch =
 
 abbrev pub JobLaw : Type 0
 JobLaw = JobLawOf (λ asked. ⊤) (λ entries. ⊤)
+
+-- Entries of a job leave the client's tasks as tasks of its uploads, also where it starts again from its notes after the
+-- first of their commands.
+abbrev pub JobTasksLaw : Type 0
+JobTasksLaw =
+    (files : List Asked) (c : ℕ) (party : Party) (entries : List JobEntry) (lists_now : Lists) (before now : JobState)
+    → AreTasks files c party → job.GoesBy party.client.lists before entries lists_now now
+    → (count : ℕ)
+    → AreTasks files c (started_with party (notes.after_first count party.client.lists (job.commands_in entries)))
 
 -- ---- what others do, and what goes
 

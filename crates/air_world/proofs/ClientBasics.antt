@@ -86,7 +86,7 @@ module _ (world : World) (sound : Sound world) (c : ℕ) (party : Party) (is : P
     pub its-attempt : IsAttempt party.client.me party.client.server linked.attempt
     its-attempt = (subst (λ attempts. AreAttempts party.client.me party.client.server attempts) linked.attempts_are it.attempts).0
 
-    pub working : IsWorking world.server.store world.files c party
+    abbrev pub working : IsWorking world.server.store world.files c party
     working = record {
         stands = stands world sound c party is;
         attempt = linked.attempt;

@@ -1,5 +1,6 @@
 mod ClientBasics
 mod ClientMade
+mod ClientQuiet
 mod ClientsStay
 mod CutWorld
 mod DuringNotes
@@ -9,6 +10,7 @@ mod ExistenceLemmas
 mod FirstLemmas
 mod Granted
 mod HeadlineLemmas
+mod JobWent
 mod Likes
 mod Marked
 mod NumberedLemmas

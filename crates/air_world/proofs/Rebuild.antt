@@ -81,14 +81,14 @@ tasks-same files c one other client uploads tasks = record {
   }
 
 -- the notes go with the job of the current attempt, of whatever one that is
-stands-at : (party : Party) (o : Option Attempt) (a : Attempt) → o ≡ Some a → StandsBy party o
+pub stands-at : (party : Party) (o : Option Attempt) (a : Attempt) → o ≡ Some a → StandsBy party o
     → party.client.attempt ≡ Some a.client.attempted → AttemptStands a.client.asked party.client.lists a.client.attempted
 stands-at party None a is stands link = absurd cc
 stands-at party (Some b) a is stands link =
     subst (λ (it : Attempt). party.client.attempt ≡ Some it.client.attempted → AttemptStands it.client.asked party.client.lists it.client.attempted)
     (same_Some b a is) stands link
 
-stands-by : (party : Party) (o : Option Attempt)
+pub stands-by : (party : Party) (o : Option Attempt)
     → ((a : Attempt) → o ≡ Some a → party.client.attempt ≡ Some a.client.attempted → AttemptStands a.client.asked party.client.lists a.client.attempted) → StandsBy party o
 stands-by party None each = tt
 stands-by party (Some a) each = each a refl
