@@ -1,6 +1,47 @@
 //! Laws of the attempts of one client, each the contract of a function that does nothing.
 
-ghost use Rattle.air_attempt.specs.Laws.{ClientLaw, FrontLaw};
+ghost use Rattle.air_attempt.specs.Laws.{ClientLaw, CurrentLaw, FrontLaw, HeardLaw, LeftLaw, ServerHearsLaw};
+ghost use Rattle.air_attempt.specs.Laws.{ServerTicksLaw};
+
+use ftl0_server::laws::{one_step_law, some_step_law};
+use server_laws::hearing_law;
+
+/// What the server makes of a frame: the attempts of the client whose frame it is stay attempts, with what was sent and
+/// taken at it, and those of all others stay as they are (AX.25 2.0, 2.4; FTL0 1990).
+pub fn server_hears_law()
+    ensures { ServerHearsLaw }
+{
+    hearing_law();
+    some_step_law();
+    one_step_law();
+}
+
+/// What a frame makes of store and lists: what the session makes of it that hears it; and nothing, where it is a SABM or
+/// no session does.
+pub fn heard_law()
+    ensures { HeardLaw }
+{
+    hearing_law();
+}
+
+/// What the server makes of a tick: the attempts of each client stay attempts, of which the newest session goes on, or is
+/// over.
+pub fn server_ticks_law()
+    ensures { ServerTicksLaw }
+{
+    some_step_law();
+    one_step_law();
+}
+
+/// A frame that is no SABM and that a session hears is of the current attempt, and so is the session.
+pub fn current_law()
+    ensures { CurrentLaw }
+{}
+
+/// Attempts stay attempts where their sessions are over, and where a transmission is marked as delivered.
+pub fn left_law()
+    ensures { LeftLaw }
+{}
 
 /// The packets that one side of an attempt took are the first of those that the other one said (FTL0 1990).
 pub fn front_law()

@@ -97,6 +97,7 @@ pub record IsServed (files : List Asked) (c : ℕ) (party : Party) (now : Sessio
   pub state_is : now.state ≡ side.connected.state
   pub none_lost : AllByRecursion session.IsNotLost side.entries
   pub greets : IsGreeting side.greeting
+  pub begun : IsNotBegun attempt.client.asked
   pub heard : ClientTookFront attempt side
   pub older_over : AreOver older
   pub once : GrantsOnce party

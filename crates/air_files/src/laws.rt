@@ -1,13 +1,17 @@
-//! Laws of what a client's tasks, attempts and files have of the store, each the contract of a function that does nothing.
+//! Laws of what a client's tasks, attempts and files have of the store, each the contract of a function that does
+//! nothing.
 
-ghost use Rattle.air_files.specs.Laws.{BeginLaw, StayLaw};
+ghost use Rattle.air_files.specs.Laws.{BeginLaw, IsDirectoryOf, IsDownloadOf, IsOne, IsUploadOf, JobLawOf, SessionLaw};
+ghost use Rattle.air_files.specs.Laws.{SessionLawOf, StayLaw};
 
 use file_entries::laws::follows_law;
 use ftl0_session::downloads::laws::stays_law;
+use ftl0_session::laws::{acknowledged_law, downloads_law, uploads_law};
+use server_laws::caller_law;
 
 /// What a client's tasks, attempts and files have of the store stays: where its links went on without a packet, in a
-/// store that others' commands made, where its sessions are over or it starts again, and without an entry under way that
-/// no session receives.
+/// store that others' commands made, where its sessions are over or it starts again, and without an entry under way
+/// that no session receives.
 pub fn stay_law()
     ensures { StayLaw }
 {
@@ -19,4 +23,49 @@ pub fn stay_law()
 /// upload, and its task.
 pub fn begin_law()
     ensures { BeginLaw }
+{}
+
+/// A session that receives a file keeps its client's facts, packet by packet and behind each of a packet's commands:
+/// UPLOAD_CMD that it refuses, or that begins a file or goes on with one; DATA; and DATA_END, by which the whole file
+/// is kept.
+pub fn session_of_upload_law()
+    ensures { SessionLawOf IsUploadOf IsOne }
+{
+    uploads_law();
+    acknowledged_law();
+    caller_law();
+    stays_law();
+}
+
+/// One thing that a session of a download does, a packet that it takes or that it queues, keeps the client's facts.
+pub fn session_of_download_law()
+    ensures { SessionLawOf IsDownloadOf IsOne }
+{
+    downloads_law();
+}
+
+/// So does one of a session that selects and lists.
+pub fn session_of_list_law()
+    ensures { SessionLawOf IsDirectoryOf IsOne }
+{
+    downloads_law();
+}
+
+/// Whatever a session does, one thing after another, keeps its client's facts: of an upload, a download or a list.
+pub fn session_law()
+    ensures { SessionLaw }
+{
+    session_of_upload_law();
+    session_of_list_law();
+    session_of_download_law();
+}
+
+/// One entry of a job that uploads a file keeps the client's facts.
+pub fn job_of_upload_law()
+    ensures { JobLawOf IsUploadOf IsOne }
+{}
+
+/// So does one of a job that selects and lists.
+pub fn job_of_list_law()
+    ensures { JobLawOf IsDirectoryOf IsOne }
 {}

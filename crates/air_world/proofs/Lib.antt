@@ -1,4 +1,5 @@
 mod ClientBasics
+mod ClientHeard
 mod ClientMade
 mod ClientQuiet
 mod ClientsStay

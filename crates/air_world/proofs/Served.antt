@@ -119,6 +119,7 @@ module _ (laws : SessionLaws) (old : World) (sound : Sound old) (c : ℕ) (party
       state_is = ap (λ (c : Connected). c.state) (sym by-session.connected_is);
       none_lost = answered.session.none_lost by-session.is_up;
       greets = answered.session.greets;
+      begun = is-attempt.job.begun;
       heard = (laws.fronts party.client.me old.server.me attempt side is-attempt by-session.is_side).1;
       older_over = older-over;
       once = grants-once old sound c party coming.is;

@@ -222,13 +222,11 @@ module _ {D : Type 0} (g : Ghosts D) (law : AcknowledgedStandsLaw) (failed : Typ
       let end = stands.interrupted stopped in
       let stay = at_told _ octets told end.stay in
       let calls = at_told _ octets told end.calls in
-      let least = end.no_less in
-      (λ count some most. stay count some (omega arith), omega arith)
+      let least = end.no_less in (λ count some most. stay count some (omega arith), omega arith)
   stay_done octets told (inr fine) =
       let stay = at_told _ octets told (stands.stay fine) in
       let calls = at_told _ octets told (stands.calls fine) in
-      let both = length-append done cut in
-      (λ count some most. stay count some (omega arith), omega arith)
+      let both = length-append done cut in (λ count some most. stay count some (omega arith), omega arith)
 
   pub acknowledged : (file : FileEnd) → file.store ≡ after_all start file.before → IsAllGood file.store file.number file.rest → (others : List Command)
       → done ≡ file.before ++ ((row_of_end file).commands ++ others) → AcknowledgedSince g file start stands.ready disk disk_n
@@ -394,8 +392,7 @@ module _ (caller : CallSign) (start : Session) (first : List ℕ) where
       says-last events earlier last mid [] h ([], sym (ap (λ (m : Made). m.text ++ []) stops.stops.1)) (no-ack mid [] last.done refl)
   says-stopped stop.AirWrite unsaid events next earlier last mid cut h stops =
       let row : Row = event_row caller mid.store mid.lists mid.state stops.met in
-      let at = stops.stops in
-      says-last events earlier last mid (row.replies ++ at.0) h at.3
+      let at = stops.stops in says-last events earlier last mid (row.replies ++ at.0) h at.3
       (λ before later is. ⊎_elim
       (λ (here : (m : List PacketValue) × (row.replies ≡ before ++ ul_ack_resp ∷ m)).
       subst (Found caller mid before) (append-nil row.commands ∙ sym at.4) (found-here caller mid stops.met row [] before here.0 refl here.1))

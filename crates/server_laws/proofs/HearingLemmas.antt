@@ -86,7 +86,7 @@ goes-then caller moment session mid now (entry.queued due ∷ some) more all fir
 -- ---- packets that are taken
 
 -- What packets make of a session and its end is what these entries make.
-record Taken (caller : CallSign) (moment : ℕ) (session : Session) (end : LinkEnd) (items : List Item) (progress : Progress) (entries : List SessionEntry) : Type 0 where
+pub record Taken (caller : CallSign) (moment : ℕ) (session : Session) (end : LinkEnd) (items : List Item) (progress : Progress) (entries : List SessionEntry) : Type 0 where
   pub doings : List Doing
   pub does : DoesAll end doings progress.end
   pub said : progress.end.pushed ≡ end.pushed ++ texts (said_in entries)
@@ -265,7 +265,7 @@ module _ (caller : CallSign) (moment : ℕ) (store : Store) (lists : List Caller
 -- ---- what the link tells
 
 -- whether the link is up behind what it tells, of a frame that doesn't call
-abbrev IsUpBehind : Heard → LinkEnd → Type 0
+abbrev pub IsUpBehind : Heard → LinkEnd → Type 0
 IsUpBehind Nothing after = after.state ≡ Up
 IsUpBehind Opened after = ⊥
 IsUpBehind Reopened after = ⊥
@@ -317,14 +317,14 @@ up-by w end frame Frmr up other = tt
 up-by w end frame Ua up other = up
 up-by w end frame Ui up other = up
 
-up-behind : (w : Window) (end : LinkEnd) (frame : FrameValue) → end.state ≡ Up → is_call frame.kind.control ≡ false → IsUpBehind (heard_of w end frame) (after_frame w end frame)
+pub up-behind : (w : Window) (end : LinkEnd) (frame : FrameValue) → end.state ≡ Up → is_call frame.kind.control ≡ false → IsUpBehind (heard_of w end frame) (after_frame w end frame)
 up-behind w end frame up other = subst (λ (state : LinkState). IsUpAfter (row_of_state state w end frame)) (sym up) (up-by w end frame frame.kind.control up other)
 
 -- ---- a frame
 
 module _ (moment : ℕ) (store : Store) (lists : List CallerList) (c : Connected) (after : LinkEnd) (octets : List ℕ) where
   -- what was taken, by what the link tells
-  taken-told : (told : Heard) → IsUpBehind told after
+  pub taken-told : (told : Heard) → IsUpBehind told after
       → Taken (caller_of c) moment (session_over store lists c.state) after (packets_told told c octets) (parts_as told moment store lists c after octets [])
       (entries_taken (caller_of c) moment (session_over store lists c.state) after (packets_told told c octets))
   taken-told Nothing up = taken-none (caller_of c) moment false (session_over store lists c.state) after (λ h. up)

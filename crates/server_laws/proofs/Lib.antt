@@ -1,5 +1,6 @@
 mod AcknowledgedLemmas
 mod HearingLemmas
 mod MissesLemmas
+pub mod Offered
 mod RowLemmas
 mod StepLemmas

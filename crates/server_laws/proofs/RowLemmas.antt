@@ -41,8 +41,7 @@ module _ (caller : CallSign) (n : ℕ) where
   own-from None e own same = absurd (let none : Some e.caller ≡ None = same in cc)
   own-from (Some old) e own same =
       let both : Some e.caller ≡ Some old.caller = same in
-      let alike : e.caller ≡ old.caller = cc in
-      alike ∙ own old refl
+      let alike : e.caller ≡ old.caller = cc in alike ∙ own old refl
 
   -- octets that are held too leave the caller
   own-grow : (store : Store) (octets : List ℕ) → IsOwnEntry caller store n → IsOwnEntry caller (after store (grow n octets)) n

@@ -88,7 +88,7 @@ module _ (w : Window) where
       let both = both-none slot slots none in
       ([], [], slot, slots, refl, refl, slot-quiet w slot both.0, places-quiet slots both.1)
 
-  places-none : (slots last : List Slot) (frames : List FrameValue) → places_next w slots ≡ None → SlotsDrain w slots frames last → (frames ≡ []) × (last ≡ slots)
+  pub places-none : (slots last : List Slot) (frames : List FrameValue) → places_next w slots ≡ None → SlotsDrain w slots frames last → (frames ≡ []) × (last ≡ slots)
   places-none [] last frames none drains = drains
   places-none (slot ∷ slots) last frames none drains =
       let both = both-none slot slots none in
@@ -131,7 +131,7 @@ module _ (w : Window) where
       step-by slot slots last frames (λ next others later. places-step slots next others later) (slot_next w slot) (places_next w slots) sends refl refl is drains
 
   -- where nothing was to be sent, the place that is another one now sends alone
-  alone-at : (slots last : List Slot) (place : ℕ) (slot old : Slot) (frames : List FrameValue) → places_next w slots ≡ None → slice_get slots place ≡ Some old
+  pub alone-at : (slots last : List Slot) (place : ℕ) (slot old : Slot) (frames : List FrameValue) → places_next w slots ≡ None → slice_get slots place ≡ Some old
       → SlotsDrain w (slice_set slots place slot) frames last → (now : Slot) × SlotDrains w slot frames now × (last ≡ slice_set slots place now)
   alone-at [] last place slot old frames none there drains = absurd cc
   alone-at (s ∷ slots) last zero slot old frames none there drains =
@@ -150,7 +150,7 @@ module _ (w : Window) where
 -- ---- a server
 
 -- What a server sends, and what it is then.
-record SendsAll (server : Server) (frames : List FrameValue) (last : Server) : Type 0 where
+pub record SendsAll (server : Server) (frames : List FrameValue) (last : Server) : Type 0 where
   pub own : List FrameValue
   pub frames_are : frames ≡ refusals server.me server.stray ++ own
   pub slots : List Slot
@@ -158,7 +158,7 @@ record SendsAll (server : Server) (frames : List FrameValue) (last : Server) : T
   pub last_is : last ≡ record server { slots = slots; stray = None }
 
 -- with this DM to be sent
-abbrev with_stray : Server → Option Refused → Server
+abbrev pub with_stray : Server → Option Refused → Server
 with_stray server stray = record server { stray = stray }
 
 no-places : (server : Server) (o : Option PlacesSend) → sends_of_places server o ≡ None → o ≡ None
@@ -182,7 +182,7 @@ module _ (frame : FrameValue) (frames : List FrameValue) (last : Server)
         last_is = rest.last_is;
       }
 
-sends-all : (frames : List FrameValue) (server : Server) (stray : Option Refused) (last : Server) → Empties (with_stray server stray) frames last
+pub sends-all : (frames : List FrameValue) (server : Server) (stray : Option Refused) (last : Server) → Empties (with_stray server stray) frames last
     → SendsAll (with_stray server stray) frames last
 sends-all [] server None last h =
     let quiet = no-places (with_stray server None) (places_next server.window server.slots) h.0 in
@@ -202,7 +202,7 @@ sends-all (frame ∷ frames) server (Some refused) last h =
     }
 
 -- a server that has nothing to send
-silent-by : (server : Server) (stray : Option Refused) → sends_by server stray ≡ None → (stray ≡ None) × (places_next server.window server.slots ≡ None)
+pub silent-by : (server : Server) (stray : Option Refused) → sends_by server stray ≡ None → (stray ≡ None) × (places_next server.window server.slots ≡ None)
 silent-by server None none = (refl, no-places server (places_next server.window server.slots) none)
 silent-by server (Some refused) none = absurd cc
 
@@ -251,14 +251,14 @@ module _ (old : Server) (gives : Stepped) (stray : old.stray ≡ None) (quiet : 
 -- ---- a frame of a station without a connection
 
 module _ (server : Server) (frame : FrameValue) (moment : ℕ) where
-  abbrev stranger_by : Bool → Option ℕ → Bool → Server
+  abbrev pub stranger_by : Bool → Option ℕ → Bool → Server
   stranger_by calls place asks =
       if calls then called_by server frame.src frame.poll moment place
       else if asks then refusing server frame.src true
       else server
 
   -- the places, the call and the window stay
-  passed-same : (calls : Bool) (place : Option ℕ) (asks : Bool) → (calls ≡ true → place ≡ None)
+  pub passed-same : (calls : Bool) (place : Option ℕ) (asks : Bool) → (calls ≡ true → place ≡ None)
       → ((stranger_by calls place asks).me ≡ server.me) × ((stranger_by calls place asks).window ≡ server.window) × ((stranger_by calls place asks).slots ≡ server.slots)
   passed-same true None asks none = (refl, refl, refl)
   passed-same true (Some place) asks none = absurd (let is = none refl in cc)

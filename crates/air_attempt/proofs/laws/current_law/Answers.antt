@@ -1,0 +1,5 @@
+use Rattle.air_attempt.proofs.Current.{current}
+use Rattle.air_attempt.proofs.laws.current_law.Goals as goal
+
+pub returns : goal.returns
+returns c = current

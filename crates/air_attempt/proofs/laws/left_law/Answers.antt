@@ -1,0 +1,5 @@
+use Rattle.air_attempt.proofs.Left.{left-law}
+use Rattle.air_attempt.proofs.laws.left_law.Goals as goal
+
+pub returns : goal.returns
+returns c = left-law

@@ -1,0 +1,66 @@
+-- From what one entry of a job keeps its law.
+use Rattle.std.proofs.Common.{◌≡◌, ℕ, List, [], ◌∷◌, sym, subst}
+use Rattle.file_store.specs.Store.{Store}
+use Rattle.client_notes.specs.Notes.{Lists}
+use Rattle.ftl0_job.specs.declared.work.Work.{Work}
+use Rattle.ftl0_client.specs.Attempt.Attempted.{Attempted}
+use Rattle.ftl0_client.specs.Entries.{GoesBy, JobEntry}
+use Rattle.air_attempt.specs.Attempt.{Attempt}
+use Rattle.air_attempt.specs.Party.{Asked, Party}
+use Rattle.air_attempt.specs.Sides.{ServerSide}
+use Rattle.air_files.specs.Facts.{HasFacts}
+use Rattle.air_files.specs.Laws.{IsOne, IsUploadOf, IsWorking, JobGoes, JobKeeps, JobLawOf, Stands, TookFront, job_gone, with_job}
+use Rattle.air_files.proofs.JobOfUpload.{upload-kept}
+use Rattle.air_files.proofs.JobStep.{keeps-by, of_attempts}
+use Rattle.air_files.proofs.JobWorking.{OneKept, Working}
+
+-- one entry of a job at a work of this kind keeps the facts
+abbrev pub OneLaw : (Work → Type 0) → Type 0
+OneLaw IsKind =
+    (store : Store) (files : List Asked) (c : ℕ) (base : Party) (a : Attempt) (older : List Attempt) → Working store files c base a older → IsKind a.client.asked
+    → (entry : JobEntry) (lists : Lists) (now : Attempted) → GoesBy base.client.lists a.client.attempted.job (entry ∷ []) lists now.job → (side : ServerSide)
+    → TookFront a (entry ∷ []) side → OneKept store files base a older entry lists now
+
+-- a client whose attempts are these
+pub working : (store : Store) (files : List Asked) (c : ℕ) (party : Party) (works : IsWorking store files c party) → Working store files c party works.attempt works.older
+working store files c party works = record {
+  stands = subst (λ (l : List Attempt). Stands files c (record party { attempts = l })) works.attempts_are works.stands;
+  link = works.link;
+  begun = works.begun;
+  reached = works.reached;
+  job = (works.job works.link).job;
+  sound = works.sound;
+  facts = subst (λ (l : List Attempt). HasFacts store files (record party { attempts = l })) works.attempts_are works.facts;
+}
+
+-- what is kept with these attempts is kept
+pub keeps-same : (store : Store) (files : List Asked) (party done : Party) (a : Attempt) (older : List Attempt) (entries : List JobEntry) → party.attempts ≡ a ∷ older
+    → JobKeeps store files (of_attempts party a older) done entries → JobKeeps store files party done entries
+keeps-same store files party done a older entries are keeps =
+    subst (λ (l : List Attempt). JobKeeps store files (record party { attempts = l }) done entries) (sym are) keeps
+
+module _ (IsKind : Work → Type 0) (one : OneLaw IsKind) where
+  -- one entry
+  one-keeps : (store : Store) (files : List Asked) (c : ℕ) (party : Party) (works : IsWorking store files c party) → IsKind works.attempt.client.asked → (entry : JobEntry)
+      (lists : Lists) (now : Attempted) → JobGoes party (entry ∷ []) lists now works.attempt
+      → JobKeeps store files party (with_job party lists now (job_gone (entry ∷ []) now works.attempt) works.older) (entry ∷ [])
+  one-keeps store files c party works kind entry lists now goes =
+      let w = working store files c party works in
+      let kept = one store files c party works.attempt works.older w kind entry lists now goes.goes goes.front.0 goes.front.1 in
+      keeps-same store files party (with_job party lists now (job_gone (entry ∷ []) now works.attempt) works.older) works.attempt works.older (entry ∷ []) works.attempts_are
+      (keeps-by store files party works.attempt works.older w.facts (entry ∷ []) lists now kept.fronts kept.lists_are kept.kept)
+
+  pub law-of : JobLawOf IsKind (λ entries. IsOne entries)
+  law-of store files c party entries lists now works kind is goes =
+      subst (λ (l : List JobEntry). JobKeeps store files party (with_job party lists now (job_gone l now works.attempt) works.older) l) (sym is.1)
+      (one-keeps store files c party works kind is.0 lists now
+      (subst (λ (l : List JobEntry). JobGoes party l lists now works.attempt) is.1 goes))
+
+-- ---- an upload
+
+pub upload-one : OneLaw IsUploadOf
+upload-one store files c base a older w kind entry lists now goes side front =
+    upload-kept store files c base a older w kind.0 kind.1 lists now side entry goes front
+
+pub job-of-upload : JobLawOf IsUploadOf (λ entries. IsOne entries)
+job-of-upload = law-of IsUploadOf upload-one
