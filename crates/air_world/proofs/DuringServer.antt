@@ -32,22 +32,26 @@ soon : (events : ℕ) → suc events % 2 ^ 32 < 2 ^ 32
 soon events = omega arith
 
 -- the transmission that is delivered is the one that may come
+pub lawful-sent : (sent : Attempt → List Transmission) (world : World) (c place : ℕ) (party : Party) (t : Transmission)
+    → PartyAt world c party → (it : IsSent party sent place t) → HasParty world (suc c) (MayCome sent (suc place))
+    → IsLawful it.attempt.window (sent it.attempt) place t
+lawful-sent sent world c place party t is it has =
+    let party_is : has.0 ≡ party = same_Some has.0 party (sym has.1 ∙ is) in
+    let may = subst (λ (it : Party). MayCome sent (suc place) it) party_is has.2 in
+    let attempt_is : may.0 ≡ it.attempt = same_Some may.0 it.attempt (sym may.2 ∙ it.current) in
+    let lawful = subst (λ (a : Attempt). IsLawful a.window (sent a) place may.1) attempt_is may.3 in
+    let t_is : may.1 ≡ t = same_Some may.1 t (sym lawful.sent ∙ it.is_at) in
+    subst (λ (one : Transmission). IsLawful it.attempt.window (sent it.attempt) place one) t_is lawful
+
 is-coming : (world : World) (c place : ℕ) (party : Party) (t : Transmission) → PartyAt world c party
     → IsSent party (λ a. a.by_client) place t → HasParty world (suc c) (MayCome (λ a. a.by_client) (suc place))
     → IsComing world c party place t
-is-coming world c place party t is sent has =
-    let party_is : has.0 ≡ party = same_Some has.0 party (sym has.1 ∙ is) in
-    let may = subst (λ (it : Party). MayCome (λ a. a.by_client) (suc place) it) party_is has.2 in
-    let attempt_is : may.0 ≡ sent.attempt = same_Some may.0 sent.attempt (sym may.2 ∙ sent.current) in
-    let lawful = subst (λ (a : Attempt). IsLawful a.window a.by_client place may.1) attempt_is may.3 in
-    let t_is : may.1 ≡ t = same_Some may.1 t (sym lawful.sent ∙ sent.is_at) in
-    record {
-      is = is;
-      attempt = sent.attempt;
-      current = sent.current;
-      lawful =
-          subst (λ (it : Transmission). IsLawful sent.attempt.window sent.attempt.by_client place it) t_is lawful;
-    }
+is-coming world c place party t is it has = record {
+    is = is;
+    attempt = it.attempt;
+    current = it.current;
+    lawful = lawful-sent (λ a. a.by_client) world c place party t is it has;
+  }
 
 module _ (laws : HearingLaws) (some_step : SomeStepLaw) (left_law : LeftLaw) (follows_law : FollowsLaw)
     (fault : HasNoFault) (front : HasNoFront) (world : World) (sound : Sound world) where

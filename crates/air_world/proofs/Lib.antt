@@ -4,6 +4,8 @@ mod ClientMade
 mod ClientQuiet
 mod ClientsStay
 mod CutWorld
+mod During
+mod DuringClient
 mod DuringNotes
 mod DuringRight
 mod DuringServer
