@@ -21,10 +21,10 @@ pub record DuringLaws : Type 0 where
 
 pub prefixes-law : DuringLaws → PrefixesLaw
 prefixes-law laws world sound = record {
-    server = λ event coming delivered count allowed takes.
-        during-server laws.hearing laws.server_steps laws.clients.left laws.follows laws.fault laws.front world sound
-        event coming delivered count allowed.possible takes;
-    client = λ event c part count allowed takes.
-        during-client laws.clients laws.client_steps laws.fault laws.front world sound event c part count
-        allowed.possible takes;
-  }
+  server = λ event coming delivered count allowed takes.
+      during-server laws.hearing laws.server_steps laws.clients.left laws.follows laws.fault laws.front world sound
+      event coming delivered count allowed.possible takes;
+  client = λ event c part count allowed takes.
+      during-client laws.clients laws.client_steps laws.fault laws.front world sound event c part count
+      allowed.possible takes;
+}

@@ -1,8 +1,8 @@
 -- What is promised holds while an event of a client's is under way, with its notes after the first of its commands.
-use Rattle.std.proofs.Common.{◌≡◌, ℕ, zero, suc, List, [], ◌∷◌, ◌++◌, take, length, Bool, true, Option, None, Some, refl, sym, ap, subst, ◌∙◌, append-nil}
+use Rattle.std.proofs.Common.{◌≡◌, ℕ, zero, suc, List, [], ◌∷◌, length, Some, refl, sym, ap, subst}
 use Rattle.std.specs.Prelude.{slice_get}
 use Rattle.std.proofs.lemmas.Option.{same_Some}
-use Rattle.ax25_link.specs.Air.{IsLawful, Transmission}
+use Rattle.ax25_link.specs.Air.{Transmission}
 use Rattle.pfh_items.specs.Laws.{HasNoFault, HasNoFront}
 use Rattle.client_notes.specs.Answers.{fresh_task}
 use Rattle.client_notes.specs.Command.{NotesCommand}
@@ -15,19 +15,18 @@ use Rattle.ftl0_job.specs.Table.{new_job}
 use Rattle.ftl0_job.specs.Upload.{new_upload}
 use Rattle.ftl0_job.specs.declared.work.Work.{Work}
 use Rattle.ftl0_job.specs.declared.work.Work.TheVariants as work
-use Rattle.ftl0_client.specs.Attempt.Attempted.{Attempted}
 use Rattle.ftl0_client.specs.Client as client
 use Rattle.ftl0_client.specs.Client.{Client, ClientEvent, asks, hearing_by}
-use Rattle.ftl0_client.specs.ClientStep.{happening}
 use Rattle.ftl0_client.specs.Laws.{SomeStepLaw}
 use Rattle.sha2.specs.Sha256.{sha256}
 use Rattle.air_attempt.specs.Attempt.{Attempt}
 use Rattle.air_attempt.specs.Lists.{Placed}
-use Rattle.air_attempt.specs.Party.{Asked, Party, newest, to_client_delivered, with_newest}
+use Rattle.air_attempt.specs.Party.{Asked, Party, to_client_delivered, with_newest}
 use Rattle.air_files.specs.Facts.{HasFacts}
 use Rattle.air_files.specs.Laws.{started_with}
 use Rattle.air_world.specs.Cuts.{client_commands}
-use Rattle.air_world.specs.Events.{ClientPart, ClientTakes, DeliversToClient, IsPartOf, IsResuming, IsSent, asking, asking_file, next_upload, part_with}
+use Rattle.air_world.specs.Events.{ClientPart, ClientTakes, DeliversToClient, IsPartOf, IsResuming, asking}
+use Rattle.air_world.specs.Events.{asking_file, next_upload, part_with}
 use Rattle.air_world.specs.Events.{with_current}
 use Rattle.air_world.specs.Headline.{HeadlineIn}
 use Rattle.air_world.specs.Laws.{noted_first}
@@ -48,26 +47,28 @@ abbrev noted : ClientPart → ℕ → Lists
 noted part count = notes.after_first count part.party.client.lists (client_commands part)
 
 -- a client is that one, with whatever notes
-stays-itself : (party : Party) (lists : Lists) → StaysBut party (record party { client = record party.client { lists = lists } })
+abbrev with_lists : Party → Lists → Party
+with_lists party lists = record party { client = record party.client { lists = lists } }
+
+stays-itself : (party : Party) (lists : Lists) → StaysBut party (with_lists party lists)
 stays-itself party lists = record {
-    me = refl;
-    server = refl;
-    link = refl;
-    uploads = refl;
-    each = λ place a is. (a, is, refl, refl);
-  }
+  me = refl;
+  server = refl;
+  link = refl;
+  uploads = refl;
+  each = λ place a is. (a, is, refl, refl);
+}
 
 -- also where a delivery to it is marked
 stays-delivered : (party : Party) (place : ℕ) (t : Transmission) (lists : Lists)
-    → StaysBut party
-    (record (with_current (to_client_delivered place t) party) { client = record party.client { lists = lists } })
+    → StaysBut party (with_lists (with_current (to_client_delivered place t) party) lists)
 stays-delivered party place t lists = record {
-    me = refl;
-    server = refl;
-    link = refl;
-    uploads = refl;
-    each = each party.attempts;
-  }
+  me = refl;
+  server = refl;
+  link = refl;
+  uploads = refl;
+  each = each party.attempts;
+}
   where
     each : (attempts : List Attempt) (at : ℕ) (a : Attempt)
         → slice_get (with_newest (to_client_delivered place t) attempts) at ≡ Some a
@@ -78,7 +79,8 @@ stays-delivered party place t lists = record {
         (b, refl, ap (λ (it : Attempt). it.client) (sym same), ap (λ (it : Attempt). it.server) (sym same))
     each (b ∷ older) (suc at) a is = (a, is, refl, refl)
 
-module _ (laws : ClientLaws) (some_step : SomeStepLaw) (fault : HasNoFault) (front : HasNoFront) (world : World) (sound : Sound world) where
+module _ (laws : ClientLaws) (some_step : SomeStepLaw) (fault : HasNoFault) (front : HasNoFront)
+    (world : World) (sound : Sound world) where
   abbrev pub Holds : ℕ → ClientPart → ℕ → Type 0
   Holds c part count = HeadlineIn (noted_first world c part count) world.server.store
 
@@ -88,17 +90,17 @@ module _ (laws : ClientLaws) (some_step : SomeStepLaw) (fault : HasNoFault) (fro
         → Holds c (part_with party coming) count
     quiet coming count none =
         let lists = noted (part_with party coming) count in
-        headline-noted fault front world sound c party (record party { client = record party.client { lists = lists } }) is
+        headline-noted fault front world sound c party (with_lists party lists) is
         (stays-itself party lists)
         (subst (λ lists. AreRight world party lists)
-         (sym (nothing-noted count party.client.lists (client_commands (part_with party coming)) none))
-         (right-own fault front world sound c party is))
+        (sym (nothing-noted count party.client.lists (client_commands (part_with party coming)) none))
+        (right-own fault front world sound c party is))
 
     -- the start of a task is
     tasked : (it : Asked) (count : ℕ) → Holds c (asking_file world it party) count
     tasked it count =
         let lists = noted (asking_file world it party) count in
-        headline-noted fault front world sound c party (record party { client = record party.client { lists = lists } }) is
+        headline-noted fault front world sound c party (with_lists party lists) is
         (stays-itself party lists) (by count)
       where
         start : NotesCommand
@@ -125,7 +127,7 @@ module _ (laws : ClientLaws) (some_step : SomeStepLaw) (fault : HasNoFault) (fro
         HasFacts world.server.store world.files
         (started_with party (notes.after_first count party.client.lists commands))) has.step.noted_is facts in
         headline-noted fault front world sound c party
-        (record (with_current (to_client_delivered place t) party) { client = record party.client { lists = lists } }) is
+        (with_lists (with_current (to_client_delivered place t) party) lists) is
         (stays-delivered party place t lists) (right-facts fault front world sound c party is lists facts_are)
 
   -- ---- each event

@@ -1,7 +1,6 @@
 -- What is promised holds where a client's notes say more, as far as they are right.
-use Rattle.std.proofs.Common.{◌≡◌, ◌⊎◌, ℕ, List, Option, Some, refl, sym, ap, subst, ◌∙◌, inl, inr}
+use Rattle.std.proofs.Common.{◌≡◌, ◌⊎◌, ℕ, List, Some, sym, ap, subst, ◌∙◌, inl, inr}
 use Rattle.std.specs.Prelude.{slice_get}
-use Rattle.std.proofs.lemmas.Option.{same_Some}
 use Rattle.pfh_items.specs.Laws.{HasNoFault, HasNoFront}
 use Rattle.file_store.specs.Store.{Store}
 use Rattle.ftl0_session.specs.Downloads.Table.{file_of}
@@ -9,7 +8,7 @@ use Rattle.client_notes.specs.Answers.{noted_at}
 use Rattle.client_notes.specs.Notes.{Lists, got_of}
 use Rattle.client_notes.specs.declared.answers.Noted.TheVariants as noted
 use Rattle.ftl0_job.specs.declared.ending.Outcome.TheVariants as reached
-use Rattle.ftl0_client.specs.Attempt.Attempted.{Attempted, outcome_of}
+use Rattle.ftl0_client.specs.Attempt.Attempted.{outcome_of}
 use Rattle.ftl0_client.specs.Outcomes.{outcome_by}
 use Rattle.ftl0_client.specs.declared.attempt.outcome.AttemptOutcome.TheVariants.{Reached}
 use Rattle.ftl0_client.specs.declared.outcome.Outcome.TheVariants as outcome
@@ -33,7 +32,8 @@ pub record StaysBut (party now : Party) : Type 0 where
   pub uploads : now.uploads ≡ party.uploads
   pub each :
       (place : ℕ) (a : Attempt) → slice_get now.attempts place ≡ Some a
-      → (was : Attempt) × (slice_get party.attempts place ≡ Some was) × (a.client ≡ was.client) × (a.server ≡ was.server)
+      → (was : Attempt) × (slice_get party.attempts place ≡ Some was) × (a.client ≡ was.client)
+      × (a.server ≡ was.server)
 
 -- Notes of the client are right: each file that they have as acknowledged is kept, and each that an attempt fetched is
 -- whole in them.
@@ -48,12 +48,11 @@ pub record AreRight (world : World) (party : Party) (lists : Lists) : Type 0 whe
 
 kept-moved : (files : List Asked) (store : Store) (party now : Party) (task number : ℕ) → StaysBut party now
     → IsTaskKept files store party task number → IsTaskKept files store now task number
-kept-moved files store party now task number stays kept =
-    (
-      kept.0,
-      subst (λ (u : List ℕ). IsFileOf files (record now { uploads = u }) task kept.0) (sym stays.uploads) kept.1,
-      subst (λ me. IsKept store number kept.0 me) (sym stays.me) kept.2,
-    )
+kept-moved files store party now task number stays kept = (
+  kept.0,
+  subst (λ (u : List ℕ). IsFileOf files (record now { uploads = u }) task kept.0) (sym stays.uploads) kept.1,
+  subst (λ me. IsKept store number kept.0 me) (sym stays.me) kept.2,
+)
 
 module _ (fault : HasNoFault) (front : HasNoFront) (world : World) (sound : Sound world) (c : ℕ) (party now : Party)
     (is : PartyAt world c party) (stays : StaysBut party now) (right : AreRight world party now.client.lists) where
@@ -81,7 +80,7 @@ module _ (fault : HasNoFault) (front : HasNoFront) (world : World) (sound : Soun
   acknowledged number task file that (inl own) holds =
       subst (λ (p : Party). IsTaskKept world.files world.server.store p task file) (sym own.1)
       (kept-moved world.files world.server.store party now task file stays
-       (right.acknowledged task file (subst (λ (p : Party). HoldsAck p task file) own.1 holds)))
+      (right.acknowledged task file (subst (λ (p : Party). HoldsAck p task file) own.1 holds)))
   acknowledged number task file that (inr other) holds = headline.acknowledged number task file that other.1 holds
 
   offered : (number offset place : ℕ) (n : ℕ) (that : Party) (a : Attempt) (side : ServerSide) → IsThen n that
@@ -101,16 +100,16 @@ module _ (fault : HasNoFault) (front : HasNoFront) (world : World) (sound : Soun
         offers = offers;
       }
   offered number offset place n that a side (inr other) at is_side offers = record {
-      c = n;
-      party = that;
-      is_party = other.1;
-      place = place;
-      attempt = a;
-      is_attempt = at;
-      side = side;
-      is_side = is_side;
-      offers = offers;
-    }
+    c = n;
+    party = that;
+    is_party = other.1;
+    place = place;
+    attempt = a;
+    is_attempt = at;
+    side = side;
+    is_side = is_side;
+    offers = offers;
+  }
 
   fetched : (number file : ℕ) (that : Party) → IsThen number that
       → outcome_by that.client.attempt ≡ outcome.Fetched file → HasWhole world.server.store that file
@@ -133,12 +132,12 @@ module _ (fault : HasNoFault) (front : HasNoFront) (world : World) (sound : Soun
 
   pub headline-noted : HeadlineIn (with_party world c now) world.server.store
   headline-noted = record {
-      acknowledged = λ n task number that there holds. acknowledged n task number that (then-is n that there) holds;
-      offered = λ number offset it.
-          (are-offered world sound number offset
-           (offered number offset it.place it.c it.party it.attempt it.side (then-is it.c it.party it.is_party)
-            it.is_attempt it.is_side it.offers)).1;
-      fetched = λ n number that there is. fetched n number that (then-is n that there) is;
-      fetched_before = λ n place number that a there at is.
-          fetched-before n place number that a (then-is n that there) at is;
-    }
+    acknowledged = λ n task number that there holds. acknowledged n task number that (then-is n that there) holds;
+    offered = λ number offset it.
+        (are-offered world sound number offset
+        (offered number offset it.place it.c it.party it.attempt it.side (then-is it.c it.party it.is_party)
+        it.is_attempt it.is_side it.offers)).1;
+    fetched = λ n number that there is. fetched n number that (then-is n that there) is;
+    fetched_before = λ n place number that a there at is.
+        fetched-before n place number that a (then-is n that there) at is;
+  }

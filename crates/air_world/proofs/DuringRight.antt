@@ -1,13 +1,10 @@
 -- Notes of a client that are right: those that it has, with a fresh task, and those by which the facts hold.
-use Rattle.std.proofs.Common.{◌≡◌, ℕ, List, [], ◌∷◌, Option, Some, length, refl, sym, ap, subst, ◌∙◌}
-use Rattle.std.specs.Prelude.{slice_get}
-use Rattle.pfh_items.specs.Faults.{fault_code}
+use Rattle.std.proofs.Common.{ℕ, [], ◌∷◌, length}
 use Rattle.pfh_items.specs.Laws.{HasNoFault, HasNoFront}
 use Rattle.client_notes.specs.Answers.{fresh_task}
 use Rattle.client_notes.specs.Laws.{after_all}
 use Rattle.client_notes.specs.Notes.{Lists, got_of}
 use Rattle.sha2.specs.Sha256.{sha256}
-use Rattle.air_attempt.specs.Attempt.{Attempt}
 use Rattle.air_attempt.specs.Party.{Asked, Party}
 use Rattle.air_files.specs.Facts.{HasFacts, HasFetched}
 use Rattle.air_files.specs.Laws.{started_with}
@@ -34,10 +31,12 @@ module _ (fault : HasNoFault) (front : HasNoFront) (world : World) (sound : Soun
   pub right-tasked : (it : Asked)
       → AreRight world party
       (after_all party.client.lists
-       (fresh_task party.client.lists party.client.server party.client.me it.name (length it.file) (sha256 it.file) ∷ []))
+      (fresh_task party.client.lists party.client.server party.client.me it.name (length it.file) (sha256 it.file)
+      ∷ []))
   right-tasked it =
       record {
-        acknowledged = λ task number holds. right-own.acknowledged task number (tasked-acked party 0 it task number holds);
+        acknowledged = λ task number holds.
+            right-own.acknowledged task number (tasked-acked party 0 it task number holds);
         fetched = right-own.fetched;
       }
 
@@ -50,5 +49,6 @@ module _ (fault : HasNoFault) (front : HasNoFront) (world : World) (sound : Soun
         fetched = λ place number a at reached.
             whole-got world.server.store number (got_of lists party.client.server number) fault front sound.store
             (facts.files_got.got_front number)
-            (all-at (HasFetched (started_with party lists)) party.attempts place a facts.files_got.fetched at number reached);
+            (all-at (HasFetched (started_with party lists)) party.attempts place a facts.files_got.fetched at
+            number reached);
       }

@@ -1,18 +1,17 @@
 -- What is promised holds while an event of the server's is under way, in the store after the first of its commands.
-use Rattle.std.proofs.Common.{◌≡◌, ℕ, zero, suc, ◌<◌, ◌^◌, ◌%◌, List, Option, Some, refl, sym, ap, subst, ◌∙◌, arith}
+use Rattle.std.proofs.Common.{◌≡◌, ℕ, zero, suc, ◌<◌, ◌^◌, ◌%◌, List, sym, subst, ◌∙◌, arith}
 use Rattle.std.proofs.lemmas.Option.{same_Some}
-use Rattle.px_base.specs.CallSign.{IsCall}
 use Rattle.ax25_link.specs.Air.{IsLawful, Transmission}
 use Rattle.pfh_items.specs.Laws.{HasNoFault, HasNoFront}
 use Rattle.node.specs.Events.{NodeEvent, ticks}
-use Rattle.file_entries.specs.Follows.{FollowsBy, FollowsLaw, KeepsEntries}
+use Rattle.file_entries.specs.Follows.{FollowsBy, FollowsLaw}
 use Rattle.file_store.specs.Command.{Command, after_all}
 use Rattle.file_store.specs.OnDisk.{after_first}
 use Rattle.file_store.specs.Store.{Store}
 use Rattle.ftl0_server.specs.Laws.{SomeStepLaw}
 use Rattle.air_attempt.specs.Attempt.{Attempt}
 use Rattle.air_attempt.specs.Laws.{LeftLaw}
-use Rattle.air_attempt.specs.Party.{Party, newest}
+use Rattle.air_attempt.specs.Party.{Party}
 use Rattle.air_world.specs.Cuts.{server_commands}
 use Rattle.air_world.specs.Events.{DeliversToServer, IsSent, ServerTakes}
 use Rattle.air_world.specs.Headline.{HeadlineIn}
@@ -47,11 +46,11 @@ is-coming : (world : World) (c place : ℕ) (party : Party) (t : Transmission) �
     → IsSent party (λ a. a.by_client) place t → HasParty world (suc c) (MayCome (λ a. a.by_client) (suc place))
     → IsComing world c party place t
 is-coming world c place party t is it has = record {
-    is = is;
-    attempt = it.attempt;
-    current = it.current;
-    lawful = lawful-sent (λ a. a.by_client) world c place party t is it has;
-  }
+  is = is;
+  attempt = it.attempt;
+  current = it.current;
+  lawful = lawful-sent (λ a. a.by_client) world c place party t is it has;
+}
 
 module _ (laws : HearingLaws) (some_step : SomeStepLaw) (left_law : LeftLaw) (follows_law : FollowsLaw)
     (fault : HasNoFault) (front : HasNoFront) (world : World) (sound : Sound world) where
@@ -61,7 +60,7 @@ module _ (laws : HearingLaws) (some_step : SomeStepLaw) (left_law : LeftLaw) (fo
   follows c party now is by_caller =
       let store = world.server.store in
       let of = follows_law.others party.client.me store now sound.store.is_store (stands world sound c party is).call
-          by_caller in
+      by_caller in
       headline-follows world store now (follows_law.entries store now sound.store.is_store of.0)
       (are-offered world sound) (has-headline world fault front sound)
 
@@ -74,10 +73,12 @@ module _ (laws : HearingLaws) (some_step : SomeStepLaw) (left_law : LeftLaw) (fo
   frame c place count coming delivered may it =
       let comes = is-coming world c place it.party it.t it.is_party it.sent may in
       let kept = own-left laws some_step left_law world sound c it.party place it.t comes (next_moment world)
-          (soon world.events) count in
+      (soon world.events) count in
       subst (λ (coming : NodeEvent). Holds count coming) (sym it.coming_is)
-      (follows c it.party (left laws some_step left_law world sound c it.party place it.t comes (next_moment world) (soon world.events) count)
-       it.is_party kept.follows)
+      (follows c it.party
+      (left laws some_step left_law world sound c it.party place it.t comes (next_moment world) (soon world.events)
+      count)
+      it.is_party kept.follows)
 
   tick : (count moment : ℕ) → Holds count (ticks moment)
   tick count moment =
