@@ -16,7 +16,7 @@ use Rattle.ftl0_job.specs.Upload.{new_upload}
 use Rattle.ftl0_job.specs.declared.work.Work.{Work}
 use Rattle.ftl0_job.specs.declared.work.Work.TheVariants as work
 use Rattle.ftl0_client.specs.Client as client
-use Rattle.ftl0_client.specs.Client.{Client, ClientEvent, asks, hearing_by}
+use Rattle.ftl0_client.specs.Client.{ClientEvent, asks}
 use Rattle.ftl0_client.specs.Laws.{SomeStepLaw}
 use Rattle.sha2.specs.Sha256.{sha256}
 use Rattle.air_attempt.specs.Attempt.{Attempt}
