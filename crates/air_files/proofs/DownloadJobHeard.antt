@@ -1,7 +1,6 @@
 -- What a packet that a client of a download takes tells of what its session has said.
-use Rattle.std.proofs.Common.{◌≡◌, ◌≢◌, ◌⊎◌, inl, inr, ℕ, ◌+◌, ◌≤◌, List, [], ◌∷◌, ◌++◌, length, map, take, drop, refl, ap, sym, ◌∙◌, subst, Some, None, Ok, arith, length-append, length-drop, append_assoc, append-nil}
+use Rattle.std.proofs.Common.{◌≡◌, ◌≢◌, inl, inr, ℕ, List, [], ◌∷◌, ◌++◌, length, map, drop, refl, ap, sym, ◌∙◌, subst, Ok, append_assoc, append-nil}
 use Rattle.std.specs.List.{concat}
-use Rattle.px_base.specs.Octets.{IsFront}
 use Rattle.ftl0_packets.specs.Layout.{Item, PacketValue, data_end, data_part, dl_aborted_resp, dl_completed_resp, dl_error_resp, download_cmd}
 use Rattle.file_store.specs.Store.{Store}
 use Rattle.ftl0_server.specs.Entries as session
@@ -11,7 +10,7 @@ use Rattle.air_attempt.specs.Said.{octets_of_data, octets_said, octets_taken}
 use Rattle.air_attempt.specs.Sides.{ClientSide, IsGreeting, ServerSide, said_by_client, said_by_server}
 use Rattle.air_files.specs.DownloadDialogue.{AreAllSent, AreSent, Fetching, IsFetchingFile, IsLast, SaysDownload, Sending, ServesDownload, asked, ended, fetching_said, refused, sending_items, sending_said, sends, silent, told, unasked, waits}
 use Rattle.air_files.specs.UploadDialogue.{answered_in}
-use Rattle.air_files.proofs.DownloadComing.{greeting-silent, said-parts, word-other}
+use Rattle.air_files.proofs.DownloadComing.{greeting-silent, word-other}
 
 -- ---- the packet among those that were said
 

@@ -1,5 +1,5 @@
 -- What a packet that a job takes of a download keeps of its client's notes, and of what it fetches.
-use Rattle.std.proofs.Common.{◌≡◌, ◌≢◌, ⊎_elim, inl, inr, ℕ, ◌+◌, ◌-◌, ◌≤◌, ◌==◌, List, [], ◌∷◌, ◌++◌, length, map, drop, refl, ap, sym, ◌∙◌, subst, Bool, true, false, Option, None, Some, Ok, arith, append_assoc, append-nil, length-append, length-drop}
+use Rattle.std.proofs.Common.{◌≡◌, ◌≢◌, inl, inr, ℕ, ◌+◌, ◌-◌, ◌≤◌, ◌==◌, List, [], ◌∷◌, ◌++◌, length, map, drop, refl, ap, sym, ◌∙◌, subst, Bool, true, false, None, Some, Ok, arith, append_assoc, append-nil, length-append, length-drop}
 use Rattle.std.specs.Prelude.{if◌then◌else◌}
 use Rattle.std.specs.List.{concat}
 use Rattle.std.proofs.lemmas.Bool.Decides.{nat_tests}
@@ -9,13 +9,13 @@ use Rattle.px_base.specs.Octets.{IsFront}
 use Rattle.pfh_items.specs.Faults.{fault_code}
 use Rattle.ftl0_packets.specs.Layout.{Item, PacketValue, data_end, data_part, dl_ack_cmd, dl_completed_resp, dl_error_resp, download_cmd, login_resp}
 use Rattle.file_store.specs.Store.{Store}
-use Rattle.ftl0_session.specs.Downloads.Table.{file_of}
 use Rattle.ftl0_session.proofs.downloads.FileLemmas.{file-complete}
 use Rattle.ftl0_server.specs.Entries as session
 use Rattle.client_notes.specs.Command.{NotesCommand, forgot}
 use Rattle.client_notes.specs.Laws.{after_all}
 use Rattle.client_notes.specs.Notes.{Lists, got_of}
 use Rattle.client_notes.specs.Several as notes
+use Rattle.ftl0_job.specs.declared.ending.Ending.{Ending}
 use Rattle.ftl0_job.specs.declared.ending.Outcome.TheVariants as outcome
 use Rattle.ftl0_job.specs.declared.phases.DownloadPhase.{DownloadPhase}
 use Rattle.ftl0_job.specs.declared.phases.DownloadPhase.TheVariants as phase
@@ -38,12 +38,11 @@ use Rattle.air_files.specs.Facts.{AreFirstIfAny, Fetches, FetchesIn, HasFacts, c
 use Rattle.air_files.specs.Laws.{job_gone, with_job}
 use Rattle.air_files.specs.SoundStore.{IsSoundStore}
 use Rattle.air_files.proofs.DownloadComing.{front-if-any}
-use Rattle.air_files.proofs.DownloadJobHeard.{IsNext, asks-once, coming-octets, end-sent, error-other, left-octets, taken-octets, unasked-silent}
+use Rattle.air_files.proofs.DownloadJobHeard.{IsNext, asks-once, coming-octets, end-sent, error-other, left-octets, unasked-silent}
 use Rattle.air_files.proofs.DownloadJobRows.{DownloadCases, download-cases, download_at}
 use Rattle.air_files.proofs.DownloadJobSaid.{CameTo}
 use Rattle.air_files.proofs.FetchesOn.{flat_map-one}
-use Rattle.air_files.proofs.FileOctets.{octets-entry}
-use Rattle.air_files.proofs.GotKept.{first-before, last-pieces, noted-after, piece_gots, pieces-fronts, whole-pieces}
+use Rattle.air_files.proofs.GotKept.{first-before, last-pieces, noted-after, pieces-fronts, whole-pieces}
 use Rattle.air_files.proofs.JobNotes.{NotesKept}
 use Rattle.air_files.proofs.JobStep.{of_attempts}
 use Rattle.air_files.proofs.JobTook.{answered-item, front-has, has-ok}
@@ -92,7 +91,8 @@ module _ (store : Store) (files : List Asked) (base : Party) (a : Attempt) (olde
   -- What a row keeps.
   pub record RowKept (packet : PacketValue) (row : Row Download) : Type 0 where
     pub fronts : (count : ℕ) → NotesKept store files party (notes.after_first count lists row.commands)
-    pub checked : IsCheckedIn row.state.phase (got_of (after_all lists row.commands) server number)
+    pub checked : IsCheckedIn row.state.phase (got_of (after_all lists row.commands) server row.state.number)
+    pub fetched : (ending : Ending) (n : ℕ) → row.ending ≡ Some ending → ending.outcome ≡ outcome.Fetched n → fault_code (got_of (after_all lists row.commands) server n) ≡ None
     pub fetches : (now : Attempted) → row.ending ≡ None → FetchesIn row.state.phase store (party_then packet row now) (attempt_then packet row now) row.state
     pub asks : (n offset : ℕ) → Has row.replies (download_cmd n offset 0) → offset ≤ length (got_of (after_all lists row.commands) server n)
 
@@ -109,13 +109,15 @@ module _ (store : Store) (files : List Asked) (base : Party) (a : Attempt) (olde
 
   -- a row that ends the job, without a command and a reply
   ends-kept : (p : DownloadPhase) (packet : PacketValue) (row : Row Download) → row.state ≡ download_at server number rest p → row.commands ≡ [] → row.replies ≡ [] → row.ending ≢ None
+      → ((ending : Ending) (n : ℕ) → row.ending ≡ Some ending → ending.outcome ≡ outcome.Fetched n → fault_code (got_of lists server n) ≡ None)
       → FetchesIn p store party a (download_at server number rest p) → RowKept packet row
-  ends-kept p packet row state commands replies over fetches = record {
+  ends-kept p packet row state commands replies over fetched fetches = record {
     fronts = λ count.
         subst (λ (cs : List NotesCommand). NotesKept store files party (notes.after_first count lists cs)) (sym commands) (fronts-none store files party it.facts count);
     checked =
-        subst (λ (d : Download). IsCheckedIn d.phase (got_of (after_all lists row.commands) server number)) (sym state)
+        subst (λ (d : Download). IsCheckedIn d.phase (got_of (after_all lists row.commands) server d.number)) (sym state)
         (subst (λ (cs : List NotesCommand). IsCheckedIn p (got_of (after_all lists cs) server number)) (sym commands) (checked-in p fetches));
+    fetched = λ ending n is reached. ap (λ (cs : List NotesCommand). fault_code (got_of (after_all lists cs) server n)) commands ∙ fetched ending n is reached;
     fetches = λ now none. absurd (over none);
     asks = λ n offset has. absurd (subst (λ (l : List PacketValue). Has l (download_cmd n offset 0)) replies has);
   }
@@ -171,6 +173,7 @@ module _ (store : Store) (files : List Asked) (base : Party) (a : Attempt) (olde
       record {
         fronts = fronts-none store files party it.facts;
         checked = tt;
+        fetched = λ ending n is reached. absurd (cc);
         fetches = λ now goes.
             record {
               first =
@@ -221,6 +224,7 @@ module _ (store : Store) (files : List Asked) (base : Party) (a : Attempt) (olde
             (pieces-fronts store files party it.facts it.sound number pieces.0
              (first-before store number (held ++ concat pieces.0) ((held ++ concat pieces.0) ++ (unnoted (rest ++ octets) ++ left)) (unnoted (rest ++ octets) ++ left, refl) first) count);
         checked = tt;
+        fetched = λ ending n is reached. absurd (cc);
         fetches = λ now goes.
             record {
               first =
@@ -282,6 +286,7 @@ module _ (store : Store) (files : List Asked) (base : Party) (a : Attempt) (olde
             subst (λ (cs : List NotesCommand). NotesKept store files party (notes.after_first count lists cs)) (sym pieces.1)
             (pieces-fronts store files party it.facts it.sound number pieces.0 first count);
         checked = ap fault_code got_then ∙ good;
+        fetched = λ ending n is reached. absurd (cc);
         fetches = λ now goes. (refl, ap fault_code got_then ∙ good);
         asks = λ n offset has. asked-none n offset has;
       }
@@ -302,7 +307,7 @@ module _ (store : Store) (files : List Asked) (base : Party) (a : Attempt) (olde
       subst (λ (l : List PacketValue). Has l (dl_error_resp code)) (sym next.said_is)
       (one-right (λ p. p ≡ dl_error_resp code) next.before (dl_error_resp code ∷ next.after) (inl refl)) in
       let other = error-other store number side code it.greets it.serves said in
-      ends-kept phase.Fetching (dl_error_resp code) row refl (by other (code == 2) refl) refl (λ none. absurd (cc)) fetches
+      ends-kept phase.Fetching (dl_error_resp code) row refl (by other (code == 2) refl) refl (λ none. absurd (cc)) (λ ending n is reached. absurd (cc)) fetches
     where
       by : code ≢ 2 → (b : Bool) → (code == 2) ≡ b → (if b then forgot server number ∷ [] else []) ≡ []
       by other true is = absurd (other (grind (arith, nat_tests, is)))
@@ -310,14 +315,15 @@ module _ (store : Store) (files : List Asked) (base : Party) (a : Attempt) (olde
 
   kept-cases : DownloadCases server number held rest Keeps
   kept-cases = record {
-    strange_rows = λ p packet kind came fetches next. ends-kept p packet (strange (download_at server number rest p) kind) refl refl refl (λ none. absurd (cc)) fetches;
+    strange_rows = λ p packet kind came fetches next. ends-kept p packet (strange (download_at server number rest p) kind) refl refl refl (λ none. absurd (cc)) (λ ending n is reached. absurd (cc)) fetches;
     login = login-kept;
     octets = octets-kept;
     whole = whole-kept;
     bad = bad-kept;
     refused = refused-kept;
     done = λ came fetches next.
-        ends-kept phase.Done dl_completed_resp (ends (download_at server number rest phase.Done) [] (outcome.Fetched number)) refl refl refl (λ none. absurd (cc)) fetches;
+        ends-kept phase.Done dl_completed_resp (ends (download_at server number rest phase.Done) [] (outcome.Fetched number)) refl refl refl (λ none. absurd (cc))
+        (λ ending n is reached. let of : number ≡ n = cc in ap (λ (m : ℕ). fault_code (got_of lists server m)) (sym of) ∙ fetches.1) fetches;
   }
 
   -- what a packet keeps

@@ -1,5 +1,5 @@
 -- What a job of a download has said, by how far it has come.
-use Rattle.std.proofs.Common.{◌≡◌, ◌≢◌, inl, inr, ℕ, List, [], ◌∷◌, ◌++◌, length, refl, ap, sym, ◌∙◌, subst, Option, None, Some, Ok, Err, append-nil}
+use Rattle.std.proofs.Common.{◌≡◌, inl, inr, ℕ, List, [], ◌∷◌, ◌++◌, length, refl, ap, sym, ◌∙◌, subst, Option, None, Some, Ok, Err, append-nil}
 use Rattle.std.specs.Prelude.{⊤}
 use Rattle.px_base.specs.CallSign.{CallSign}
 use Rattle.ftl0_packets.specs.Items.{kind_of_item}
@@ -14,7 +14,7 @@ use Rattle.ftl0_job.specs.Download.{Download, download_row, new_download}
 use Rattle.ftl0_job.specs.Due.{DuePacket, due_by, next_due}
 use Rattle.ftl0_job.specs.Row.{Row}
 use Rattle.ftl0_job.specs.Table.{JobState, item_row, job_after, new_job, row_of}
-use Rattle.ftl0_client.specs.Entries.{JobEntry, after_losing, lost, packets_said, passed, queued, said_in, took}
+use Rattle.ftl0_client.specs.Entries.{JobEntry, after_losing, lost, packets_said, passed, said_in, took}
 use Rattle.air_attempt.specs.Lists.{OneIs}
 use Rattle.air_attempt.specs.Said.{IsTaken}
 use Rattle.air_attempt.specs.Sides.{JobReaches}
@@ -25,7 +25,7 @@ use Rattle.air_files.proofs.JobUploadSaid.{one-last, said-one}
 use Rattle.air_files.proofs.LiftLemmas.{one-left}
 
 -- what a job that has said so much has taken: its word came behind DATA_END
-abbrev Told : List JobEntry → Fetching → Type 0
+abbrev pub Told : List JobEntry → Fetching → Type 0
 Told es silent = ⊤
 Told es (asked offset) = ⊤
 Told es (told offset word) = IsWord word × OneIs (IsTaken (Ok data_end)) es

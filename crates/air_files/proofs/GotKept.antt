@@ -1,5 +1,5 @@
 -- What a client's notes keep as they note octets that it got of a file.
-use Rattle.std.proofs.Common.{◌≡◌, ◌≢◌, ⊎_elim, inl, inr, ℕ, zero, suc, ◌+◌, ◌*◌, ◌/◌, ◌≤◌, ◌<◌, ◌==◌, List, [], ◌∷◌, ◌++◌, length, map, take, drop, refl, ap, sym, ◌∙◌, subst, ◌&&◌, Bool, true, false, Option, None, Some, arith, append_assoc, append-nil, length-append, le_refl, take-append-drop, take_all}
+use Rattle.std.proofs.Common.{◌≡◌, ◌≢◌, ⊎_elim, ℕ, zero, suc, ◌+◌, ◌*◌, ◌/◌, ◌≤◌, ◌<◌, ◌==◌, List, [], ◌∷◌, ◌++◌, length, map, take, drop, refl, ap, sym, ◌∙◌, subst, ◌&&◌, Bool, true, false, None, Some, arith, append_assoc, append-nil, length-append, take-append-drop}
 use Rattle.std.specs.List.{concat}
 use Rattle.std.proofs.lemmas.Bool.Decides.{eqb_tells, nat_tests}
 use Rattle.std.proofs.Math.Seq.{take-append_seam}
@@ -10,9 +10,8 @@ use Rattle.px_base.specs.Octets.{IsFront, IsOctets}
 use Rattle.pfh_items.specs.Faults.{IsFaultless, fault_code}
 use Rattle.pfh_items.proofs.Offered.{no_fault, no_front}
 use Rattle.pfh_writer.proofs.StampedLemmas.{no_fault-code}
-use Rattle.file_store.specs.Info.{IsCompleteIn}
-use Rattle.file_store.specs.Store.{Entry, Store, entry_of, octets_at}
-use Rattle.ftl0_session.specs.Downloads.Table.{file_of, octets_in}
+use Rattle.file_store.specs.Store.{Store}
+use Rattle.ftl0_session.specs.Downloads.Table.{file_of}
 use Rattle.ftl0_session.proofs.downloads.FileLemmas.{file-complete}
 use Rattle.client_notes.specs.Command.{NotesCommand, after, got as got_command}
 use Rattle.client_notes.specs.Laws.{after_all}

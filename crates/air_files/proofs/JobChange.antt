@@ -1,5 +1,5 @@
 -- What of a client's facts changes with its notes and its current attempt, over the same store.
-use Rattle.std.proofs.Common.{◌≡◌, ℕ, ◌+◌, List, [], ◌∷◌, true, Option, None, Some, refl}
+use Rattle.std.proofs.Common.{◌≡◌, ℕ, ◌+◌, List, ◌∷◌, true, Option, None, Some, refl}
 use Rattle.std.specs.Prelude.{IfSome}
 use Rattle.std.specs.List.{AllByRecursion}
 use Rattle.file_store.specs.Store.{Store}
@@ -17,6 +17,7 @@ use Rattle.air_files.specs.Facts.{AreFirstIfAny, AskedWithin, GoesOnWithTask, Ha
 use Rattle.air_files.specs.Facts.{NotesGrant, Receives, got}
 use Rattle.air_files.specs.Kept.{HoldsAck, IsTaskKept}
 use Rattle.air_files.specs.UploadDialogue.{GoesOnWith}
+use Rattle.air_files.proofs.LiftLemmas.{each-weaker}
 
 -- the client with these notes, this link, this DM to be sent and these attempts
 abbrev pub made : Party → Lists → Option Attempted → Option Refused → List Attempt → Party
@@ -43,10 +44,6 @@ pub record Changes (store : Store) (files : List Asked) (old new : Party) (a b :
   pub fetched : AllByRecursion (HasFetched new) (b ∷ older)
   pub asked_within : AllByRecursion (AskedWithin new) (b ∷ older)
 
-pub each-so : {X : Type 0} {P Q : X → Type 0} (xs : List X) → ((x : X) → P x → Q x) → AllByRecursion P xs → AllByRecursion Q xs
-each-so [] so each = tt
-each-so (x ∷ xs) so each = (so x each.0, each-so xs so each.1)
-
 pub some-so : {X : Type 0} {P Q : X → Type 0} (o : Option X) → ((x : X) → o ≡ Some x → P x → Q x) → IfSome o P → IfSome o Q
 some-so None so if = tt
 some-so (Some x) so if = so x refl if
@@ -69,42 +66,42 @@ module _ (store : Store) (files : List Asked) (base : Party) (lists now_lists : 
           let n = c.numbered task number file has is in
           record { below = n.below; stands = n.stands; granted = n.granted };
       acknowledged = c.acknowledged;
-      noted = (c.noted, each-so older (λ x h task number file asks took. c.numbers task number (h task number file asks took)) f.tasks.noted.1);
+      noted = (c.noted, each-weaker older (λ x h task number file asks took. c.numbers task number (h task number file asks took)) f.tasks.noted.1);
       goes_on =
-          each-so {P = GoesOnWithTask old} {Q = GoesOnWithTask new} (b ∷ older)
+          each-weaker {P = GoesOnWithTask old} {Q = GoesOnWithTask new} (b ∷ older)
           (λ x h task known file asks some. c.numbers task known (h task known file asks some)) f.tasks.goes_on;
     };
     sessions = record {
       granted = (
         some-so a.server (λ side is h number len gives. grant a b (λ task file asks. asks) number len (h number len gives)) f.sessions.granted.0,
-        each-so older (λ x if. some-so x.server (λ side is h number len gives. grant x x (λ task file asks. asks) number len (h number len gives)) if) f.sessions.granted.1,
+        each-weaker older (λ x if. some-so x.server (λ side is h number len gives. grant x x (λ task file asks. asks) number len (h number len gives)) if) f.sessions.granted.1,
       );
       complete = f.sessions.complete;
       offered = f.sessions.offered;
       receives = (
         some-so a.server
-        (λ side is h number rest up state.
-        let r = h number rest up state in
-        record {
-          task = r.task;
-          known = r.known;
-          file = r.file;
-          asks = r.asks;
-          entry = r.entry;
-          is_entry = r.is_entry;
-          held = r.held;
-          holds = r.holds;
-          caller_is = r.caller_is;
-          length_is = r.length_is;
-          few = r.few;
-          offset = r.offset;
-          offers = r.offers;
-          came = r.came;
-          within = r.within;
-          goes_on = c.receives side number rest is up state r;
-        })
-        f.sessions.receives.0,
-        each-so older (λ x if. some-so x.server (λ side is h number rest up state. receive x side number rest (h number rest up state)) if) f.sessions.receives.1,
+            (λ side is h number rest up state.
+            let r = h number rest up state in
+            record {
+              task = r.task;
+              known = r.known;
+              file = r.file;
+              asks = r.asks;
+              entry = r.entry;
+              is_entry = r.is_entry;
+              held = r.held;
+              holds = r.holds;
+              caller_is = r.caller_is;
+              length_is = r.length_is;
+              few = r.few;
+              offset = r.offset;
+              offers = r.offers;
+              came = r.came;
+              within = r.within;
+              goes_on = c.receives side number rest is up state r;
+            })
+            f.sessions.receives.0,
+        each-weaker older (λ x if. some-so x.server (λ side is h number rest up state. receive x side number rest (h number rest up state)) if) f.sessions.receives.1,
       );
       due = f.sessions.due;
       serves = f.sessions.serves;

@@ -25,7 +25,8 @@ use Rattle.air_files.specs.UploadDialogue.{GoesOnWith}
 use Rattle.air_files.proofs.JobChange.{change}
 use Rattle.air_files.proofs.JobStep.{of_attempts}
 use Rattle.air_files.proofs.JobTook.{whole}
-use Rattle.air_files.proofs.JobUploadSaid.{one-left, said-one}
+use Rattle.air_files.proofs.JobUploadSaid.{said-one}
+use Rattle.air_files.proofs.LiftLemmas.{one-left}
 
 -- ---- fewer packets
 
@@ -46,7 +47,7 @@ fewer-behind file (suc n) place (packet ∷ packets) more goes = fewer-behind fi
 
 -- ---- an outcome stays
 
-reached-none : (down : Option Why) (reached : Outcome) → outcome_by None down ≡ Some (Reached reached) → ⊥
+pub reached-none : (down : Option Why) (reached : Outcome) → outcome_by None down ≡ Some (Reached reached) → ⊥
 reached-none None reached is = cc
 reached-none (Some why) reached is = let no : LinkDown why ≡ Reached reached = cc in cc no
 
@@ -90,9 +91,9 @@ earlier store files base a older entry now lists stays before facts =
       fetched = ((λ number is. facts.files_got.fetched.0 number (stays (outcome.Fetched number) is)), facts.files_got.fetched.1);
       asked_within = (
         (λ number offset has.
-        facts.files_got.asked_within.0 number offset
-        (subst (λ (l : List PacketValue). Has l (download_cmd number offset 0)) (sym (said-one a.client.entries entry))
-        (one-left (λ (p : PacketValue). p ≡ download_cmd number offset 0) (job.said_in a.client.entries) (job.packets_said entry) has))),
+            facts.files_got.asked_within.0 number offset
+            (subst (λ (l : List PacketValue). Has l (download_cmd number offset 0)) (sym (said-one a.client.entries entry))
+            (one-left (λ (p : PacketValue). p ≡ download_cmd number offset 0) (job.said_in a.client.entries) (job.packets_said entry) has))),
         facts.files_got.asked_within.1,
       );
     })

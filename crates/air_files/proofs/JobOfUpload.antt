@@ -32,12 +32,14 @@ use Rattle.air_files.specs.UploadDialogue.{GoesOnWith, SaysUpload, ServesUpload}
 use Rattle.air_files.proofs.JobNotes.{NotesKept, NumberIn}
 use Rattle.air_files.proofs.JobReach.{reaches-by, reaches-then, row-of-work}
 use Rattle.air_files.proofs.JobStep.{of_attempts}
-use Rattle.air_files.proofs.JobTook.{one-cases, some-at, whole}
+use Rattle.air_files.proofs.JobTook.{whole}
+use Rattle.air_files.proofs.LiftLemmas.{one-cases, some-at}
 use Rattle.air_files.proofs.JobUploadCases.{keeps-notes, notes-number, says-nothing}
 use Rattle.air_files.proofs.JobUploadGoes.{goes-behind, no-download, says-came, says-same}
 use Rattle.air_files.proofs.JobUploadNotes.{Uploading, fronts-none, upload-same}
 use Rattle.air_files.proofs.JobUploadRows.{upload_at}
-use Rattle.air_files.proofs.JobUploadSaid.{DoesUpload, does-upload, due-of, one-left, said-one}
+use Rattle.air_files.proofs.JobUploadSaid.{DoesUpload, does-upload, due-of, said-one}
+use Rattle.air_files.proofs.LiftLemmas.{one-left}
 use Rattle.air_files.proofs.JobWorking.{OneKept, Working, heard-all, heard-before, heard-last, never-fetched, told-before}
 
 -- What an entry of an upload's job does, beside what it says: the notes are those after its commands, each front of
@@ -83,7 +85,7 @@ module _ (store : Store) (files : List Asked) (c : ℕ) (base : Party) (a : Atte
       is_file = subst (IsWork files party) asked_is w.stands.works.0;
       is_side = front.is_side;
       greets = front.greets;
-      serves = subst (λ (doing : Work). Serves store doing side) asked (some-at (Serves store a.client.asked) a.server side front.is_side w.facts.sessions.serves.0);
+      serves = subst (λ (doing : Work). Serves store doing side) asked (some-at (Serves store a.client.asked) a.server side w.facts.sessions.serves.0 front.is_side);
       heard = heard-before a entry side front;
       told = told-before a entry side front;
     }
@@ -246,8 +248,8 @@ module _ (store : Store) (files : List Asked) (c : ℕ) (base : Party) (a : Atte
         more = (
           front.server.0 ++ map whole (job.packets_said entry),
           ap (map whole) (said-one a.client.entries entry) ∙ map-append whole (said_by_client a.client) (job.packets_said entry)
-          ∙ ap (λ (l : List Item). l ++ map whole (job.packets_said entry)) front.server.1
-          ∙ append_assoc (session.items_in side.entries) front.server.0 (map whole (job.packets_said entry)),
+              ∙ ap (λ (l : List Item). l ++ map whole (job.packets_said entry)) front.server.1
+              ∙ append_assoc (session.items_in side.entries) front.server.0 (map whole (job.packets_said entry)),
         )
 
     pub upload-kept : OneKept store files base a older entry lists_now now

@@ -1,4 +1,4 @@
--- From what one entry of a job keeps its law.
+-- What is to be shown of one entry of a job, where a client is at work.
 use Rattle.std.proofs.Common.{◌≡◌, ℕ, List, [], ◌∷◌, sym, subst}
 use Rattle.file_store.specs.Store.{Store}
 use Rattle.client_notes.specs.Notes.{Lists}
@@ -9,9 +9,9 @@ use Rattle.air_attempt.specs.Attempt.{Attempt}
 use Rattle.air_attempt.specs.Party.{Asked, Party}
 use Rattle.air_attempt.specs.Sides.{ServerSide}
 use Rattle.air_files.specs.Facts.{HasFacts}
-use Rattle.air_files.specs.Laws.{IsOne, IsUploadOf, IsWorking, JobGoes, JobKeeps, JobLawOf, Stands, TookFront, job_gone, with_job}
+use Rattle.air_files.specs.Laws.{IsUploadOf, IsWorking, JobKeeps, Stands, TookFront}
 use Rattle.air_files.proofs.JobOfUpload.{upload-kept}
-use Rattle.air_files.proofs.JobStep.{keeps-by, of_attempts}
+use Rattle.air_files.proofs.JobStep.{of_attempts}
 use Rattle.air_files.proofs.JobWorking.{OneKept, Working}
 
 -- one entry of a job at a work of this kind keeps the facts
@@ -39,28 +39,8 @@ pub keeps-same : (store : Store) (files : List Asked) (party done : Party) (a : 
 keeps-same store files party done a older entries are keeps =
     subst (λ (l : List Attempt). JobKeeps store files (record party { attempts = l }) done entries) (sym are) keeps
 
-module _ (IsKind : Work → Type 0) (one : OneLaw IsKind) where
-  -- one entry
-  one-keeps : (store : Store) (files : List Asked) (c : ℕ) (party : Party) (works : IsWorking store files c party) → IsKind works.attempt.client.asked → (entry : JobEntry)
-      (lists : Lists) (now : Attempted) → JobGoes party (entry ∷ []) lists now works.attempt
-      → JobKeeps store files party (with_job party lists now (job_gone (entry ∷ []) now works.attempt) works.older) (entry ∷ [])
-  one-keeps store files c party works kind entry lists now goes =
-      let w = working store files c party works in
-      let kept = one store files c party works.attempt works.older w kind entry lists now goes.goes goes.front.0 goes.front.1 in
-      keeps-same store files party (with_job party lists now (job_gone (entry ∷ []) now works.attempt) works.older) works.attempt works.older (entry ∷ []) works.attempts_are
-      (keeps-by store files party works.attempt works.older w.facts (entry ∷ []) lists now kept.fronts kept.lists_are kept.kept)
-
-  pub law-of : JobLawOf IsKind (λ entries. IsOne entries)
-  law-of store files c party entries lists now works kind is goes =
-      subst (λ (l : List JobEntry). JobKeeps store files party (with_job party lists now (job_gone l now works.attempt) works.older) l) (sym is.1)
-      (one-keeps store files c party works kind is.0 lists now
-      (subst (λ (l : List JobEntry). JobGoes party l lists now works.attempt) is.1 goes))
-
 -- ---- an upload
 
 pub upload-one : OneLaw IsUploadOf
 upload-one store files c base a older w kind entry lists now goes side front =
     upload-kept store files c base a older w kind.0 kind.1 lists now side entry goes front
-
-pub job-of-upload : JobLawOf IsUploadOf (λ entries. IsOne entries)
-job-of-upload = law-of IsUploadOf upload-one

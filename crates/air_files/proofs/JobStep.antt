@@ -17,7 +17,8 @@ use Rattle.air_files.specs.Dialogue.{Says}
 use Rattle.air_files.specs.Facts.{AskedWithin, HasFacts, HasFetched, HasNumber, IsFetching, NotesGrant, Receives}
 use Rattle.air_files.specs.Laws.{JobKeeps, job_gone, started_with, with_job}
 use Rattle.air_files.specs.UploadDialogue.{GoesOnWith}
-use Rattle.air_files.proofs.JobChange.{change, each-so}
+use Rattle.air_files.proofs.LiftLemmas.{each-weaker}
+use Rattle.air_files.proofs.JobChange.{change}
 use Rattle.air_files.proofs.JobNotes.{NotesKept, NumberIn}
 
 -- the client with these attempts
@@ -61,8 +62,8 @@ module _ (store : Store) (files : List Asked) (base : Party) (a : Attempt) (olde
           says = facts.sessions.says.0;
           got_front = kept.front;
           fetching = λ is. absurd (cc is);
-          fetched = each-so (a ∷ older) (λ x h number is. kept.fetched number (h number is)) facts.files_got.fetched;
-          asked_within = each-so (a ∷ older) (λ x h number offset has. le_trans (h number offset has) (kept.longer number)) facts.files_got.asked_within;
+          fetched = each-weaker (a ∷ older) (λ x h number is. kept.fetched number (h number is)) facts.files_got.fetched;
+          asked_within = each-weaker (a ∷ older) (λ x h number offset has. le_trans (h number offset has) (kept.longer number)) facts.files_got.asked_within;
         })
       where
         to : {task number : ℕ} → NumberIn lists task number → HasNumber (started_with party lists) task number
@@ -82,8 +83,8 @@ module _ (store : Store) (files : List Asked) (base : Party) (a : Attempt) (olde
           says = k.says;
           got_front = kept.front;
           fetching = k.fetching;
-          fetched = (k.fetched, each-so older (λ x h number is. kept.fetched number (h number is)) facts.files_got.fetched.1);
-          asked_within = (k.asked_within, each-so older (λ x h number offset has. le_trans (h number offset has) (kept.longer number)) facts.files_got.asked_within.1);
+          fetched = (k.fetched, each-weaker older (λ x h number is. kept.fetched number (h number is)) facts.files_got.fetched.1);
+          asked_within = (k.asked_within, each-weaker older (λ x h number offset has. le_trans (h number offset has) (kept.longer number)) facts.files_got.asked_within.1);
         })
       where
         new : Party

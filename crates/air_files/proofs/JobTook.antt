@@ -1,8 +1,6 @@
 -- What the packets that one side took tell of what the other one has said.
-use Rattle.std.proofs.Common.{◌≡◌, ◌⊎◌, ℕ, List, [], ◌∷◌, ◌++◌, length, map, Option, None, Some, Ok, inl, inr, refl, sym, ◌∙◌, subst}
-use Rattle.std.specs.Prelude.{IfSome}
+use Rattle.std.proofs.Common.{◌≡◌, ◌⊎◌, ℕ, List, [], ◌∷◌, ◌++◌, length, map, Ok, inl, inr, refl, sym, ◌∙◌, subst}
 use Rattle.std.proofs.lemmas.List.Concat.{flat_map-append}
-use Rattle.std.proofs.lemmas.Option.{same_Some}
 use Rattle.ftl0_packets.specs.Layout.{Item, PacketValue, data_end, login_resp, ul_ack_resp, ul_error_resp, ul_go_resp, ul_nak_resp, upload_cmd}
 use Rattle.ftl0_server.specs.Entries as session
 use Rattle.ftl0_server.specs.Entries.{SessionEntry}
@@ -13,22 +11,10 @@ use Rattle.air_attempt.specs.Said.{Answers, IsTaken}
 use Rattle.air_attempt.specs.Sides.{IsGreeting, ServerSide, said_by_server}
 use Rattle.air_files.specs.UploadDialogue.{AnsweredFirst, IsOfferFor, IsOfferedBy, IsWord, Receiving, ServesUpload, answered_in, data_items}
 use Rattle.air_files.specs.UploadDialogue.{ended, received_items, receives, receiving_said, refused, unasked}
-use Rattle.air_files.proofs.JobUploadSaid.{one-last, one-left}
+use Rattle.air_files.proofs.JobUploadSaid.{one-last}
+use Rattle.air_files.proofs.LiftLemmas.{one-left, one-right}
 
 -- ---- lists
-
-pub one-cases : {X : Type 0} (P : X → Type 0) (xs ys : List X) → OneIs P (xs ++ ys) → OneIs P xs ⊎ OneIs P ys
-one-cases P [] ys one = inr one
-one-cases P (x ∷ xs) ys (inl here) = inl (inl here)
-one-cases P (x ∷ xs) ys (inr there) = by (one-cases P xs ys there)
-  where
-    by : OneIs P xs ⊎ OneIs P ys → (P x ⊎ OneIs P xs) ⊎ OneIs P ys
-    by (inl left) = inl (inr left)
-    by (inr right) = inr right
-
-pub some-at : {X : Type 0} (P : X → Type 0) (o : Option X) (x : X) → o ≡ Some x → IfSome o P → P x
-some-at P None x is if = absurd (cc is)
-some-at P (Some y) x is if = subst P (same_Some y x is) if
 
 pub front-has : {X : Type 0} (xs all : List X) (x : X) → AreFirstOf xs all → Has xs x → Has all x
 front-has xs all x front has = subst (λ l. OneIs (λ y. y ≡ x) l) (sym front.1) (one-left (λ y. y ≡ x) xs front.0 has)
@@ -45,6 +31,9 @@ map-ok (p ∷ ps) item (inr there) = let found = map-ok ps item there in (found.
 ok-same : (p q : PacketValue) → whole p ≡ whole q → p ≡ q
 ok-same p q same = cc
 
+pub first-same : (p : PacketValue) (item : Item) (ps : List Item) (items : List Item) → whole p ∷ ps ≡ item ∷ items → (item ≡ whole p) × (ps ≡ items)
+first-same p item ps items same = (let is : item ≡ whole p = cc in is, let is : ps ≡ items = cc in is)
+
 pub has-ok : (ps : List PacketValue) (p : PacketValue) → Has (map whole ps) (whole p) → Has ps p
 has-ok ps p has = let found = map-ok ps (whole p) has in subst (λ q. Has ps q) (ok-same found.0 p found.1) found.2
 
@@ -52,11 +41,7 @@ has-ok ps p has = let found = map-ok ps (whole p) has in subst (λ q. Has ps q) 
 pub last-item : (es : List JobEntry) (e : JobEntry) (item : Item) → Has (job.items_of e) item → Has (job.items_in (es ++ e ∷ [])) item
 last-item es e item has =
     subst (λ (l : List Item). Has l item) (sym (flat_map-append job.items_of es (e ∷ [])))
-    (right (job.items_in es) (job.items_of e ++ []) (one-left (λ (y : Item). y ≡ item) (job.items_of e) [] has))
-  where
-    right : (xs ys : List Item) → Has ys item → Has (xs ++ ys) item
-    right [] ys one = one
-    right (x ∷ xs) ys one = inr (right xs ys one)
+    (one-right (λ (y : Item). y ≡ item) (job.items_in es) (job.items_of e ++ []) (one-left (λ (y : Item). y ≡ item) (job.items_of e) [] has))
 
 -- what a job took before its outcome is one of what it took
 pub took-item : (es : List JobEntry) (item : Item) → OneIs (IsTaken item) es → Has (job.items_in es) item

@@ -8,7 +8,7 @@ use Rattle.air_attempt.specs.Lists.{AreFirstOf, Has, OneIs}
 use Rattle.air_attempt.specs.Said.{IsTaken, Offers, octets_come, octets_of_item, octets_taken}
 use Rattle.air_attempt.specs.Sides.{ClientSide, IsGreeting, ServerSide, said_by_client, said_by_server}
 use Rattle.air_files.specs.UploadDialogue.{GoesOnWith, IsSendingFile, SaysUpload, Sending, ServesUpload, asked, sending_said, sends, silent}
-use Rattle.air_files.proofs.JobTook.{offer-behind, one-offer, whole}
+use Rattle.air_files.proofs.JobTook.{first-same, offer-behind, one-offer, whole}
 use Rattle.air_files.proofs.JobUploadSaid.{CameTo, goes-on}
 
 -- ---- what is said, by how far the job came
@@ -60,9 +60,6 @@ no_packets = []
 drop-none : (n : ℕ) → drop n no_packets ≡ no_packets
 drop-none zero = refl
 drop-none (suc n) = refl
-
-first-same : (p : PacketValue) (item : Item) (ps : List Item) (items : List Item) → whole p ∷ ps ≡ item ∷ items → (item ≡ whole p) × (ps ≡ items)
-first-same p item ps items same = (let is : item ≡ whole p = cc in is, let is : ps ≡ items = cc in is)
 
 -- what goes on with a file goes on with it behind its first packets, too
 behind : (file : List ℕ) (items more : List Item) (packets : List PacketValue) (place : ℕ) → map whole packets ≡ items ++ more → GoesOnWith file place packets

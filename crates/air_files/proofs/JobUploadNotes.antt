@@ -25,7 +25,8 @@ use Rattle.air_files.specs.Kept.{IsFileAt, IsKept, IsTaskKept}
 use Rattle.air_files.specs.UploadDialogue.{ServesUpload}
 use Rattle.air_files.proofs.JobNotes.{NotesKept, kept-same, kept-task}
 use Rattle.air_files.proofs.JobStep.{of_attempts}
-use Rattle.air_files.proofs.JobTook.{offer-answers, some-at, whole}
+use Rattle.air_files.proofs.JobTook.{offer-answers, whole}
+use Rattle.air_files.proofs.LiftLemmas.{some-at}
 use Rattle.air_files.proofs.JobUploadRows.{upload_at}
 
 -- ---- the first of some commands
@@ -89,16 +90,16 @@ module _ (store : Store) (files : List Asked) (base : Party) (a : Attempt) (olde
 
   pub granted : (number file_length : ℕ) → Grants side number file_length → IsGrantKept store party a number file_length
   granted =
-      some-at (λ side. (number file_length : ℕ) → Grants side number file_length → IsGrantKept store party a number file_length) a.server side it.is_side
-      it.facts.sessions.granted.0
+      some-at (λ side. (number file_length : ℕ) → Grants side number file_length → IsGrantKept store party a number file_length) a.server side it.facts.sessions.granted.0
+      it.is_side
 
   complete_is : (number : ℕ) → SaysComplete side number → IsCompleteIn store number
-  complete_is = some-at (λ side. (number : ℕ) → SaysComplete side number → IsCompleteIn store number) a.server side it.is_side it.facts.sessions.complete.0
+  complete_is = some-at (λ side. (number : ℕ) → SaysComplete side number → IsCompleteIn store number) a.server side it.facts.sessions.complete.0 it.is_side
 
   offered : (number offset : ℕ) → Offers side number offset → IsOfferKept store number offset
   offered =
-      some-at (λ side. (number offset : ℕ) → Offers side number offset → IsOfferKept store number offset) a.server side it.is_side
-      it.facts.sessions.offered.0
+      some-at (λ side. (number offset : ℕ) → Offers side number offset → IsOfferKept store number offset) a.server side it.facts.sessions.offered.0
+      it.is_side
 
   -- the offer of a new upload is a grant
   pub new-granted : (number offset : ℕ) → known ≡ 0 → Offers side number offset → Grants side number (length file) × (offset ≡ 0)
@@ -106,7 +107,7 @@ module _ (store : Store) (files : List Asked) (base : Party) (a : Attempt) (olde
       let both = offer-answers known file side it.greets it.serves number offset offers in
       let zero_is : offset ≡ 0 = both.1.new new in (
         subst (λ (k : ℕ). Answers side (Ok (upload_cmd k (length file))) (ul_go_resp number 0)) new
-        (subst (λ (k : ℕ). Answers side (Ok (upload_cmd known (length file))) (ul_go_resp number k)) zero_is both.0),
+            (subst (λ (k : ℕ). Answers side (Ok (upload_cmd known (length file))) (ul_go_resp number k)) zero_is both.0),
         zero_is,
       )
 

@@ -29,7 +29,7 @@ pub record UploadCases (task known : ℕ) (file : List ℕ) (P : UploadPhase →
   pub go :
       (number offset : ℕ) → may_go (upload_at task known file phase.Go) number offset ≡ true
       → P phase.Go (ul_go_resp number offset)
-        (goes_on (upload_at task known file (phase.Sending number offset)) (number_commands (upload_at task known file phase.Go) number) [])
+      (goes_on (upload_at task known file (phase.Sending number offset)) (number_commands (upload_at task known file phase.Go) number) [])
   pub complete :
       (code : ℕ) → is_complete (upload_at task known file phase.Go) code ≡ true
       → P phase.Go (ul_error_resp code) (ends (upload_at task known file phase.Go) (acked task ∷ []) (outcome.Acked known))
@@ -38,13 +38,13 @@ pub record UploadCases (task known : ℕ) (file : List ℕ) (P : UploadPhase →
   pub broken_off :
       (number place code : ℕ)
       → P (phase.Sending number place) (ul_nak_resp code)
-        (ends_later (upload_at task known file (phase.Sending number place)) (refusal_of task code) data_end (outcome.Refused code))
+      (ends_later (upload_at task known file (phase.Sending number place)) (refusal_of task code) data_end (outcome.Refused code))
   pub ack :
       (number : ℕ) → P (phase.Ack number) ul_ack_resp (ends (upload_at task known file (phase.Ack number)) (acked task ∷ []) (outcome.Acked number))
   pub refused_ack :
       (number code : ℕ)
       → P (phase.Ack number) (ul_nak_resp code)
-        (ends (upload_at task known file (phase.Ack number)) (refusal_of task code) (outcome.Refused code))
+      (ends (upload_at task known file (phase.Ack number)) (refusal_of task code) (outcome.Refused code))
 
 module _ (task known : ℕ) (file : List ℕ) (P : UploadPhase → PacketValue → Row Upload → Type 0) (each : UploadCases task known file P) where
   abbrev at : UploadPhase → Upload
@@ -56,7 +56,7 @@ module _ (task known : ℕ) (file : List ℕ) (P : UploadPhase → PacketValue �
 
   offer-case : (b : Bool) (number offset : ℕ) → may_go (at phase.Go) number offset ≡ b
       → P phase.Go (ul_go_resp number offset)
-        (if b then goes_on (at (phase.Sending number offset)) (number_commands (at phase.Go) number) [] else strange (at phase.Go) 4)
+      (if b then goes_on (at (phase.Sending number offset)) (number_commands (at phase.Go) number) [] else strange (at phase.Go) 4)
   offer-case true number offset may = each.go number offset may
   offer-case false number offset may = each.strange_rows phase.Go (ul_go_resp number offset) 4 (λ n o is same. none n o same)
     where
@@ -65,7 +65,7 @@ module _ (task known : ℕ) (file : List ℕ) (P : UploadPhase → PacketValue �
 
   error-case : (b : Bool) (code : ℕ) → is_complete (at phase.Go) code ≡ b
       → P phase.Go (ul_error_resp code)
-        (if b then ends (at phase.Go) (acked task ∷ []) (outcome.Acked known) else ends (at phase.Go) (refusal_of task code) (outcome.Refused code))
+      (if b then ends (at phase.Go) (acked task ∷ []) (outcome.Acked known) else ends (at phase.Go) (refusal_of task code) (outcome.Refused code))
   error-case true code is = each.complete code is
   error-case false code is = each.refused_go code
 

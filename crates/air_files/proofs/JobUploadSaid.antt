@@ -25,6 +25,7 @@ use Rattle.air_attempt.specs.Said.{IsTaken}
 use Rattle.air_attempt.specs.Sides.{JobReaches}
 use Rattle.air_files.specs.UploadDialogue.{GoesOnWith}
 use Rattle.air_files.proofs.JobReach.{Stays, of-reached}
+use Rattle.air_files.proofs.LiftLemmas.{one-left, one-right}
 use Rattle.air_files.proofs.JobUploadRows.{UploadCases, upload-cases, upload_at}
 
 -- ---- packets that go on with a file
@@ -104,14 +105,8 @@ pub record DoesUpload (task known : ℕ) (file : List ℕ) (es : List JobEntry) 
   pub came : job.ending ≡ None → CameTo phase_is known file es
   pub ended : NeverFetched job.ending
 
-pub one-left : {X : Type 0} (P : X → Type 0) (xs ys : List X) → OneIs P xs → OneIs P (xs ++ ys)
-one-left P [] ys one = absurd one
-one-left P (x ∷ xs) ys (inl here) = inl here
-one-left P (x ∷ xs) ys (inr there) = inr (one-left P xs ys there)
-
 pub one-last : {X : Type 0} (P : X → Type 0) (xs : List X) (x : X) → P x → OneIs P (xs ++ x ∷ [])
-one-last P [] x holds = inl holds
-one-last P (y ∷ xs) x holds = inr (one-last P xs x holds)
+one-last P xs x holds = one-right P xs (x ∷ []) (inl holds)
 
 -- an offer that may be taken has a number, and lies within the file
 may-go : (b : Bool) (known number offset len : ℕ) → (if b then nat_lt 0 number && (offset == 0) else (number == known) && nat_le offset len) ≡ true → (b ≡ false → 1 ≤ known)

@@ -27,7 +27,8 @@ use Rattle.air_files.specs.SoundStore.{IsSoundStore}
 use Rattle.air_files.proofs.JobNotes.{NotesKept}
 use Rattle.air_files.proofs.JobStep.{JobKept, of_attempts}
 use Rattle.air_files.proofs.JobTook.{front-has, has-ok, last-item, map-ok, took-item, whole}
-use Rattle.air_files.proofs.JobUploadSaid.{NeverFetched, one-left}
+use Rattle.air_files.proofs.JobUploadSaid.{NeverFetched}
+use Rattle.air_files.proofs.LiftLemmas.{one-left}
 
 -- a client whose current attempt is this one, over this store, before its job goes on
 pub record Working (store : Store) (files : List Asked) (c : ℕ) (base : Party) (a : Attempt) (older : List Attempt) : Type 0 where

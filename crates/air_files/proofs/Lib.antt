@@ -3,6 +3,7 @@ mod BeginLemmas
 mod DownloadComing
 mod DownloadDue
 mod DownloadEntry
+mod DownloadJob
 mod DownloadJobHeard
 mod DownloadJobNotes
 mod DownloadJobRows
@@ -19,13 +20,16 @@ mod GoneLemmas
 mod GoneOnLemmas
 mod GotKept
 mod GrowingLemmas
+mod JobAll
 mod JobChange
 mod JobEarlier
 mod JobNotes
 mod JobOfUpload
 mod JobOne
 mod JobReach
+mod JobSays
 mod JobStep
+mod JobStill
 mod JobTook
 mod JobUploadCases
 mod JobUploadGoes

@@ -22,9 +22,9 @@ use Rattle.air_attempt.specs.Party.{Asked, Party}
 use Rattle.air_attempt.specs.Sides.{JobReaches, said_by_client}
 use Rattle.air_files.specs.Dialogue.{Says}
 use Rattle.air_files.specs.Facts.{FetchesBy}
-use Rattle.air_files.specs.Laws.{IsDirectoryOf, IsOne, JobLawOf, job_gone, with_job}
+use Rattle.air_files.specs.Laws.{IsDirectoryOf, job_gone, with_job}
 use Rattle.air_files.proofs.JobNotes.{NotesKept}
-use Rattle.air_files.proofs.JobOne.{OneLaw, law-of}
+use Rattle.air_files.proofs.JobOne.{OneLaw}
 use Rattle.air_files.proofs.JobReach.{reaches-by, reaches-then, row-of-work}
 use Rattle.air_files.proofs.JobStep.{of_attempts}
 use Rattle.air_files.proofs.JobUploadNotes.{fronts-none}
@@ -111,6 +111,3 @@ module _ (store : Store) (files : List Asked) (c : ℕ) (base : Party) (a : Atte
 
 pub list-one : OneLaw IsDirectoryOf
 list-one store files c base a older w kind entry lists now goes side front = list-kept store files c base a older w kind.0 kind.1 lists now entry goes
-
-pub job-of-list : JobLawOf IsDirectoryOf (λ entries. IsOne entries)
-job-of-list = law-of IsDirectoryOf list-one

@@ -1,10 +1,11 @@
 //! Laws of what a client's tasks, attempts and files have of the store, each the contract of a function that does
 //! nothing.
 
-ghost use Rattle.air_files.specs.Laws.{BeginLaw, IsDirectoryOf, IsDownloadOf, IsOne, IsUploadOf, JobLawOf, SessionLaw};
+ghost use Rattle.air_files.specs.Laws.{BeginLaw, IsDirectoryOf, IsDownloadOf, IsOne, IsUploadOf, JobLaw, SessionLaw};
 ghost use Rattle.air_files.specs.Laws.{SessionLawOf, StayLaw};
 
 use file_entries::laws::follows_law;
+use ftl0_job::laws::promises_law;
 use ftl0_session::downloads::laws::stays_law;
 use ftl0_session::laws::{acknowledged_law, downloads_law, uploads_law};
 use server_laws::caller_law;
@@ -60,12 +61,10 @@ pub fn session_law()
     session_of_download_law();
 }
 
-/// One entry of a job that uploads a file keeps the client's facts.
-pub fn job_of_upload_law()
-    ensures { JobLawOf IsUploadOf IsOne }
-{}
-
-/// So does one of a job that selects and lists.
-pub fn job_of_list_law()
-    ensures { JobLawOf IsDirectoryOf IsOne }
-{}
+/// Any entries of a job keep what holds of its client, also where its client starts again after some of its notes'
+/// commands.
+pub fn job_law()
+    ensures { JobLaw }
+{
+    promises_law();
+}

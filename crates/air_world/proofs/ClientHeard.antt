@@ -52,7 +52,7 @@ module _ (laws : ClientLaws) (old : World) (sound : Sound old) (c : ℕ) (party 
   did-of now frames = record { old = party.client; now = now; frames = frames }
 
   -- the notes go with the job of the link
-  its-stands : (is : PartyAt old c party) (link : Attempted) (has : party.client.attempt ≡ Some link)
+  pub its-stands : (is : PartyAt old c party) (link : Attempted) (has : party.client.attempt ≡ Some link)
       → AttemptStands (has-link old sound c party is link has).attempt.client.asked party.client.lists link
   its-stands is link has =
       let linked = has-link old sound c party is link has in

@@ -1,7 +1,10 @@
+mod Asked
 mod ClientBasics
+mod ClientBegun
 mod ClientHeard
 mod ClientMade
 mod ClientQuiet
+mod ClientTicked
 mod ClientsStay
 mod CutWorld
 mod During

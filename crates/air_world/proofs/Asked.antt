@@ -1,0 +1,33 @@
+-- What is known of a client of which something is asked.
+use Rattle.std.proofs.Common.{◌≡◌, ℕ, ◌≤◌, List, ◌++◌, Some}
+use Rattle.std.specs.List.{AllByRecursion}
+use Rattle.ftl0_job.specs.declared.work.Work.{Work}
+use Rattle.ftl0_job.specs.declared.work.Work.TheVariants as work
+use Rattle.ftl0_job.specs.JobState.{IsNotBegun, NotesGoWith}
+use Rattle.ftl0_job.specs.Table.{new_job}
+use Rattle.ftl0_job.specs.Upload.{new_upload}
+use Rattle.air_attempt.specs.Attempt.{Attempt}
+use Rattle.air_attempt.specs.Party.{Asked, Party}
+use Rattle.air_files.specs.Facts.{HasFacts, HasNumber}
+use Rattle.air_files.specs.Tasks.{AreTasks, IsWork}
+use Rattle.air_files.specs.Uploads.{IsGoodFile}
+use Rattle.air_world.specs.World.{World}
+
+-- This work may be asked of the client, which has its task already, where it is a file's for the first time, and where
+-- these files were asked: the notes go with it, and so do the uploads. The client has its facts, its tasks and the works
+-- of its attempts still.
+pub record MayBeAsked (old : World) (c : ℕ) (party base : Party) (asked : List Asked) (wanted : Work) : Type 0 where
+  pub me : base.client.me ≡ party.client.me
+  pub server : base.client.server ≡ party.client.server
+  pub window : base.client.window ≡ party.client.window
+  pub link : base.client.attempt ≡ party.client.attempt
+  pub stray : base.client.stray ≡ party.client.stray
+  pub attempts : base.attempts ≡ party.attempts
+  pub facts : HasFacts old.server.store (old.files ++ asked) base
+  pub tasks : AreTasks (old.files ++ asked) c base
+  pub works : AllByRecursion (λ (a : Attempt). IsWork (old.files ++ asked) base a.client.asked) party.attempts
+  pub good : AllByRecursion (λ (it : Asked). IsGoodFile it.file) asked
+  pub begun : IsNotBegun wanted
+  pub go_with : NotesGoWith base.client.lists (new_job wanted)
+  pub goes_on : (task known : ℕ) (file : List ℕ) → wanted ≡ work.Upload (new_upload task known file) → 1 ≤ known → HasNumber base task known
+  pub work : IsWork (old.files ++ asked) base wanted
