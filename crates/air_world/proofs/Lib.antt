@@ -1,4 +1,5 @@
 mod Asked
+mod ClientAsked
 mod ClientBasics
 mod ClientBegun
 mod ClientHeard
