@@ -65,7 +65,7 @@ module _ (laws : HearingLaws) (some_step : SomeStepLaw) (left_law : LeftLaw) (ol
         follows = record { commands = []; own = tt; does = (tt, refl) };
       })
 
-  own-left : LeftIn old.files party old.server.store left
+  pub own-left : LeftIn old.files party old.server.store left
   own-left = by (is_call t.frame.kind.control) refl (connection_of old.server t.frame.src) refl
     where
       by : (call : Bool) → is_call t.frame.kind.control ≡ call → (o : Option Connected) → connection_of old.server t.frame.src ≡ o → LeftIn old.files party old.server.store left

@@ -10,6 +10,11 @@ mod ClientQuiet
 mod ClientTicked
 mod ClientsStay
 mod CutWorld
+mod During
+mod DuringClient
+mod DuringNotes
+mod DuringRight
+mod DuringServer
 mod ExistenceLemmas
 mod FirstLemmas
 mod Granted
