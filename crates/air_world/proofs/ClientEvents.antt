@@ -4,6 +4,7 @@ use Rattle.std.specs.Prelude.{map, slice_get}
 use Rattle.std.proofs.lemmas.Option.{same_Some}
 use Rattle.ax25_link.specs.Air.{IsAt, IsLawful, Transmission}
 use Rattle.client_notes.specs.Command.{NotesCommand}
+use Rattle.client_notes.specs.Notes.{Lists}
 use Rattle.client_notes.specs.Several as notes
 use Rattle.ftl0_job.specs.declared.work.Work.{Work}
 use Rattle.ftl0_job.specs.Table.{new_job}
@@ -13,6 +14,7 @@ use Rattle.ftl0_client.specs.ClientStep as step
 use Rattle.ftl0_client.specs.ClientStep.{ClientStep}
 use Rattle.ftl0_client.specs.Laws.{HasStep, SomeStepLaw}
 use Rattle.air_attempt.specs.Attempt.{Attempt}
+use Rattle.air_attempt.specs.Laws.{AreAttempts}
 use Rattle.air_attempt.specs.Lists.{Placed}
 use Rattle.air_attempt.specs.Party.{Asked, Party, newest, to_client_delivered}
 use Rattle.air_attempt.specs.Transfers.{ClientDid, after_event}
@@ -20,17 +22,19 @@ use Rattle.air_files.specs.Facts.{HasFacts}
 use Rattle.air_files.specs.Laws.{started_with}
 use Rattle.air_files.specs.Tasks.{AreTasks, IsWork}
 use Rattle.air_files.specs.Uploads.{IsGoodFile}
-use Rattle.air_world.specs.Cuts.{ClientDoes, ClientEvent, ClientIsCut, client_commands, party_cut}
+use Rattle.air_world.specs.Cuts.{broken, ClientDoes, ClientEvent, ClientIsCut, client_commands, party_cut}
 use Rattle.air_world.specs.Events.{ClientPart, ClientTakes, DeliversToClient, IsPartOf, part_with, with_current}
 use Rattle.air_world.specs.Lawful.{HasParty, IsAllowed, MayCome}
 use Rattle.air_world.specs.Schedule.{Event, tick_client, to_client}
 use Rattle.air_world.specs.Sound.{Sound}
 use Rattle.air_world.specs.Step.{ClientGoes, client_started, party_after, with_asked}
-use Rattle.air_world.specs.World.{PartyAt, World}
+use Rattle.air_world.specs.World.{PartyAt, World, counted, with_party}
+use Rattle.air_world.proofs.ClientBasics.{goes-with}
+use Rattle.air_world.proofs.CutWorld.{take-none}
 use Rattle.air_world.proofs.Alike.{made-alike}
 use Rattle.air_world.proofs.ClientHeard.{IsReceiving, did-of, heard-client, heard-facts, heard-tasks, nothing-noted, received, receives}
 use Rattle.air_world.proofs.ClientMade.{IsClientMade, then-sound, work-more}
-use Rattle.air_world.proofs.ClientQuiet.{started-made, still-delivered, still-itself}
+use Rattle.air_world.proofs.ClientQuiet.{IsStill, quiet-made, started-made, still-delivered, still-itself}
 use Rattle.air_world.proofs.ClientTicked.{ticked-client}
 use Rattle.air_world.proofs.JobWent.{ClientLaws, tasks-lists}
 
@@ -42,6 +46,23 @@ module _ (laws : ClientLaws) (some_step : SomeStepLaw) (old new : World) (sound 
 
   did-is : (did : ClientDid) (it : Client) → did.old ≡ it → did ≡ record { old = it; now = did.now; frames = did.frames }
   did-is did it is = ap (λ (o : Client). record { old = o; now = did.now; frames = did.frames }) is
+
+  none-more : (count : ℕ) (uploads : List ℕ) → uploads ++ take count [] ≡ uploads
+  none-more count uploads = ap (λ (more : List ℕ). uploads ++ more) (take-none count) ∙ append-nil uploads
+
+  -- the client starts again from these notes, of which it has the facts and the tasks
+  module _ (c : ℕ) (party : Party) (is : PartyAt old c party) (attempts : List Attempt) (still : IsStill party.attempts attempts)
+      (attempts_are : AreAttempts party.client.me party.client.server attempts) (lists : Lists)
+      (facts : HasFacts old.server.store old.files (started_with party lists)) (tasks : AreTasks old.files c (started_with party lists)) where
+    cut-made : (that : Party) → that.client ≡ (started_with party lists).client → that.uploads ≡ party.uploads → that.attempts ≡ attempts → IsClientMade old c party that []
+    cut-made that client uploads attempts_is =
+        let files = sym (append-nil old.files) in
+        made-alike laws.stay old c party (record (started_with party lists) { attempts = attempts }) []
+        (started-made laws.stay old sound c party is attempts still attempts_are [] party lists refl refl refl refl
+         (λ a work. subst (λ files. IsWork files party a.client.asked) files work)
+         (subst (λ files. AreTasks files c (started_with party lists)) files tasks)
+         (subst (λ files. HasFacts old.server.store files (started_with party lists)) files facts) tt)
+        that client uploads attempts_is
 
   -- ---- a delivery
 
@@ -62,4 +83,75 @@ module _ (laws : ClientLaws) (some_step : SomeStepLaw) (old new : World) (sound 
         goes.new_is
 
     frame-cut : ClientIsCut old c part new → Sound new
-    frame-cut is_cut = ?
+    frame-cut is_cut =
+        let it = sound.parties c party coming.is in
+        let has = some_step party.client (client.hears t.frame) it.may_step in
+        let lists = notes.after_first is_cut.count party.client.lists has.noted in
+        let attempts = received laws old sound c party place t coming in
+        let that = party_cut part is_cut.count in
+        asked-sound c party that [] part coming.is refl
+        (cut-made c party coming.is attempts (still-delivered place t party.attempts)
+         (laws.left.to_client party.client.me party.client.server party.attempts attempts t.frame it.attempts (receives laws old sound c party place t coming)) lists
+         (heard-facts laws old sound c party place t coming has.noted has.frames has.new has.step is_cut.count)
+         (heard-tasks laws old sound c party place t coming has.noted has.frames has.new has.step is_cut.count) that
+         (ap (λ (commands : List NotesCommand). (started_with party (notes.after_first is_cut.count party.client.lists commands)).client) (sym has.step.noted_is))
+         (none-more is_cut.count party.uploads) refl)
+        is_cut.new_is
+
+    frame-does : (cut : Bool) → ClientDoes cut old c part new → Sound new
+    frame-does true does = frame-cut does
+    frame-does false does = frame-goes does
+
+  -- ---- a tick
+
+  module _ (c : ℕ) (party : Party) (is : PartyAt old c party) where
+    abbrev tick-part : ClientPart
+    tick-part = part_with party client.ticks
+
+    tick-goes : ClientGoes old c tick-part new → Sound new
+    tick-goes goes =
+        let did = goes.did in
+        let step = subst (λ (o : Client). ClientStep o client.ticks goes.noted did.frames did.now) goes.old_is goes.step in
+        let made = ticked-client laws old sound c party is goes.noted did.frames did.now step in
+        let that = party_after tick-part did in
+        asked-sound c party that [] tick-part is refl
+        (made-alike laws.stay old c party (record party { client = did.now; attempts = after_event client.ticks (did-of laws old sound c party did.now did.frames) party.attempts }) [] made that refl
+         (append-nil party.uploads) (ap (λ (d : ClientDid). after_event client.ticks d party.attempts) (did-is did party.client goes.old_is)))
+        goes.new_is
+
+    -- the client starts again from its notes as they are
+    stays-made : (that : Party) → that.client ≡ (started_with party party.client.lists).client → that.uploads ≡ party.uploads → that.attempts ≡ party.attempts → IsClientMade old c party that []
+    stays-made =
+        let it = sound.parties c party is in
+        cut-made c party is party.attempts (still-itself party.attempts) it.attempts party.client.lists
+        (laws.stay.started old.server.store old.files party it.facts)
+        (tasks-lists old.files c party (started_with party party.client.lists) refl refl refl refl it.tasks)
+
+    tick-cut : ClientIsCut old c tick-part new → Sound new
+    tick-cut is_cut =
+        let that = party_cut tick-part is_cut.count in
+        asked-sound c party that [] tick-part is refl
+        (stays-made that (ap (λ (lists : Lists). (started_with party lists).client) (nothing-noted is_cut.count party.client.lists [] refl)) (none-more is_cut.count party.uploads) refl)
+        is_cut.new_is
+
+    tick-does : (cut : Bool) → ClientDoes cut old c tick-part new → Sound new
+    tick-does true does = tick-cut does
+    tick-does false does = tick-goes does
+
+    -- ---- a break, and a cut that is noted
+
+    same-sound : (that : Party) → IsClientMade old c party that [] → new ≡ counted (with_party old c that) → Sound new
+    same-sound that made new_is =
+        subst Sound
+        (sym (new_is ∙ ap (λ (files : List Asked). counted (record (with_party old c that) { files = files })) (sym (append-nil old.files))))
+        (then-sound laws.begin old sound c party that is [] made)
+
+    break-kept : new ≡ counted (with_party old c (broken party)) → Sound new
+    break-kept new_is = same-sound (broken party) (stays-made (broken party) refl refl refl) new_is
+
+    flag-kept : new ≡ counted (with_party old c (record party { is_cut = true })) → Sound new
+    flag-kept new_is =
+        same-sound (record party { is_cut = true })
+        (made-alike laws.stay old c party (record party { attempts = party.attempts }) []
+         (quiet-made laws.stay old sound c party is party.attempts (still-itself party.attempts) (goes-with old sound c party is)) (record party { is_cut = true }) refl refl refl)
+        new_is
