@@ -1,3 +1,4 @@
+mod AskOthers
 mod Asked
 mod ClientBasics
 mod ClientBegun
