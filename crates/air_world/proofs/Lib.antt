@@ -1,4 +1,5 @@
 mod AskOthers
+mod AskResume
 mod Asked
 mod ClientBasics
 mod ClientBegun
