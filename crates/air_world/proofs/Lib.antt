@@ -1,5 +1,6 @@
 mod AskOthers
 mod AskResume
+mod AskUpload
 mod Asked
 mod ClientBasics
 mod ClientBegun
