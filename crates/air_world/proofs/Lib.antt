@@ -1,4 +1,7 @@
 mod Alike
+mod AskOthers
+mod AskResume
+mod AskUpload
 mod Asked
 mod ClientAsked
 mod ClientBasics
