@@ -75,7 +75,7 @@ module _ (laws : ClientLaws) (some_step : SomeStepLaw) (old new : World) (sound 
   -- ---- a delivery
 
   module _ (c place : ℕ) (party : Party) (t : Transmission) (coming : IsReceiving old c party place t) where
-    abbrev part : ClientPart
+    abbrev pub part : ClientPart
     part = part_with (with_current (to_client_delivered place t) party) (client.hears t.frame)
 
     frame-goes : ClientGoes old c part new → Sound new
@@ -106,14 +106,14 @@ module _ (laws : ClientLaws) (some_step : SomeStepLaw) (old new : World) (sound 
          (none-more is_cut.count party.uploads) refl)
         is_cut.new_is
 
-    frame-does : (cut : Bool) → ClientDoes cut old c part new → Sound new
+    pub frame-does : (cut : Bool) → ClientDoes cut old c part new → Sound new
     frame-does true does = frame-cut does
     frame-does false does = frame-goes does
 
   -- ---- a tick
 
   module _ (c : ℕ) (party : Party) (is : PartyAt old c party) where
-    abbrev tick-part : ClientPart
+    abbrev pub tick-part : ClientPart
     tick-part = part_with party client.ticks
 
     tick-goes : ClientGoes old c tick-part new → Sound new
@@ -142,7 +142,7 @@ module _ (laws : ClientLaws) (some_step : SomeStepLaw) (old new : World) (sound 
         (stays-made that (ap (λ (lists : Lists). (started_with party lists).client) (nothing-noted is_cut.count party.client.lists [] refl)) (none-more is_cut.count party.uploads) refl)
         is_cut.new_is
 
-    tick-does : (cut : Bool) → ClientDoes cut old c tick-part new → Sound new
+    pub tick-does : (cut : Bool) → ClientDoes cut old c tick-part new → Sound new
     tick-does true does = tick-cut does
     tick-does false does = tick-goes does
 
@@ -154,10 +154,10 @@ module _ (laws : ClientLaws) (some_step : SomeStepLaw) (old new : World) (sound 
         (sym (new_is ∙ ap (λ (files : List Asked). counted (record (with_party old c that) { files = files })) (sym (append-nil old.files))))
         (then-sound laws.begin old sound c party that is [] made)
 
-    break-kept : new ≡ counted (with_party old c (broken party)) → Sound new
+    pub break-kept : new ≡ counted (with_party old c (broken party)) → Sound new
     break-kept new_is = same-sound (broken party) (stays-made (broken party) refl refl refl) new_is
 
-    flag-kept : new ≡ counted (with_party old c (record party { is_cut = true })) → Sound new
+    pub flag-kept : new ≡ counted (with_party old c (record party { is_cut = true })) → Sound new
     flag-kept new_is =
         same-sound (record party { is_cut = true })
         (made-alike laws.stay old c party (record party { attempts = party.attempts }) []
@@ -169,7 +169,7 @@ module _ (laws : ClientLaws) (some_step : SomeStepLaw) (old new : World) (sound 
   module _ (c : ℕ) (party : Party) (is : PartyAt old c party) (wanted : Work) where
     -- of a work without a new task
     module _ (may : MayBeAsked old c party party [] wanted) where
-      abbrev ask-part : ClientPart
+      abbrev pub ask-part : ClientPart
       ask-part = asking party wanted
 
       ask-goes : ClientGoes old c ask-part new → Sound new
@@ -190,16 +190,16 @@ module _ (laws : ClientLaws) (some_step : SomeStepLaw) (old new : World) (sound 
           (stays-made c party is that (ap (λ (lists : Lists). (started_with party lists).client) (nothing-noted is_cut.count party.client.lists [] refl)) (none-more is_cut.count party.uploads) refl)
           is_cut.new_is
 
-      ask-does : (cut : Bool) → ClientDoes cut old c ask-part new → Sound new
+      pub ask-does : (cut : Bool) → ClientDoes cut old c ask-part new → Sound new
       ask-does true does = ask-cut does
       ask-does false does = ask-goes does
 
   -- of a file for the first time
   module _ (c : ℕ) (party : Party) (is : PartyAt old c party) (it : Asked) where
-    abbrev begin-part : ClientPart
+    abbrev pub begin-part : ClientPart
     begin-part = asking_file old it party
 
-    abbrev sending : Work
+    abbrev pub sending : Work
     sending = work.Upload (new_upload (task_count party.client.lists + 1) 0 it.file)
 
     -- the client with its task
@@ -244,6 +244,6 @@ module _ (laws : ClientLaws) (some_step : SomeStepLaw) (old new : World) (sound 
       begin-cut : ClientIsCut old c begin-part new → Sound new
       begin-cut is_cut = asked-sound c party (party_cut begin-part is_cut.count) (it ∷ []) begin-part is refl (begin-cut-made is_cut.count) is_cut.new_is
 
-      begin-does : (cut : Bool) → ClientDoes cut old c begin-part new → Sound new
+      pub begin-does : (cut : Bool) → ClientDoes cut old c begin-part new → Sound new
       begin-does true does = begin-cut does
       begin-does false does = begin-goes does

@@ -23,6 +23,7 @@ mod FirstLemmas
 mod Granted
 mod HeadlineLemmas
 mod JobWent
+mod KeptLemmas
 mod Likes
 mod Marked
 mod NumberedLemmas
