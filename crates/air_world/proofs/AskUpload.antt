@@ -25,9 +25,11 @@ use Rattle.air_files.specs.Laws.{BeginLaw, Stands}
 use Rattle.air_files.specs.Tasks.{AreTasks, IsTaskFor, IsWork}
 use Rattle.air_files.specs.Uploads.{IsGoodFile}
 use Rattle.air_files.proofs.Offered.{file-more, place-last, place-more, task-some}
-use Rattle.air_world.specs.Sound.{IsParty, Sound}
+use Rattle.air_world.specs.Events.{next_upload}
+use Rattle.air_world.specs.Sound.{Sound}
 use Rattle.air_world.specs.World.{PartyAt, World}
 use Rattle.air_world.proofs.Asked.{MayBeAsked}
+use Rattle.air_world.proofs.GoodFile.{good-upload}
 use Rattle.air_world.proofs.Served.{stands}
 use Rattle.air_world.proofs.WorldLists.{all-map}
 
@@ -233,3 +235,11 @@ module _ (old : World) (c : ℕ) (party : Party) (it : Asked) (sound : Sound old
             absurd (omega (arith, some, none));
         work = last-file;
       }
+
+-- the upload that a schedule asks next, with a body of so many octets
+pub ask-upload : BeginLaw → (old : World) (c : ℕ) (party : Party) (count : ℕ) → Sound old → PartyAt old c party
+    → task_count party.client.lists < most_tasks → count ≤ 40000
+    → MayBeAsked old c party (tasked old (next_upload old c count) party) (next_upload old c count ∷ [])
+    (work.Upload (new_upload (task_count party.client.lists + 1) 0 (next_upload old c count).file))
+ask-upload begin old c party count sound is few short =
+    ask-file old c party (next_upload old c count) sound is refl begin few (good-upload (length old.files) count short)

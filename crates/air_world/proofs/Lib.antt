@@ -12,6 +12,7 @@ mod ClientsStay
 mod CutWorld
 mod ExistenceLemmas
 mod FirstLemmas
+mod GoodFile
 mod Granted
 mod HeadlineLemmas
 mod JobWent
