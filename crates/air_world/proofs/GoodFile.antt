@@ -1,22 +1,21 @@
 -- The files of a schedule's uploads are good: octets, that keep all rules, and not too long.
-use Rattle.std.proofs.Common.{◌≡◌, ◌≢◌, ℕ, zero, suc, ◌+◌, ◌*◌, ◌%◌, ◌^◌, ◌<◌, ◌≤◌, List, [], ◌∷◌, ◌++◌, length, replicate}
-use Rattle.std.proofs.Common.{refl, sym, ap, ◌∙◌, subst, arith, length-append, None, Bool, true, false}
+use Rattle.std.proofs.Common.{◌≡◌, ℕ, ◌+◌, ◌*◌, ◌%◌, ◌^◌, ◌<◌, ◌≤◌, List, [], ◌∷◌, ◌++◌, length, replicate}
+use Rattle.std.proofs.Common.{refl, sym, ap, ◌∙◌, subst, arith, length-append, true}
 use Rattle.std.specs.List.{AllByRecursion, list_all, range_with_len}
 use Rattle.std.proofs.lemmas.Bool.Decides.{nat_tests}
 use Rattle.std.proofs.lemmas.List.{length-map}
-use Rattle.std.specs.Prelude.{◌&&◌, map, nat_lt, option_map}
-use Rattle.std.proofs.lemmas.List.Elements.{All-from_get_or, All-from_recursion, All-map, All-weaker}
+use Rattle.std.specs.Prelude.{nat_lt, option_map}
+use Rattle.std.proofs.lemmas.List.Elements.{All-from_get_or, All-map, All-weaker}
 use Rattle.std.proofs.lemmas.List.Sums.{AllPass-from_list_all}
 use Rattle.std.proofs.lemmas.List.FromFn.{length-range_with_len}
 use Rattle.px_base.specs.Numbers.{le16, le16_octets, le32, le32_octets, sum16}
 use Rattle.px_base.specs.Octets.{IsOctets}
-use Rattle.pfh_items.specs.Faults.{IsFaultless, Stands, StandsOnce, code_of, fault_code, header_sum, with_content}
+use Rattle.pfh_items.specs.Faults.{IsFaultless, Stands, StandsOnce, code_of, header_sum, with_content}
 use Rattle.pfh_items.specs.Layout.{AreItems, IsItem, ItemValue, header_text}
 use Rattle.pfh_items.specs.Table.{mandatory_items}
 use Rattle.pfh_items.specs.declared.table.MandatoryItem.{MandatoryItem}
 use Rattle.pfh_items.proofs.Offered.{IsOctets-le16, IsOctets-le32, first_fault-none, octets_as_body}
 use Rattle.pfh_writer.specs.Built.{built_file_len, built_items, built_len, item, items_saying, mandatory_saying}
-use Rattle.file_store.specs.Limits.{longest_file}
 use Rattle.air_files.specs.Uploads.{IsGoodFile, body_octets, file_ext, file_header, file_name, upload_file}
 
 -- the items of an upload's header that says these numbers of its file, with this as header_checksum
@@ -49,16 +48,18 @@ unfolding mandatory_saying
 header-len = refl
 
 -- the item has this id, which is not 0, and these octets
-one-item : (id : ℕ) (content : List ℕ) → id < 2 ^ 16 → (id ≡ 0 → ⊥) → IsOctets content → length content ≤ 255
+one-item : (id : ℕ) (content : List ℕ) → 1 ≤ id → id < 2 ^ 16 → length content ≤ 255 → IsOctets content
     → IsItem (item id content)
-one-item id content below some octets most =
-    record { id = below; octets = octets; most = most; no_end = λ none empty. some none }
+one-item id content some below most octets =
+    record { id = below; octets = octets; most = most; no_end = λ none empty. absurd (omega (arith, some, none)) }
 
--- numbers of which each is tried are octets
-given : (xs : List ℕ) → list_all (λ x. nat_lt x 256) xs ≡ true → IsOctets xs
-given xs all =
-    All-weaker (λ x. nat_lt x 256 ≡ true) (λ x. x < 256) (λ x is. grind (arith, nat_tests)) xs
-    (AllPass-from_list_all (λ x. nat_lt x 256) xs all)
+-- the same, of numbers of which each is tried
+given-item : (id : ℕ) (content : List ℕ) → 1 ≤ id → id < 2 ^ 16 → length content ≤ 255
+    → list_all (λ x. nat_lt x 256) content ≡ true → IsItem (item id content)
+given-item id content some below most all =
+    one-item id content some below most
+    (All-weaker (λ x. nat_lt x 256 ≡ true) (λ x. x < 256) (λ x is. grind (arith, nat_tests)) content
+    (AllPass-from_list_all (λ x. nat_lt x 256) content all))
 
 -- what stands once stands
 all-stand : (items : List ItemValue) (rules : List MandatoryItem) → AllByRecursion (StandsOnce items) rules
@@ -75,19 +76,19 @@ module _ (file_size body_sum body_offset sum : ℕ) where
 
   are-items : AreItems items
   are-items =
-      (one-item 0x01 (0 ∷ 0 ∷ 0 ∷ 0 ∷ []) (omega arith) (λ e. omega arith) (given (0 ∷ 0 ∷ 0 ∷ 0 ∷ []) refl) (omega arith),
-      (one-item 0x02 file_name (omega arith) (λ e. omega arith) (given file_name refl) (omega arith),
-      (one-item 0x03 file_ext (omega arith) (λ e. omega arith) (given file_ext refl) (omega arith),
-      (one-item 0x04 (le32_octets file_size) (omega arith) (λ e. omega arith) (IsOctets-le32 file_size) (omega arith),
-      (one-item 0x05 (le32_octets 0) (omega arith) (λ e. omega arith) (IsOctets-le32 0) (omega arith),
-      (one-item 0x06 (le32_octets 0) (omega arith) (λ e. omega arith) (IsOctets-le32 0) (omega arith),
-      (one-item 0x07 (0 ∷ []) (omega arith) (λ e. omega arith) (given (0 ∷ []) refl) (omega arith),
-      (one-item 0x08 (0 ∷ []) (omega arith) (λ e. omega arith) (given (0 ∷ []) refl) (omega arith),
-      (one-item 0x09 (le16_octets body_sum) (omega arith) (λ e. omega arith) (IsOctets-le16 body_sum) (omega arith),
-      (one-item 0x0A (le16_octets sum) (omega arith) (λ e. omega arith) (IsOctets-le16 sum) (omega arith),
-      (one-item 0x0B (le16_octets body_offset) (omega arith) (λ e. omega arith) (IsOctets-le16 body_offset) (omega arith),
-      (one-item 0x11 (replicate 6 32) (omega arith) (λ e. omega arith) (given (replicate 6 32) refl) (omega arith),
-      (one-item 0x12 (replicate 4 0) (omega arith) (λ e. omega arith) (given (replicate 4 0) refl) (omega arith), tt)))))))))))))
+      (given-item 0x01 (0 ∷ 0 ∷ 0 ∷ 0 ∷ []) (omega arith) (omega arith) (omega arith) refl,
+      (given-item 0x02 file_name (omega arith) (omega arith) (omega arith) refl,
+      (given-item 0x03 file_ext (omega arith) (omega arith) (omega arith) refl,
+      (one-item 0x04 (le32_octets file_size) (omega arith) (omega arith) (omega arith) (IsOctets-le32 file_size),
+      (one-item 0x05 (le32_octets 0) (omega arith) (omega arith) (omega arith) (IsOctets-le32 0),
+      (one-item 0x06 (le32_octets 0) (omega arith) (omega arith) (omega arith) (IsOctets-le32 0),
+      (given-item 0x07 (0 ∷ []) (omega arith) (omega arith) (omega arith) refl,
+      (given-item 0x08 (0 ∷ []) (omega arith) (omega arith) (omega arith) refl,
+      (one-item 0x09 (le16_octets body_sum) (omega arith) (omega arith) (omega arith) (IsOctets-le16 body_sum),
+      (one-item 0x0A (le16_octets sum) (omega arith) (omega arith) (omega arith) (IsOctets-le16 sum),
+      (one-item 0x0B (le16_octets body_offset) (omega arith) (omega arith) (omega arith) (IsOctets-le16 body_offset),
+      (given-item 0x11 (replicate 6 32) (omega arith) (omega arith) (omega arith) refl,
+      (given-item 0x12 (replicate 4 0) (omega arith) (omega arith) (omega arith) refl, tt)))))))))))))
 
   all-once : AllByRecursion (StandsOnce items) mandatory_items
   all-once =
@@ -118,7 +119,10 @@ module _ (file_size body_sum body_offset sum : ℕ) where
             ∙ sym (length-append (header_text items) body ∙ ap (λ n. n + length body) items-len);
         body_offset = le16-of body_offset (omega (arith, offset_is)) ∙ offset_is ∙ sym items-len;
       };
-      header_sum = le16-of sum (subst (λ n. n < 65536) (sym check_is) (below (header_text (with_content 0x0A (0 ∷ 0 ∷ []) items)))) ∙ check_is;
+      header_sum =
+          le16-of sum
+          (subst (λ n. n < 65536) (sym check_is) (below (header_text (with_content 0x0A (0 ∷ 0 ∷ []) items))))
+          ∙ check_is;
       body_sum = le16-of body_sum (subst (λ n. n < 65536) (sym sum_is) (below body)) ∙ sum_is;
     }
     where
