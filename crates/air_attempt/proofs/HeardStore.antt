@@ -1,11 +1,10 @@
 -- What a frame makes of the server's store and lists.
-use Rattle.std.proofs.Common.{◌≡◌, ◌⊎◌, inl, inr, ℕ, [], true, Option, None, Some, refl, sym, ap, subst, ◌∙◌}
-use Rattle.std.specs.Prelude.{slice_get, ◌&&◌}
-use Rattle.std.proofs.lemmas.Option.{same_Some}
+use Rattle.std.proofs.Common.{◌≡◌, ◌⊎◌, inl, inr, ℕ, [], true, Option, None, Some, refl, ap, subst, ◌∙◌}
+use Rattle.std.specs.Prelude.{◌&&◌}
 use Rattle.ax25_frames.specs.FrameText.{FrameValue}
 use Rattle.ax25_link.specs.Rows.{is_call}
 use Rattle.node.specs.Events.{hears}
-use Rattle.ftl0_server.specs.Connection.Connected.{Connected, caller_of}
+use Rattle.ftl0_server.specs.Connection.Connected.{Connected}
 use Rattle.ftl0_server.specs.Connection.Hearing.{hearing}
 use Rattle.ftl0_server.specs.Entries.{HearingLaw}
 use Rattle.ftl0_server.specs.Server.{Server, ServerHappened, heard_at, hearing_at, hearing_by}
@@ -13,7 +12,7 @@ use Rattle.ftl0_server.specs.ServerStep.{ServerStep, Stepped, happening}
 use Rattle.ftl0_server.specs.Slots.{first_empty, place_of}
 use Rattle.air_attempt.specs.Laws.{HeardLaw, IsBetween, IsSeatedIn, SessionHears, did_in}
 use Rattle.air_attempt.proofs.Connections.{last-connection}
-use Rattle.air_attempt.proofs.Places.{place-of-is, same-seat}
+use Rattle.air_attempt.proofs.Places.{place-of-is}
 use Rattle.air_attempt.proofs.ServerHearing.{call-nothing}
 use Rattle.air_attempt.proofs.ServerHears.{after_of, behind}
 use Rattle.air_attempt.proofs.ServerPlaces.{heard-place}
@@ -47,12 +46,8 @@ module _ (hearing_law : HearingLaw) (old : Server) (frame : FrameValue) (moment 
   heard : (place : ℕ) (c : Connected) → place_of frame.src old.slots ≡ Some place → IsSeatedIn old place c
       → SessionHears (did_in moment step) gives frame c
   heard place c is there =
-      let it = place-of-is frame.src old.slots place is in
-      let mine : caller_of c ≡ frame.src = ap caller_of (same-seat c it.0 (sym there ∙ it.1)) ∙ it.2 in
-      let h : IsHeard old frame moment gives step = heard-at old frame moment gives step place c is there mine in
-      let at : h.place ≡ place = same_Some h.place place (sym h.is_place ∙ is) in
-      let same : h.c ≡ c = same-seat h.c c (sym h.there ∙ ap (λ n. slice_get old.slots n) at ∙ there) in
-      subst (SessionHears (did_in moment step) gives frame) same (heard-of h)
+      let at = heard-at old frame moment gives step place c is there in
+      subst (SessionHears (did_in moment step) gives frame) at.1 (heard-of at.0)
 
   -- ---- no session
 

@@ -15,6 +15,7 @@ mod Connections
 mod Current
 mod Drained
 mod Fronts
+mod HeardFront
 mod HeardStore
 mod JobAppend
 mod JobSays

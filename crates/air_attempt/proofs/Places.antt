@@ -136,6 +136,13 @@ module _ (caller : CallSign) (slots : List Slot) where
       let it = callers-place caller there.x there.passes in
       (it.c, there.at ∙ ap Some it.is, it.caller_is)
 
+  -- what is at a caller's place is its connection
+  pub seat-caller : (place : ℕ) (c : Connected) → place_of caller slots ≡ Some place → IsSeat place c
+      → caller_of c ≡ caller
+  seat-caller place c is there =
+      let it = place-of-is place is in
+      ap caller_of (same-seat c it.0 (sym there ∙ it.1)) ∙ it.2
+
   pub place-of-not : place_of caller slots ≡ None → (place : ℕ) (c : Connected) → IsSeat place c → caller_of c ≡ caller
       → ⊥
   place-of-not none place c there same =

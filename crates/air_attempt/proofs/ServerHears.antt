@@ -9,9 +9,11 @@ use Rattle.ax25_frames.specs.FrameText.{FrameValue}
 use Rattle.ax25_link.specs.Air.{IsLawful, Transmission}
 use Rattle.ax25_link.specs.Rows.{is_call}
 use Rattle.ax25_link.specs.Window.{Window}
+use Rattle.ftl0_packets.specs.Layout.{Fits}
 use Rattle.node.specs.Events.{hears}
 use Rattle.ftl0_server.specs.Connection.Connected.{Connected, caller_of}
 use Rattle.ftl0_server.specs.Connection.Hearing.{Happened, hearing, with_end}
+use Rattle.ftl0_server.specs.Entries as session
 use Rattle.ftl0_server.specs.Entries.{HearingLaw, SessionEntry, entries_heard}
 use Rattle.ftl0_server.specs.Server.{Server}
 use Rattle.ftl0_server.specs.ServerStep.{ServerStep, Stepped}
@@ -91,27 +93,31 @@ module _ (old : Server) (frame : FrameValue) (moment : ℕ) (gives : Stepped)
       (heard-resits old frame moment gives step hearing_law between h) happened.over (after_of h.c) h.ends.now_is
       caller-stays
 
-  module _ (other : is_call frame.kind.control ≡ false) (fits : SaysFit old frame moment) where
+  module _ (other : is_call frame.kind.control ≡ false) where
     abbrev entries_of : Connected → List SessionEntry
     entries_of c = entries_heard old.window moment old.store old.lists c frame
 
     abbrev up_of : Connected → Bool
     up_of c = has_session step.last (caller_of (after_of c))
 
-    own-step : OwnStep old.window moment old.store old.lists frame gives.frames h.ends.last (up_of h.c) h.c
-    own-step =
+    -- what it makes of the connection of the sender's session
+    abbrev StepsOwn : Connected → Type 0
+    StepsOwn c = OwnStep old.window moment old.store old.lists frame gives.frames h.ends.last (up_of c) c
+
+    pub own-step : (side : ServerSide) → side.connected ≡ h.c → StepsOwn side.connected
+    own-step side connected_is =
         let up = between.ups h.place h.c h.there in
         let law = hearing_law old.window moment old.store old.lists h.c frame up other in
-        record {
+        subst StepsOwn (sym connected_is)
+        (record {
           state = up;
           other = other;
           heard = law.0;
           goes = law.1;
           drains = h.ends.drains;
-          fits = fits.said h.place h.c h.is_place h.there other;
           goes_on =
               up-goes step.last gives.new frame.src h.place happened.over (after_of h.c) behind;
-        }
+        })
 
     -- what the attempts are then, of which the newest one has this session
     abbrev heard_as : Attempt → List Attempt → ServerSide → Connected → List Attempt
@@ -129,23 +135,22 @@ module _ (old : Server) (frame : FrameValue) (moment : ℕ) (gives : Stepped)
         (λ (o : Option ServerSide). option_map_or (λ s. served did (after_of h.c) (entries_of h.c) a s ∷ older) o
         (a ∷ with_answered (served did (after_of h.c) (entries_of h.c)) older)) has
 
-    module _ (a : Attempt) (older : List Attempt) (side : ServerSide) (has : a.server ≡ Some side)
-        (connected_is : side.connected ≡ h.c) (is_up : side.is_up ≡ true)
+    module _ (fits : SaysFit old frame moment) (a : Attempt) (older : List Attempt) (side : ServerSide)
+        (has : a.server ≡ Some side) (connected_is : side.connected ≡ h.c) (is_up : side.is_up ≡ true)
         (are : AreAttempts frame.src old.me (a ∷ older))
         (windows : AllByRecursion (λ (b : Attempt). b.window ≡ old.window) (a ∷ older))
         (only : OnlyNewestUp (a ∷ older)) (place : ℕ) (t : Transmission)
         (lawful : IsLawful a.window a.by_client place t) (frame_is : frame ≡ t.frame) where
-      its-step : OwnStep old.window moment old.store old.lists frame gives.frames h.ends.last (up_of side.connected)
-          side.connected
-      its-step =
-          subst (λ (c : Connected). OwnStep old.window moment old.store old.lists frame gives.frames h.ends.last
-          (up_of c) c) (sym connected_is) own-step
+      said-fit : AllByRecursion Fits (session.said_in (entries_of side.connected))
+      said-fit =
+          subst (λ (c : Connected). AllByRecursion Fits (session.said_in (entries_of c))) (sym connected_is)
+          (fits.said h.place h.c h.is_place h.there other)
 
       goes-on : AreAttempts frame.src old.me (heard_as (to_server_delivered place t a) older side side.connected)
       goes-on = (
         own-goes-on frame.src old.me a side are.0 has is_up place t lawful frame frame_is old.window windows.0 moment
             old.store old.lists gives.frames h.ends.last
-            (up_of side.connected) its-step,
+            (up_of side.connected) (own-step side connected_is) said-fit,
         are.1,
       )
 

@@ -16,6 +16,7 @@ use Rattle.ax25_link.specs.Linked.{AreLinked}
 use Rattle.ax25_link.specs.Sending.{IsQuiet}
 use Rattle.ax25_link.specs.Stations.{SendsOwn}
 use Rattle.ax25_link.proofs.Offered.{prefix_law}
+use Rattle.ftl0_packets.specs.Items.{texts}
 use Rattle.air_attempt.specs.Attempt.{AreFromTo, Attempt, IsAnswered, IsAnsweredBy, IsAttempt, IsEndOf, IsOneCall}
 use Rattle.air_attempt.specs.Attempt.{client_station, server_station}
 use Rattle.air_attempt.specs.Sides.{IsSession, ServerSide, said_by_client}
@@ -121,15 +122,16 @@ link-ticks me server a side heard doings frames last is has up steps =
     prefix_law.turned a.window (record { end = last; transmissions = sending_all a.by_server frames })
     (client_station a) on
 
--- what the session's end accepted of what the client pushed are octets
-pub taken-octets : (me server : CallSign) (a : Attempt) (list more : List Transmission) (last : LinkEnd)
-    → IsAttempt me server a
-    → AreLinked a.window (record { end = a.client.attempted.end; transmissions = list })
-    (record { end = last; transmissions = more })
-    → IsOctets (concat last.taken)
-taken-octets me server a list more last is linked =
-    let front =
-    prefix_law.front a.window (record { end = a.client.attempted.end; transmissions = list })
-    (record { end = last; transmissions = more }) linked in
-    octets-of_front (said_by_client a.client) (concat last.taken) is.job.fits
-    (subst (IsFront (concat last.taken)) is.job.said front)
+-- What the session's end accepted is a front of what the client said, and so octets.
+module _ (me server : CallSign) (a : Attempt) (list more : List Transmission) (last : LinkEnd)
+    (is : IsAttempt me server a)
+    (linked : AreLinked a.window (record { end = a.client.attempted.end; transmissions = list })
+    (record { end = last; transmissions = more })) where
+  pub taken-front : IsFront (concat last.taken) (texts (said_by_client a.client))
+  taken-front =
+      subst (IsFront (concat last.taken)) is.job.said
+      (prefix_law.front a.window (record { end = a.client.attempted.end; transmissions = list })
+      (record { end = last; transmissions = more }) linked)
+
+  pub taken-octets : IsOctets (concat last.taken)
+  taken-octets = octets-of_front (said_by_client a.client) (concat last.taken) is.job.fits taken-front

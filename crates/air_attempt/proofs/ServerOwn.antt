@@ -27,7 +27,7 @@ use Rattle.air_attempt.specs.Attempt.{Attempt, IsAttempt}
 use Rattle.air_attempt.specs.Sides.{ServerSide}
 use Rattle.air_attempt.proofs.LinkKeeps.{drains-quiet}
 use Rattle.air_attempt.proofs.ServerLink.{answered-by, attempt-goes-on, gone, link-hears, taken-octets}
-use Rattle.air_attempt.proofs.SessionAppend.{gone_by, session-goes-on}
+use Rattle.air_attempt.proofs.SessionAppend.{HearsOn, gone_by, session-goes-on}
 use Rattle.air_attempt.proofs.Transmissions.{from-delivered, one-call-delivered}
 
 -- What a frame that is no SABM makes of a connection, whose link then sends these frames; the session is up then, or
@@ -42,7 +42,6 @@ pub record OwnStep (w : Window) (moment : ℕ) (store : Store) (lists : List Cal
       GoesBy (caller_of c) moment (session_over store lists c.state) (entries_heard w moment store lists c frame)
       (session_after store (hearing w moment store lists c frame []))
   pub drains : Drains w (hearing w moment store lists c frame []).after.end frames last
-  pub fits : AllByRecursion Fits (session.said_in (entries_heard w moment store lists c frame))
   pub goes_on : up ≡ true → (hearing w moment store lists c frame []).over ≡ false
 
 module _ (me server : CallSign) (a : Attempt) (side : ServerSide) (is : IsAttempt me server a)
@@ -74,7 +73,7 @@ module _ (me server : CallSign) (a : Attempt) (side : ServerSide) (is : IsAttemp
           drains = h.drains;
         })
 
-    linked : AreLinked a.window (record
+    pub linked : AreLinked a.window (record
         { end = a.client.attempted.end; transmissions = delivering a.by_client place t })
         (record { end = last; transmissions = sending_all a.by_server frames })
     linked =
@@ -91,8 +90,22 @@ module _ (me server : CallSign) (a : Attempt) (side : ServerSide) (is : IsAttemp
         stations_law.step a.window c.end last (step.frame frame) (heard_of a.window c.end frame) h.heard.doings frames
         is.window link-step
 
-    pub own-goes-on : IsAttempt me server (gone a after_own (delivering a.by_client place t) frames)
-    own-goes-on =
+    pub hears-on : HearsOn w moment store lists frame side entries frames last up
+    hears-on = record {
+      is_up = is_up;
+      state = h.state;
+      other = h.other;
+      heard = h.heard;
+      goes = h.goes;
+      drains = h.drains;
+      peer = ap (λ s. s.peer) sends-own.stations;
+      octets = are-octets;
+      goes_on = h.goes_on;
+    }
+
+    pub own-goes-on : AllByRecursion Fits (session.said_in entries)
+        → IsAttempt me server (gone a after_own (delivering a.by_client place t) frames)
+    own-goes-on fits =
         attempt-goes-on me server a side after_own (delivering a.by_client place t) frames is has
         (record {
           call = one-call-delivered a.by_client place t lawful.sent is.call;
@@ -102,17 +115,5 @@ module _ (me server : CallSign) (a : Attempt) (side : ServerSide) (is : IsAttemp
           quiet = drains-quiet a.window link-step.end last frames link-step.drains;
           session =
               session-goes-on w moment store lists frame side entries frames last up
-              (answered-by me server a side is has).session
-              (record {
-                is_up = is_up;
-                state = h.state;
-                other = h.other;
-                heard = h.heard;
-                goes = h.goes;
-                drains = h.drains;
-                peer = ap (λ s. s.peer) sends-own.stations;
-                octets = are-octets;
-                fits = h.fits;
-                goes_on = h.goes_on;
-              });
+              (answered-by me server a side is has).session hears-on fits;
         })

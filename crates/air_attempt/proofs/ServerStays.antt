@@ -20,7 +20,7 @@ use Rattle.server_laws.specs.Places.{refusals}
 use Rattle.server_laws.proofs.Offered.{stranger_by}
 use Rattle.air_attempt.specs.Laws.{IsBetween, IsSeatedIn, StaysServer}
 use Rattle.air_attempt.proofs.LinkKeeps.{drains-keep}
-use Rattle.air_attempt.proofs.Places.{place-of-is, place-of-not, position-is, same-seat}
+use Rattle.air_attempt.proofs.Places.{place-of-is, place-of-not, position-is, same-seat, seat-caller}
 use Rattle.air_attempt.proofs.ServerBetween.{IsAtPlace, Reseats, Resits, between-new, known-new, none-reseats}
 use Rattle.air_attempt.proofs.ServerBetween.{place-reseats, steps-again}
 use Rattle.air_attempt.proofs.ServerHearing.{SlotEnds, StaysUp, drains-peer, frame-stays, left-connected, slot-ends}
@@ -99,20 +99,23 @@ module _ (old : Server) (frame : FrameValue) (moment : ℕ) (gives : Stepped)
     pub changes : ChangesNone old (hears frame moment) gives step
         (refusals old.me (hearing_stranger old frame moment).stray)
 
+  -- so it does where it is at this place
   pub heard-at : (place : ℕ) (c : Connected) → place_of frame.src old.slots ≡ Some place → IsSeatedIn old place c
-      → caller_of c ≡ frame.src → IsHeard
-  heard-at place c is there same =
+      → (h : IsHeard) × (h.c ≡ c)
+  heard-at place c is there =
       let happened : Happened = hearing old.window moment old.store old.lists c frame [] in
-      let changes = heard-place old frame moment gives step place c is there in
-      record {
-        place = place;
-        is_place = is;
-        c = c;
-        there = there;
-        caller_is = same;
-        changes = changes;
-        ends = slot-ends old.window happened.over happened.after gives.frames changes.now changes.drains;
-      }
+      let changes = heard-place old frame moment gives step place c is there in (
+        record {
+          place = place;
+          is_place = is;
+          c = c;
+          there = there;
+          caller_is = seat-caller frame.src old.slots place c is there;
+          changes = changes;
+          ends = slot-ends old.window happened.over happened.after gives.frames changes.now changes.drains;
+        },
+        refl,
+      )
 
   pub frame-cases : (P : Type 0) → (IsHeard → P) → (IsOpened → P) → (IsPassed → P) → P
   frame-cases P heard opened passed = by (place_of frame.src old.slots) refl
@@ -147,7 +150,7 @@ module _ (old : Server) (frame : FrameValue) (moment : ℕ) (gives : Stepped)
       by : (place : Option ℕ) → place_of frame.src old.slots ≡ place → P
       by None is = none-by (is_call frame.kind.control) refl is
       by (Some place) is = let there = place-of-is frame.src old.slots place is in
-          heard (heard-at place there.0 is there.1 there.2)
+          heard (heard-at place there.0 is there.1).0
 
   module _ (hearing_law : HearingLaw) (between : IsBetween old) where
     -- what is at the place then

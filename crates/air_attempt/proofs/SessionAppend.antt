@@ -127,7 +127,6 @@ module _ (w : Window) (moment : ℕ) (store : Store) (lists : List CallerList) (
     pub drains : Drains w (hearing w moment store lists side.connected frame []).after.end frames last
     pub peer : last.peer ≡ side.connected.end.peer
     pub octets : IsOctets (concat last.taken)
-    pub fits : AllByRecursion Fits (session.said_in entries)
     pub goes_on : up ≡ true → (hearing w moment store lists side.connected frame []).over ≡ false
 
   module _ (frames : List FrameValue) (last : LinkEnd) (up : Bool) (is : IsSession side) (h : HearsOn frames last up)
@@ -152,7 +151,8 @@ module _ (w : Window) (moment : ℕ) (store : Store) (lists : List CallerList) (
       before = is.packets ∙ ap (λ (u : List Item). session.items_in side.entries ++ u) (is.all none)
           ∙ append-nil (session.items_in side.entries)
 
-      packets-are : packets_of (concat last.taken) ≡ session.items_in (side.entries ++ entries) ++ h.heard.unread
+      -- the packets of all octets that came, with those that the session didn't take behind
+      pub packets-are : packets_of (concat last.taken) ≡ session.items_in (side.entries ++ entries) ++ h.heard.unread
       packets-are =
           ap (λ (t : List (List ℕ)). packets_of (concat t)) taken-is ∙ read.packets
           ∙ ap₂ (λ (one two : List Item). one ++ two) before h.heard.packets
@@ -167,8 +167,9 @@ module _ (w : Window) (moment : ℕ) (store : Store) (lists : List CallerList) (
           ∙ sym (texts-append (said_by_server side) (session.said_in entries))
           ∙ ap (λ said. texts (side.greeting ∷ said)) (sym (said-then side.entries entries))
 
-      pub session-goes-on : IsSession (gone_by side happened last entries up)
-      session-goes-on = record {
+      pub session-goes-on : AllByRecursion Fits (session.said_in entries)
+          → IsSession (gone_by side happened last entries up)
+      session-goes-on fits = record {
         reached =
             subst (λ (caller : CallSign). SessionReaches caller command (side.entries ++ entries) happened.after.state)
             (sym h.peer)
@@ -185,6 +186,6 @@ module _ (w : Window) (moment : ℕ) (store : Store) (lists : List CallerList) (
         fits = (
           is.fits.0,
           subst (AllByRecursion Fits) (sym (said-then side.entries entries))
-              (all-append Fits (session.said_in side.entries) (session.said_in entries) is.fits.1 h.fits),
+              (all-append Fits (session.said_in side.entries) (session.said_in entries) is.fits.1 fits),
         );
       }

@@ -1,7 +1,7 @@
 //! Laws of the attempts of one client, each the contract of a function that does nothing.
 
-ghost use Rattle.air_attempt.specs.Laws.{ClientLaw, CurrentLaw, FrontLaw, HeardLaw, LeftLaw, ServerHearsLaw};
-ghost use Rattle.air_attempt.specs.Laws.{ServerTicksLaw};
+ghost use Rattle.air_attempt.specs.Laws.{ClientLaw, CurrentLaw, FrontLaw, HeardFrontLaw, HeardLaw, LeftLaw};
+ghost use Rattle.air_attempt.specs.Laws.{ServerHearsLaw, ServerTicksLaw};
 
 use ftl0_server::laws::{one_step_law, some_step_law};
 use server_laws::hearing_law;
@@ -37,6 +37,15 @@ pub fn server_ticks_law()
 pub fn current_law()
     ensures { CurrentLaw }
 {}
+
+/// What a session takes by a frame are the next packets that its client said, whatever the session says to it (AX.25
+/// 2.0, 2.4; FTL0 1990).
+pub fn heard_front_law()
+    ensures { HeardFrontLaw }
+{
+    hearing_law();
+    some_step_law();
+}
 
 /// Attempts stay attempts where their sessions are over, and where a transmission is marked as delivered.
 pub fn left_law()

@@ -10,7 +10,7 @@ use Rattle.file_store.specs.Store.{Store}
 use Rattle.ftl0_server.specs.Entries as session
 use Rattle.client_notes.specs.Command.{NotesCommand}
 use Rattle.client_notes.specs.Laws.{after_all}
-use Rattle.client_notes.specs.Notes.{Lists, Task}
+use Rattle.client_notes.specs.Notes.{Lists}
 use Rattle.client_notes.specs.Several as notes
 use Rattle.client_notes.proofs.Offered.{after_first-then}
 use Rattle.ftl0_job.specs.declared.ending.Outcome.{Outcome}
@@ -39,6 +39,7 @@ use Rattle.air_files.proofs.JobOne.{OneLaw, keeps-same, working}
 use Rattle.air_files.proofs.JobReach.{reaches-by, reaches-then}
 use Rattle.air_files.proofs.JobStep.{keeps-by, left, of_attempts}
 use Rattle.air_files.proofs.JobStill.{keeps-none}
+use Rattle.air_files.proofs.JobTasks.{tasks-same}
 use Rattle.air_files.proofs.JobTook.{whole}
 use Rattle.air_files.proofs.JobUploadSaid.{said-one}
 use Rattle.air_files.proofs.JobWorking.{OneKept, Working}
@@ -107,24 +108,7 @@ stands-then : (store : Store) (files : List Asked) (c : ℕ) (base : Party) (a :
 stands-then store files c base a older entry lists now stands kept = record {
   call = stands.call;
   good = stands.good;
-  tasks = record {
-    each = λ task it found.
-        let before = kept.tasks.each task it found in
-        let is = stands.tasks.each task before.0 before.1 in
-        record {
-          upload = is.upload;
-          is_upload = is.is_upload;
-          asked = is.asked;
-          is_asked = is.is_asked;
-          whose = is.whose;
-          server_is = ap (λ (t : Task). t.server) before.2 ∙ is.server_is;
-          caller_is = ap (λ (t : Task). t.caller) before.2 ∙ is.caller_is;
-          name_is = ap (λ (t : Task). t.name) before.2 ∙ is.name_is;
-          length_is = ap (λ (t : Task). t.length) before.2 ∙ is.length_is;
-          digest_is = ap (λ (t : Task). t.digest) before.2 ∙ is.digest_is;
-        };
-    as_many = stands.tasks.as_many ∙ sym kept.tasks.as_many;
-  };
+  tasks = tasks-same files c (of_attempts base a older) new refl refl refl kept.tasks stands.tasks;
   works = each-weaker {Q = λ (x : Attempt). IsWork files new x.client.asked} (a ∷ older) (λ x is. work-then x.client.asked is) stands.works;
 }
   where

@@ -30,6 +30,7 @@ mod JobReach
 mod JobSays
 mod JobStep
 mod JobStill
+mod JobTasks
 mod JobTook
 mod JobUploadCases
 mod JobUploadGoes

@@ -8,3 +8,4 @@ pub use Rattle.air_files.proofs.StableLemmas.{complete-entry, keeps-complete, ke
 pub use Rattle.air_files.proofs.StoreLemmas.{drop-keeps, drop-sound, found-so, later-number}
 pub use Rattle.air_files.proofs.OtherLemmas.{facts-other, facts-removed}
 pub use Rattle.air_files.proofs.GoneLemmas.{facts-over, facts-same, facts-started}
+pub use Rattle.air_files.proofs.TaskLemmas.{tasked-acked}

@@ -1,8 +1,8 @@
 //! Laws of what a client's tasks, attempts and files have of the store, each the contract of a function that does
 //! nothing.
 
-ghost use Rattle.air_files.specs.Laws.{BeginLaw, IsDirectoryOf, IsDownloadOf, IsOne, IsUploadOf, JobLaw, SessionLaw};
-ghost use Rattle.air_files.specs.Laws.{SessionLawOf, StayLaw};
+ghost use Rattle.air_files.specs.Laws.{BeginLaw, IsDirectoryOf, IsDownloadOf, IsOne, IsUploadOf, JobLaw, JobTasksLaw};
+ghost use Rattle.air_files.specs.Laws.{SessionLaw, SessionLawOf, StayLaw};
 
 use file_entries::laws::follows_law;
 use ftl0_job::laws::promises_law;
@@ -68,3 +68,9 @@ pub fn job_law()
 {
     promises_law();
 }
+
+/// Entries of a job leave the client's tasks as tasks of its uploads, also where the client starts again after some of
+/// its notes' commands: none of them begins a task.
+pub fn job_tasks_law()
+    ensures { JobTasksLaw }
+{}

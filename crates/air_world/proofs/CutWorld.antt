@@ -26,7 +26,7 @@ use Rattle.air_world.proofs.Served.{done-are, keeps, stands}
 use Rattle.air_world.proofs.ServerCut.{AreMarked, cut, cut-sound}
 use Rattle.air_world.proofs.ServerHeard.{HearingLaws, seat-found}
 
-take-none : {X : Type 0} (count : ℕ) → take {A = X} count [] ≡ []
+pub take-none : {X : Type 0} (count : ℕ) → take {A = X} count [] ≡ []
 take-none zero = refl
 take-none (suc count) = refl
 
@@ -65,7 +65,7 @@ module _ (laws : HearingLaws) (some_step : SomeStepLaw) (left_law : LeftLaw) (ol
         follows = record { commands = []; own = tt; does = (tt, refl) };
       })
 
-  own-left : LeftIn old.files party old.server.store left
+  pub own-left : LeftIn old.files party old.server.store left
   own-left = by (is_call t.frame.kind.control) refl (connection_of old.server t.frame.src) refl
     where
       by : (call : Bool) → is_call t.frame.kind.control ≡ call → (o : Option Connected) → connection_of old.server t.frame.src ≡ o → LeftIn old.files party old.server.store left

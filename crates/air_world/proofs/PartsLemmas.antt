@@ -127,7 +127,7 @@ are-granted world sound = record {
   once = sound.granted;
 }
 
-are-offered : (world : World) → Sound world → (number offset : ℕ) → Offered world number offset
+pub are-offered : (world : World) → Sound world → (number offset : ℕ) → Offered world number offset
     → IsOfferKept world.server.store number offset
 are-offered world sound number offset offered =
     side-at (λ _ it. (number offset : ℕ) → Offers it number offset
@@ -153,7 +153,7 @@ fetched-attempt None number is = absurd (cc)
 fetched-attempt (Some (Reached of)) number is = ap (λ of. Some (Reached of)) (fetched-job of number is)
 fetched-attempt (Some (LinkDown why)) number is = absurd (cc)
 
-fetched-current : (current : Option Attempt) (link : Option Attempted) (number : ℕ) → IsLinkOf current link
+pub fetched-current : (current : Option Attempt) (link : Option Attempted) (number : ℕ) → IsLinkOf current link
     → outcome_by link ≡ outcome.Fetched number
     → (a : Attempt) × (current ≡ Some a) × (outcome_of a.client.attempted ≡ Some (Reached (reached.Fetched number)))
 fetched-current current None number link is = absurd (cc)

@@ -1,10 +1,13 @@
 //! Laws of the world, each the contract of a function that does nothing.
 
-ghost use Rattle.air_world.specs.Laws.{ExistenceLaw, PartsLaw, RemovalLaw};
+ghost use Rattle.air_world.specs.Laws.{ExistenceLaw, PartsLaw, PrefixesLaw, RemovalLaw};
 
+use air_attempt::laws as attempts;
+use air_files::laws as files;
 use file_entries::laws::follows_law;
-use ftl0_client::laws as client_laws;
-use ftl0_server::laws as server_laws;
+use ftl0_client::attempt::laws::stands_law;
+use ftl0_client::laws as client;
+use ftl0_server::laws as server;
 use ftl0_session::downloads::laws::stays_law;
 use pfh_items::laws::{fault_law, no_front_law};
 
@@ -29,6 +32,35 @@ pub fn removal_law()
 pub fn existence_law()
     ensures { ExistenceLaw }
 {
-    client_laws::some_step_law();
-    server_laws::some_step_law();
+    client::some_step_law();
+    server::some_step_law();
+}
+
+/// What is promised holds also while the next event of a sound world is under way, in all that the power may leave: of
+/// a server's event in the store after the first so many of its commands, and of a client's with its notes after them.
+pub fn prefixes_law()
+    ensures { PrefixesLaw }
+{
+    attempts::server_hears_law();
+    attempts::heard_law();
+    attempts::heard_front_law();
+    attempts::current_law();
+    attempts::left_law();
+    attempts::front_law();
+    attempts::client_law();
+    files::session_law();
+    files::job_law();
+    files::job_tasks_law();
+    files::stay_law();
+    files::begin_law();
+    server_laws::hearing_law();
+    client_laws::step_law();
+    client_laws::hearing_law();
+    client_laws::ticking_law();
+    stands_law();
+    client::some_step_law();
+    server::some_step_law();
+    follows_law();
+    fault_law();
+    no_front_law();
 }
