@@ -1,5 +1,5 @@
 -- A list and a download may be asked of a client.
-use Rattle.std.proofs.Common.{◌≡◌, ℕ, ◌≤◌, List, [], ◌∷◌, ◌++◌, length, Option, Some, refl, sym, subst, arith, append-nil}
+use Rattle.std.proofs.Common.{◌≡◌, ℕ, ◌≤◌, List, [], ◌∷◌, length, Some, refl, sym, subst, arith, append-nil}
 use Rattle.std.proofs.Common.{length-append}
 use Rattle.std.specs.List.{AllByRecursion}
 use Rattle.file_store.specs.IsStore.{FitsLength}
@@ -7,7 +7,6 @@ use Rattle.file_store.specs.Limits.{longest_file}
 use Rattle.file_store.specs.Store.{Holding, Store, complete, entry_of, partial}
 use Rattle.file_store.proofs.Offered.{found-fits}
 use Rattle.ftl0_session.specs.Downloads.Table.{complete_octets, file_of}
-use Rattle.client_notes.specs.Notes.{got_of}
 use Rattle.ftl0_job.specs.Directory.{new_directory}
 use Rattle.ftl0_job.specs.Download.{new_download}
 use Rattle.ftl0_job.specs.JobState.{GoWith, IsNotBegun}
@@ -15,7 +14,7 @@ use Rattle.ftl0_job.specs.Upload.{new_upload}
 use Rattle.ftl0_job.specs.declared.work.Work.{Work}
 use Rattle.ftl0_job.specs.declared.work.Work.TheVariants as work
 use Rattle.air_attempt.specs.Attempt.{Attempt}
-use Rattle.air_attempt.specs.Party.{Asked, Party}
+use Rattle.air_attempt.specs.Party.{Party}
 use Rattle.air_schedule.specs.Schedule.{AreTokens, IsFileNumber}
 use Rattle.air_files.specs.Facts.{AreFirstIfAny, HasFacts, HasNumber, got}
 use Rattle.air_files.specs.SoundStore.{IsSoundStore}
@@ -99,6 +98,8 @@ pub ask-download : (old : World) (c : ℕ) (party : Party) (number : ℕ) → So
     → MayBeAsked old c party party [] (work.Download (new_download party.client.server number))
 ask-download old c party number sound is number_is =
     let it : IsParty old c party = sound.parties c party is in
-    let short = short-got old.server.store number (got party number) sound.store (it.facts.files_got.got_front number) in
+    let first = it.facts.files_got.got_front number in
+    let short = short-got old.server.store number (got party number) sound.store first in
     ask-again old c party (work.Download (new_download party.client.server number)) sound is refl
-    (record { fits = omega (arith, short); checked = tt }) (λ task known file same. absurd (cc)) (refl, number_is)
+    (record { fits = omega (arith, short); checked = tt }) (λ task known file same. absurd (cc))
+    (refl, number_is)

@@ -1,25 +1,22 @@
 -- The last unfinished upload of a client may be asked again.
-use Rattle.std.proofs.Common.{◌≡◌, ℕ, ◌-◌, ◌<◌, ◌≤◌, List, [], ◌∷◌, ◌++◌, length, reverse, get_or, refl, sym, ap, ◌∙◌, subst}
-use Rattle.std.proofs.Common.{arith, Bool, true, Option, None, Some, inl, inr}
+use Rattle.std.proofs.Common.{◌≡◌, ℕ, ◌-◌, ◌<◌, List, [], length, reverse, get_or, refl, sym, ap, ◌∙◌, subst}
+use Rattle.std.proofs.Common.{arith, Bool, true, Option, None, Some}
 use Rattle.std.specs.List.{position}
 use Rattle.std.specs.Option.{option_map}
-use Rattle.std.specs.Prelude.{slice_get}
 use Rattle.std.proofs.lemmas.List.{get_or-reverse, length-reverse}
 use Rattle.std.proofs.lemmas.List.Quantifiers.{position-Some}
 use Rattle.std.proofs.lemmas.Option.{get_or_from_slice_get, same_Some}
-use Rattle.client_notes.specs.Command.{is_going, new_task}
+use Rattle.client_notes.specs.Command.{is_going}
 use Rattle.client_notes.specs.Notes.{Lists, Task, task_count, task_of}
 use Rattle.client_notes.proofs.Offered.{task-at}
 use Rattle.client_notes.specs.declared.progress.Progress.{Progress}
 use Rattle.client_notes.specs.declared.progress.Progress.TheVariants as progress
-use Rattle.ftl0_job.specs.JobState.{HasTask}
 use Rattle.ftl0_job.specs.Upload.{Upload, new_upload}
 use Rattle.ftl0_job.specs.declared.work.Work.TheVariants as work
 use Rattle.air_attempt.specs.Party.{Asked, IsFileOf, Party}
 use Rattle.air_files.specs.Facts.{HasNumber}
 use Rattle.air_files.specs.Tasks.{IsTaskFor}
 use Rattle.air_files.proofs.Offered.{task-file}
-use Rattle.air_world.specs.Events.{IsResuming}
 use Rattle.air_world.specs.Lawful.{last_unfinished}
 use Rattle.air_world.specs.Sound.{IsParty, Sound}
 use Rattle.air_world.specs.World.{PartyAt, World}

@@ -1,33 +1,33 @@
 -- A new file may be asked of a client: it has its task then.
-use Rattle.std.proofs.Common.{◌≡◌, ◌⊎◌, ⊎_elim, ℕ, zero, suc, ◌+◌, ◌-◌, ◌==◌, ◌<◌, ◌≤◌, false, List, [], ◌∷◌, ◌++◌, length, refl, sym, ap}
+use Rattle.std.proofs.Common.{◌≡◌, ◌⊎◌, ⊎_elim, ℕ, zero, suc, ◌+◌, ◌-◌, ◌==◌, ◌<◌, ◌≤◌, false, List, [], ◌∷◌, ◌++◌}
+use Rattle.std.proofs.Common.{length, refl, sym, ap}
 use Rattle.std.proofs.Common.{◌∙◌, subst, arith, Option, None, Some, inl, inr, length-append}
-use Rattle.std.specs.List.{AllByRecursion}
 use Rattle.std.specs.Option.{option_and_then, option_map}
 use Rattle.std.specs.Prelude.{slice_get}
 use Rattle.std.proofs.lemmas.Bool.Decides.{eqb_tells}
-use Rattle.std.proofs.lemmas.Option.{same_Some, slice_get_within}
+use Rattle.std.proofs.lemmas.Option.{same_Some}
 use Rattle.client_notes.specs.Answers.{fresh_task}
 use Rattle.client_notes.specs.Command.{new_task}
 use Rattle.client_notes.specs.Laws.{after_all}
 use Rattle.client_notes.specs.Limits.{most_tasks}
-use Rattle.client_notes.specs.Notes.{Lists, Task, task_count, task_of}
+use Rattle.client_notes.specs.Notes.{Task, task_count, task_of}
 use Rattle.client_notes.specs.declared.progress.Progress.TheVariants as progress
 use Rattle.client_notes.proofs.Offered.{task-at}
 use Rattle.sha2.specs.Sha256.{sha256}
-use Rattle.ftl0_job.specs.JobState.{HasTask}
 use Rattle.ftl0_job.specs.Upload.{Upload, new_upload}
 use Rattle.ftl0_job.specs.declared.work.Work.{Work}
 use Rattle.ftl0_job.specs.declared.work.Work.TheVariants as work
 use Rattle.air_attempt.specs.Attempt.{Attempt}
 use Rattle.air_attempt.specs.Party.{Asked, IsFileOf, Party, upload_of}
-use Rattle.air_files.specs.Facts.{HasNumber}
-use Rattle.air_files.specs.Laws.{BeginLaw, Stands}
+use Rattle.air_files.specs.Laws.{BeginLaw}
 use Rattle.air_files.specs.Tasks.{AreTasks, IsTaskFor, IsWork}
 use Rattle.air_files.specs.Uploads.{IsGoodFile}
-use Rattle.air_files.proofs.Offered.{file-more, place-last, place-more, task-some}
-use Rattle.air_world.specs.Sound.{IsParty, Sound}
+use Rattle.air_files.proofs.Offered.{file-more, place-more, task-some}
+use Rattle.air_world.specs.Events.{next_upload}
+use Rattle.air_world.specs.Sound.{Sound}
 use Rattle.air_world.specs.World.{PartyAt, World}
 use Rattle.air_world.proofs.Asked.{MayBeAsked}
+use Rattle.air_world.proofs.GoodFile.{good-upload}
 use Rattle.air_world.proofs.Served.{stands}
 use Rattle.air_world.proofs.WorldLists.{all-map}
 
@@ -89,8 +89,8 @@ tasked world it party =
 abbrev task-for : Party → Asked → Task
 task-for party it = new_task party.client.server party.client.me it.name (length it.file) (sha256 it.file)
 
-module _ (old : World) (c : ℕ) (party : Party) (it : Asked) (sound : Sound old) (is : PartyAt old c party) (whose : it.client ≡ c)
-    where
+module _ (old : World) (c : ℕ) (party : Party) (it : Asked) (sound : Sound old) (is : PartyAt old c party)
+    (whose : it.client ≡ c) where
   abbrev base : Party
   base = tasked old it party
 
@@ -233,3 +233,11 @@ module _ (old : World) (c : ℕ) (party : Party) (it : Asked) (sound : Sound old
             absurd (omega (arith, some, none));
         work = last-file;
       }
+
+-- the upload that a schedule asks next, with a body of so many octets
+pub ask-upload : BeginLaw → (old : World) (c : ℕ) (party : Party) (count : ℕ) → Sound old → PartyAt old c party
+    → task_count party.client.lists < most_tasks → count ≤ 40000
+    → MayBeAsked old c party (tasked old (next_upload old c count) party) (next_upload old c count ∷ [])
+    (work.Upload (new_upload (task_count party.client.lists + 1) 0 (next_upload old c count).file))
+ask-upload begin old c party count sound is few short =
+    ask-file old c party (next_upload old c count) sound is refl begin few (good-upload (length old.files) count short)

@@ -20,6 +20,7 @@ mod DuringRight
 mod DuringServer
 mod ExistenceLemmas
 mod FirstLemmas
+mod GoodFile
 mod Granted
 mod HeadlineLemmas
 mod JobWent
