@@ -15,12 +15,13 @@ use Rattle.ftl0_client.specs.Laws.{SomeStepLaw}
 use Rattle.air_attempt.specs.Attempt.{Attempt}
 use Rattle.air_attempt.specs.Lists.{Placed}
 use Rattle.air_attempt.specs.Party.{Asked, Party, newest, to_client_delivered}
-use Rattle.air_files.specs.Uploads.{IsGoodFile, upload_file}
 use Rattle.air_world.specs.Cuts.{Changes, ClientDoes, ClientEvent, Happens, ServerEvent, WorldStep, broken}
 use Rattle.air_world.specs.Events.{ClientPart, ClientTakes, DeliversToClient, IsPartOf, IsResuming, asking, asking_file, next_upload, part_with, with_current}
 use Rattle.air_world.specs.Lawful.{HasParty, IsAllowed, IsFree, MayCome}
 use Rattle.air_world.specs.Schedule.{Event, ask_download, ask_list, ask_resume, ask_upload, break_client, cut_client, cut_server, tick_client, tick_server, to_client, to_server}
+use Rattle.air_world.specs.Laws.{SoundLaw}
 use Rattle.air_world.specs.Sound.{Sound}
+use Rattle.air_world.proofs.FirstLemmas.{first-sound}
 use Rattle.air_world.specs.World.{PartyAt, World, counted, with_party}
 use Rattle.air_world.proofs.ClientsStay.{stay-refl}
 use Rattle.air_world.proofs.Granted.{granted-like}
@@ -29,19 +30,18 @@ use Rattle.air_world.proofs.Rebuild.{IsMade, StayParties, rebuilt}
 use Rattle.air_world.proofs.Seats.{between, calls}
 use Rattle.air_world.proofs.AskOthers.{ask-download, ask-list}
 use Rattle.air_world.proofs.AskResume.{ask-resume}
-use Rattle.air_world.proofs.AskUpload.{ask-file}
+use Rattle.air_world.proofs.AskUpload.{ask-upload}
 use Rattle.air_world.proofs.Asked.{MayBeAsked}
 use Rattle.air_world.proofs.ClientEvents as events
 use Rattle.air_world.proofs.ClientHeard.{IsReceiving}
 use Rattle.air_world.proofs.JobWent.{ClientLaws}
 use Rattle.air_world.proofs.ServerEvents.{ServerLaws, server-hears-kept, server-ticks-kept}
 
--- the laws of both stations, and that a schedule's files are good
+-- the laws of both stations
 pub record KeptLaws : Type 0 where
   pub server : ServerLaws
   pub client : ClientLaws
   pub client_steps : SomeStepLaw
-  pub good : (upload count : ℕ) → count ≤ 40000 → IsGoodFile (upload_file upload count)
 
 module _ (laws : KeptLaws) (old new : World) (sound : Sound old) where
   -- of the client of a number, at its place, with this part
@@ -94,7 +94,7 @@ module _ (laws : KeptLaws) (old new : World) (sound : Sound old) where
       let possible = allowed.possible in
       let same = same_Some possible.0 party (sym possible.1 ∙ is) in
       let few = subst (λ (p : Party). task_count p.client.lists < most_tasks) same possible.2.1 in
-      let may = ask-file old sound c party is it laws.client.begin few (laws.good (length old.files) count allowed.in_range) in
+      let may = ask-upload laws.client.begin old c party count sound is few allowed.in_range in
       with-part (ask_upload (suc c) count) happens c (asking_file old it party) takes.0 part_is (events.begin-does laws.client laws.client_steps old new sound c party is it may)
 
   -- a tick
@@ -184,3 +184,7 @@ module _ (laws : KeptLaws) (old new : World) (sound : Sound old) where
   kept (break_client number) step = break-kept number step.happens
   kept (cut_server call choice) step = server-note-kept step.happens
   kept (cut_client number call choice) step = note-kept number step.happens
+
+-- the law, from those of both stations
+pub sound-law : KeptLaws → SoundLaw
+sound-law laws = record { first = first-sound; kept = λ old new event sound step. kept laws old new sound event step }
