@@ -69,7 +69,7 @@ module _ (stay_law : StayLaw) (old : World) (sound : Sound old) (c : ℕ) (party
   -- The client starts again from notes of which it has the facts and the tasks, where these files were asked.
   module _ (attempts_are : AreAttempts party.client.me party.client.server attempts) (asked : List Asked) (base : Party) (lists : Lists)
       (me_is : base.client.me ≡ party.client.me) (server_is : base.client.server ≡ party.client.server) (window_is : base.client.window ≡ party.client.window) (attempts_is : base.attempts ≡ party.attempts)
-      (works : (a : Attempt) → IsWork old.files party a.client.asked → IsWork (old.files ++ asked) base a.client.asked) where
+      (works : AllByRecursion (λ (a : Attempt). IsWork (old.files ++ asked) base a.client.asked) party.attempts) where
     abbrev pub started-party : Party
     started-party = record (started_with base lists) { attempts = attempts }
 
@@ -92,9 +92,9 @@ module _ (stay_law : StayLaw) (old : World) (sound : Sound old) (c : ℕ) (party
               may_step = record { silent = refl; fits = tt };
             };
         works =
-            all-map (λ (a : Attempt). IsWork old.files party a.client.asked) (λ a. IsWork (old.files ++ asked) started-party a.client.asked) attempts
-            (λ a work. work-by (old.files ++ asked) base started-party a.client.asked refl refl (works a work))
-            (stay-each (λ side. IsWork old.files party side.asked) party.attempts attempts still.clients it.works);
+            all-map (λ (a : Attempt). IsWork (old.files ++ asked) base a.client.asked) (λ a. IsWork (old.files ++ asked) started-party a.client.asked) attempts
+            (λ a work. work-by (old.files ++ asked) base started-party a.client.asked refl refl work)
+            (stay-each (λ side. IsWork (old.files ++ asked) base side.asked) party.attempts attempts still.clients works);
         tasks = tasks-lists (old.files ++ asked) c (started_with base lists) started-party refl refl refl refl tasks;
         job = stands-by started-party (newest started-party) (λ a first link. absurd (let none : None ≡ Some a.client.attempted = link in cc));
         facts =

@@ -1,4 +1,7 @@
 mod Alike
+mod AskOthers
+mod AskResume
+mod AskUpload
 mod Asked
 mod ClientAsked
 mod ClientBasics
@@ -17,9 +20,11 @@ mod DuringRight
 mod DuringServer
 mod ExistenceLemmas
 mod FirstLemmas
+mod GoodFile
 mod Granted
 mod HeadlineLemmas
 mod JobWent
+mod KeptLemmas
 mod Likes
 mod Marked
 mod NumberedLemmas

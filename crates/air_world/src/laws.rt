@@ -1,6 +1,6 @@
 //! Laws of the world, each the contract of a function that does nothing.
 
-ghost use Rattle.air_world.specs.Laws.{ExistenceLaw, PartsLaw, PrefixesLaw, RemovalLaw};
+ghost use Rattle.air_world.specs.Laws.{ExistenceLaw, NoCutsLaw, PartsLaw, PrefixesLaw, RemovalLaw, ScheduleLaw, SoundLaw};
 
 use air_attempt::laws as attempts;
 use air_files::laws as files;
@@ -10,6 +10,34 @@ use ftl0_client::laws as client;
 use ftl0_server::laws as server;
 use ftl0_session::downloads::laws::stays_law;
 use pfh_items::laws::{fault_law, no_front_law};
+
+/// The first world of each schedule is sound, and each event that may come keeps a world sound: frames that are lost,
+/// repeated and displaced, ticks, breaks, askings, and power cuts inside whatever of the event's commands, at either
+/// end.
+pub fn sound_law()
+    ensures { SoundLaw }
+{
+    attempts::server_hears_law();
+    attempts::heard_law();
+    attempts::heard_front_law();
+    attempts::server_ticks_law();
+    attempts::current_law();
+    attempts::left_law();
+    attempts::front_law();
+    attempts::client_law();
+    files::session_law();
+    files::job_law();
+    files::job_tasks_law();
+    files::stay_law();
+    files::begin_law();
+    server_laws::hearing_law();
+    client_laws::step_law();
+    client_laws::hearing_law();
+    client_laws::ticking_law();
+    stands_law();
+    client::some_step_law();
+    server::some_step_law();
+}
 
 /// A sound world has all parts, and what is promised of uploads and downloads holds in it: each acknowledged file is
 /// kept, no offer exceeds what is held, and each finished download has its file's octets.
@@ -63,4 +91,21 @@ pub fn prefixes_law()
     follows_law();
     fault_law();
     no_front_law();
+}
+
+/// What is promised of uploads and downloads holds in each world of each lawful schedule, the first one too, and while
+/// the event behind it is under way, in all that the power may leave.
+pub fn schedule_law()
+    ensures { ScheduleLaw }
+{
+    sound_law();
+    parts_law();
+    prefixes_law();
+}
+
+/// So it does in each world of a lawful schedule without cuts.
+pub fn no_cuts_law()
+    ensures { NoCutsLaw }
+{
+    schedule_law();
 }
