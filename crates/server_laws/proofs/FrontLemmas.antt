@@ -1,5 +1,5 @@
 -- What an event begins in which a write fails is a front of what it does where none does.
-use Rattle.std.proofs.Common.{◌≡◌, ℕ, List, [], ◌++◌, Option, None, Some, refl}
+use Rattle.std.proofs.Common.{ℕ, List, [], ◌++◌, Option, None, Some, refl}
 use Rattle.std.specs.Prelude.{slice_get}
 use Rattle.ax25_frames.specs.FrameText.{FrameValue}
 use Rattle.ax25_link.specs.declared.state.Heard.{Heard}
@@ -52,7 +52,8 @@ module _ (writes : List Failure) (reads : NoReadFails writes) where
   at-begins server frame moment place (Some free) = ([], refl)
   at-begins server frame moment place (Some (leaving c)) = ([], refl)
   at-begins server frame moment place (Some (connected c)) =
-      queued-begins server.store writes [] (parts_of_frame server.window moment server.store server.lists c frame writes)
+      queued-begins server.store writes []
+      (parts_of_frame server.window moment server.store server.lists c frame writes)
       (parts_of_frame server.window moment server.store server.lists c frame [])
       (parts-begin (heard_of server.window c.end frame) moment server.store server.lists c
       (after_frame server.window c.end frame) frame.kind.information)

@@ -1,12 +1,13 @@
 -- A file that is received stays the caller's, behind each row and once what is due was queued.
-use Rattle.std.proofs.Common.{◌≡◌, ℕ, zero, List, [], ◌++◌, length, refl, ap, sym, subst, ◌∙◌, arith, Bool, true, false, not, Option, None, Some}
+use Rattle.std.proofs.Common.{◌≡◌, ℕ, List, ◌++◌, length, refl, ap, sym, subst, ◌∙◌}
+use Rattle.std.proofs.Common.{arith, Bool, true, false, not, Option, None, Some}
 use Rattle.std.proofs.lemmas.Bool.{cond_both, not-false}
 use Rattle.std.proofs.lemmas.Bool.Decides.{nat_tests}
 use Rattle.std.proofs.lemmas.Option.{same_Some}
-use Rattle.std.specs.Prelude.{Ok, Err, IfSome, if◌then◌else◌, ◌==◌, ◌/◌, ◌*◌, take}
+use Rattle.std.specs.Prelude.{Ok, IfSome, if◌then◌else◌, ◌==◌, ◌/◌, ◌*◌, take}
 use Rattle.std.specs.Option.{option_map}
 use Rattle.px_base.specs.CallSign.{CallSign}
-use Rattle.ax25_link.specs.Ends.{LinkEnd, free_octets}
+use Rattle.ax25_link.specs.Ends.{free_octets}
 use Rattle.pfh_items.specs.Faults.{fault_code}
 use Rattle.ftl0_packets.specs.Items.{kind_of_item}
 use Rattle.ftl0_packets.specs.Layout.{Item, data_end, data_part, upload_cmd}
@@ -21,7 +22,9 @@ use Rattle.ftl0_session.specs.Downloads.Sending as due
 use Rattle.ftl0_session.specs.Downloads.Table as download
 use Rattle.ftl0_session.specs.Downloads.Table.{DownloadRow}
 use Rattle.ftl0_session.specs.Lists.Lists.{CallerList}
-use Rattle.ftl0_session.specs.Table.{DuePacket, State, aborting, command, download_part, download_row, downloading, due_at, in_session, listing, receiving, row_among, sending, session_row, state_by, upload_row, waiting}
+use Rattle.ftl0_session.specs.Table.{DuePacket, State, aborting, command, download_part, download_row, downloading}
+use Rattle.ftl0_session.specs.Table.{due_at, in_session, listing, receiving, row_among, sending, session_row, state_by}
+use Rattle.ftl0_session.specs.Table.{upload_row, waiting}
 use Rattle.ftl0_session.specs.Uploads.Failures.{Failure, read_fails}
 use Rattle.ftl0_session.specs.Uploads.Session as upload
 use Rattle.ftl0_session.specs.Uploads.Session.{is_all, is_theirs, is_upload_kind}
