@@ -1,37 +1,53 @@
--- A file that is received stays the caller's, behind each row and once what is due was queued.
-use Rattle.std.proofs.Common.{◌≡◌, ℕ, List, ◌++◌, length, refl, ap, sym, subst, ◌∙◌}
+-- A file that is received stays the caller's: behind each row, once what is due was queued, and behind a frame.
+use Rattle.std.proofs.Common.{◌≡◌, ℕ, suc, List, [], ◌∷◌, ◌++◌, length, refl, ap, sym, subst, ◌∙◌}
 use Rattle.std.proofs.Common.{arith, Bool, true, false, not, Option, None, Some}
 use Rattle.std.proofs.lemmas.Bool.{cond_both, not-false}
 use Rattle.std.proofs.lemmas.Bool.Decides.{nat_tests}
 use Rattle.std.proofs.lemmas.Option.{same_Some}
 use Rattle.std.specs.Prelude.{Ok, IfSome, if◌then◌else◌, ◌==◌, ◌/◌, ◌*◌, take}
 use Rattle.std.specs.Option.{option_map}
-use Rattle.px_base.specs.CallSign.{CallSign}
-use Rattle.ax25_link.specs.Ends.{free_octets}
+use Rattle.px_base.specs.CallSign.{CallSign, IsCall}
+use Rattle.ax25_frames.specs.FrameText.{FrameValue}
+use Rattle.ax25_link.specs.Calls.{after_push}
+use Rattle.ax25_link.specs.declared.state.Heard.{Heard}
+use Rattle.ax25_link.specs.declared.state.Heard.TheVariants.{Nothing, Opened, Reopened, Bytes, Closed}
+use Rattle.ax25_link.specs.Ends.{LinkEnd, free_octets}
+use Rattle.ax25_link.specs.Rows.{after_frame, heard_of}
+use Rattle.ax25_link.specs.Window.{Window}
 use Rattle.pfh_items.specs.Faults.{fault_code}
-use Rattle.ftl0_packets.specs.Items.{kind_of_item}
+use Rattle.ftl0_packets.specs.Items.{kind_of_item, texts}
 use Rattle.ftl0_packets.specs.Layout.{Item, data_end, data_part, upload_cmd}
+use Rattle.ftl0_packets.specs.Reading.{packets_of}
+use Rattle.packet_link.specs.Queuing.{fits}
 use Rattle.packet_link.proofs.Queuing.{filling-keeps}
-use Rattle.file_entries.specs.Follows.{IsOwnEntry}
+use Rattle.file_entries.specs.Follows.{AreOf, FollowsBy, IsOwnEntry}
 use Rattle.file_entries.specs.IsStore.{IsStore}
-use Rattle.file_store.specs.Command.{after, after_all, begin, can_begin, has_room, passes, whole_grows}
+use Rattle.file_entries.proofs.Offered.{follows_law}
+use Rattle.file_store.specs.Command.{AreAllowed, Command, after, after_all, begin, can_begin, has_room, passes}
+use Rattle.file_store.specs.Command.{whole_grows}
 use Rattle.file_store.specs.Info.{is_complete}
 use Rattle.file_store.specs.Store.{Entry, Store, entry_of, new_entry, octets_at, octets_of}
-use Rattle.file_store.proofs.Offered.{find-push, find_past, grows-after, has_number}
+use Rattle.file_store.proofs.Offered.{after_all-append, find-push, find_past, grows-after, has_number}
 use Rattle.ftl0_session.specs.Downloads.Sending as due
 use Rattle.ftl0_session.specs.Downloads.Table as download
 use Rattle.ftl0_session.specs.Downloads.Table.{DownloadRow}
 use Rattle.ftl0_session.specs.Lists.Lists.{CallerList}
-use Rattle.ftl0_session.specs.Table.{DuePacket, State, aborting, command, download_part, download_row, downloading}
+use Rattle.ftl0_session.specs.Run.{Session, session_over}
+use Rattle.ftl0_session.specs.Table.{DuePacket, Row, State, aborting, command, download_part, download_row, downloading}
 use Rattle.ftl0_session.specs.Table.{due_at, in_session, listing, receiving, row_among, sending, session_row, state_by}
 use Rattle.ftl0_session.specs.Table.{upload_row, waiting}
-use Rattle.ftl0_session.specs.Uploads.Failures.{Failure, read_fails}
+use Rattle.ftl0_session.specs.Uploads.Failures.{Failure, read_fails, write_fails}
 use Rattle.ftl0_session.specs.Uploads.Session as upload
 use Rattle.ftl0_session.specs.Uploads.Session.{is_all, is_theirs, is_upload_kind}
 use Rattle.ftl0_session.proofs.uploads.UploadRows.{theirs-decides}
-use Rattle.ftl0_server.specs.Connection.Taking.{Progress, after_due, queued, queuing}
-use Rattle.server_laws.specs.Rows.{ReceivesAfter, ReceivesBehind, ReceivesLaw, ReceivesOwn}
-use Rattle.server_laws.proofs.RowLemmas.{own-grow}
+use Rattle.ftl0_server.specs.Connection.Connected.{Connected, caller_of}
+use Rattle.ftl0_server.specs.Connection.Hearing.{hearing, parts_as, parts_of_frame}
+use Rattle.ftl0_server.specs.Connection.Taking.{Progress, after_due, after_row, failing_at, giving_up, queued, queuing}
+use Rattle.ftl0_server.specs.Connection.Taking.{taking}
+use Rattle.ftl0_server.proofs.Offered.{queued-alone}
+use Rattle.server_laws.specs.Rows.{ReceivesAfter, ReceivesBehind, ReceivesHeard, ReceivesLaw, ReceivesOwn}
+use Rattle.server_laws.proofs.AcknowledgedLemmas.{allowed_then}
+use Rattle.server_laws.proofs.RowLemmas.{commands_own, own-grow}
 
 -- ---- behind a row
 
@@ -166,8 +182,79 @@ queued-own caller store failures progress own =
     (due.next_due made (download_part at.state) (read_fails failures at.part)) next is)
     (free_octets progress.end) progress own)
 
+-- ---- behind a frame
+
+-- the commands before others are allowed
+allowed-before : (first others : List Command) (store : Store) → AreAllowed store (first ++ others)
+    → AreAllowed store first
+allowed-before [] others store allowed = tt
+allowed-before (one ∷ first) others store allowed =
+    (allowed.0, allowed-before first others (after store one) allowed.1)
+
+-- what commands of a caller, each of them allowed, make of a store that keeps its rules keeps them
+row-rules : (caller : CallSign) (store : Store) (commands : List Command) → IsStore store → IsCall caller
+    → AreOf caller store commands → AreAllowed store commands → IsStore (after_all store commands)
+row-rules caller store commands is call own allowed =
+    let now : Store = after_all store commands in
+    let by : FollowsBy caller store now = record { commands = commands; own = own; does = (allowed, refl) } in
+    (follows_law.entries store now is (follows_law.others caller store now is call by).0).rules
+
+-- where the commands of the parts are allowed, the file that is received behind them is the caller's
+abbrev IsKept : CallSign → Store → Progress → Type 0
+IsKept caller store progress = AreAllowed store progress.done → ReceivesAfter caller store progress
+
+module _ (caller : CallSign) (moment : ℕ) (call : IsCall caller) (failures : List Failure) where
+  taking-own : (session : Session) (end : LinkEnd) (items : List Item) (part : ℕ) → IsStore session.store
+      → ReceivesOwn caller session.store session.state
+      → IsKept caller session.store (taking caller moment session end items failures part)
+  taking-own session end [] part is own = λ allowed. own
+  taking-own session end (item ∷ items) part is own =
+      let fails : Bool = read_fails failures part in
+      let row : Row = session_row caller moment session.store session.lists session.state item fails in
+      let next : Session = session_over (after_all session.store row.commands) row.lists row.state in
+      let later : Progress = taking caller moment next (after_push end (texts row.replies)) items failures (suc part) in
+      let behind : ReceivesBehind caller session.store row =
+      row-receives caller moment session.store session.lists session.state item fails is own in
+      let commands : AreOf caller session.store row.commands =
+      commands_own caller moment session.store session.lists session.state item fails own in
+      cond_both (write_fails failures part) (failing_at end session.state session.lists row part) _
+      (IsKept caller session.store) (λ failed allowed. tt)
+      (λ written.
+      cond_both (fits end (texts row.replies)) (after_row row later) (giving_up end row part) (IsKept caller session.store)
+      (λ enough allowed.
+      subst (λ (now : Store). ReceivesOwn caller now later.state)
+      (sym (after_all-append row.commands later.done session.store))
+      (taking-own next (after_push end (texts row.replies)) items (suc part)
+      (row-rules caller session.store row.commands is call commands
+      (allowed-before row.commands later.done session.store allowed)) behind
+      (allowed_then row.commands later.done session.store allowed)))
+      (λ few allowed. behind))
+
+module _ (moment : ℕ) (store : Store) (lists : List CallerList) (c : Connected) (failures : List Failure)
+    (is : IsStore store) (call : IsCall (caller_of c)) (own : ReceivesOwn (caller_of c) store c.state) where
+  parts-own : (told : Heard) (end : LinkEnd) (octets : List ℕ)
+      → IsKept (caller_of c) store (parts_as told moment store lists c end octets failures)
+  parts-own Nothing end octets = λ allowed. own
+  parts-own Opened end octets = λ allowed. own
+  parts-own Reopened end octets = λ allowed. tt
+  parts-own Bytes end octets =
+      taking-own (caller_of c) moment call failures (session_over store lists c.state) end
+      (packets_of (c.rest ++ octets)) 0 is own
+  parts-own (Closed why) end octets = λ allowed. own
+
+  heard-own : (w : Window) (frame : FrameValue)
+      → AreAllowed store (hearing w moment store lists c frame failures).done
+      → ReceivesHeard (caller_of c) store (hearing w moment store lists c frame failures)
+  heard-own w frame allowed =
+      let parts : Progress = parts_of_frame w moment store lists c frame failures in
+      queued-own (caller_of c) store failures parts
+      (parts-own (heard_of w c.end frame) (after_frame w c.end frame) frame.kind.information
+      (subst (AreAllowed store) (queued-alone store failures parts).done allowed))
+
 pub receives-law : ReceivesLaw
 receives-law = record {
   rows = λ caller moment store lists state item fails. row-receives caller moment store lists state item fails;
   queued = queued-own;
+  heard = λ w moment store lists c frame failures is call allowed own.
+      heard-own moment store lists c failures is call own w frame allowed;
 }

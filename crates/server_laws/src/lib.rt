@@ -51,8 +51,8 @@ pub fn caller_law()
     ensures { CallerLaw }
 {}
 
-/// A file that is received stays the caller's: behind each packet's row, over the store after the row's commands, and
-/// once what is due was queued.
+/// A file that is received stays the caller's: behind each packet's row, over the store after the row's commands, once
+/// what is due was queued, and so behind a whole frame.
 pub fn receives_law()
     ensures { ReceivesLaw }
 {}
