@@ -220,7 +220,8 @@ module _ (caller : CallSign) (moment : ℕ) (call : IsCall caller) (failures : L
       cond_both (write_fails failures part) (failing_at end session.state session.lists row part) _
       (IsKept caller session.store) (λ failed allowed. tt)
       (λ written.
-      cond_both (fits end (texts row.replies)) (after_row row later) (giving_up end row part) (IsKept caller session.store)
+      cond_both (fits end (texts row.replies)) (after_row row later) (giving_up end row part)
+      (IsKept caller session.store)
       (λ enough allowed.
       subst (λ (now : Store). ReceivesOwn caller now later.state)
       (sym (after_all-append row.commands later.done session.store))
