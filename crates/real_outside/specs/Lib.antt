@@ -1,4 +1,5 @@
 pub mod Clocks
+pub mod Counts
 pub mod Descriptors
 pub mod Disk
 pub mod Files

@@ -153,7 +153,6 @@ impl Device for MemoryDevice {
     /// Writes the first of these octets, as many as one call moves, over what is there, and past the end; a gap before
     /// them is zeros. A call that is listed, or finds no memory, fails.
     fn write(&mut self, at: u64, bytes: &[u8]) -> Result<usize, DeviceDown>
-        ensures count { IfOk result (λ count. count ≤ length bytes.now) }
         ensures calls { Grows (told self.old.made) (told self.new.made) (DeviceCall.Write at bytes.now result ∷ []) }
         ensures writes { IsDeviceWrite self.old self.new at bytes.now result }
     {
