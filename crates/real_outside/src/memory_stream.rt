@@ -3,6 +3,7 @@
 ghost use Rattle.std.specs.Prelude.{◌≡◌, ◌≤◌, ◌∷◌, [], None, length, IfOk};
 ghost use Rattle.px_base.specs.Outside.{Grows};
 ghost use Rattle.px_base.specs.CallRecords.{no_calls, told};
+ghost use Rattle.real_outside.specs.Moves.{Moves};
 ghost use Rattle.real_outside.specs.Scripts.{Follows, done_answer, read_answer, write_answer};
 ghost use Rattle.real_outside.specs.StreamCalls.{octets_read};
 
@@ -58,10 +59,9 @@ impl InputStream for MemoryStream {
 
     /// Gives octets by the script.
     fn read(&mut self, room: &mut [u8]) -> Result<usize, SystemError>
-        ensures count { IfOk result (λ count. count ≤ length room.new) }
         ensures room { length room.new ≡ length room.old }
-        ensures calls { Grows (told self.old.made) (told self.new.made)
-            (StreamCall.Read (length room.old) (octets_read result room.new) ∷ []) }
+        ensures moves { Moves (told self.old.made) (told self.new.made)
+            (StreamCall.Read (length room.old) (octets_read result room.new)) (length room.new) result }
         ensures script { Follows self.old.coming self.new.coming (read_answer (length room.old))
             (octets_read result room.new) }
     {
@@ -78,7 +78,8 @@ impl OutputStream for MemoryStream {
 
     /// Takes octets by the script.
     fn write(&mut self, bytes: &[u8]) -> Result<usize, SystemError>
-        ensures calls { Grows (told self.old.made) (told self.new.made) (StreamCall.Write bytes.now result ∷ []) }
+        ensures moves { Moves (told self.old.made) (told self.new.made) (StreamCall.Write bytes.now result)
+            (length bytes.now) result }
         ensures script { Follows self.old.coming self.new.coming (write_answer (length bytes.now)) result }
     {
         let answer = self.script.take(bytes);
