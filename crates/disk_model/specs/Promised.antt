@@ -1,5 +1,6 @@
 -- What a disk promises of each of its calls.
-use Rattle.std.specs.Prelude.{◌≡◌, ◌↔◌, ◌⊎◌, ℕ, ◌+◌, ◌^◌, ◌<◌, ◌≤◌, List, length, IfOk, IfSome, IsErr, OnErr, OnOk, Result}
+use Rattle.std.specs.Prelude.{◌≡◌, ◌↔◌, ◌⊎◌, ℕ, ◌+◌, ◌^◌, ◌<◌, ◌≤◌, List, length, IfOk, IfSome, IsErr, OnErr}
+use Rattle.std.specs.Prelude.{OnOk, Result}
 use Rattle.px_base.specs.Outside.{HasCause}
 use Rattle.disk_model.specs.Disk.{AreAmong, FillsRoom, Follows, HasContent, IsTold, LeavesOpen, Only, Torn, Writes}
 use Rattle.disk_model.specs.Moments.{OnlyFails, OnlyReads, SinceNow, TakesOneMoment, TimePasses}

@@ -1,5 +1,5 @@
 -- The places that were read are BODY and NAME, and the values found are those of the options.
-use Rattle.std.proofs.Common.{◌∷◌, [], codes, lit<, refl, sym}
+use Rattle.std.proofs.Common.{◌∷◌, [], codes, lit<, refl, sym, rules}
 use Rattle.std.proofs.lemmas.Result.{err_from_is_err_and}
 use Rattle.clap.specs.Words.{app_of}
 use Rattle.command_words.specs.Making.{make_options}
@@ -7,23 +7,32 @@ use Rattle.command_words.proofs.LineLemmas.{handed_on, make_line, value_got}
 use Rattle.command_words.proofs.Readings.{all_found, none_missing}
 use Rattle.command_words.proofs.line.read_make.Goals as goal
 
-pub returns-in_err-matches-clause-usage : goal.returns-in_err-matches-clause-usage
-returns-in_err-matches-clause-usage c =
+pub returns-in_err-matches-clause-refused : goal.returns-in_err-matches-clause-refused
+returns-in_err-matches-clause-refused c =
     let p = err_from_is_err_and c.from_residual-in_err-matches.result c.from_residual-in_err-matches.ensures.1 in
-    rw (p.1, p.2) (λ usage line. c.in_err-matches.ensures.usage (handed_on usage) (codes "body" ∷ codes "kept" ∷ []) make_options
-    (make_line (app_of c.in_ok-make_command.field-0) c.in_ok-make_command.ensures) line)
+    record {
+      usage = rw (p.1, p.2) (λ usage line. c.in_err-matches.ensures.refused.usage (handed_on usage) (codes "body" ∷ codes "kept" ∷ []) make_options
+          (make_line (app_of c.in_ok-make_command.field-0) c.in_ok-make_command.ensures) line);
+      built = search rules;
+    }
 
-pub returns-in_default-clause-usage : goal.returns-in_default-clause-usage
-returns-in_default-clause-usage c = λ usage line.
-    let found = c.in_ok-matches.ensures.found (codes "body" ∷ codes "kept" ∷ []) make_options
-    (make_line (app_of c.in_ok-make_command.field-0) c.in_ok-make_command.ensures) in
-    absurd (none_missing _ _ found.places_found (0, lit< tt, sym c.in_default.ensures))
+pub returns-in_default-clause-refused : goal.returns-in_default-clause-refused
+returns-in_default-clause-refused c = record {
+  usage = λ usage line.
+      let found = c.in_ok-matches.ensures.found (codes "body" ∷ codes "kept" ∷ []) make_options
+      (make_line (app_of c.in_ok-make_command.field-0) c.in_ok-make_command.ensures) in
+      absurd (none_missing _ _ found.places_found (0, lit< tt, sym c.in_default.ensures));
+  built = search rules;
+}
 
-pub returns-in_default-get_str-clause-usage : goal.returns-in_default-get_str-clause-usage
-returns-in_default-get_str-clause-usage c = λ usage line.
-    let found = c.in_ok-matches.ensures.found (codes "body" ∷ codes "kept" ∷ []) make_options
-    (make_line (app_of c.in_ok-make_command.field-0) c.in_ok-make_command.ensures) in
-    absurd (none_missing _ _ found.places_found (1, lit< tt, sym c.in_default-get_str.ensures))
+pub returns-in_default-get_str-clause-refused : goal.returns-in_default-get_str-clause-refused
+returns-in_default-get_str-clause-refused c = record {
+  usage = λ usage line.
+      let found = c.in_ok-matches.ensures.found (codes "body" ∷ codes "kept" ∷ []) make_options
+      (make_line (app_of c.in_ok-make_command.field-0) c.in_ok-make_command.ensures) in
+      absurd (none_missing _ _ found.places_found (1, lit< tt, sym c.in_default-get_str.ensures));
+  built = search rules;
+}
 
 pub returns-clause-texts : goal.returns-clause-texts
 returns-clause-texts c =
