@@ -1,6 +1,6 @@
 //! The header of a store.
 
-ghost use Rattle.std.specs.Prelude.{◌≡◌, ◌<◌, ◌≤◌, List, ℕ, length, slice_index, IfOk, IfSome, IsErrOf};
+ghost use Rattle.std.specs.Prelude.{◌≡◌, ◌<◌, List, ℕ, length, slice_index, IfOk, IfSome, IsErrOf};
 ghost use Rattle.file_journal.specs.Calls.{Reads};
 ghost use Rattle.file_journal.specs.Header.{AreBlocks, HasBadNumber, HasHeader, HasSelector, IsForeignBy};
 ghost use Rattle.file_journal.specs.Recovery.{Refuses};

@@ -1,6 +1,6 @@
 //! A state that is kept in a journal.
 
-ghost use Rattle.std.specs.Prelude.{◌≡◌, ◌≤◌, false, IfOk, OnErr, OnOk};
+ghost use Rattle.std.specs.Prelude.{◌≡◌, false, IfOk, OnErr, OnOk};
 ghost use Rattle.file_journal.specs.Header.{AreBlocks};
 ghost use Rattle.file_journal.specs.Kept.{AnswersPut, StandsAt, kept_at};
 ghost use Rattle.file_journal.specs.Restoring.{AnswersRecovery, IsRestored};
