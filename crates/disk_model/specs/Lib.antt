@@ -11,4 +11,5 @@ pub mod Memory
 pub mod MemoryLaws
 pub mod Moments
 pub mod Open
+pub mod Promised
 pub mod Surface

@@ -3,6 +3,7 @@
 ghost use Rattle.std.specs.Prelude.{◌≡◌, ◌↔◌, ℕ, ◌+◌, ◌^◌, ◌<◌, ◌≤◌, List, length, true, false, IfOk, IfSome, IsErr, IsErrOf, None, OnErr, OnOk, OnSome};
 ghost use Rattle.file_journal.specs.Appending.{Appends, LeavesAppending, LeavesBeforeOrAfter, TakesFour};
 ghost use Rattle.file_journal.specs.Calls.{IsQuietNow, Leaves, Puts, Reads, Runs, TakesStep};
+ghost use Rattle.file_journal.specs.Header.{AreBlocks};
 ghost use Rattle.file_journal.specs.Next.{AnswersNext};
 ghost use Rattle.file_journal.specs.Position.{StandsOn};
 ghost use Rattle.file_journal.specs.Records.{IsRecord, record_of};
@@ -56,8 +57,7 @@ impl Journal {
         magic: [u8; 8],
         blocks: u32,
     ) -> Result<Journal, RecoverFault>
-        requires some { 1 ≤ blocks }
-        requires most { blocks ≤ 65536 }
+        requires blocks { AreBlocks blocks }
         ensures recovered { IfOk result (IsRecovered D.Disk magic blocks disk.old disk.new) }
 
         // But for a fault of the disk, each refusal comes exactly where the content stands for it, and leaves it so.
@@ -87,8 +87,7 @@ impl Journal {
     ) -> Result<Journal, RecoverFault>
         requires len { IfSome (D.content disk.old) (λ octets. len ≡ length octets) }
         requires quiet { IsQuietNow D.Disk disk.old }
-        requires some { 1 ≤ blocks }
-        requires most { blocks ≤ 65536 }
+        requires blocks { AreBlocks blocks }
         ensures recovered { IfOk result (IsRecovered D.Disk magic blocks disk.old disk.new) }
         ensures refuses { Refuses magic (D.content disk.old) result }
         ensures untouched { OnErr result
@@ -107,8 +106,7 @@ impl Journal {
 
     /// At the first gate, with nothing read yet.
     fn at_first_gate(magic: [u8; 8], blocks: u32) -> Journal
-        requires some { 1 ≤ blocks }
-        requires most { blocks ≤ 65536 }
+        requires blocks { AreBlocks blocks }
         ensures { result ≡ record { magic = magic; blocks = blocks; place = 16; ended = false; failed = false } }
     {
         Journal {

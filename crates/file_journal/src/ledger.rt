@@ -3,6 +3,7 @@
 ghost use Rattle.std.specs.Prelude.{◌≡◌, ◌+◌, ◌^◌, ◌<◌, ◌≤◌, ℕ, List, length, true, false, Option, None, Some, IfSome, IsErrOf, OnErr, OnOk};
 ghost use Rattle.file_journal.specs.Calls.{Reads};
 ghost use Rattle.file_journal.specs.Form.{Form};
+ghost use Rattle.file_journal.specs.Header.{AreBlocks};
 ghost use Rattle.file_journal.specs.Ledger.{AnswersAll, AppliesNext, AppliesSome};
 ghost use Rattle.file_journal.specs.Position.{StandsOn};
 ghost use Rattle.file_journal.specs.Records.{Record, record_of};
@@ -36,8 +37,7 @@ pub trait Ledger: Drop {
 
     /// The ledger of a store of so many blocks, 1 to 65,536, before the first record. Takes no memory yet.
     fn fresh(alloc: Global, blocks: u32) -> Self
-        requires some { 1 ≤ blocks }
-        requires most { blocks ≤ 65536 }
+        requires blocks { AreBlocks blocks }
         ensures state { state result ≡ form.fresh blocks }
         ensures by_records { by_records result };
 
