@@ -12,3 +12,4 @@ pub mod MemoryLaws
 pub mod Moments
 pub mod Open
 pub mod Surface
+pub mod Told
