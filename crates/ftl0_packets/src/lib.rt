@@ -8,6 +8,7 @@
 
 pub mod laws;
 mod packet;
+mod packet_octets;
 mod pieces;
 mod reader;
 mod stream;
