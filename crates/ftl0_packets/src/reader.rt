@@ -57,7 +57,9 @@ impl PacketReader {
 
     /// Lets the packet under way go, and is as before the first packet. Takes no memory.
     pub fn clear(&mut self)
-        ensures { self.new ≡ [] }
+        ensures octets { self.new ≡ [] }
+        ensures none { packets_of (under_way self.new) ≡ [] }
+        ensures left { rest_of (under_way self.new) ≡ [] }
     {
         self.text.clear();
         self.end = HEADER_LEN;
