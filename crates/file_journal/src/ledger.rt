@@ -7,8 +7,8 @@ ghost use Rattle.file_journal.specs.Ledger.{AnswersAll, AppliesNext, AppliesSome
 ghost use Rattle.file_journal.specs.Position.{StandsOn};
 ghost use Rattle.file_journal.specs.Records.{Record, record_of};
 
+use crate::record::RecordRoom;
 use crate::{Journal, ReadFault, RecoverFault};
-use arrayvec::ArrayVec;
 use disk_model::Disk;
 use px_base::OutOfMemory;
 use std::alloc::Global;
@@ -98,15 +98,17 @@ impl Journal {
             → IfSome (D.content disk.old) (AppliesSome L.form.step self.old (L.state ledger.old) (L.state ledger.new)) }
         ensures reads { Reads D.Disk (IsErrOf result ReadFault.Disk) disk.old disk.new }
     {
-        while self.apply_next(disk, ledger)? {}
+        let mut room = RecordRoom::new();
+        while self.apply_next(disk, ledger, &mut room)? {}
         Ok(())
     }
 
-    /// Reads the next record that is left, and applies it: whether there was one.
+    /// Reads the next record that is left, into this room, and applies it: whether there was one.
     fn apply_next<D: Disk, L: Ledger>(
         &mut self,
         disk: &mut D,
         ledger: &mut L,
+        room: &mut RecordRoom,
     ) -> Result<bool, ReadFault>
         requires stands_on { StandsOn D.Disk self.old disk.old }
         requires healthy { self.old.failed ≡ false }
@@ -124,11 +126,10 @@ impl Journal {
         ensures reads { Reads D.Disk (IsErrOf result ReadFault.Disk) disk.old disk.new }
     {
         let gate = self.place();
-        let mut room = ArrayVec::new();
-        match self.next(disk, &mut room) {
+        match self.find_next(disk, room) {
             Ok(None) => Ok(false),
             Ok(Some(kind)) => {
-                if !ledger.apply(kind, room.as_slice())? {
+                if !ledger.apply(kind, room.content())? {
                     return Err(ReadFault::Damaged { at: gate });
                 }
                 Ok(true)

@@ -8,7 +8,6 @@
 
 pub mod laws;
 mod packet;
-mod packet_octets;
 mod pieces;
 mod reader;
 mod stream;

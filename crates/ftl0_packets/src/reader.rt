@@ -7,9 +7,9 @@ ghost use Rattle.ftl0_packets.specs.Filling.{IsFilling};
 ghost use Rattle.ftl0_packets.specs.Stream.{IsPartial};
 ghost use Rattle.ftl0_packets.specs.Values.{item_of};
 
-use crate::packet_octets::PacketOctets;
-use crate::text::{HEADER_LEN, header_text_len, read_text, text_len};
+use crate::text::{HEADER_LEN, MOST_OCTETS, header_text_len, read_text, text_len};
 use crate::{Malformed, Packet};
+use px_base::OctetBuffer;
 use std::marker::Model;
 
 /// Whether a packet is whole now.
@@ -26,7 +26,7 @@ pub enum PacketFed {
 #[derive(Debug, Drop)]
 pub struct PacketReader {
     /// The octets of a whole packet, or of a part from its front.
-    text: PacketOctets,
+    text: OctetBuffer<MOST_OCTETS>,
     /// How many octets the packet has that begins so. An octet that isn't there yet counts as 0.
     end: usize,
 }
@@ -50,7 +50,7 @@ impl PacketReader {
         ensures left { rest_of (under_way result) ≡ [] }
     {
         PacketReader {
-            text: PacketOctets::new(),
+            text: OctetBuffer::new(),
             end: HEADER_LEN,
         }
     }

@@ -9,8 +9,8 @@ pub invariant_of-self : goal.invariant_of-self
 invariant_of-self c =
     let front = c.self.inside.text in
     let less = subst (λ (xs : List ℕ). length xs < text_len xs) (sym c.self.view_is) c.begin_next.ensures.less in
-    let ends = c.end_of-self-inside.ensures ∙ ap (λ (xs : List ℕ). text_len (xs ++ c.args.bytes.now)) c.as_slice.ensures in
-    let count = c.min-taken.ensures ∙ ap (λ (n : ℕ). min (c.end_of-self-inside.result - n) (length c.args.bytes.now)) c.len.ensures in
+    let ends = c.end_of-self-inside.ensures ∙ ap (λ (xs : List ℕ). text_len (xs ++ c.args.bytes.now)) c.as_slice.ensures.octets in
+    let count = c.min-taken.ensures ∙ ap (λ (n : ℕ). min (c.end_of-self-inside.result - n) (length c.args.bytes.now)) c.len.ensures.len in
     IsBuffer-filled front c.args.bytes.now c.put.new.self c.min-taken.result c.end_of-self-inside.result
     c.self.invariant.filling less (octets_from c.args.bytes.now (λ i. omega (arith, c.type_inv.bytes i))) ends count c.put.ensures
 
