@@ -82,9 +82,9 @@ fn greatest_length(synced: &[u8], calls: &[OpenWrite]) -> u64
     most
 }
 
-/// Turns the octets that were synced before these writes, and the present ones, into what a crash leaves, as this number
-/// picks it. It costs the octets in the ranges of these writes, and those behind what was synced. Where there is no
-/// memory, the present ones stay.
+/// Turns the octets that were synced before these writes, and the present ones, into what a crash leaves, as this
+/// number picks it. It costs the octets in the ranges of these writes, and those behind what was synced. Where there is
+/// no memory, the present ones stay.
 pub(crate) fn lose_power(
     synced: &mut Vec<u8>,
     present: &mut Vec<u8>,
@@ -103,8 +103,8 @@ pub(crate) fn lose_power(
     copy_open(present, synced.as_slice(), shared, calls)
 }
 
-/// Turns the octets that were synced before these writes into what a crash leaves, as this number picks it, where a read
-/// gives the present ones. It changes nothing where there is no memory.
+/// Turns the octets that were synced before these writes into what a crash leaves, as this number picks it, where a
+/// read gives the present ones. It changes nothing where there is no memory.
 fn crash(
     synced: &mut Vec<u8>,
     present: &[u8],

@@ -20,9 +20,9 @@ use std::alloc::Global;
 const ROOM: usize = 131_072;
 
 /// What was done to a disk, for proofs alone; the octets that a read gives, those that were synced last, and the writes
-/// since then, with their octets; and whether the disk is down. While it isn't, there is room for one write more, so that
-/// one that finds no memory leaves its range open. A disk that is lost, by a power cut that found no memory, is down from
-/// then on, and nothing is known of what was synced.
+/// since then, with their octets; and whether the disk is down. While it isn't, there is room for one write more, so
+/// that one that finds no memory leaves its range open. A disk that is lost, by a power cut that found no memory, is
+/// down from then on, and nothing is known of what was synced.
 #[derive(Drop)]
 pub(crate) struct History {
     alloc: Global,

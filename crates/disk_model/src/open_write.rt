@@ -5,8 +5,8 @@ ghost use Rattle.disk_model.specs.Surface.{count_of, place_of};
 
 use std::marker::Model;
 
-/// A write since the last sync, whether it passed or failed. Contracts see it as one that failed, which leaves its range
-/// open and no more.
+/// A write since the last sync, whether it passed or failed. Contracts see it as one that failed, which leaves its
+/// range open and no more.
 #[derive(Drop)]
 pub(crate) struct OpenWrite {
     at: u64,

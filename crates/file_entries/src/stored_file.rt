@@ -209,15 +209,15 @@ impl StoredFile {
     }
 }
 
-/// Puts these behind the octets of a file of this length, or changes nothing where there is no memory. The first ones make
-/// room for the whole file, so that none is moved later. Takes memory.
-fn put(octets: &mut Vec<u8>, file_length: u32, bytes: &[u8]) -> Result<(), OutOfMemory>
-    ensures ok { OnOk result (octets.new.items ≡ octets.old.items ++ bytes.now) }
-    ensures err { OnErr result (octets.new.items ≡ octets.old.items) }
+/// Puts these behind the octets of a file of this length, or changes nothing where there is no memory. The first ones
+/// make room for the whole file, so that none is moved later. Takes memory.
+fn put(file: &mut Vec<u8>, file_length: u32, bytes: &[u8]) -> Result<(), OutOfMemory>
+    ensures ok { OnOk result (file.new.items ≡ file.old.items ++ bytes.now) }
+    ensures err { OnErr result (file.new.items ≡ file.old.items) }
 {
-    if octets.is_empty() {
-        octets.reserve_exact(file_length as usize)?;
+    if file.is_empty() {
+        file.reserve_exact(file_length as usize)?;
     }
-    octets.extend_from_slice(bytes)?;
+    file.extend_from_slice(bytes)?;
     Ok(())
 }

@@ -175,7 +175,7 @@ impl Journal {
         ensures ended { result ≡ Ok None → self.new ≡ record self.old { ended = true } }
         ensures moves { IfOk result (λ next.
             OnSome next (self.new.place ≡ self.old.place + 4 + length room.new)) }
-        ensures fits { self.new.place < 2 ^ 63 }
+        ensures fits { self.new.place + 1 ≤ 2 ^ 63 }
         ensures is_store { (found : List ℕ) → ¬ IsErrOf result (RecoverFault.NotAStore found) }
         ensures err { OnErr result (self.new ≡ self.old) }
         ensures reads { Reads D.Disk (IsErrOf result RecoverFault.Disk) disk.old disk.new }

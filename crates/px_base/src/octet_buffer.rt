@@ -4,8 +4,8 @@ ghost use Rattle.std.specs.Prelude.{◌≡◌, ◌+◌, ◌≤◌, [], ◌++◌,
 
 use std::marker::Model;
 
-/// At most so many octets. Contracts see them as a list. Where they are let go nothing is written, so that a buffer that
-/// is kept costs only what is put in it.
+/// At most so many octets. Contracts see them as a list. Where they are let go nothing is written, so that a buffer
+/// that is kept costs only what is put in it.
 #[derive(Debug, Drop)]
 pub struct OctetBuffer<const MOST: usize> {
     octets: [u8; MOST],
