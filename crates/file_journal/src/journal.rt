@@ -149,8 +149,10 @@ impl Journal {
         ensures room { result ≡ Ok None → room.new ≡ room.old }
         ensures reads { Reads D.Disk (IsErrOf result RecoverFault.Disk) disk.old disk.new }
     {
+        let _ = &self.magic;
+        let end = disk.len()?;
         let mut found = RecordRoom::new();
-        match self.find_next(disk, &mut found) {
+        match self.find_next(disk, end, &mut found) {
             Ok(None) => Ok(None),
             Ok(Some(kind)) => {
                 room.clear();
@@ -161,12 +163,16 @@ impl Journal {
         }
     }
 
-    /// Reads the next record, as [`next`](Journal::next) does, whatever the room holds then where there is none.
+    /// Reads the next record of a disk of so many octets, as [`next`](Journal::next) does, whatever the room holds then
+    /// where there is none.
     pub(crate) fn find_next<D: Disk>(
         &mut self,
         disk: &mut D,
+        end: u64,
         room: &mut RecordRoom,
     ) -> Result<Option<u8>, RecoverFault>
+        requires end { IfSome (D.content disk.old) (λ octets. end ≡ length octets) }
+        requires most { end ≤ 2 ^ 63 }
         requires stands_on { StandsOn D.Disk self.old disk.old }
         requires healthy { self.old.failed ≡ false }
         ensures stands_on { StandsOn D.Disk self.new disk.new }
@@ -180,7 +186,7 @@ impl Journal {
         ensures err { OnErr result (self.new ≡ self.old) }
         ensures reads { Reads D.Disk (IsErrOf result RecoverFault.Disk) disk.old disk.new }
     {
-        match read_record(disk, self.place, room)? {
+        match read_record(disk, end, self.place, room)? {
             None => {
                 self.ended = true;
                 Ok(None)

@@ -72,7 +72,7 @@ fn reading_fault(fault: RecoverFault) -> ReadFault
 
 impl Journal {
     /// Reads all records that are left, and applies each to the ledger, in order. No append failed before. It reads
-    /// each record once. The ledger may take memory.
+    /// each record once, and asks for the disk's length once before. The ledger may take memory.
     ///
     /// `Damaged`: what is left comes to damage at this place: a record that the state before it doesn't allow, or,
     /// where each before it is allowed, an open gate that no whole record with a gate behind it follows. After it and
@@ -98,18 +98,48 @@ impl Journal {
             → IfSome (D.content disk.old) (AppliesSome L.form.step self.old (L.state ledger.old) (L.state ledger.new)) }
         ensures reads { Reads D.Disk (IsErrOf result ReadFault.Disk) disk.old disk.new }
     {
+        let end = disk.len()?;
+        self.read_to(disk, end, ledger)
+    }
+
+    /// Reads all records that are left of a disk of so many octets, as [`read_into`](Journal::read_into) does.
+    fn read_to<D: Disk, L: Ledger>(
+        &mut self,
+        disk: &mut D,
+        end: u64,
+        ledger: &mut L,
+    ) -> Result<(), ReadFault>
+        requires end { IfSome (D.content disk.old) (λ octets. end ≡ length octets) }
+        requires most { end ≤ 2 ^ 63 }
+        requires stands_on { StandsOn D.Disk self.old disk.old }
+        requires healthy { self.old.failed ≡ false }
+        requires by_records { L.by_records ledger.old }
+        ensures stands_on { StandsOn D.Disk self.new disk.new }
+        ensures journal { self.new ≡ record self.old { place = self.new.place; ended = self.new.ended } }
+        ensures ended { OnOk result (self.new.ended ≡ true) }
+        ensures all { AnswersAll L.form.step self.old (L.state ledger.old) (L.state ledger.new)
+            (D.content disk.old) result }
+        ensures by_records { OnOk result (L.by_records ledger.new) }
+        ensures some { ¬ IsErrOf result ReadFault.OutOfMemory
+            → IfSome (D.content disk.old) (AppliesSome L.form.step self.old (L.state ledger.old) (L.state ledger.new)) }
+        ensures reads { Reads D.Disk (IsErrOf result ReadFault.Disk) disk.old disk.new }
+    {
         let mut room = RecordRoom::new();
-        while self.apply_next(disk, ledger, &mut room)? {}
+        while self.apply_next(disk, end, ledger, &mut room)? {}
         Ok(())
     }
 
-    /// Reads the next record that is left, into this room, and applies it: whether there was one.
+    /// Reads the next record that is left of a disk of so many octets, into this room, and applies it: whether there was
+    /// one.
     fn apply_next<D: Disk, L: Ledger>(
         &mut self,
         disk: &mut D,
+        end: u64,
         ledger: &mut L,
         room: &mut RecordRoom,
     ) -> Result<bool, ReadFault>
+        requires end { IfSome (D.content disk.old) (λ octets. end ≡ length octets) }
+        requires most { end ≤ 2 ^ 63 }
         requires stands_on { StandsOn D.Disk self.old disk.old }
         requires healthy { self.old.failed ≡ false }
         requires by_records { L.by_records ledger.old }
@@ -126,7 +156,7 @@ impl Journal {
         ensures reads { Reads D.Disk (IsErrOf result ReadFault.Disk) disk.old disk.new }
     {
         let gate = self.place();
-        match self.find_next(disk, room) {
+        match self.find_next(disk, end, room) {
             Ok(None) => Ok(false),
             Ok(Some(kind)) => {
                 if !ledger.apply(kind, room.content())? {

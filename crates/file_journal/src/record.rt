@@ -136,12 +136,15 @@ impl RecordRoom {
 }
 
 /// Reads the record behind the gate at this place: its kind, with its content in `room`; `None` exactly where the gate
-/// isn't open. It asks for the length once, and reads once, into the room.
+/// isn't open. The disk has so many octets. It reads once, into the room.
 pub(crate) fn read_record<D: Disk>(
     disk: &mut D,
+    end: u64,
     place: u64,
     room: &mut RecordRoom,
 ) -> Result<Option<u8>, RecoverFault>
+    requires end { IfSome (D.content disk.old) (λ octets. end ≡ length octets) }
+    requires most { end ≤ 2 ^ 63 }
     requires far { place < 2 ^ 63 }
     ensures found { IfOk result (FindsRecord place room.new (D.content disk.old)) }
     ensures fits { IfOk result (λ next. IfSome next (λ kind. place + 4 + length room.new < 2 ^ 63)) }
@@ -149,7 +152,6 @@ pub(crate) fn read_record<D: Disk>(
     ensures refuses { RefusesAt place (D.content disk.old) result }
     ensures reads { Reads D.Disk (IsErrOf result RecoverFault.Disk) disk.old disk.new }
 {
-    let end = disk.len()?;
     if place >= end {
         return Err(RecoverFault::Damaged { at: place });
     }

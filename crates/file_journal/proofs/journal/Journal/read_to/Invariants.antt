@@ -2,7 +2,7 @@ use Rattle.std.proofs.Common.{◌≡◌, ◌-◌, ◌^◌, IfSome}
 use Rattle.file_journal.specs.Calls.{Reads}
 use Rattle.file_journal.specs.Position.{StandsOn}
 use Rattle.file_journal.proofs.LedgerLemmas.{IsOn}
-use Rattle.file_journal.proofs.journal.Journal.read_into.Given as goal
+use Rattle.file_journal.proofs.journal.Journal.read_to.Given as goal
 
 abbrev pub invariant-loop : goal.invariant-loop
 invariant-loop g l =
