@@ -3,7 +3,7 @@
 ghost use Rattle.std.specs.Prelude.{◌≡◌, ◌↔◌, ℕ, ◌+◌, ◌^◌, ◌<◌, ◌≤◌, List, length, true, false, IfOk, IfSome, IsErr, IsErrOf, None, OnErr, OnOk, OnSome};
 ghost use Rattle.file_journal.specs.Appending.{Appends, LeavesAppending, LeavesBeforeOrAfter, TakesFour};
 ghost use Rattle.file_journal.specs.Calls.{IsQuietNow, Leaves, Puts, Reads, Runs, TakesStep};
-ghost use Rattle.file_journal.specs.Next.{AnswersNext};
+ghost use Rattle.file_journal.specs.Next.{AnswersNext, HasLength};
 ghost use Rattle.file_journal.specs.Position.{StandsOn};
 ghost use Rattle.file_journal.specs.Records.{IsRecord, record_of};
 ghost use Rattle.file_journal.specs.Recovery.{IsRecovered, IsRecovering, LeavesSinceSync, Refuses};
@@ -171,8 +171,7 @@ impl Journal {
         end: u64,
         room: &mut RecordRoom,
     ) -> Result<Option<u8>, RecoverFault>
-        requires end { IfSome (D.content disk.old) (λ octets. end ≡ length octets) }
-        requires most { end ≤ 2 ^ 63 }
+        requires end { HasLength D.Disk disk.old end }
         requires stands_on { StandsOn D.Disk self.old disk.old }
         requires healthy { self.old.failed ≡ false }
         ensures stands_on { StandsOn D.Disk self.new disk.new }

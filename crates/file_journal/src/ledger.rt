@@ -4,6 +4,7 @@ ghost use Rattle.std.specs.Prelude.{◌≡◌, ◌+◌, ◌^◌, ◌<◌, ◌≤
 ghost use Rattle.file_journal.specs.Calls.{Reads};
 ghost use Rattle.file_journal.specs.Form.{Form};
 ghost use Rattle.file_journal.specs.Ledger.{AnswersAll, AppliesNext, AppliesSome};
+ghost use Rattle.file_journal.specs.Next.{HasLength};
 ghost use Rattle.file_journal.specs.Position.{StandsOn};
 ghost use Rattle.file_journal.specs.Records.{Record, record_of};
 
@@ -99,38 +100,13 @@ impl Journal {
         ensures reads { Reads D.Disk (IsErrOf result ReadFault.Disk) disk.old disk.new }
     {
         let end = disk.len()?;
-        self.read_to(disk, end, ledger)
-    }
-
-    /// Reads all records that are left of a disk of so many octets, as [`read_into`](Journal::read_into) does.
-    fn read_to<D: Disk, L: Ledger>(
-        &mut self,
-        disk: &mut D,
-        end: u64,
-        ledger: &mut L,
-    ) -> Result<(), ReadFault>
-        requires end { IfSome (D.content disk.old) (λ octets. end ≡ length octets) }
-        requires most { end ≤ 2 ^ 63 }
-        requires stands_on { StandsOn D.Disk self.old disk.old }
-        requires healthy { self.old.failed ≡ false }
-        requires by_records { L.by_records ledger.old }
-        ensures stands_on { StandsOn D.Disk self.new disk.new }
-        ensures journal { self.new ≡ record self.old { place = self.new.place; ended = self.new.ended } }
-        ensures ended { OnOk result (self.new.ended ≡ true) }
-        ensures all { AnswersAll L.form.step self.old (L.state ledger.old) (L.state ledger.new)
-            (D.content disk.old) result }
-        ensures by_records { OnOk result (L.by_records ledger.new) }
-        ensures some { ¬ IsErrOf result ReadFault.OutOfMemory
-            → IfSome (D.content disk.old) (AppliesSome L.form.step self.old (L.state ledger.old) (L.state ledger.new)) }
-        ensures reads { Reads D.Disk (IsErrOf result ReadFault.Disk) disk.old disk.new }
-    {
         let mut room = RecordRoom::new();
         while self.apply_next(disk, end, ledger, &mut room)? {}
         Ok(())
     }
 
-    /// Reads the next record that is left of a disk of so many octets, into this room, and applies it: whether there was
-    /// one.
+    /// Reads the next record that is left of a disk of so many octets, into this room, and applies it: whether there
+    /// was one.
     fn apply_next<D: Disk, L: Ledger>(
         &mut self,
         disk: &mut D,
@@ -138,8 +114,7 @@ impl Journal {
         ledger: &mut L,
         room: &mut RecordRoom,
     ) -> Result<bool, ReadFault>
-        requires end { IfSome (D.content disk.old) (λ octets. end ≡ length octets) }
-        requires most { end ≤ 2 ^ 63 }
+        requires end { HasLength D.Disk disk.old end }
         requires stands_on { StandsOn D.Disk self.old disk.old }
         requires healthy { self.old.failed ≡ false }
         requires by_records { L.by_records ledger.old }

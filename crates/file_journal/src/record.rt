@@ -4,7 +4,7 @@ ghost use Rattle.std.specs.Prelude.{◌≡◌, ◌+◌, ◌^◌, ◌<◌, ◌≤
 ghost use Rattle.file_journal.specs.Appending.{IsPutting, OpensGate};
 ghost use Rattle.file_journal.specs.Calls.{Makes, Reads};
 ghost use Rattle.file_journal.specs.Finding.{IsFound};
-ghost use Rattle.file_journal.specs.Next.{FindsRecord, RefusesAt};
+ghost use Rattle.file_journal.specs.Next.{FindsRecord, HasLength, RefusesAt};
 ghost use Rattle.file_journal.specs.Records.{reading_at, record_of, record_text, whole};
 
 use crate::RecoverFault;
@@ -143,8 +143,7 @@ pub(crate) fn read_record<D: Disk>(
     place: u64,
     room: &mut RecordRoom,
 ) -> Result<Option<u8>, RecoverFault>
-    requires end { IfSome (D.content disk.old) (λ octets. end ≡ length octets) }
-    requires most { end ≤ 2 ^ 63 }
+    requires end { HasLength D.Disk disk.old end }
     requires far { place < 2 ^ 63 }
     ensures found { IfOk result (FindsRecord place room.new (D.content disk.old)) }
     ensures fits { IfOk result (λ next. IfSome next (λ kind. place + 4 + length room.new < 2 ^ 63)) }

@@ -26,7 +26,7 @@ pub fn sum16(bytes: &[u8]) -> u16
     sum_beside(first, second, third, fourth).wrapping_add(sum_along(rest))
 }
 
-/// The sum of all octets of four parts of one length, side by side, which a processor adds in fewer steps than one part.
+/// The sum of all octets of four parts of one length, side by side, which a processor adds in fewer steps than one.
 fn sum_beside(first: &[u8], second: &[u8], third: &[u8], fourth: &[u8]) -> u16
     requires second { length second.now ≡ length first.now }
     requires third { length third.now ≡ length first.now }

@@ -25,7 +25,7 @@ pub returns-in-Record-clause-found : goal.returns-in-Record-clause-found
 returns-in-Record-clause-found g c =
     let content = content_front c.in-Record.len c.read.new.room _ c.in-Record.ensures.whole in
     if_told (g.D.Disk.content c.args.disk.now) _ (λ octets told.
-    let end = at_told _ octets told c.requires.end in
+    let end = at_told _ octets told c.requires.end.told in
     let size = ap (λ (n : ℕ). take n (drop c.args.place octets)) (length-take-le c.min-count.result _ (omega (arith, c.min-count.ensures))) in
     let front = at_told _ octets told c.in_ok-read.ensures.room ∙ size in
     subst (λ (octets_in : List ℕ). HasRecord c.args.place (record_of c.in-Record.kind octets_in) octets) (sym content) (found-record c.args.place c.min-count.result octets c.read.new.room (omega (arith, end, c.if-place-end.false)) (omega (arith, c.min-count.ensures, end)) front c.in-Record.kind c.in-Record.len c.in-Record.ensures))
