@@ -13,3 +13,4 @@ pub mod Moments
 pub mod Open
 pub mod Promised
 pub mod Surface
+pub mod Told

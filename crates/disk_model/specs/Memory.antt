@@ -7,8 +7,8 @@ use Rattle.disk_model.specs.declared.memory_disk.MemoryDisk.{MemoryDisk}
 abbrev pub state : MemoryDisk → DiskState
 state disk =
     record {
-      first = disk.history.first;
-      calls = disk.history.calls.items;
+      first = disk.history.past.first;
+      calls = disk.history.past.calls;
       down = disk.history.down;
       counter = disk.counter;
       read_faults = disk.read_faults;
