@@ -1,4 +1,4 @@
-//! A disk in memory: what it had at first, and a record of its calls.
+//! A disk in memory: what it holds, and in proofs what it had at first and its calls since then.
 
 ghost use Rattle.std.specs.Prelude.{◌≡◌, ◌+◌, ◌/◌, ◌%◌, ◌≤◌, ◌^◌, [], false, true, IsOk, length, Some};
 ghost use Rattle.std.specs.Prelude.{IfOk, IfSome, OnErr, OnOk};
