@@ -1,13 +1,10 @@
 -- A client that differs from one that is as it should be in nothing but whether its next event is to be cut.
-use Rattle.std.proofs.Common.{◌≡◌, ℕ, List, ◌++◌, Bool, Option, None, Some, refl, sym, ap, subst, ◌∙◌}
-use Rattle.std.specs.List.{AllByRecursion}
+use Rattle.std.proofs.Common.{◌≡◌, ℕ, List, ◌++◌, Bool, refl, sym, ap, subst, ◌∙◌}
 use Rattle.ftl0_client.specs.Client.{Client}
 use Rattle.air_attempt.specs.Attempt.{Attempt}
-use Rattle.air_attempt.specs.Laws.{GoesWith}
-use Rattle.air_attempt.specs.Party.{Asked, EachAttempt, Party, newest}
-use Rattle.air_files.specs.Facts.{HasFacts}
+use Rattle.air_attempt.specs.Party.{Asked, Party, newest}
 use Rattle.air_files.specs.Laws.{StayLaw}
-use Rattle.air_files.specs.Tasks.{AreTasks, IsWork, StandsBy}
+use Rattle.air_files.specs.Tasks.{IsWork}
 use Rattle.air_world.specs.World.{World}
 use Rattle.air_world.proofs.ClientMade.{IsClientMade}
 use Rattle.air_world.proofs.ClientsStay.{stay-refl}

@@ -11,7 +11,6 @@ use Rattle.client_notes.specs.Command.{new_task}
 use Rattle.client_notes.specs.Laws.{after_all}
 use Rattle.client_notes.specs.Limits.{most_tasks}
 use Rattle.client_notes.specs.Notes.{Task, task_count, task_of}
-use Rattle.client_notes.specs.declared.progress.Progress.TheVariants as progress
 use Rattle.client_notes.proofs.Offered.{task-at}
 use Rattle.sha2.specs.Sha256.{sha256}
 use Rattle.ftl0_job.specs.Upload.{Upload, new_upload}

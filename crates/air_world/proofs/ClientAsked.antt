@@ -1,20 +1,18 @@
 -- A client of which something is asked is as it should be.
-use Rattle.std.proofs.Common.{◌≡◌, ◌≢◌, ◌⊎◌, ℕ, ◌≤◌, List, [], ◌∷◌, ◌++◌, Bool, true, false, Option, None, Some, refl, sym, ap, subst, ◌∙◌, inl, inr}
+use Rattle.std.proofs.Common.{◌≡◌, ℕ, List, [], ◌∷◌, Option, None, Some, refl, sym, ap, subst, ◌∙◌}
 use Rattle.std.specs.Prelude.{slice_get}
 use Rattle.std.specs.List.{AllByRecursion}
-use Rattle.px_base.specs.CallSign.{CallSign}
 use Rattle.ax25_frames.specs.FrameText.{FrameValue}
 use Rattle.ax25_link.specs.Sending.{Sending, next_sending}
 use Rattle.ax25_link.specs.Window.{IsWindow, Window}
 use Rattle.client_laws.specs.Steps.{StepsQuietly, called_for, sabm_of}
 use Rattle.client_notes.specs.Command.{NotesCommand}
-use Rattle.client_notes.specs.Notes.{Lists}
 use Rattle.ftl0_job.specs.declared.work.Work.{Work}
-use Rattle.ftl0_job.specs.Table.{JobState, new_job}
+use Rattle.ftl0_job.specs.Table.{new_job}
 use Rattle.ftl0_client.specs.Attempt.Attempted.{Attempted}
 use Rattle.ftl0_client.specs.Client.{Client, Refused, asks, IsSilent, sends_by, sends_of_attempt, sends_of_link, with_attempt}
 use Rattle.ftl0_client.specs.ClientStep.{ClientStep}
-use Rattle.ftl0_client.specs.Laws.{EndFits, MayStep}
+use Rattle.ftl0_client.specs.Laws.{EndFits}
 use Rattle.air_attempt.specs.Attempt.{Attempt}
 use Rattle.air_attempt.specs.Laws.{AreAttempts, GoesWith}
 use Rattle.air_attempt.specs.Party.{Asked, IsLinkOf, Party}
@@ -23,7 +21,7 @@ use Rattle.air_world.specs.Sound.{Sound}
 use Rattle.air_world.specs.World.{PartyAt, World}
 use Rattle.air_world.proofs.Asked.{MayBeAsked}
 use Rattle.air_world.proofs.ClientBasics.{goes-with}
-use Rattle.air_world.proofs.ClientBegun.{Begins, begun-made, begun-party}
+use Rattle.air_world.proofs.ClientBegun.{Begins, begun-made}
 use Rattle.air_world.proofs.ClientMade.{IsClientMade}
 use Rattle.air_world.proofs.JobWent.{ClientLaws}
 

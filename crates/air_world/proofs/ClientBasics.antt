@@ -1,35 +1,23 @@
 -- What a client of a sound world brings to its events.
-use Rattle.std.proofs.Common.{◌≡◌, ◌≢◌, ◌⊎◌, ℕ, zero, suc, List, [], ◌∷◌, ◌++◌, Bool, true, false, Option, None, Some, refl, sym, ap, subst, ◌∙◌, inl, inr, append-nil}
-use Rattle.std.specs.Prelude.{slice_get, map, IfSome}
-use Rattle.std.specs.List.{AllByRecursion}
-use Rattle.std.proofs.lemmas.Option.{same_Some}
-use Rattle.px_base.specs.CallSign.{CallSign}
-use Rattle.ax25_frames.specs.FrameText.{FrameValue}
-use Rattle.ax25_link.specs.Air.{IsLawful, Transmission}
+use Rattle.std.proofs.Common.{◌≡◌, ◌⊎◌, ℕ, List, ◌∷◌, Option, None, Some, refl, sym, ap, subst, ◌∙◌, inl, inr}
+use Rattle.std.specs.Prelude.{slice_get}
 use Rattle.ax25_link.specs.declared.state.LinkState.TheVariants.{Calling, Down, Up}
 use Rattle.ax25_link.specs.Window.{IsWindow}
-use Rattle.file_store.specs.Store.{Store}
-use Rattle.client_notes.specs.Laws.{after_all}
 use Rattle.client_notes.specs.Notes.{Lists}
 use Rattle.ftl0_job.specs.Promises.{JobStands}
 use Rattle.ftl0_job.specs.declared.work.Work.{Work}
-use Rattle.ftl0_job.specs.Table.{JobState, new_job}
-use Rattle.ftl0_client.specs.Attempt.Attempted.{Attempted, outcome_of}
+use Rattle.ftl0_client.specs.Attempt.Attempted.{Attempted}
 use Rattle.ftl0_client.specs.Attempt.Laws.{AttemptStands}
-use Rattle.ftl0_client.specs.Client.{Client}
-use Rattle.ftl0_client.specs.Entries.{JobEntry}
-use Rattle.air_attempt.specs.Attempt.{Attempt, IsAnsweredBy, IsAttempt, IsFromTo}
-use Rattle.air_attempt.specs.Laws.{AreAttempts, DeliversToClient, FrontLaw, GoesWith}
-use Rattle.air_attempt.specs.Party.{IsLinkOf, Party, newest, to_client_delivered, with_newest}
-use Rattle.air_attempt.specs.Sides.{ClientSide, IsJob, JobReaches, ServerSide}
-use Rattle.air_files.specs.Laws.{IsWorking, JobTookFront, TookFront, job_gone}
+use Rattle.air_attempt.specs.Attempt.{Attempt, IsAttempt}
+use Rattle.air_attempt.specs.Laws.{AreAttempts, GoesWith}
+use Rattle.air_attempt.specs.Party.{IsLinkOf, Party, newest}
+use Rattle.air_attempt.specs.Sides.{ClientSide, IsJob}
+use Rattle.air_files.specs.Laws.{IsWorking}
 use Rattle.air_files.specs.Tasks.{StandsBy}
 use Rattle.air_world.specs.Sound.{IsParty, Sound}
 use Rattle.air_world.specs.World.{PartyAt, World}
-use Rattle.air_world.proofs.Seats.{calls}
 use Rattle.air_world.proofs.Served.{stands}
 use Rattle.air_world.proofs.ServerHeard.{first-of}
-use Rattle.air_world.proofs.ServerTicked.{its-session}
 use Rattle.air_world.proofs.WorldLists.{all-at}
 
 -- ---- links

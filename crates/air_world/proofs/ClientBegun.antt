@@ -1,21 +1,17 @@
 -- A client that begins an attempt is as it should be: one that is asked, and one that calls again.
-use Rattle.std.proofs.Common.{◌≡◌, ◌≢◌, ◌⊎◌, ℕ, ◌≤◌, List, [], ◌∷◌, ◌++◌, Bool, true, false, Option, None, Some, refl, sym, ap, subst, ◌∙◌, inl, inr, append-nil}
-use Rattle.std.specs.Prelude.{slice_get, map}
+use Rattle.std.proofs.Common.{◌≡◌, ℕ, List, ◌∷◌, ◌++◌, Option, Some, refl, sym, ap, subst, ◌∙◌, inr}
 use Rattle.std.specs.List.{AllByRecursion}
-use Rattle.std.proofs.lemmas.Option.{same_Some}
-use Rattle.ax25_frames.specs.FrameText.{FrameValue}
 use Rattle.ftl0_job.specs.Promises.{JobStands}
 use Rattle.ftl0_client.specs.Client.{Client}
-use Rattle.air_attempt.specs.Attempt.{Attempt, IsAttempt}
+use Rattle.air_attempt.specs.Attempt.{Attempt}
 use Rattle.air_attempt.specs.Laws.{GoesWith}
-use Rattle.air_attempt.specs.Party.{Asked, EachAttempt, Party, newest}
+use Rattle.air_attempt.specs.Party.{Asked, EachAttempt, Party}
 use Rattle.air_attempt.specs.Sides.{ServerSide}
 use Rattle.air_files.specs.Facts.{GoesOnWithTask, HasFacts}
 use Rattle.air_files.specs.Laws.{IsBeginning}
 use Rattle.air_files.specs.Tasks.{AreTasks, IsWork}
 use Rattle.air_files.specs.Uploads.{IsGoodFile}
-use Rattle.air_world.specs.Sound.{Sound}
-use Rattle.air_world.specs.World.{PartyAt, World}
+use Rattle.air_world.specs.World.{World}
 use Rattle.air_world.proofs.ClientBasics.{stands-job}
 use Rattle.air_world.proofs.ClientMade.{IsClientMade, sessions_of}
 use Rattle.air_world.proofs.JobWent.{ClientLaws, tasks-lists, work-by}

@@ -1,9 +1,7 @@
 -- Each event of a client's keeps a sound world.
-use Rattle.std.proofs.Common.{◌≡◌, ◌≢◌, ◌⊎◌, ℕ, zero, suc, take, ◌+◌, ◌≤◌, ◌<◌, List, [], ◌∷◌, ◌++◌, Bool, true, false, Option, None, Some, length, refl, sym, ap, subst, ◌∙◌, append-nil}
-use Rattle.std.specs.Prelude.{map, slice_get}
+use Rattle.std.proofs.Common.{◌≡◌, ℕ, zero, suc, take, ◌+◌, List, [], ◌∷◌, ◌++◌, Bool, true, false, length, refl, sym, ap, subst, ◌∙◌, append-nil}
 use Rattle.std.specs.List.{AllByRecursion}
-use Rattle.std.proofs.lemmas.Option.{same_Some}
-use Rattle.ax25_link.specs.Air.{IsAt, IsLawful, Transmission}
+use Rattle.ax25_link.specs.Air.{Transmission}
 use Rattle.client_notes.specs.Command.{NotesCommand}
 use Rattle.client_notes.specs.Laws.{after_all}
 use Rattle.client_notes.specs.Notes.{Lists, task_count}
@@ -14,22 +12,17 @@ use Rattle.ftl0_job.specs.Upload.{new_upload}
 use Rattle.ftl0_job.specs.Table.{new_job}
 use Rattle.ftl0_client.specs.Client as client
 use Rattle.ftl0_client.specs.Client.{Client}
-use Rattle.ftl0_client.specs.ClientStep as step
 use Rattle.ftl0_client.specs.ClientStep.{ClientStep}
-use Rattle.ftl0_client.specs.Laws.{HasStep, SomeStepLaw}
+use Rattle.ftl0_client.specs.Laws.{SomeStepLaw}
 use Rattle.air_attempt.specs.Attempt.{Attempt}
 use Rattle.air_attempt.specs.Laws.{AreAttempts}
-use Rattle.air_attempt.specs.Lists.{Placed}
-use Rattle.air_attempt.specs.Party.{Asked, Party, newest, to_client_delivered}
+use Rattle.air_attempt.specs.Party.{Asked, Party, to_client_delivered}
 use Rattle.air_attempt.specs.Transfers.{ClientDid, after_event}
 use Rattle.air_files.specs.Facts.{HasFacts}
 use Rattle.air_files.specs.Laws.{started_with}
 use Rattle.air_files.specs.Tasks.{AreTasks, IsWork}
-use Rattle.air_files.specs.Uploads.{IsGoodFile}
-use Rattle.air_world.specs.Cuts.{broken, ClientDoes, ClientEvent, ClientIsCut, client_commands, party_cut}
-use Rattle.air_world.specs.Events.{ClientPart, ClientTakes, asking, asking_file, DeliversToClient, IsPartOf, part_with, with_current}
-use Rattle.air_world.specs.Lawful.{HasParty, IsAllowed, MayCome}
-use Rattle.air_world.specs.Schedule.{Event, tick_client, to_client}
+use Rattle.air_world.specs.Cuts.{broken, ClientDoes, ClientIsCut, party_cut}
+use Rattle.air_world.specs.Events.{ClientPart, asking, asking_file, part_with, with_current}
 use Rattle.air_world.specs.Sound.{Sound}
 use Rattle.air_world.specs.Step.{ClientGoes, client_started, party_after, with_asked}
 use Rattle.air_world.specs.World.{PartyAt, World, counted, with_party}

@@ -1,25 +1,22 @@
 -- A frame that a client hears, and a tick: the client is then as it should be.
-use Rattle.std.proofs.Common.{◌≡◌, ◌≢◌, ◌⊎◌, ℕ, zero, suc, List, [], ◌∷◌, ◌++◌, Bool, true, false, Option, None, Some, refl, sym, ap, subst, ◌∙◌, inl, inr}
-use Rattle.std.specs.Prelude.{slice_get, map, if◌then◌else◌}
-use Rattle.std.specs.List.{AllByRecursion}
-use Rattle.std.proofs.lemmas.Option.{same_Some}
-use Rattle.px_base.specs.CallSign.{CallSign}
+use Rattle.std.proofs.Common.{◌≡◌, ℕ, zero, suc, List, [], ◌∷◌, Bool, true, Option, None, Some, refl, sym, ap, subst, ◌∙◌}
+use Rattle.std.specs.Prelude.{slice_get, if◌then◌else◌}
 use Rattle.ax25_frames.specs.FrameText.{FrameValue}
 use Rattle.ax25_link.specs.Air.{IsLawful, Transmission}
-use Rattle.client_laws.specs.Steps.{StepLaw, StepsBy, StepsQuietly, answers_to}
-use Rattle.ax25_link.specs.LinkStep.{frame as coming_frame, tick as coming_tick}
+use Rattle.client_laws.specs.Steps.{StepsBy, StepsQuietly, answers_to}
+use Rattle.ax25_link.specs.LinkStep.{frame as coming_frame}
 use Rattle.client_notes.specs.Command.{NotesCommand}
 use Rattle.client_notes.specs.Notes.{Lists, is_same_call}
 use Rattle.client_notes.specs.Several as notes
 use Rattle.ftl0_client.specs.Attempt.Attempted.{Attempted}
 use Rattle.ftl0_client.specs.Attempt.Hearing.{hearing, with_end}
 use Rattle.ftl0_client.specs.Attempt.Laws.{AttemptStands}
-use Rattle.ftl0_client.specs.Client.{Client, ClientEvent, attempt_for, hears, ticks}
+use Rattle.ftl0_client.specs.Client.{Client, attempt_for, hears}
 use Rattle.ftl0_client.specs.ClientStep.{ClientStep}
 use Rattle.ftl0_client.specs.Entries as job
 use Rattle.ftl0_client.specs.Entries.{JobEntry}
 use Rattle.air_attempt.specs.Attempt.{Attempt, IsAttempt, IsFromTo}
-use Rattle.air_attempt.specs.Laws.{DeliversToClient, GoesWith, MayComeTo}
+use Rattle.air_attempt.specs.Laws.{DeliversToClient, GoesWith}
 use Rattle.air_attempt.specs.Party.{Party, client_sends, newest, to_client_delivered, with_newest}
 use Rattle.air_attempt.specs.Transfers.{ClientDid, after_event, did_by, job_gone_on}
 use Rattle.air_files.specs.Facts.{HasFacts}
@@ -29,7 +26,7 @@ use Rattle.air_world.specs.Sound.{Sound}
 use Rattle.air_world.specs.World.{PartyAt, World}
 use Rattle.air_world.proofs.ClientBasics.{HasLink, goes-with, has-link}
 use Rattle.air_world.proofs.ClientMade.{IsClientMade}
-use Rattle.air_world.proofs.ClientQuiet.{quiet-made, still-answered, still-itself}
+use Rattle.air_world.proofs.ClientQuiet.{quiet-made, still-answered}
 use Rattle.air_world.proofs.JobWent.{ClientLaws, Went, client-made, facts-during, tasks-during, tasks-lists}
 use Rattle.air_world.proofs.Rebuild.{stands-at}
 use Rattle.air_world.proofs.SayLemmas.{may-say-at}

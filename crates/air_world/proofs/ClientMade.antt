@@ -1,24 +1,21 @@
 -- A world that a client's event made of a sound one is sound where that client is as it should be.
-use Rattle.std.proofs.Common.{◌≡◌, ◌≢◌, ◌⊎◌, ℕ, zero, suc, ◌<◌, ◌≤◌, List, [], ◌∷◌, ◌++◌, drop, length, Bool, true, false, Option, None, Some, refl, sym, ap, subst, ◌∙◌, inl, inr}
+use Rattle.std.proofs.Common.{◌≡◌, ◌≢◌, ◌⊎◌, ℕ, zero, suc, ◌≤◌, List, [], ◌∷◌, ◌++◌, drop, false, Option, None, Some, refl, sym, ap, subst, ◌∙◌, inl, inr}
 use Rattle.std.specs.Prelude.{map, slice_get, IfSome, MatchOption, ⊤}
 use Rattle.std.specs.List.{AllByRecursion}
 use Rattle.std.specs.Option.{option_or}
 use Rattle.std.proofs.lemmas.Bool.{cases_eq}
 use Rattle.std.proofs.lemmas.Option.{same_Some}
 use Rattle.px_base.specs.CallSign.{CallSign, IsCall}
-use Rattle.ftl0_server.specs.Connection.Connected.{Connected, caller_of}
 use Rattle.ftl0_server.specs.Server.{Server}
-use Rattle.ftl0_server.specs.Slots.{place_of}
 use Rattle.ftl0_job.specs.declared.work.Work.{Work}
 use Rattle.ftl0_job.specs.declared.work.Work.TheVariants as work
-use Rattle.ftl0_client.specs.Client.{Client}
 use Rattle.air_attempt.specs.Attempt.{Attempt}
-use Rattle.air_attempt.specs.Laws.{Calls, GoesWith, IsBetween, IsNewestSession, IsSeatedIn, SitsBy}
-use Rattle.air_attempt.specs.Party.{AreOver, Asked, EachAttempt, IsFileOf, OnlyNewestUp, Party, newest, newest_side}
+use Rattle.air_attempt.specs.Laws.{GoesWith, SitsBy}
+use Rattle.air_attempt.specs.Party.{AreOver, Asked, EachAttempt, OnlyNewestUp, Party, newest, newest_side}
 use Rattle.air_attempt.specs.Sides.{ServerSide}
 use Rattle.air_files.specs.Facts.{HasFacts}
 use Rattle.air_files.specs.Laws.{BeginLaw}
-use Rattle.air_files.specs.Tasks.{AreTasks, IsTaskFor, IsWork, StandsBy}
+use Rattle.air_files.specs.Tasks.{AreTasks, IsWork, StandsBy}
 use Rattle.air_files.specs.Uploads.{IsGoodFile}
 use Rattle.air_files.proofs.Offered.{each-append, file-more, place-more}
 use Rattle.air_world.specs.Sound.{AreGrantedOnce, AreStationsOf, GrantedAt, IsParty, IsSideAt, Sound}

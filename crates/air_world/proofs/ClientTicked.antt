@@ -1,13 +1,11 @@
 -- A tick of a client: the client is then as it should be.
-use Rattle.std.proofs.Common.{◌≡◌, ◌≢◌, ◌⊎◌, ℕ, ◌≤◌, List, [], ◌∷◌, ◌++◌, Bool, true, false, Option, None, Some, refl, sym, ap, subst, ◌∙◌, inl, inr, append-nil}
-use Rattle.std.specs.Prelude.{slice_get, map, if◌then◌else◌}
+use Rattle.std.proofs.Common.{◌≡◌, ℕ, List, [], ◌∷◌, Bool, true, false, Option, None, Some, refl, sym, ap, subst, ◌∙◌, append-nil}
+use Rattle.std.specs.Prelude.{if◌then◌else◌}
 use Rattle.std.specs.List.{AllByRecursion}
-use Rattle.std.proofs.lemmas.Option.{same_Some}
 use Rattle.ax25_frames.specs.FrameText.{FrameValue}
 use Rattle.ax25_link.specs.LinkStep.{tick as coming_tick}
 use Rattle.client_laws.specs.Steps.{StepsBy, StepsQuietly, sabm_of}
 use Rattle.client_notes.specs.Command.{NotesCommand}
-use Rattle.ftl0_job.specs.Table.{new_job}
 use Rattle.ftl0_client.specs.Attempt.Attempted.{Attempted}
 use Rattle.ftl0_client.specs.Attempt.Hearing.{ticking, with_end}
 use Rattle.ftl0_client.specs.Attempt.Laws.{AttemptStands}
@@ -18,7 +16,7 @@ use Rattle.ftl0_client.specs.Entries as job
 use Rattle.ftl0_client.specs.Entries.{JobEntry}
 use Rattle.air_attempt.specs.Attempt.{Attempt}
 use Rattle.air_attempt.specs.Laws.{GoesWith}
-use Rattle.air_attempt.specs.Party.{EachAttempt, Party, newest, with_newest}
+use Rattle.air_attempt.specs.Party.{Party, with_newest}
 use Rattle.air_attempt.specs.Transfers.{ClientDid, after_client_tick, after_event, beginning, called_again, did_by, has_call, job_gone_on}
 use Rattle.air_files.specs.Facts.{GoesOnWithTask, HasFacts}
 use Rattle.air_files.specs.Tasks.{AreTasks, IsWork}

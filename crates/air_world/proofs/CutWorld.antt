@@ -5,7 +5,7 @@ use Rattle.std.proofs.lemmas.Bool.{cases_eq}
 use Rattle.std.proofs.lemmas.Option.{same_Some}
 use Rattle.ax25_link.specs.Air.{Transmission}
 use Rattle.ax25_link.specs.Rows.{is_call}
-use Rattle.node.specs.Events.{hears as frame_comes, ticks as tick_comes}
+use Rattle.node.specs.Events.{hears as frame_comes}
 use Rattle.file_store.specs.Command.{Command, after_all}
 use Rattle.file_store.specs.OnDisk.{after_first}
 use Rattle.file_store.specs.Store.{Store}
@@ -20,10 +20,10 @@ use Rattle.air_files.specs.SoundStore.{IsSoundStore}
 use Rattle.air_world.specs.Cuts.{server_commands}
 use Rattle.air_world.specs.Sound.{Sound}
 use Rattle.air_world.specs.World.{PartyAt, World}
-use Rattle.air_world.proofs.Marked.{IsComing, are-marked, delivered, from-client, none-marked}
+use Rattle.air_world.proofs.Marked.{IsComing, are-marked, delivered, none-marked}
 use Rattle.air_world.proofs.Seats.{between, connection-none}
 use Rattle.air_world.proofs.Served.{done-are, keeps, stands}
-use Rattle.air_world.proofs.ServerCut.{AreMarked, cut, cut-sound}
+use Rattle.air_world.proofs.ServerCut.{cut, cut-sound}
 use Rattle.air_world.proofs.ServerHeard.{HearingLaws, seat-found}
 
 pub take-none : {X : Type 0} (count : ℕ) → take {A = X} count [] ≡ []

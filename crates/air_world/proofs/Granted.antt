@@ -1,5 +1,5 @@
 -- No number is given twice, in a world whose sessions are such as they were.
-use Rattle.std.proofs.Common.{◌≡◌, ℕ, Some}
+use Rattle.std.proofs.Common.{ℕ}
 use Rattle.air_attempt.specs.Party.{Party}
 use Rattle.air_files.specs.Laws.{LookLike}
 use Rattle.air_world.specs.Sound.{AreGrantedOnce, GrantedAt}

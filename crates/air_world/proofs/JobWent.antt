@@ -1,13 +1,12 @@
 -- A client whose job went on by entries is as it should be.
-use Rattle.std.proofs.Common.{◌≡◌, ◌≢◌, ◌⊎◌, ℕ, zero, suc, List, [], ◌∷◌, ◌++◌, length, take, Bool, true, false, Option, None, Some, refl, sym, ap, subst, ◌∙◌, inl, inr, append-nil, le_refl, take_all}
-use Rattle.std.specs.Prelude.{slice_get, map, IfSome, Ok}
+use Rattle.std.proofs.Common.{◌≡◌, ℕ, List, [], ◌∷◌, ◌++◌, length, Option, None, Some, refl, sym, ap, subst, ◌∙◌, inl, append-nil, le_refl, take_all}
+use Rattle.std.specs.Prelude.{map, Ok}
 use Rattle.std.specs.List.{AllByRecursion}
 use Rattle.std.proofs.lemmas.Option.{same_Some}
 use Rattle.ax25_link.specs.Ends.{LinkEnd}
 use Rattle.client_laws.specs.Steps.{StepLaw}
-use Rattle.client_notes.specs.Command.{NotesCommand}
 use Rattle.client_notes.specs.Laws.{after_all}
-use Rattle.client_notes.specs.Notes.{Lists, Task, task_of}
+use Rattle.client_notes.specs.Notes.{Lists, task_of}
 use Rattle.client_notes.specs.Several as notes
 use Rattle.client_notes.proofs.Offered.{after_all-append}
 use Rattle.ftl0_packets.specs.Items.{kind_of_item}
@@ -23,12 +22,12 @@ use Rattle.ftl0_client.specs.Client.{Client, heard_by}
 use Rattle.ftl0_client.specs.Entries as job
 use Rattle.ftl0_client.specs.Entries.{HearingLaw, JobEntry, TickingLaw}
 use Rattle.air_attempt.specs.Attempt.{Attempt, IsAnsweredBy, IsAttempt}
-use Rattle.air_attempt.specs.Laws.{AreAttempts, ClientLaw, FrontLaw, GoesWith, LeftLaw}
+use Rattle.air_attempt.specs.Laws.{ClientLaw, FrontLaw, GoesWith, LeftLaw}
 use Rattle.air_attempt.specs.Party.{Asked, EachAttempt, IsFileOf, Party, newest, upload_of}
 use Rattle.air_attempt.specs.Lists.{AreFirstOf}
 use Rattle.air_attempt.specs.Sides.{ClientSide, ServerSide, said_by_server}
 use Rattle.air_files.specs.Facts.{HasFacts}
-use Rattle.air_files.specs.Laws.{BeginLaw, IsWorking, JobGoes, JobKeeps, JobLaw, JobTasksLaw, JobTookFront, LookLike, LooksServed, StayLaw, TookFront, job_gone, started_with, with_job}
+use Rattle.air_files.specs.Laws.{BeginLaw, IsWorking, JobGoes, JobKeeps, JobLaw, JobTasksLaw, JobTookFront, LooksServed, StayLaw, job_gone, started_with, with_job}
 use Rattle.air_files.specs.Tasks.{AreTasks, IsWork, StandsBy}
 use Rattle.air_world.specs.Sound.{IsParty, Sound}
 use Rattle.air_world.specs.World.{PartyAt, World}
@@ -36,7 +35,6 @@ use Rattle.air_world.proofs.ClientBasics.{HasLink, has-link, its-attempt, stands
 use Rattle.air_world.proofs.ClientMade.{IsClientMade, SessionsStay, sessions_of}
 use Rattle.air_world.proofs.WorldLists.{all-map}
 use Rattle.air_world.proofs.Likes.{like-refl, served-same}
-use Rattle.air_world.proofs.Rebuild.{stands-at}
 use Rattle.air_world.proofs.ServerTicked.{its-session}
 
 -- the laws that the client's events are proved by

@@ -1,8 +1,7 @@
 -- Each event that may come keeps a sound world.
-use Rattle.std.proofs.Common.{◌≡◌, ◌≢◌, ◌⊎◌, ℕ, zero, suc, ◌≤◌, ◌<◌, List, [], ◌∷◌, ◌++◌, Bool, true, false, Option, None, Some, length, refl, sym, ap, subst, ◌∙◌}
-use Rattle.std.specs.Prelude.{slice_get}
+use Rattle.std.proofs.Common.{◌≡◌, ℕ, zero, suc, ◌<◌, List, [], Bool, true, refl, sym, ap, subst, ◌∙◌}
 use Rattle.std.proofs.lemmas.Option.{same_Some}
-use Rattle.ax25_link.specs.Air.{IsAt, IsLawful, Transmission}
+use Rattle.ax25_link.specs.Air.{IsLawful, Transmission}
 use Rattle.client_notes.specs.Limits.{most_tasks}
 use Rattle.client_notes.specs.Notes.{task_count}
 use Rattle.ftl0_job.specs.declared.work.Work.{Work}
@@ -13,11 +12,10 @@ use Rattle.ftl0_job.specs.Upload.{new_upload}
 use Rattle.ftl0_client.specs.Client as client
 use Rattle.ftl0_client.specs.Laws.{SomeStepLaw}
 use Rattle.air_attempt.specs.Attempt.{Attempt}
-use Rattle.air_attempt.specs.Lists.{Placed}
-use Rattle.air_attempt.specs.Party.{Asked, Party, newest, to_client_delivered}
-use Rattle.air_world.specs.Cuts.{Changes, ClientDoes, ClientEvent, Happens, ServerEvent, WorldStep, broken}
-use Rattle.air_world.specs.Events.{ClientPart, ClientTakes, DeliversToClient, IsPartOf, IsResuming, asking, asking_file, next_upload, part_with, with_current}
-use Rattle.air_world.specs.Lawful.{HasParty, IsAllowed, IsFree, MayCome}
+use Rattle.air_attempt.specs.Party.{Party, to_client_delivered}
+use Rattle.air_world.specs.Cuts.{Changes, ClientDoes, ClientEvent, WorldStep, broken}
+use Rattle.air_world.specs.Events.{ClientPart, asking, asking_file, next_upload, part_with, with_current}
+use Rattle.air_world.specs.Lawful.{IsAllowed, MayCome}
 use Rattle.air_world.specs.Schedule.{Event, ask_download, ask_list, ask_resume, ask_upload, break_client, cut_client, cut_server, tick_client, tick_server, to_client, to_server}
 use Rattle.air_world.specs.Laws.{SoundLaw}
 use Rattle.air_world.specs.Sound.{Sound}

@@ -1,6 +1,6 @@
 -- Attempts that are such as others were, but for the ends of their links and what was sent.
-use Rattle.std.proofs.Common.{◌≡◌, ℕ, zero, suc, List, [], ◌∷◌, ◌++◌, Bool, true, false, Option, None, Some, refl, sym, ap, subst, ◌∙◌, append-nil}
-use Rattle.std.specs.Prelude.{slice_get, ⊤}
+use Rattle.std.proofs.Common.{◌≡◌, ℕ, zero, suc, List, [], ◌∷◌, Option, None, Some, refl, sym, ap, subst, ◌∙◌}
+use Rattle.std.specs.Prelude.{slice_get}
 use Rattle.std.specs.List.{AllByRecursion}
 use Rattle.std.specs.Option.{option_map_or, option_or}
 use Rattle.std.proofs.lemmas.Option.{same_Some}
@@ -8,10 +8,9 @@ use Rattle.px_base.specs.CallSign.{CallSign}
 use Rattle.ftl0_session.specs.Table.{State}
 use Rattle.ftl0_server.specs.Entries as session
 use Rattle.ftl0_server.specs.Entries.{SessionEntry}
-use Rattle.ftl0_client.specs.Attempt.Attempted.{Attempted}
 use Rattle.ftl0_client.specs.Client.{Client}
 use Rattle.air_attempt.specs.Attempt.{Attempt}
-use Rattle.air_attempt.specs.Party.{Party, newest, newest_side, with_answered, with_newest}
+use Rattle.air_attempt.specs.Party.{Party, newest_side, with_answered, with_newest}
 use Rattle.air_attempt.specs.Said.{Grants}
 use Rattle.air_attempt.specs.Sides.{ClientSide, ServerSide, SessionReaches}
 use Rattle.air_files.specs.Laws.{IsSameParty, LookLike, LooksLike, LooksLikeSession, LooksServed}

@@ -1,16 +1,14 @@
 -- A world in which a transmission of one client's is marked as delivered to the server.
-use Rattle.std.proofs.Common.{◌≡◌, ◌⊎◌, ℕ, zero, suc, List, [], ◌∷◌, Option, None, Some, length, refl, sym, ap, subst, ◌∙◌, inl, inr}
+use Rattle.std.proofs.Common.{◌≡◌, ◌⊎◌, ℕ, zero, suc, List, [], ◌∷◌, Some, length, refl, sym, ap, subst, ◌∙◌, inl, inr}
 use Rattle.std.specs.Prelude.{slice_get, slice_set}
-use Rattle.std.specs.List.{AllByRecursion}
-use Rattle.std.proofs.lemmas.Option.{same_Some}
 use Rattle.ax25_link.specs.Air.{IsLawful, Transmission}
 use Rattle.air_attempt.specs.Attempt.{Attempt, IsAttempt, IsFromTo}
-use Rattle.air_attempt.specs.Laws.{AreAttempts, Calls, DeliversToServer, LeftLaw}
+use Rattle.air_attempt.specs.Laws.{Calls, DeliversToServer, LeftLaw}
 use Rattle.air_attempt.specs.Party.{Party, newest, to_server_delivered, with_newest}
 use Rattle.air_world.specs.Events.{with_current}
 use Rattle.air_world.specs.Sound.{Sound}
 use Rattle.air_world.specs.World.{PartyAt, World, with_party}
-use Rattle.air_world.proofs.ClientsStay.{ClientsStay, newest-stays, stay-refl}
+use Rattle.air_world.proofs.ClientsStay.{newest-stays, stay-refl}
 use Rattle.air_world.proofs.Likes.{like-refl, newest-like, served-same}
 use Rattle.air_world.proofs.Seats.{calls}
 use Rattle.air_world.proofs.ServerCut.{AreMarked, IsMarked}

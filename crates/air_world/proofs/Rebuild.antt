@@ -1,14 +1,13 @@
 -- A world that the server's event made of a sound one is sound where the server, its places, its store and each client's
 -- attempts and facts are as they should be.
-use Rattle.std.proofs.Common.{◌≡◌, ℕ, ◌≤◌, List, [], ◌∷◌, Option, None, Some, length, refl, sym, ap, subst, ◌∙◌}
-use Rattle.std.specs.Prelude.{slice_get}
+use Rattle.std.proofs.Common.{◌≡◌, ℕ, ◌≤◌, List, Option, None, Some, length, refl, sym, ap, subst, ◌∙◌}
 use Rattle.std.specs.List.{AllByRecursion}
 use Rattle.std.proofs.lemmas.Option.{same_Some}
-use Rattle.px_base.specs.CallSign.{CallSign, IsCall}
+use Rattle.px_base.specs.CallSign.{IsCall}
 use Rattle.ftl0_session.specs.Downloads.Needs.{AreComplete}
 use Rattle.ftl0_client.specs.Client.{Client}
 use Rattle.ftl0_client.specs.Laws as client
-use Rattle.air_attempt.specs.Attempt.{Attempt, IsAttempt}
+use Rattle.air_attempt.specs.Attempt.{Attempt}
 use Rattle.air_attempt.specs.Laws.{AreAttempts, Calls, IsBetween}
 use Rattle.air_attempt.specs.Party.{Asked, EachAttempt, IsFileOf, IsLinkOf, Party, newest, upload_of}
 use Rattle.client_notes.specs.Notes.{task_of}
@@ -16,7 +15,6 @@ use Rattle.ftl0_job.specs.declared.work.Work.{Work}
 use Rattle.ftl0_job.specs.declared.work.Work.TheVariants as work
 use Rattle.ftl0_client.specs.Attempt.Laws.{AttemptStands}
 use Rattle.air_files.specs.Uploads.{IsGoodFile}
-use Rattle.air_attempt.specs.Sides.{ClientSide}
 use Rattle.air_files.specs.Facts.{HasFacts}
 use Rattle.air_files.specs.SoundStore.{IsSoundStore}
 use Rattle.air_files.specs.Tasks.{AreTasks, IsWork, StandsBy}

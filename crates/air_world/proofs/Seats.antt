@@ -1,5 +1,5 @@
 -- The server's places and the attempts of its callers, taken apart by caller and put together again.
-use Rattle.std.proofs.Common.{◌≡◌, ◌≢◌, ◌⊎◌, ℕ, zero, suc, ◌≤◌, ◌<◌, List, [], ◌∷◌, Bool, true, false, Option, None, Some, length, get_or, refl, sym, ap, subst, ◌∙◌, inl, inr, true≢false, arith}
+use Rattle.std.proofs.Common.{◌≡◌, ◌≢◌, ◌⊎◌, ℕ, zero, suc, ◌≤◌, List, [], ◌∷◌, Bool, true, false, Option, None, Some, length, get_or, refl, sym, ap, subst, ◌∙◌, inl, inr, true≢false, arith}
 use Rattle.std.specs.Prelude.{find, if◌then◌else◌, is_some, slice_get, IfSome, MatchOption}
 use Rattle.std.specs.Option.{option_and_then, option_or}
 use Rattle.std.specs.List.{AllByRecursion, position, position_or_len}
@@ -9,7 +9,6 @@ use Rattle.std.proofs.lemmas.List.Sums.{fails_before_first}
 use Rattle.std.proofs.lemmas.List.Quantifiers.{position-Some}
 use Rattle.std.proofs.lemmas.Option.{get_or_from_slice_get, same_Some, slice_get-get_or, slice_get_within}
 use Rattle.px_base.specs.CallSign.{CallSign}
-use Rattle.ax25_link.specs.declared.state.LinkState.TheVariants.{Up}
 use Rattle.ftl0_server.specs.Connection.Connected.{Connected, caller_of}
 use Rattle.ftl0_server.specs.Server.{Server}
 use Rattle.ftl0_server.specs.Slots.{Slot, connected, free, is_callers, leaving, place_of}
@@ -19,7 +18,7 @@ use Rattle.air_attempt.specs.Laws.{AreAttempts, Calls, IsBetween, IsNewestSessio
 use Rattle.air_attempt.specs.Party.{AreOver, OnlyNewestUp, Party, newest_side}
 use Rattle.air_attempt.specs.Sides.{ServerSide}
 use Rattle.air_attempt.specs.Transfers.{connection_at, connection_of}
-use Rattle.air_world.specs.Sound.{ArePlaces, AreStationsOf, IsParty, IsSeated, IsSessionOf, IsSideAt, Sound}
+use Rattle.air_world.specs.Sound.{ArePlaces, IsParty, IsSeated, IsSessionOf, IsSideAt, Sound}
 use Rattle.air_world.specs.World.{PartyAt, World}
 use Rattle.air_world.proofs.WorldLists.{all-at, all-by, is-same, same-call}
 

@@ -1,13 +1,10 @@
 -- A frame that a session of a sound world hears: what its entries keep of the client's facts.
-use Rattle.std.proofs.Common.{◌≡◌, ◌⊎◌, ℕ, zero, suc, List, [], ◌∷◌, ◌++◌, Bool, true, false, Option, None, Some, refl, sym, ap, subst, ◌∙◌, inl, inr}
-use Rattle.std.specs.Prelude.{slice_get, IfSome, MatchOption}
+use Rattle.std.proofs.Common.{◌≡◌, ℕ, List, [], Bool, true, false, Option, Some, sym, ap, subst, ◌∙◌}
+use Rattle.std.specs.Prelude.{IfSome, MatchOption}
 use Rattle.std.specs.List.{AllByRecursion}
-use Rattle.std.proofs.lemmas.Option.{same_Some}
-use Rattle.px_base.specs.CallSign.{CallSign, IsCall}
-use Rattle.ax25_frames.specs.FrameText.{FrameValue}
+use Rattle.px_base.specs.CallSign.{IsCall}
 use Rattle.ax25_link.specs.Air.{Transmission}
 use Rattle.ax25_link.specs.Rows.{is_call}
-use Rattle.ftl0_packets.specs.Layout.{Fits}
 use Rattle.ftl0_session.specs.Run.{Session, session_over}
 use Rattle.ftl0_server.specs.Connection.Connected.{Connected, caller_of}
 use Rattle.ftl0_server.specs.Connection.Hearing.{hearing}
@@ -23,7 +20,7 @@ use Rattle.air_world.specs.Sound as sound
 use Rattle.air_world.specs.Sound.{IsParty, Sound}
 use Rattle.air_world.specs.World.{PartyAt, World}
 use Rattle.air_world.proofs.Marked.{IsComing, delivers, from-client, marked}
-use Rattle.air_world.proofs.Seats.{between, calls, found-slot}
+use Rattle.air_world.proofs.Seats.{between, calls}
 use Rattle.air_world.proofs.ServerTicked.{its-session}
 use Rattle.air_world.proofs.WorldLists.{all-at}
 

@@ -1,19 +1,16 @@
 -- An event of the server's that is cut keeps a sound world, where what it leaves of the store does.
-use Rattle.std.proofs.Common.{◌≡◌, ℕ, zero, suc, List, [], ◌∷◌, Bool, true, false, Option, None, Some, length, refl, sym, ap, subst, ◌∙◌, arith}
+use Rattle.std.proofs.Common.{◌≡◌, ℕ, List, [], ◌∷◌, false, Option, None, Some, length, refl, sym, ap, subst, ◌∙◌, arith}
 use Rattle.std.specs.Prelude.{map, slice_get, IfSome, MatchOption}
-use Rattle.std.specs.List.{AllByRecursion}
 use Rattle.std.specs.Option.{option_map}
 use Rattle.std.proofs.lemmas.List.{length-map}
-use Rattle.std.proofs.lemmas.Option.{same_Some}
 use Rattle.px_base.specs.CallSign.{CallSign}
 use Rattle.ax25_link.specs.Window.{IsWindow, Window}
 use Rattle.file_store.specs.Store.{Store}
-use Rattle.ftl0_session.specs.Downloads.Needs.{AreComplete}
 use Rattle.ftl0_server.specs.Connection.Connected.{Connected}
-use Rattle.ftl0_server.specs.Server.{Server, all_free, new_server}
+use Rattle.ftl0_server.specs.Server.{all_free, new_server}
 use Rattle.ftl0_server.specs.Slots.{Slot, connected, free, leaving}
 use Rattle.air_attempt.specs.Attempt.{Attempt}
-use Rattle.air_attempt.specs.Laws.{AreAttempts, Calls, IsBetween, LeftLaw, SitsBy}
+use Rattle.air_attempt.specs.Laws.{AreAttempts, Calls, IsBetween, LeftLaw}
 use Rattle.air_attempt.specs.Party.{AreOver, OnlyNewestUp, Party, all_over, over, sessions_over}
 use Rattle.air_attempt.specs.Sides.{ServerSide}
 use Rattle.air_files.specs.Facts.{HasFacts}

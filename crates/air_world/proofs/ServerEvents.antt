@@ -1,27 +1,23 @@
 -- Each event of the server's keeps a sound world.
-use Rattle.std.proofs.Common.{◌≡◌, ◌≢◌, ◌⊎◌, ℕ, zero, suc, take, ◌≤◌, ◌<◌, ◌^◌, ◌%◌, List, [], ◌∷◌, Bool, true, false, Option, None, Some, length, refl, sym, ap, subst, ◌∙◌, arith}
-use Rattle.std.specs.Prelude.{map, slice_get}
+use Rattle.std.proofs.Common.{◌≡◌, ℕ, zero, suc, ◌<◌, ◌^◌, Bool, true, false, Some, sym, ap, subst, ◌∙◌, arith}
 use Rattle.std.proofs.lemmas.Option.{same_Some}
 use Rattle.ax25_link.specs.Air.{IsAt, IsLawful, Transmission}
 use Rattle.node.specs.Events.{NodeEvent, hears as frame_comes, ticks as tick_comes}
 use Rattle.file_store.specs.Command.{after_all}
 use Rattle.file_store.specs.OnDisk.{after_first}
 use Rattle.ftl0_server.specs.Laws.{SomeStepLaw}
-use Rattle.ftl0_server.specs.ServerStep.{ServerStep}
 use Rattle.air_attempt.specs.Attempt.{Attempt}
 use Rattle.air_attempt.specs.Laws.{LeftLaw, ServerTicksLaw}
-use Rattle.air_attempt.specs.Lists.{Placed}
 use Rattle.air_attempt.specs.Party.{Party, newest}
 use Rattle.air_attempt.specs.Transfers.{ServerDid}
 use Rattle.air_world.specs.Cuts.{ServerDoes, ServerEvent, ServerIsCut, server_commands}
-use Rattle.air_world.specs.Events.{DeliversToServer, ServerTakes}
 use Rattle.air_world.specs.Lawful.{HasParty, IsAllowed, MayCome}
-use Rattle.air_world.specs.Schedule.{Event, tick_server, to_server}
+use Rattle.air_world.specs.Schedule.{tick_server, to_server}
 use Rattle.air_world.specs.Sound.{Sound}
 use Rattle.air_world.specs.Step.{ServerGoes, parties_after}
 use Rattle.air_world.specs.World.{PartyAt, World, counted, next_moment}
 use Rattle.air_world.proofs.CutWorld.{frame-cut-sound, tick-cut-sound, take-none}
-use Rattle.air_world.proofs.Marked.{IsComing, are-marked, delivered, none-marked}
+use Rattle.air_world.proofs.Marked.{IsComing, delivered}
 use Rattle.air_world.proofs.ServerHeard.{HearingLaws}
 use Rattle.air_world.proofs.ServerTicked.{tick-sound}
 use Rattle.air_world.proofs.ServerWorld.{heard-sound}

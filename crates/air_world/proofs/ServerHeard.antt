@@ -1,22 +1,18 @@
 -- A frame that the server hears: what it makes of the client whose frame it is.
-use Rattle.std.proofs.Common.{◌≡◌, ◌≢◌, ◌⊎◌, ℕ, zero, suc, ◌≤◌, ◌<◌, ◌^◌, List, [], ◌∷◌, ◌++◌, Bool, true, false, Option, None, Some, refl, sym, ap, subst, ◌∙◌, inl, inr, true≢false}
-use Rattle.std.specs.Prelude.{slice_get, map, IfSome}
+use Rattle.std.proofs.Common.{◌≡◌, ◌⊎◌, ℕ, zero, suc, ◌≤◌, ◌<◌, ◌^◌, List, [], ◌∷◌, ◌++◌, Bool, true, false, Option, None, Some, refl, sym, ap, subst, ◌∙◌, inl, inr, true≢false}
+use Rattle.std.specs.Prelude.{slice_get}
 use Rattle.std.specs.List.{AllByRecursion}
 use Rattle.std.specs.Option.{option_map_or}
 use Rattle.std.proofs.lemmas.Option.{same_Some}
-use Rattle.px_base.specs.CallSign.{CallSign}
 use Rattle.ax25_frames.specs.FrameText.{FrameValue}
 use Rattle.ax25_link.specs.Air.{Transmission}
 use Rattle.ax25_link.specs.Rows.{is_call}
-use Rattle.ftl0_packets.specs.Layout.{Fits}
 use Rattle.node.specs.Events.{hears as frame_comes}
 use Rattle.file_entries.specs.Follows.{FollowsBy}
 use Rattle.file_store.specs.Command.{after_all}
-use Rattle.file_store.specs.Store.{Store}
 use Rattle.ftl0_session.specs.Downloads.Needs.{AreComplete}
-use Rattle.ftl0_session.specs.Lists.Lists.{CallerList, has_left}
+use Rattle.ftl0_session.specs.Lists.Lists.{has_left}
 use Rattle.ftl0_session.specs.Run.{Session}
-use Rattle.ftl0_session.specs.Table.{command}
 use Rattle.ftl0_server.specs.Connection.Connected.{Connected, caller_of}
 use Rattle.ftl0_server.specs.Connection.Hearing.{with_end}
 use Rattle.ftl0_server.specs.Entries as session
@@ -34,9 +30,9 @@ use Rattle.air_files.specs.Facts.{HasFacts}
 use Rattle.air_files.specs.Laws.{BeginLaw, GrantedAt, IsGreeted, LookLike, SessionKeeps, StayLaw, session_gone, with_attempt}
 use Rattle.air_files.specs.SoundStore.{IsSoundStore}
 use Rattle.air_world.specs.Sound.{Sound}
-use Rattle.air_world.specs.World.{PartyAt, World}
-use Rattle.air_world.proofs.ClientsStay.{ClientsStay, hearing-stays, newest-stays, stay-refl, stay-trans}
-use Rattle.air_world.proofs.Likes.{grants-like, like-at, like-refl, newest-like, same-party, served-same}
+use Rattle.air_world.specs.World.{World}
+use Rattle.air_world.proofs.ClientsStay.{ClientsStay, newest-stays, stay-refl, stay-trans}
+use Rattle.air_world.proofs.Likes.{grants-like, like-at, like-refl, same-party, served-same}
 use Rattle.air_world.proofs.Marked.{IsComing, delivers, from-client, marked}
 use Rattle.air_world.proofs.Seats.{between, calls, connection-none, connection-seat, finds-slot, found-slot}
 use Rattle.air_world.proofs.Served.{SessionLaws, before-session, by-session, keeps, now-session}

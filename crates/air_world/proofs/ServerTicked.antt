@@ -1,12 +1,11 @@
 -- A tick of the server keeps a sound world.
-use Rattle.std.proofs.Common.{◌≡◌, ◌⊎◌, ℕ, List, [], ◌∷◌, ◌++◌, Bool, true, false, Option, None, Some, length, refl, sym, ap, subst, ◌∙◌, append-nil, inl, inr}
-use Rattle.std.specs.Prelude.{map, slice_get, IfSome}
-use Rattle.std.specs.List.{AllByRecursion}
+use Rattle.std.proofs.Common.{◌≡◌, ℕ, List, [], true, false, Option, None, Some, refl, sym, subst, ◌∙◌, append-nil, inl, inr}
+use Rattle.std.specs.Prelude.{map, IfSome}
 use Rattle.std.proofs.lemmas.List.{length-map}
 use Rattle.std.proofs.lemmas.Option.{same_Some}
 use Rattle.px_base.specs.CallSign.{CallSign}
 use Rattle.node.specs.Events.{ticks as tick_comes}
-use Rattle.ftl0_session.specs.Table.{State, command}
+use Rattle.ftl0_session.specs.Table.{command}
 use Rattle.ftl0_session.specs.Downloads.Needs.{AreComplete}
 use Rattle.ftl0_server.specs.Connection.Connected.{Connected, caller_of}
 use Rattle.ftl0_server.specs.Entries.{SessionEntry}
@@ -14,17 +13,17 @@ use Rattle.ftl0_server.specs.Server.{Server}
 use Rattle.ftl0_server.specs.ServerStep.{ServerStep, Stepped}
 use Rattle.air_attempt.specs.Attempt.{Attempt, IsAnswered, IsAnsweredBy, IsAttempt, IsEndOf}
 use Rattle.air_attempt.specs.Laws.{AreAttempts, Calls, IsBetween, IsKnown, ServerTicksLaw, StaysServer, did_in}
-use Rattle.air_attempt.specs.Party.{Party, newest_side, with_answered}
+use Rattle.air_attempt.specs.Party.{Party, newest_side}
 use Rattle.air_attempt.specs.Sides.{ServerSide, SessionReaches}
 use Rattle.air_attempt.specs.Transfers.{ServerDid, after_tick, connection_of, did_to, gone_on, served, ticked_by}
 use Rattle.air_files.specs.Facts.{HasFacts}
-use Rattle.air_files.specs.Laws.{LookLike, LooksLike, LooksLikeSession, LooksServed, StayLaw}
+use Rattle.air_files.specs.Laws.{LookLike, LooksServed, StayLaw}
 use Rattle.air_files.specs.SoundStore.{IsSoundStore}
-use Rattle.air_world.specs.Sound.{AreGrantedOnce, GrantedAt, IsSideAt, Sound}
-use Rattle.air_world.specs.Step.{parties_after, party_ticked}
+use Rattle.air_world.specs.Sound.{Sound}
+use Rattle.air_world.specs.Step.{party_ticked}
 use Rattle.air_world.specs.World.{PartyAt, World, counted}
 use Rattle.air_world.proofs.ClientsStay.{tick-stays}
-use Rattle.air_world.proofs.Likes.{answered-like, grants-like, like-at, like-refl, reaches-one, same-party}
+use Rattle.air_world.proofs.Likes.{answered-like, like-refl, reaches-one, same-party}
 use Rattle.air_world.proofs.Rebuild.{IsMade, StayParties, StaysParty, rebuilt}
 use Rattle.air_world.proofs.Granted.{granted-like}
 use Rattle.air_world.proofs.Seats.{AreSeatsKnown, between, calls, connection-seat, finds-slot, found-slot}

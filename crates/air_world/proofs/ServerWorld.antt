@@ -1,17 +1,16 @@
 -- A frame that the server hears keeps a sound world.
-use Rattle.std.proofs.Common.{◌≡◌, ◌≢◌, ◌⊎◌, ℕ, zero, suc, ◌≤◌, ◌<◌, ◌^◌, List, [], ◌∷◌, Bool, true, false, Option, None, Some, length, refl, sym, ap, subst, ◌∙◌, inl, inr, arith}
+use Rattle.std.proofs.Common.{◌≡◌, ◌≢◌, ◌⊎◌, ℕ, ◌≤◌, ◌<◌, ◌^◌, [], Bool, true, false, Option, Some, refl, sym, ap, subst, ◌∙◌, inl, inr, arith}
 use Rattle.std.specs.Prelude.{map, slice_get, if◌then◌else◌, IfSome}
 use Rattle.std.proofs.lemmas.Bool.{cases_eq}
 use Rattle.std.proofs.lemmas.List.{length-map}
 use Rattle.std.proofs.lemmas.Option.{same_Some}
-use Rattle.px_base.specs.CallSign.{CallSign, IsCall}
 use Rattle.ax25_link.specs.Air.{Transmission}
 use Rattle.node.specs.Events.{hears as frame_comes}
 use Rattle.ftl0_session.specs.Uploads.Session.{is_same_call}
-use Rattle.ftl0_server.specs.Connection.Connected.{Connected, caller_of}
+use Rattle.ftl0_server.specs.Connection.Connected.{caller_of}
 use Rattle.ftl0_server.specs.ServerStep.{ServerStep, Stepped}
 use Rattle.air_attempt.specs.Attempt.{Attempt}
-use Rattle.air_attempt.specs.Laws.{Calls, IsKnown, LeftLaw, StaysServer}
+use Rattle.air_attempt.specs.Laws.{Calls, IsKnown, StaysServer}
 use Rattle.air_attempt.specs.Party.{Party, to_server_delivered}
 use Rattle.air_attempt.specs.Said.{Grants}
 use Rattle.air_attempt.specs.Sides.{ServerSide}
@@ -22,8 +21,8 @@ use Rattle.air_world.specs.Events.{with_current}
 use Rattle.air_world.specs.Sound as sound
 use Rattle.air_world.specs.Sound.{AreGrantedOnce, IsSideAt, Sound}
 use Rattle.air_world.specs.Step.{party_heard}
-use Rattle.air_world.specs.World.{PartyAt, World, counted, with_party}
-use Rattle.air_world.proofs.ClientsStay.{ClientsStay, hearing-stays, newest-stays, stay-refl, stay-trans}
+use Rattle.air_world.specs.World.{PartyAt, World, counted}
+use Rattle.air_world.proofs.ClientsStay.{hearing-stays, newest-stays, stay-refl, stay-trans}
 use Rattle.air_world.proofs.Marked.{IsComing, delivered, from-client, length-set-slice, marked}
 use Rattle.air_world.proofs.Rebuild.{IsMade, StayParties, StaysParty, rebuilt}
 use Rattle.air_world.proofs.Seats.{AreSeatsKnown, between, calls}
