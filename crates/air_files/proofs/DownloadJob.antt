@@ -130,7 +130,7 @@ module _ (store : Store) (files : List Asked) (c : ℕ) (base : Party) (a : Atte
       does-now =
           does-download server number b.client.entries now.job
           (subst (λ (doing : Work). JobReaches (new_job doing) b.client.entries now.job) asked_new
-           (reaches-then a.client.entries (entry ∷ []) (new_job a.client.asked) job_is now.job w.reached (reaches-by (entry ∷ []) lists lists_now job_is now.job goes)))
+          (reaches-then a.client.entries (entry ∷ []) (new_job a.client.asked) job_is now.job w.reached (reaches-by (entry ∷ []) lists lists_now job_is now.job goes)))
 
       commands-are : job.commands_in (entry ∷ []) ≡ job.commands_of entry
       commands-are = append-nil (job.commands_of entry)
@@ -204,7 +204,7 @@ module _ (store : Store) (files : List Asked) (c : ℕ) (base : Party) (a : Atte
         where
           by : (o : Option Ending) → row_is.ending ≡ o
               → FetchesBy row_is.ending (work.Download row_is.state) store (new (took (Ok packet) (row_of work.Download row_is)) (after_all lists row_is.commands) now)
-                (b (took (Ok packet) (row_of work.Download row_is)) (after_all lists row_is.commands) now)
+              (b (took (Ok packet) (row_of work.Download row_is)) (after_all lists row_is.commands) now)
           by None goes_on =
               subst
               (λ (o : Option Ending).
@@ -262,17 +262,17 @@ module _ (store : Store) (files : List Asked) (c : ℕ) (base : Party) (a : Atte
         let given = row_of work.Download (download_row held (download_at server number does.rest does.phase_is) heard.0) in
         subst (λ (l : Lists). EntryKept (took item row) l now) (sym (goes.2.0 ∙ ap (λ (r : Row Work). after_all lists r.commands) row_as))
         (subst (λ (r : Row Work). EntryKept (took item r) (after_all lists given.commands) now) (sym row_as)
-         (subst (λ (i : Item). EntryKept (took i given) (after_all lists given.commands) now) heard.1
-          (took-kept heard.0 (took item row) (ap (λ (i : Item). i ∷ []) (sym heard.1)) goes.0 front (goes.2.1 ∙ ap job_after row_as))))
+        (subst (λ (i : Item). EntryKept (took i given) (after_all lists given.commands) now) heard.1
+        (took-kept heard.0 (took item row) (ap (λ (i : Item). i ∷ []) (sym heard.1)) goes.0 front (goes.2.1 ∙ ap job_after row_as))))
     entry-kept (lost item row) lists_now goes front =
         let heard = heard-last a (lost item row) side front item (inl refl) in
         let row_as = row-of-packet heard.0 item row (sym heard.1) goes.0 goes.1 in
         let given = row_of work.Download (download_row held (download_at server number does.rest does.phase_is) heard.0) in
         subst (λ (l : Lists). EntryKept (lost item row) l now) (sym (goes.2.0 ∙ ap (λ (r : Row Work). after_all lists r.commands) row_as))
         (subst (λ (r : Row Work). EntryKept (lost item r) (after_all lists given.commands) now) (sym row_as)
-         (subst (λ (i : Item). EntryKept (lost i given) (after_all lists given.commands) now) heard.1
-          (lost-kept heard.0 (lost item row) (ap (λ (i : Item). i ∷ []) (sym heard.1)) goes.0 front
-           (goes.2.1 ∙ ap (λ (i : Item). after_losing (kind_of_item i) row) (sym heard.1) ∙ ap (after_losing (kind_of_item (Ok heard.0))) row_as))))
+        (subst (λ (i : Item). EntryKept (lost i given) (after_all lists given.commands) now) heard.1
+        (lost-kept heard.0 (lost item row) (ap (λ (i : Item). i ∷ []) (sym heard.1)) goes.0 front
+        (goes.2.1 ∙ ap (λ (i : Item). after_losing (kind_of_item i) row) (sym heard.1) ∙ ap (after_losing (kind_of_item (Ok heard.0))) row_as))))
     entry-kept (passed item) lists_now goes front = record {
       lists_are = goes.1.0;
       fronts = fronts-none store files party w.facts;
@@ -292,7 +292,7 @@ module _ (store : Store) (files : List Asked) (c : ℕ) (base : Party) (a : Atte
         passed-fetching entry lists_then over same is =
             subst (λ (j : JobState). FetchesBy j.ending j.work store (new entry lists_then now) (b entry lists_then now)) (sym is)
             (subst (λ (doing : Work). FetchesBy job_is.ending doing store (new entry lists_then now) (b entry lists_then now)) (sym does.work_is)
-             (by job_is.ending refl))
+            (by job_is.ending refl))
           where
             by : (o : Option Ending) → job_is.ending ≡ o
                 → FetchesBy job_is.ending (work.Download (download_at server number does.rest does.phase_is)) store (new entry lists_then now) (b entry lists_then now)

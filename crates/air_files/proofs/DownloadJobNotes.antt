@@ -222,7 +222,7 @@ module _ (store : Store) (files : List Asked) (base : Party) (a : Attempt) (olde
         fronts = λ count.
             subst (λ (cs : List NotesCommand). NotesKept store files party (notes.after_first count lists cs)) (sym pieces.1)
             (pieces-fronts store files party it.facts it.sound number pieces.0
-             (first-before store number (held ++ concat pieces.0) ((held ++ concat pieces.0) ++ (unnoted (rest ++ octets) ++ left)) (unnoted (rest ++ octets) ++ left, refl) first) count);
+            (first-before store number (held ++ concat pieces.0) ((held ++ concat pieces.0) ++ (unnoted (rest ++ octets) ++ left)) (unnoted (rest ++ octets) ++ left, refl) first) count);
         checked = tt;
         fetched = λ ending n is reached. absurd (cc);
         fetches = λ now goes.
@@ -256,7 +256,7 @@ module _ (store : Store) (files : List Asked) (base : Party) (a : Attempt) (olde
       let command : Has (said_by_client a.client) (download_cmd number sent.offset 0) =
       has-ok (said_by_client a.client) (download_cmd number sent.offset 0)
       (front-has (session.items_in side.entries) (map Ok (said_by_client a.client)) (Ok (download_cmd number sent.offset 0)) it.told
-       (answered-item side.entries (Ok (download_cmd number sent.offset 0)) sent.answered)) in
+      (answered-item side.entries (Ok (download_cmd number sent.offset 0)) sent.answered)) in
       let same = asks-once number a.client it.says number number fetches.offset sent.offset fetches.asked command in
       let all : length (octets_taken items) ≡ length sent.file - sent.offset = ap length (sent.octets_are ∙ sent.all.1) ∙ length-drop sent.offset sent.file in
       let first : AreFirstIfAny store number (held ++ rest) =

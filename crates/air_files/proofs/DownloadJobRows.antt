@@ -24,7 +24,7 @@ pub record DownloadCases (server : CallSign) (number : ℕ) (held rest : List �
   pub octets :
       (octets : List ℕ)
       → P phase.Fetching (data_part octets)
-        (goes_on (download_at server number (unnoted (rest ++ octets)) phase.Fetching) (whole_gots server number (rest ++ octets)) [])
+      (goes_on (download_at server number (unnoted (rest ++ octets)) phase.Fetching) (whole_gots server number (rest ++ octets)) [])
   pub whole : fault_code (held ++ rest) ≡ None → P phase.Fetching data_end (whole_row (download_at server number rest phase.Fetching) None)
   pub bad :
       (code : ℕ) → fault_code (held ++ rest) ≡ Some code → P phase.Fetching data_end (whole_row (download_at server number rest phase.Fetching) (Some code))
@@ -41,8 +41,8 @@ module _ (server : CallSign) (number : ℕ) (held rest : List ℕ) (P : Download
 
   octets-case : (octets : List ℕ) (b : Bool)
       → P phase.Fetching (data_part octets)
-        (if b then strange (at phase.Fetching) 0
-        else goes_on (download_at server number (unnoted (rest ++ octets)) phase.Fetching) (whole_gots server number (rest ++ octets)) [])
+      (if b then strange (at phase.Fetching) 0
+      else goes_on (download_at server number (unnoted (rest ++ octets)) phase.Fetching) (whole_gots server number (rest ++ octets)) [])
   octets-case octets true = each.strange_rows phase.Fetching (data_part octets) 0
   octets-case octets false = each.octets octets
 

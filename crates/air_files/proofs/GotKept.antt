@@ -187,7 +187,7 @@ module _ (store : Store) (files : List Asked) (party : Party) (facts : HasFacts 
       let are = noted-tasks server number pieces lists in
       subst (NotesKept store files party) (sym are.1)
       (noted-kept are.0 (concat pieces) (ap (λ (l : Lists). got_of l server number) (sym are.1) ∙ noted-after server number pieces lists)
-       (λ other different. ap (λ (l : Lists). got_of l server other) (sym are.1) ∙ noted-other server number pieces lists other different) first)
+      (λ other different. ap (λ (l : Lists). got_of l server other) (sym are.1) ∙ noted-other server number pieces lists other different) first)
 
   -- or the first of them
   pub pieces-fronts : (pieces : List (List ℕ)) → AreFirstIfAny store number (got party number ++ concat pieces) → (count : ℕ)

@@ -55,8 +55,7 @@ same-then : (old mid new : Lists) → SameTasks old mid → SameTasks mid new �
 same-then old mid new one two = record {
   each = λ task entry found.
       let last = two.each task entry found in
-      let first = one.each task last.0 last.1 in
-      (
+      let first = one.each task last.0 last.1 in (
         first.0,
         first.1,
         last.2 ∙ ap (λ (t : Task). record t { number = entry.number; progress = entry.progress }) first.2,

@@ -83,7 +83,7 @@ module _ (store : Store) (files : List Asked) (c : ℕ) (base : Party) (a : Atte
     does-now =
         does-list tokens b.client.entries now.job
         (subst (λ (doing : Work). JobReaches (new_job doing) b.client.entries now.job) asked
-         (reaches-then a.client.entries (entry ∷ []) (new_job a.client.asked) job_is now.job w.reached (reaches-by (entry ∷ []) lists lists_now job_is now.job goes)))
+        (reaches-then a.client.entries (entry ∷ []) (new_job a.client.asked) job_is now.job w.reached (reaches-by (entry ∷ []) lists lists_now job_is now.job goes)))
 
     -- it is no upload
     no-upload : (upload : Upload) → a.client.asked ≢ work.Upload upload

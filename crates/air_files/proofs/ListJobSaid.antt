@@ -126,7 +126,7 @@ module _ (tokens : List ℕ) where
 
   select-by : (listing : List ℕ) (b : Bool)
       → Comes tokens phase.Selecting
-        (if b then ends (directory_at tokens listing phase.Selecting) [] outcome.Listed else goes_on (directory_at tokens listing phase.Listing) [] (dir_short_cmd 0 ∷ []))
+      (if b then ends (directory_at tokens listing phase.Selecting) [] outcome.Listed else goes_on (directory_at tokens listing phase.Listing) [] (dir_short_cmd 0 ∷ []))
   select-by listing true = listed-so listing phase.Selecting
   select-by listing false = short-from phase.Selecting listing (λ said came. came)
 
@@ -137,7 +137,7 @@ module _ (tokens : List ℕ) where
 
   next-by : (listing : List ℕ) (b : Bool)
       → Comes tokens phase.Listing
-        (if b then goes_on (directory_at tokens listing phase.Listing) [] (dir_short_cmd 0 ∷ []) else strange (directory_at tokens listing phase.Listing) 1)
+      (if b then goes_on (directory_at tokens listing phase.Listing) [] (dir_short_cmd 0 ∷ []) else strange (directory_at tokens listing phase.Listing) 1)
   next-by listing true = short-from phase.Listing listing (λ said came. came)
   next-by listing false = strange-so listing phase.Listing 1
 
@@ -148,7 +148,7 @@ module _ (tokens : List ℕ) where
 
   code-by : (listing : List ℕ) (code : ℕ) (b : Bool)
       → Comes tokens phase.Listing
-        (if b then empty_row (directory_at tokens listing phase.Listing) else ends (directory_at tokens listing phase.Listing) [] (outcome.Refused code))
+      (if b then empty_row (directory_at tokens listing phase.Listing) else ends (directory_at tokens listing phase.Listing) [] (outcome.Refused code))
   code-by listing code true = whole-by listing (are_short_headers listing)
   code-by listing code false = refused-so listing phase.Listing code
 

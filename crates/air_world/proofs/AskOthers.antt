@@ -88,8 +88,8 @@ short-got store number (octet ∷ octets) sound first =
     let it = first (λ none. absurd (cc)) in
     let short = short-file store number it.0 sound it.1 in
     let whole : length (octet ∷ octets) ≤ length it.0 =
-        subst (λ file. length (octet ∷ octets) ≤ length file) (sym it.2.1)
-        (omega (arith, length-append (octet ∷ octets) it.2.0)) in
+    subst (λ file. length (octet ∷ octets) ≤ length file) (sym it.2.1)
+    (omega (arith, length-append (octet ∷ octets) it.2.0)) in
     omega (arith, short, whole)
 
 -- the file of this number

@@ -42,8 +42,8 @@ last-going lists task entry last found = by (position unfinished (reverse lists.
     there place same below passes =
         let before : length lists.tasks - 1 - place ≡ task - 1 = omega (arith, same, below) in
         let is : get_or (reverse lists.tasks) place entry ≡ entry =
-            get_or-reverse lists.tasks place entry below ∙ ap (λ i. get_or lists.tasks i entry) before
-            ∙ get_or_from_slice_get lists.tasks (task - 1) entry entry (task-at lists task entry found) in
+        get_or-reverse lists.tasks place entry below ∙ ap (λ i. get_or lists.tasks i entry) before
+        ∙ get_or_from_slice_get lists.tasks (task - 1) entry entry (task-at lists task entry found) in
         going-is entry.progress (sym (ap unfinished is) ∙ passes)
 
     by : (o : Option ℕ) → position unfinished (reverse lists.tasks) ≡ o

@@ -128,33 +128,33 @@ module _ (old : World) (c : ℕ) (party : Party) (it : Asked) (sound : Sound old
   -- the new task is such as it should be
   new-task-for : IsTaskFor files c base last (task-for party it)
   new-task-for = record {
-      upload = length old.files;
-      is_upload = last-upload;
-      asked = it;
-      is_asked = place-new old.files it;
-      whose = whose;
-      server_is = refl;
-      caller_is = refl;
-      name_is = refl;
-      length_is = refl;
-      digest_is = refl;
-    }
+    upload = length old.files;
+    is_upload = last-upload;
+    asked = it;
+    is_asked = place-new old.files it;
+    whose = whose;
+    server_is = refl;
+    caller_is = refl;
+    name_is = refl;
+    length_is = refl;
+    digest_is = refl;
+  }
 
   -- and a task that was there is so still
   old-task-for : (task : ℕ) (entry : Task) → IsTaskFor old.files c party task entry
       → IsTaskFor files c base task entry
   old-task-for task entry was = record {
-      upload = was.upload;
-      is_upload = upload-more party base (length old.files ∷ []) task was.upload refl was.is_upload;
-      asked = was.asked;
-      is_asked = place-more old.files (it ∷ []) was.upload was.asked was.is_asked;
-      whose = was.whose;
-      server_is = was.server_is;
-      caller_is = was.caller_is;
-      name_is = was.name_is;
-      length_is = was.length_is;
-      digest_is = was.digest_is;
-    }
+    upload = was.upload;
+    is_upload = upload-more party base (length old.files ∷ []) task was.upload refl was.is_upload;
+    asked = was.asked;
+    is_asked = place-more old.files (it ∷ []) was.upload was.asked was.is_asked;
+    whose = was.whose;
+    server_is = was.server_is;
+    caller_is = was.caller_is;
+    name_is = was.name_is;
+    length_is = was.length_is;
+    digest_is = was.digest_is;
+  }
 
   each-task : (task : ℕ) (entry : Task) → task_of base.client.lists task ≡ Some entry
       → IsTaskFor files c base task entry
@@ -181,15 +181,15 @@ module _ (old : World) (c : ℕ) (party : Party) (it : Asked) (sound : Sound old
 
   tasks-now : AreTasks files c base
   tasks-now = record {
-      each = each-task;
-      as_many =
-          let many = tasks.as_many in
-          omega (
-            arith,
-            length-append party.uploads (length old.files ∷ []),
-            length-append party.client.lists.tasks (task-for party it ∷ []),
-          );
-    }
+    each = each-task;
+    as_many =
+        let many = tasks.as_many in
+        omega (
+          arith,
+          length-append party.uploads (length old.files ∷ []),
+          length-append party.client.lists.tasks (task-for party it ∷ []),
+        );
+  }
 
   work-now : (asked : Work) → IsWork old.files party asked → IsWork files base asked
   work-now (work.Upload at) work_is =

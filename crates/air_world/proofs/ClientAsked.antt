@@ -84,21 +84,21 @@ module _ (laws : ClientLaws) (old : World) (sound : Sound old) (c : ℕ) (party 
 
   begins : Begins old c party base asked begun now
   begins = record {
-      me = may.me;
-      server = may.server;
-      window = may.window;
-      attempts = may.attempts;
-      facts = may.facts;
-      tasks = may.tasks;
-      works = may.works;
-      good = may.good;
-      begins = record { asked = may.begun; job = refl; entries = refl; unserved = refl };
-      goes_on = may.goes_on;
-      work = may.work;
-      stands = (laws.calling base.client.me base.client.server base.client.lists (new_job wanted) (refl, may.begun) may.go_with).job;
-      now_is = quiet.new_is;
-      goes = subst (λ attempts. GoesWith now attempts) begun-are goes;
-    }
+    me = may.me;
+    server = may.server;
+    window = may.window;
+    attempts = may.attempts;
+    facts = may.facts;
+    tasks = may.tasks;
+    works = may.works;
+    good = may.good;
+    begins = record { asked = may.begun; job = refl; entries = refl; unserved = refl };
+    goes_on = may.goes_on;
+    work = may.work;
+    stands = (laws.calling base.client.me base.client.server base.client.lists (new_job wanted) (refl, may.begun) may.go_with).job;
+    now_is = quiet.new_is;
+    goes = subst (λ attempts. GoesWith now attempts) begun-are goes;
+  }
 
   pub asked-client : IsClientMade old c party asked-party asked
   asked-client =

@@ -30,10 +30,10 @@ link-of (Some a) it is = (a, refl, is)
 -- the notes go with the job, where its own is such
 pub stands-job : (asked : Work) (lists : Lists) (side : ClientSide) → IsJob side → JobStands asked lists side.attempted.job → AttemptStands asked lists side.attempted
 stands-job asked lists side job stands = record {
-    job = stands;
-    told_down = job.told_down;
-    down_told = λ down none. by (job.working none) down;
-  }
+  job = stands;
+  told_down = job.told_down;
+  down_told = λ down none. by (job.working none) down;
+}
   where
     by : (side.attempted.end.state ≡ Calling) ⊎ (side.attempted.end.state ≡ Up) → side.attempted.end.state ≡ Down → ⊥
     by (inl calling) down = absurd (let same : Calling ≡ Down = sym calling ∙ down in cc)
@@ -47,12 +47,12 @@ module _ (world : World) (sound : Sound world) (c : ℕ) (party : Party) (is : P
 
   pub goes-with : GoesWith party.client party.attempts
   goes-with = record {
-      window = subst IsWindow (sym (all-at (λ (p : Party). p.client.window ≡ world.server.window) world.parties c party sound.stations.windows is)) sound.stations.window;
-      attempts_are = it.attempts;
-      windows = it.windows;
-      link = it.link;
-      may_step = it.may_step;
-    }
+    window = subst IsWindow (sym (all-at (λ (p : Party). p.client.window ≡ world.server.window) world.parties c party sound.stations.windows is)) sound.stations.window;
+    attempts_are = it.attempts;
+    windows = it.windows;
+    link = it.link;
+    may_step = it.may_step;
+  }
 
   -- the link is that of the current attempt, whose job works
   pub record HasLink (link : Attempted) : Type 0 where
@@ -76,14 +76,14 @@ module _ (world : World) (sound : Sound world) (c : ℕ) (party : Party) (is : P
 
     abbrev pub working : IsWorking world.server.store world.files c party
     working = record {
-        stands = stands world sound c party is;
-        attempt = linked.attempt;
-        older = linked.older;
-        attempts_are = linked.attempts_are;
-        link = has ∙ ap Some (sym linked.attempted_is);
-        job = subst (λ (o : Option Attempt). StandsBy party o) (ap (λ (attempts : List Attempt). slice_get attempts 0) linked.attempts_are) it.job;
-        begun = its-attempt.job.begun;
-        reached = its-attempt.job.reached;
-        sound = sound.store;
-        facts = it.facts;
-      }
+      stands = stands world sound c party is;
+      attempt = linked.attempt;
+      older = linked.older;
+      attempts_are = linked.attempts_are;
+      link = has ∙ ap Some (sym linked.attempted_is);
+      job = subst (λ (o : Option Attempt). StandsBy party o) (ap (λ (attempts : List Attempt). slice_get attempts 0) linked.attempts_are) it.job;
+      begun = its-attempt.job.begun;
+      reached = its-attempt.job.reached;
+      sound = sound.store;
+      facts = it.facts;
+    }

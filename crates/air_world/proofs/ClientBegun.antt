@@ -41,31 +41,30 @@ module _ (laws : ClientLaws) (old : World) (c : ℕ) (party base : Party) (asked
 
   works-now : EachAttempt begun-party (λ a. IsWork (old.files ++ asked) begun-party a.client.asked)
   works-now =
-      let server : begun-party.client.server ≡ base.client.server = ap (λ (it : Client). it.server) begins.now_is in
-      (
+      let server : begun-party.client.server ≡ base.client.server = ap (λ (it : Client). it.server) begins.now_is in (
         work-by (old.files ++ asked) base begun-party begun.client.asked server refl begins.work,
         all-map (λ (a : Attempt). IsWork (old.files ++ asked) base a.client.asked) (λ a. IsWork (old.files ++ asked) begun-party a.client.asked) party.attempts
-        (λ a work. work-by (old.files ++ asked) base begun-party a.client.asked server refl work) begins.works,
+            (λ a work. work-by (old.files ++ asked) base begun-party a.client.asked server refl work) begins.works,
       )
 
   pub begun-made : IsClientMade old c party begun-party asked
   begun-made = record {
-      me = ap (λ (it : Client). it.me) begins.now_is ∙ begins.me;
-      server = ap (λ (it : Client). it.server) begins.now_is ∙ begins.server;
-      window = ap (λ (it : Client). it.window) begins.now_is ∙ begins.window;
-      goes = begins.goes;
-      works = works-now;
-      tasks =
-          tasks-lists (old.files ++ asked) c base begun-party (ap (λ (it : Client). it.me) begins.now_is) (ap (λ (it : Client). it.server) begins.now_is)
-          (ap (λ (it : Client). it.lists) begins.now_is) refl begins.tasks;
-      job = λ link.
-          stands-job begun.client.asked now.lists begun.client begins.goes.attempts_are.0.job
-          (subst (λ (it : Client). JobStands begun.client.asked it.lists begun.client.attempted.job) (sym begins.now_is) begins.stands);
-      facts =
-          subst (λ (it : Client). HasFacts old.server.store (old.files ++ asked) (record base { client = it; attempts = begun ∷ party.attempts })) (sym begins.now_is)
-          (subst (λ attempts. HasFacts old.server.store (old.files ++ asked) (record base { client = record base.client { attempt = Some begun.client.attempted }; attempts = begun ∷ attempts }))
-           begins.attempts
-           (laws.begin.called old.server.store (old.files ++ asked) base begun begins.facts begins.begins begins.goes_on));
-      sessions = inr (ap (λ (o : Option ServerSide). o ∷ sessions_of party.attempts) begins.begins.unserved);
-      good = begins.good;
-    }
+    me = ap (λ (it : Client). it.me) begins.now_is ∙ begins.me;
+    server = ap (λ (it : Client). it.server) begins.now_is ∙ begins.server;
+    window = ap (λ (it : Client). it.window) begins.now_is ∙ begins.window;
+    goes = begins.goes;
+    works = works-now;
+    tasks =
+        tasks-lists (old.files ++ asked) c base begun-party (ap (λ (it : Client). it.me) begins.now_is) (ap (λ (it : Client). it.server) begins.now_is)
+        (ap (λ (it : Client). it.lists) begins.now_is) refl begins.tasks;
+    job = λ link.
+        stands-job begun.client.asked now.lists begun.client begins.goes.attempts_are.0.job
+        (subst (λ (it : Client). JobStands begun.client.asked it.lists begun.client.attempted.job) (sym begins.now_is) begins.stands);
+    facts =
+        subst (λ (it : Client). HasFacts old.server.store (old.files ++ asked) (record base { client = it; attempts = begun ∷ party.attempts })) (sym begins.now_is)
+        (subst (λ attempts. HasFacts old.server.store (old.files ++ asked) (record base { client = record base.client { attempt = Some begun.client.attempted }; attempts = begun ∷ attempts }))
+        begins.attempts
+        (laws.begin.called old.server.store (old.files ++ asked) base begun begins.facts begins.begins begins.goes_on));
+    sessions = inr (ap (λ (o : Option ServerSide). o ∷ sessions_of party.attempts) begins.begins.unserved);
+    good = begins.good;
+  }

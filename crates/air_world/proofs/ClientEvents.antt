@@ -60,9 +60,9 @@ module _ (laws : ClientLaws) (some_step : SomeStepLaw) (old new : World) (sound 
         let files = sym (append-nil old.files) in
         made-alike laws.stay old c party (record (started_with party lists) { attempts = attempts }) []
         (started-made laws.stay old sound c party is attempts still attempts_are [] party lists refl refl refl refl
-         (subst (λ files. AllByRecursion (λ (a : Attempt). IsWork files party a.client.asked) party.attempts) files (sound.parties c party is).works)
-         (subst (λ files. AreTasks files c (started_with party lists)) files tasks)
-         (subst (λ files. HasFacts old.server.store files (started_with party lists)) files facts) tt)
+        (subst (λ files. AllByRecursion (λ (a : Attempt). IsWork files party a.client.asked) party.attempts) files (sound.parties c party is).works)
+        (subst (λ files. AreTasks files c (started_with party lists)) files tasks)
+        (subst (λ files. HasFacts old.server.store files (started_with party lists)) files facts) tt)
         that client uploads attempts_is
 
   -- ---- a delivery
@@ -79,8 +79,8 @@ module _ (laws : ClientLaws) (some_step : SomeStepLaw) (old new : World) (sound 
         let that = party_after part did in
         asked-sound c party that [] part coming.is refl
         (made-alike laws.stay old c party (record party { client = did.now; attempts = after_event (client.hears t.frame) (did-of laws old sound c party did.now did.frames) (received laws old sound c party place t coming) }) [] made that refl
-         (append-nil party.uploads)
-         (ap (λ (d : ClientDid). after_event (client.hears t.frame) d (received laws old sound c party place t coming)) (did-is did party.client goes.old_is)))
+        (append-nil party.uploads)
+        (ap (λ (d : ClientDid). after_event (client.hears t.frame) d (received laws old sound c party place t coming)) (did-is did party.client goes.old_is)))
         goes.new_is
 
     frame-cut : ClientIsCut old c part new → Sound new
@@ -92,11 +92,11 @@ module _ (laws : ClientLaws) (some_step : SomeStepLaw) (old new : World) (sound 
         let that = party_cut part is_cut.count in
         asked-sound c party that [] part coming.is refl
         (cut-made c party coming.is attempts (still-delivered place t party.attempts)
-         (laws.left.to_client party.client.me party.client.server party.attempts attempts t.frame it.attempts (receives laws old sound c party place t coming)) lists
-         (heard-facts laws old sound c party place t coming has.noted has.frames has.new has.step is_cut.count)
-         (heard-tasks laws old sound c party place t coming has.noted has.frames has.new has.step is_cut.count) that
-         (ap (λ (commands : List NotesCommand). (started_with party (notes.after_first is_cut.count party.client.lists commands)).client) (sym has.step.noted_is))
-         (none-more is_cut.count party.uploads) refl)
+        (laws.left.to_client party.client.me party.client.server party.attempts attempts t.frame it.attempts (receives laws old sound c party place t coming)) lists
+        (heard-facts laws old sound c party place t coming has.noted has.frames has.new has.step is_cut.count)
+        (heard-tasks laws old sound c party place t coming has.noted has.frames has.new has.step is_cut.count) that
+        (ap (λ (commands : List NotesCommand). (started_with party (notes.after_first is_cut.count party.client.lists commands)).client) (sym has.step.noted_is))
+        (none-more is_cut.count party.uploads) refl)
         is_cut.new_is
 
     pub frame-does : (cut : Bool) → ClientDoes cut old c part new → Sound new
@@ -117,7 +117,7 @@ module _ (laws : ClientLaws) (some_step : SomeStepLaw) (old new : World) (sound 
         let that = party_after tick-part did in
         asked-sound c party that [] tick-part is refl
         (made-alike laws.stay old c party (record party { client = did.now; attempts = after_event client.ticks (did-of laws old sound c party did.now did.frames) party.attempts }) [] made that refl
-         (append-nil party.uploads) (ap (λ (d : ClientDid). after_event client.ticks d party.attempts) (did-is did party.client goes.old_is)))
+        (append-nil party.uploads) (ap (λ (d : ClientDid). after_event client.ticks d party.attempts) (did-is did party.client goes.old_is)))
         goes.new_is
 
     -- the client starts again from its notes as they are
@@ -154,7 +154,7 @@ module _ (laws : ClientLaws) (some_step : SomeStepLaw) (old new : World) (sound 
     flag-kept new_is =
         same-sound (record party { is_cut = true })
         (made-alike laws.stay old c party (record party { attempts = party.attempts }) []
-         (quiet-made laws.stay old sound c party is party.attempts (still-itself party.attempts) (goes-with old sound c party is)) (record party { is_cut = true }) refl refl refl)
+        (quiet-made laws.stay old sound c party is party.attempts (still-itself party.attempts) (goes-with old sound c party is)) (record party { is_cut = true }) refl refl refl)
         new_is
 
   -- ---- an asking
@@ -173,7 +173,7 @@ module _ (laws : ClientLaws) (some_step : SomeStepLaw) (old new : World) (sound 
           let that = party_after ask-part did in
           asked-sound c party that [] ask-part is refl
           (made-alike laws.stay old c party (asked-party laws old sound c party is party [] wanted may goes.noted did.frames did.now step) [] made that refl (append-nil party.uploads)
-           (ap (λ (d : ClientDid). after_event (client.asks (new_job wanted)) d party.attempts) (did-is did party.client goes.old_is)))
+          (ap (λ (d : ClientDid). after_event (client.asks (new_job wanted)) d party.attempts) (did-is did party.client goes.old_is)))
           goes.new_is
 
       ask-cut : ClientIsCut old c ask-part new → Sound new
@@ -208,7 +208,7 @@ module _ (laws : ClientLaws) (some_step : SomeStepLaw) (old new : World) (sound 
           let that = party_after begin-part did in
           asked-sound c party that (it ∷ []) begin-part is refl
           (made-alike laws.stay old c party (asked-party laws old sound c party is tasked-party (it ∷ []) sending may goes.noted did.frames did.now step) (it ∷ []) made that refl refl
-           (ap (λ (d : ClientDid). after_event (client.asks (new_job sending)) d party.attempts) (did-is did tasked-party.client goes.old_is)))
+          (ap (λ (d : ClientDid). after_event (client.asks (new_job sending)) d party.attempts) (did-is did tasked-party.client goes.old_is)))
           goes.new_is
 
       -- the start of the task stands, or it doesn't
@@ -218,18 +218,18 @@ module _ (laws : ClientLaws) (some_step : SomeStepLaw) (old new : World) (sound 
           let longer = laws.begin.longer old.server.store old.files c party (it ∷ []) (stands old sound c party is) own.facts in
           made-alike laws.stay old c party (record (started_with party party.client.lists) { attempts = party.attempts }) (it ∷ [])
           (started-made laws.stay old sound c party is party.attempts (still-itself party.attempts) own.attempts (it ∷ []) party party.client.lists refl refl refl refl
-           (all-map (λ (a : Attempt). IsWork old.files party a.client.asked) (λ a. IsWork (old.files ++ it ∷ []) party a.client.asked) party.attempts
-            (λ a work. work-more old.files (it ∷ []) party a.client.asked work) own.works)
-           (tasks-lists (old.files ++ it ∷ []) c party (started_with party party.client.lists) refl refl refl refl (tasks-more old.files (it ∷ []) c party own.tasks))
-           (laws.stay.started old.server.store (old.files ++ it ∷ []) party longer) may.good)
+          (all-map (λ (a : Attempt). IsWork old.files party a.client.asked) (λ a. IsWork (old.files ++ it ∷ []) party a.client.asked) party.attempts
+          (λ a work. work-more old.files (it ∷ []) party a.client.asked work) own.works)
+          (tasks-lists (old.files ++ it ∷ []) c party (started_with party party.client.lists) refl refl refl refl (tasks-more old.files (it ∷ []) c party own.tasks))
+          (laws.stay.started old.server.store (old.files ++ it ∷ []) party longer) may.good)
           (party_cut begin-part zero) refl (append-nil party.uploads) refl
       begin-cut-made (suc count) =
           let own = sound.parties c party is in
           let lists = tasked-party.client.lists in
           made-alike laws.stay old c party (record (started_with tasked-party lists) { attempts = party.attempts }) (it ∷ [])
           (started-made laws.stay old sound c party is party.attempts (still-itself party.attempts) own.attempts (it ∷ []) tasked-party lists refl refl refl refl may.works
-           (tasks-lists (old.files ++ it ∷ []) c tasked-party (started_with tasked-party lists) refl refl refl refl may.tasks)
-           (laws.stay.started old.server.store (old.files ++ it ∷ []) tasked-party may.facts) may.good)
+          (tasks-lists (old.files ++ it ∷ []) c tasked-party (started_with tasked-party lists) refl refl refl refl may.tasks)
+          (laws.stay.started old.server.store (old.files ++ it ∷ []) tasked-party may.facts) may.good)
           (party_cut begin-part (suc count))
           (ap (λ (commands : List NotesCommand). (started_with party (after_all lists commands)).client) (take-none count))
           (ap (λ (more : List ℕ). party.uploads ++ length old.files ∷ more) (take-none count)) refl

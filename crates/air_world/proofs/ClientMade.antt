@@ -92,17 +92,17 @@ module _ (olds news : List Attempt) where
 
 sits-stays : (server : Server) (me : CallSign) (olds news : List Attempt) → SessionsStay olds news → SitsBy server me olds → SitsBy server me news
 sits-stays server me olds news stay sits = record {
-    none = λ none. over-stays olds news stay (sits.none none);
-    some = λ place c found seat.
-        let session = sits.some place c found seat in
-        record {
-          side = session.side;
-          is_newest = newest-stays olds news stay ∙ session.is_newest;
-          connected_is = session.connected_is;
-          is_up = session.is_up;
-        };
-    newest_up = only-stays olds news stay sits.newest_up;
-  }
+  none = λ none. over-stays olds news stay (sits.none none);
+  some = λ place c found seat.
+      let session = sits.some place c found seat in
+      record {
+        side = session.side;
+        is_newest = newest-stays olds news stay ∙ session.is_newest;
+        connected_is = session.connected_is;
+        is_up = session.is_up;
+      };
+  newest_up = only-stays olds news stay sits.newest_up;
+}
 
 -- ---- more uploads
 
@@ -113,22 +113,22 @@ work-more files more party (work.Download at) is = is
 
 pub tasks-more : (files more : List Asked) (c : ℕ) (party : Party) → AreTasks files c party → AreTasks (files ++ more) c party
 tasks-more files more c party tasks = record {
-    each = λ task entry is.
-        let was = tasks.each task entry is in
-        record {
-          upload = was.upload;
-          is_upload = was.is_upload;
-          asked = was.asked;
-          is_asked = place-more files more was.upload was.asked was.is_asked;
-          whose = was.whose;
-          server_is = was.server_is;
-          caller_is = was.caller_is;
-          name_is = was.name_is;
-          length_is = was.length_is;
-          digest_is = was.digest_is;
-        };
-    as_many = tasks.as_many;
-  }
+  each = λ task entry is.
+      let was = tasks.each task entry is in
+      record {
+        upload = was.upload;
+        is_upload = was.is_upload;
+        asked = was.asked;
+        is_asked = place-more files more was.upload was.asked was.is_asked;
+        whose = was.whose;
+        server_is = was.server_is;
+        caller_is = was.caller_is;
+        name_is = was.name_is;
+        length_is = was.length_is;
+        digest_is = was.digest_is;
+      };
+  as_many = tasks.as_many;
+}
 
 -- ---- the client of the event
 
@@ -165,14 +165,13 @@ module _ (begin_law : BeginLaw) (old : World) (sound : Sound old) (c : ℕ) (was
   -- each client is there, with its stations
   before : (number : ℕ) (that : Party) → IsClientThen number that
       → (it : Party) × PartyAt old number it × (that.client.me ≡ it.client.me) × (that.client.server ≡ it.client.server) × (that.client.window ≡ it.client.window)
-  before number that (own number_is that_is) =
-      (
-        was,
-        ap (λ i. slice_get old.parties i) number_is ∙ is,
-        ap (λ (p : Party). p.client.me) that_is ∙ made.me,
-        ap (λ (p : Party). p.client.server) that_is ∙ made.server,
-        ap (λ (p : Party). p.client.window) that_is ∙ made.window,
-      )
+  before number that (own number_is that_is) = (
+    was,
+    ap (λ i. slice_get old.parties i) number_is ∙ is,
+    ap (λ (p : Party). p.client.me) that_is ∙ made.me,
+    ap (λ (p : Party). p.client.server) that_is ∙ made.server,
+    ap (λ (p : Party). p.client.window) that_is ∙ made.window,
+  )
   before number that (other number_is there) = (that, there, refl, refl, refl)
 
   still : (number : ℕ) (that : Party) → PartyAt old number that → (it : Party) × PartyAt then number it × (it.client.me ≡ that.client.me)
@@ -192,20 +191,20 @@ module _ (begin_law : BeginLaw) (old : World) (sound : Sound old) (c : ℕ) (was
 
   stations : AreStationsOf then
   stations = record {
-      server = sound.stations.server;
-      window = sound.stations.window;
-      most = subst (λ n. n ≤ 8) (sym (length-set-slice old.parties c now)) sound.stations.most;
-      are_calls = each-station (λ (p : Party). IsCall p.client.me)
-          (λ number that it there me server window. subst IsCall (sym me) (all-at (λ (p : Party). IsCall p.client.me) old.parties number it sound.stations.are_calls there));
-      distinct = λ one two party that at_one at_two same.
-          let first = before one party (then-is one party at_one) in
-          let second = before two that (then-is two that at_two) in
-          sound.stations.distinct one two first.0 second.0 first.1 second.1 (sym first.2 ∙ same ∙ second.2);
-      servers = each-station (λ (p : Party). p.client.server ≡ old.server.me)
-          (λ number that it there me server window. server ∙ all-at (λ (p : Party). p.client.server ≡ old.server.me) old.parties number it sound.stations.servers there);
-      windows = each-station (λ (p : Party). p.client.window ≡ old.server.window)
-          (λ number that it there me server window. window ∙ all-at (λ (p : Party). p.client.window ≡ old.server.window) old.parties number it sound.stations.windows there);
-    }
+    server = sound.stations.server;
+    window = sound.stations.window;
+    most = subst (λ n. n ≤ 8) (sym (length-set-slice old.parties c now)) sound.stations.most;
+    are_calls = each-station (λ (p : Party). IsCall p.client.me)
+        (λ number that it there me server window. subst IsCall (sym me) (all-at (λ (p : Party). IsCall p.client.me) old.parties number it sound.stations.are_calls there));
+    distinct = λ one two party that at_one at_two same.
+        let first = before one party (then-is one party at_one) in
+        let second = before two that (then-is two that at_two) in
+        sound.stations.distinct one two first.0 second.0 first.1 second.1 (sym first.2 ∙ same ∙ second.2);
+    servers = each-station (λ (p : Party). p.client.server ≡ old.server.me)
+        (λ number that it there me server window. server ∙ all-at (λ (p : Party). p.client.server ≡ old.server.me) old.parties number it sound.stations.servers there);
+    windows = each-station (λ (p : Party). p.client.window ≡ old.server.window)
+        (λ number that it there me server window. window ∙ all-at (λ (p : Party). p.client.window ≡ old.server.window) old.parties number it sound.stations.windows there);
+  }
 
   sits-then : (number : ℕ) (that : Party) → IsClientThen number that → SitsBy old.server that.client.me that.attempts
   sits-then number that (own number_is that_is) =
@@ -221,15 +220,15 @@ module _ (begin_law : BeginLaw) (old : World) (sound : Sound old) (c : ℕ) (was
 
   own-then : IsParty then c now
   own-then = record {
-      attempts = made.goes.attempts_are;
-      windows = made.goes.windows;
-      works = made.works;
-      link = made.goes.link;
-      may_step = made.goes.may_step;
-      tasks = made.tasks;
-      job = made.job;
-      facts = made.facts;
-    }
+    attempts = made.goes.attempts_are;
+    windows = made.goes.windows;
+    works = made.works;
+    link = made.goes.link;
+    may_step = made.goes.may_step;
+    tasks = made.tasks;
+    job = made.job;
+    facts = made.facts;
+  }
 
   party-then : (number : ℕ) (that : Party) → IsClientThen number that → IsParty then number that
   party-then number that (own number_is that_is) =
@@ -339,12 +338,12 @@ module _ (begin_law : BeginLaw) (old : World) (sound : Sound old) (c : ℕ) (was
 
   pub then-sound : Sound then
   then-sound = record {
-      stations = stations;
-      store = sound.store;
-      may_step = sound.may_step;
-      places = together then (between old sound) known (λ number that there. sits-then number that (then-is number that there));
-      lists = sound.lists;
-      files = each-append (λ (it : Asked). IsGoodFile it.file) old.files asked sound.files made.good;
-      parties = λ number that there. party-then number that (then-is number that there);
-      granted = granted-once;
-    }
+    stations = stations;
+    store = sound.store;
+    may_step = sound.may_step;
+    places = together then (between old sound) known (λ number that there. sits-then number that (then-is number that there));
+    lists = sound.lists;
+    files = each-append (λ (it : Asked). IsGoodFile it.file) old.files asked sound.files made.good;
+    parties = λ number that there. party-then number that (then-is number that there);
+    granted = granted-once;
+  }

@@ -46,8 +46,8 @@ module _ (stay_law : StayLaw) (old : World) (sound : Sound old) (c : ℕ) (party
   quiet-made goes =
       let now = record party { attempts = attempts } in
       let stands = stay-newest
-          (λ side. party.client.attempt ≡ Some side.attempted → AttemptStands side.asked party.client.lists side.attempted)
-          party.attempts attempts still.clients (λ a first link. stands-at party (newest party) a first it.job link) in
+      (λ side. party.client.attempt ≡ Some side.attempted → AttemptStands side.asked party.client.lists side.attempted)
+      party.attempts attempts still.clients (λ a first link. stands-at party (newest party) a first it.job link) in
       record {
         me = refl;
         server = refl;
@@ -73,41 +73,41 @@ module _ (stay_law : StayLaw) (old : World) (sound : Sound old) (c : ℕ) (party
     pub started-made : AreTasks (old.files ++ asked) c (started_with base lists) → HasFacts old.server.store (old.files ++ asked) (started_with base lists)
         → AllByRecursion (λ (it : Asked). IsGoodFile it.file) asked → IsClientMade old c party started-party asked
     started-made tasks facts good = record {
-        me = me_is;
-        server = server_is;
-        window = window_is;
-        goes =
-            record {
-              window = subst IsWindow (sym window_is) (goes-with old sound c party is).window;
-              attempts_are =
-                  subst (λ server. AreAttempts base.client.me server attempts) (sym server_is)
-                  (subst (λ me. AreAttempts me party.client.server attempts) (sym me_is) attempts_are);
-              windows =
-                  stay-windows base.client.window party.attempts attempts still.clients
-                  (subst (λ w. AllByRecursion (λ (a : Attempt). a.window ≡ w) party.attempts) (sym window_is) it.windows);
-              link = tt;
-              may_step = record { silent = refl; fits = tt };
-            };
-        works =
-            all-map (λ (a : Attempt). IsWork (old.files ++ asked) base a.client.asked) (λ a. IsWork (old.files ++ asked) started-party a.client.asked) attempts
-            (λ a work. work-by (old.files ++ asked) base started-party a.client.asked refl refl work)
-            (stay-each (λ side. IsWork (old.files ++ asked) base side.asked) party.attempts attempts still.clients works);
-        tasks = tasks-lists (old.files ++ asked) c (started_with base lists) started-party refl refl refl refl tasks;
-        job = stands-by started-party (newest started-party) (λ a first link. absurd (let none : None ≡ Some a.client.attempted = link in cc));
-        facts =
-            stay_law.same old.server.store (old.files ++ asked) (started_with base lists) started-party
-            (record {
-              me = refl;
-              server = refl;
-              lists = refl;
-              uploads = refl;
-              attempts = subst (λ olds. LookLike olds attempts) (sym attempts_is) still.like;
-              link = λ one other first newest_is link. absurd (let none : None ≡ Some other.client.attempted = link in cc);
-            })
-            facts;
-        sessions = inl still.sessions;
-        good = good;
-      }
+      me = me_is;
+      server = server_is;
+      window = window_is;
+      goes =
+          record {
+            window = subst IsWindow (sym window_is) (goes-with old sound c party is).window;
+            attempts_are =
+                subst (λ server. AreAttempts base.client.me server attempts) (sym server_is)
+                (subst (λ me. AreAttempts me party.client.server attempts) (sym me_is) attempts_are);
+            windows =
+                stay-windows base.client.window party.attempts attempts still.clients
+                (subst (λ w. AllByRecursion (λ (a : Attempt). a.window ≡ w) party.attempts) (sym window_is) it.windows);
+            link = tt;
+            may_step = record { silent = refl; fits = tt };
+          };
+      works =
+          all-map (λ (a : Attempt). IsWork (old.files ++ asked) base a.client.asked) (λ a. IsWork (old.files ++ asked) started-party a.client.asked) attempts
+          (λ a work. work-by (old.files ++ asked) base started-party a.client.asked refl refl work)
+          (stay-each (λ side. IsWork (old.files ++ asked) base side.asked) party.attempts attempts still.clients works);
+      tasks = tasks-lists (old.files ++ asked) c (started_with base lists) started-party refl refl refl refl tasks;
+      job = stands-by started-party (newest started-party) (λ a first link. absurd (let none : None ≡ Some a.client.attempted = link in cc));
+      facts =
+          stay_law.same old.server.store (old.files ++ asked) (started_with base lists) started-party
+          (record {
+            me = refl;
+            server = refl;
+            lists = refl;
+            uploads = refl;
+            attempts = subst (λ olds. LookLike olds attempts) (sym attempts_is) still.like;
+            link = λ one other first newest_is link. absurd (let none : None ≡ Some other.client.attempted = link in cc);
+          })
+          facts;
+      sessions = inl still.sessions;
+      good = good;
+    }
 
 -- ---- which attempts are still so
 
@@ -137,7 +137,7 @@ pub still-answered : (place : ℕ) (t : Transmission) (frames : List FrameValue)
     → IsStill attempts (with_newest (client_sends frames) (with_newest (to_client_delivered place t) attempts))
 still-answered place t frames [] = record { like = tt; clients = tt; sessions = refl }
 still-answered place t frames (a ∷ older) = record {
-    like = (record { asked = refl; entries = refl; job = refl; served = served-same a.server }, like-refl older);
-    clients = (record { client = refl; window = refl }, stay-refl older);
-    sessions = refl;
-  }
+  like = (record { asked = refl; entries = refl; job = refl; served = served-same a.server }, like-refl older);
+  clients = (record { client = refl; window = refl }, stay-refl older);
+  sessions = refl;
+}

@@ -77,10 +77,10 @@ module _ (laws : ClientLaws) (old : World) (sound : Sound old) (c : ℕ) (party 
         ∙ ap (λ (after : Option Attempted). did_by ticks (Some link) after did party.attempts) (ap (λ (it : Client). it.attempt) steps.new_is)
         ∙ ap (λ (attempts : List Attempt). after_client_tick did link attempted attempts) linked.attempts_are
         ∙ ap
-          (λ (call : Bool).
-          if call
-          then called_again did attempted (linked.attempt ∷ linked.older)
-          else with_newest (job_gone_on did attempted (job.entries_ticked link)) (linked.attempt ∷ linked.older)) is_call
+        (λ (call : Bool).
+        if call
+        then called_again did attempted (linked.attempt ∷ linked.older)
+        else with_newest (job_gone_on did attempted (job.entries_ticked link)) (linked.attempt ∷ linked.older)) is_call
 
     -- its job goes on
     module _ (no_call : has_call frames ≡ false) where

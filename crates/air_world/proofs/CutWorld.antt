@@ -90,7 +90,7 @@ module _ (laws : HearingLaws) (some_step : SomeStepLaw) (left_law : LeftLaw) (ol
           let differs : was.client.me ≢ party.client.me = λ same. other (sound.stations.distinct number c was party is coming.is same) in
           laws.stay.over left old.files was
           (laws.stay.other old.files number was party.client.me old.server.store left (stands old sound number was is) (stands old sound c party coming.is).call differs
-           sound.store own-left.follows (sound.parties number was is).facts)
+          sound.store own-left.follows (sound.parties number was is).facts)
 
   pub frame-cut-sound : Sound (cut left_law old (delivered old sound c party place t coming) sound (are-marked old sound c party place t coming left_law) left)
   frame-cut-sound =

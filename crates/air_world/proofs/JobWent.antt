@@ -67,22 +67,22 @@ goes-lists lists lists_now before now (job.queued due ∷ entries) goes = goes-l
 pub tasks-lists : (files : List Asked) (c : ℕ) (one other : Party) → other.client.me ≡ one.client.me → other.client.server ≡ one.client.server → other.client.lists ≡ one.client.lists
     → other.uploads ≡ one.uploads → AreTasks files c one → AreTasks files c other
 tasks-lists files c one other me server lists uploads tasks = record {
-    each = λ task entry is.
-        let was = tasks.each task entry (subst (λ (it : Lists). task_of it task ≡ Some entry) lists is) in
-        record {
-          upload = was.upload;
-          is_upload = subst (λ (u : List ℕ). upload_of (record other { uploads = u }) task ≡ Some was.upload) (sym uploads) was.is_upload;
-          asked = was.asked;
-          is_asked = was.is_asked;
-          whose = was.whose;
-          server_is = was.server_is ∙ sym server;
-          caller_is = was.caller_is ∙ sym me;
-          name_is = was.name_is;
-          length_is = was.length_is;
-          digest_is = was.digest_is;
-        };
-    as_many = ap (λ (u : List ℕ). length u) uploads ∙ tasks.as_many ∙ ap (λ (it : Lists). length it.tasks) (sym lists);
-  }
+  each = λ task entry is.
+      let was = tasks.each task entry (subst (λ (it : Lists). task_of it task ≡ Some entry) lists is) in
+      record {
+        upload = was.upload;
+        is_upload = subst (λ (u : List ℕ). upload_of (record other { uploads = u }) task ≡ Some was.upload) (sym uploads) was.is_upload;
+        asked = was.asked;
+        is_asked = was.is_asked;
+        whose = was.whose;
+        server_is = was.server_is ∙ sym server;
+        caller_is = was.caller_is ∙ sym me;
+        name_is = was.name_is;
+        length_is = was.length_is;
+        digest_is = was.digest_is;
+      };
+  as_many = ap (λ (u : List ℕ). length u) uploads ∙ tasks.as_many ∙ ap (λ (it : Lists). length it.tasks) (sym lists);
+}
 
 no-more : {X : Type 0} (xs : List X) (y : X) (ys : List X) → xs ++ (y ∷ ys) ≡ [] → ⊥
 no-more [] y ys is = absurd cc
@@ -153,28 +153,27 @@ module _ (laws : ClientLaws) (old : World) (sound : Sound old) (c : ℕ) (party 
         by (entry ∷ entries) are None is =
             let unanswered = subst (λ (o : Option ServerSide). IsAnsweredBy went.gone o) (went.server_is ∙ is) gone-is.answered in
             absurd (no-more a.client.entries entry entries (ap (λ (those : List JobEntry). a.client.entries ++ those) (sym are) ∙ sym entries-are ∙ unanswered.unserved))
-        by (entry ∷ entries) are (Some side) is =
-            (
-              side,
-              record {
-                is_side = is;
-                greets = (its-session a a.server side is (its-attempt old sound c party is-party link has).answered).session.greets;
-                client =
-                    subst (λ (those : List JobEntry). AreFirstOf (job.items_in those) (map Ok (said_by_server side)))
-                    (entries-are ∙ ap (λ (those : List JobEntry). a.client.entries ++ those) are)
-                    (laws.fronts now.me now.server went.gone side gone-is (went.server_is ∙ is)).1;
-                server = (laws.fronts party.client.me party.client.server a side (its-attempt old sound c party is-party link has) is).0;
-              },
-            )
+        by (entry ∷ entries) are (Some side) is = (
+          side,
+          record {
+            is_side = is;
+            greets = (its-session a a.server side is (its-attempt old sound c party is-party link has).answered).session.greets;
+            client =
+                subst (λ (those : List JobEntry). AreFirstOf (job.items_in those) (map Ok (said_by_server side)))
+                (entries-are ∙ ap (λ (those : List JobEntry). a.client.entries ++ those) are)
+                (laws.fronts now.me now.server went.gone side gone-is (went.server_is ∙ is)).1;
+            server = (laws.fronts party.client.me party.client.server a side (its-attempt old sound c party is-party link has) is).0;
+          },
+        )
 
     abbrev works : IsWorking old.server.store old.files c party
     works = working old sound c party is-party link has
 
     goes-on : JobGoes party went.entries (after_all party.client.lists went.happened.noted) attempted-now a
     goes-on = record {
-        goes = subst (λ (before : Attempted). job.GoesBy party.client.lists before.job went.entries (after_all party.client.lists went.happened.noted) attempted-now.job) (sym linked.attempted_is) went.goes;
-        front = front;
-      }
+      goes = subst (λ (before : Attempted). job.GoesBy party.client.lists before.job went.entries (after_all party.client.lists went.happened.noted) attempted-now.job) (sym linked.attempted_is) went.goes;
+      front = front;
+    }
 
     kept : JobKeeps old.server.store old.files party (with_job party (after_all party.client.lists went.happened.noted) attempted-now (job_gone went.entries attempted-now a) linked.older) went.entries
     kept = laws.job old.server.store old.files c party went.entries (after_all party.client.lists went.happened.noted) attempted-now works tt tt goes-on
@@ -188,16 +187,15 @@ module _ (laws : ClientLaws) (old : World) (sound : Sound old) (c : ℕ) (party 
           server = server-is;
           lists = now-lists;
           uploads = refl;
-          attempts =
-              (
-                record {
-                  asked = ap (λ (side : ClientSide). side.asked) went.client_is;
-                  entries = entries-are;
-                  job = ap (λ (side : ClientSide). side.attempted.job) went.client_is;
-                  served = subst (λ (o : Option ServerSide). LooksServed a.server o) (sym went.server_is) (served-same a.server);
-                },
-                like-refl linked.older,
-              );
+          attempts = (
+            record {
+              asked = ap (λ (side : ClientSide). side.asked) went.client_is;
+              entries = entries-are;
+              job = ap (λ (side : ClientSide). side.attempted.job) went.client_is;
+              served = subst (λ (o : Option ServerSide). LooksServed a.server o) (sym went.server_is) (served-same a.server);
+            },
+            like-refl linked.older,
+          );
           link = λ one other first newest_is linked_is. ap Some (ap (λ (it : Attempt). it.client.attempted) (same_Some (job_gone went.entries attempted-now a) one first));
         })
         kept.facts
@@ -221,9 +219,8 @@ module _ (laws : ClientLaws) (old : World) (sound : Sound old) (c : ℕ) (party 
     works-now : EachAttempt now-party (λ a. IsWork old.files now-party a.client.asked)
     works-now =
         let all : AllByRecursion (λ (it : Attempt). IsWork old.files party it.client.asked) (a ∷ linked.older) =
-            subst (λ attempts. AllByRecursion (λ (it : Attempt). IsWork old.files party it.client.asked) attempts) linked.attempts_are it.works in
-        let of = λ (asked : Work) (works : IsWork old.files party asked). work-by old.files party now-party asked server-is refl works in
-        (
+        subst (λ attempts. AllByRecursion (λ (it : Attempt). IsWork old.files party it.client.asked) attempts) linked.attempts_are it.works in
+        let of = λ (asked : Work) (works : IsWork old.files party asked). work-by old.files party now-party asked server-is refl works in (
           of went.gone.client.asked (subst (λ asked. IsWork old.files party asked) (sym (ap (λ (side : ClientSide). side.asked) went.client_is)) all.0),
           all-map (λ (it : Attempt). IsWork old.files party it.client.asked) (λ it. IsWork old.files now-party it.client.asked) linked.older (λ it works. of it.client.asked works) all.1,
         )
@@ -231,8 +228,8 @@ module _ (laws : ClientLaws) (old : World) (sound : Sound old) (c : ℕ) (party 
     job-now : StandsBy now-party (newest now-party)
     job-now link_is =
         let stands : JobStands went.gone.client.asked now.lists went.gone.client.attempted.job =
-            subst (λ (side : ClientSide). JobStands side.asked now.lists side.attempted.job) (sym went.client_is)
-            (subst (λ lists. JobStands a.client.asked lists went.happened.after.job) (sym now-lists) went.stands.job) in
+        subst (λ (side : ClientSide). JobStands side.asked now.lists side.attempted.job) (sym went.client_is)
+        (subst (λ lists. JobStands a.client.asked lists went.happened.after.job) (sym now-lists) went.stands.job) in
         stands-job went.gone.client.asked now.lists went.gone.client gone-is.job stands
 
     sessions-now : SessionsStay party.attempts now-party.attempts
@@ -242,14 +239,14 @@ module _ (laws : ClientLaws) (old : World) (sound : Sound old) (c : ℕ) (party 
 
     pub client-made : IsClientMade old c party now-party []
     client-made = record {
-        me = me-is;
-        server = server-is;
-        window = ap (λ (it : Client). it.window) went.now_is;
-        goes = went.goes_with;
-        works = subst (λ files. EachAttempt now-party (λ a. IsWork files now-party a.client.asked)) (sym (append-nil old.files)) works-now;
-        tasks = subst (λ files. AreTasks files c now-party) (sym (append-nil old.files)) tasks-now;
-        job = job-now;
-        facts = subst (λ files. HasFacts old.server.store files now-party) (sym (append-nil old.files)) facts-now;
-        sessions = sessions-now;
-        good = tt;
-      }
+      me = me-is;
+      server = server-is;
+      window = ap (λ (it : Client). it.window) went.now_is;
+      goes = went.goes_with;
+      works = subst (λ files. EachAttempt now-party (λ a. IsWork files now-party a.client.asked)) (sym (append-nil old.files)) works-now;
+      tasks = subst (λ files. AreTasks files c now-party) (sym (append-nil old.files)) tasks-now;
+      job = job-now;
+      facts = subst (λ files. HasFacts old.server.store files now-party) (sym (append-nil old.files)) facts-now;
+      sessions = sessions-now;
+      good = tt;
+    }

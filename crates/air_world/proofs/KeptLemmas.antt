@@ -49,7 +49,7 @@ module _ (laws : KeptLaws) (old new : World) (sound : Sound old) where
     with-part c part c_is part_is does =
         does happens.part.party.is_cut
         (subst (λ c. ClientDoes happens.part.party.is_cut old c part new) c_is
-         (subst (λ part. ClientDoes happens.part.party.is_cut old happens.c part new) part_is happens.does))
+        (subst (λ part. ClientDoes happens.part.party.is_cut old happens.c part new) part_is happens.does))
 
   -- a work without a new task
   ask-kept : (event : Event) (happens : ClientEvent old event new) (c : ℕ) (party : Party) (wanted : Work) → happens.c ≡ c → PartyAt old happens.c party → happens.part ≡ asking party wanted
@@ -119,11 +119,11 @@ module _ (laws : KeptLaws) (old new : World) (sound : Sound old) where
       let lawful = subst (λ (a : Attempt). IsLawful a.window a.by_server place of.1) attempt_is of.3 in
       let t_is = same_Some of.1 it.t (sym lawful.sent ∙ it.sent.is_at) in
       let coming : IsReceiving old c party place it.t = record {
-            is = is;
-            attempt = it.sent.attempt;
-            current = it.sent.current;
-            lawful = subst (λ (t : Transmission). IsLawful it.sent.attempt.window it.sent.attempt.by_server place t) t_is lawful;
-          } in
+        is = is;
+        attempt = it.sent.attempt;
+        current = it.sent.current;
+        lawful = subst (λ (t : Transmission). IsLawful it.sent.attempt.window it.sent.attempt.by_server place t) t_is lawful;
+      } in
       with-part (to_client (suc c) (suc place)) happens c (part_with (with_current (to_client_delivered place it.t) party) (client.hears it.t.frame)) takes.0 it.part_is
       (events.frame-does laws.client laws.client_steps old new sound c place party it.t coming)
 
@@ -148,24 +148,24 @@ module _ (laws : KeptLaws) (old new : World) (sound : Sound old) where
 
   noted-made : IsMade noted
   noted-made = record {
-      between = between old sound;
-      known = λ place seat at.
-          let session = sound.places.sessions place seat at in (session.c, session.party, session.is_party, session.caller_is);
-      store = sound.store;
-      lists = sound.lists;
-      calls = λ c party is. calls old sound c party is;
-      facts = λ c party is. (sound.parties c party is).facts;
-      granted = granted-like old noted (λ c party is. (party, is, like-refl party.attempts)) sound.granted;
-    }
+    between = between old sound;
+    known = λ place seat at.
+        let session = sound.places.sessions place seat at in (session.c, session.party, session.is_party, session.caller_is);
+    store = sound.store;
+    lists = sound.lists;
+    calls = λ c party is. calls old sound c party is;
+    facts = λ c party is. (sound.parties c party is).facts;
+    granted = granted-like old noted (λ c party is. (party, is, like-refl party.attempts)) sound.granted;
+  }
 
   noted-stay : StayParties old noted
   noted-stay = record {
-      me = refl;
-      window = refl;
-      files = refl;
-      many = refl;
-      each = λ c party is. (party, is, record { client = refl; uploads = refl; attempts = stay-refl party.attempts });
-    }
+    me = refl;
+    window = refl;
+    files = refl;
+    many = refl;
+    each = λ c party is. (party, is, record { client = refl; uploads = refl; attempts = stay-refl party.attempts });
+  }
 
   server-note-kept : new ≡ noted → Sound new
   server-note-kept new_is = subst Sound (sym new_is) (rebuilt old noted sound noted-stay noted-made)

@@ -97,16 +97,16 @@ like-at (a ∷ olds) (n ∷ news) (suc at) b side like is is_side = like-at olds
 -- a client whose link was that of its current attempt, or none, and whose side of that is as it was
 pub same-party : (old new : Party) → new.client ≡ old.client → new.uploads ≡ old.uploads → LookLike old.attempts new.attempts → ClientsStay old.attempts new.attempts → IsSameParty old new
 same-party old new client uploads like stays = record {
-    me = ap (λ (it : Client). it.me) client;
-    server = ap (λ (it : Client). it.server) client;
-    lists = ap (λ (it : Client). it.lists) client;
-    uploads = uploads;
-    attempts = like;
-    link = λ a b is now link.
-        let same = stay-newest (λ (side : ClientSide). side.attempted ≡ a.client.attempted) old.attempts new.attempts stays
-            (λ it there. ap (λ (one : Attempt). one.client.attempted) (same_Some it a (sym there ∙ is))) b now in
-        ap (λ (it : Client). it.attempt) (sym client) ∙ link ∙ ap Some same;
-  }
+  me = ap (λ (it : Client). it.me) client;
+  server = ap (λ (it : Client). it.server) client;
+  lists = ap (λ (it : Client). it.lists) client;
+  uploads = uploads;
+  attempts = like;
+  link = λ a b is now link.
+      let same = stay-newest (λ (side : ClientSide). side.attempted ≡ a.client.attempted) old.attempts new.attempts stays
+      (λ it there. ap (λ (one : Attempt). one.client.attempted) (same_Some it a (sym there ∙ is))) b now in
+      ap (λ (it : Client). it.attempt) (sym client) ∙ link ∙ ap Some same;
+}
 
 -- ---- states
 

@@ -22,20 +22,20 @@ length-set-slice (y ∷ ys) (suc i) x = ap suc (length-set-slice ys i x)
 -- nothing is delivered
 pub none-marked : (old : World) → Sound old → AreMarked old old
 none-marked old sound = record {
-    files = refl;
-    many = refl;
-    each = λ c party is. (
-        party,
-        is,
-        record {
-          client = refl;
-          uploads = refl;
-          like = like-refl party.attempts;
-          stays = stay-refl party.attempts;
-          attempts_are = (calls old sound c party is).attempts_are;
-        },
-      );
-  }
+  files = refl;
+  many = refl;
+  each = λ c party is. (
+    party,
+    is,
+    record {
+      client = refl;
+      uploads = refl;
+      like = like-refl party.attempts;
+      stays = stay-refl party.attempts;
+      attempts_are = (calls old sound c party is).attempts_are;
+    },
+  );
+}
 
 -- A transmission of the current attempt of the client at this place may be delivered.
 pub record IsComing (old : World) (c : ℕ) (party : Party) (place : ℕ) (t : Transmission) : Type 0 where
@@ -53,14 +53,14 @@ module _ (old : World) (sound : Sound old) (c : ℕ) (party : Party) (place : �
 
   pub delivers : DeliversToServer party.attempts t.frame marked
   delivers = record {
-      attempt = coming.attempt;
-      current = coming.current;
-      place = place;
-      t = t;
-      lawful = coming.lawful;
-      frame_is = refl;
-      marked_is = refl;
-    }
+    attempt = coming.attempt;
+    current = coming.current;
+    place = place;
+    t = t;
+    lawful = coming.lawful;
+    frame_is = refl;
+    marked_is = refl;
+  }
 
   its-calls : Calls old.server party.client.me party.attempts
   its-calls = calls old sound c party coming.is
@@ -75,33 +75,32 @@ module _ (old : World) (sound : Sound old) (c : ℕ) (party : Party) (place : �
   module _ (left_law : LeftLaw) where
     own-marked : IsMarked old party (with_current (to_server_delivered place t) party)
     own-marked = record {
-        client = refl;
-        uploads = refl;
-        like = newest-like (to_server_delivered place t) party.attempts (λ a. record { asked = refl; entries = refl; job = refl; served = served-same a.server });
-        stays = newest-stays (to_server_delivered place t) party.attempts (λ a. record { client = refl; window = refl });
-        attempts_are = left_law.to_server party.client.me old.server.me party.attempts marked t.frame its-calls.attempts_are delivers;
-      }
+      client = refl;
+      uploads = refl;
+      like = newest-like (to_server_delivered place t) party.attempts (λ a. record { asked = refl; entries = refl; job = refl; served = served-same a.server });
+      stays = newest-stays (to_server_delivered place t) party.attempts (λ a. record { client = refl; window = refl });
+      attempts_are = left_law.to_server party.client.me old.server.me party.attempts marked t.frame its-calls.attempts_are delivers;
+    }
 
     pub are-marked : AreMarked old delivered
     are-marked = record {
-        files = refl;
-        many = length-set-slice old.parties c (with_current (to_server_delivered place t) party);
-        each = λ number that is. by number that (set-at old.parties c number (with_current (to_server_delivered place t) party) that is);
-      }
+      files = refl;
+      many = length-set-slice old.parties c (with_current (to_server_delivered place t) party);
+      each = λ number that is. by number that (set-at old.parties c number (with_current (to_server_delivered place t) party) that is);
+    }
       where
         by : (number : ℕ) (that : Party) → ((number ≡ c) × (that ≡ with_current (to_server_delivered place t) party)) ⊎ ((number ≡ c → ⊥) × (slice_get old.parties number ≡ Some that))
             → (was : Party) × PartyAt old number was × IsMarked old was that
         by number that (inl own) =
             (party, ap (λ i. slice_get old.parties i) own.0 ∙ coming.is, subst (λ (p : Party). IsMarked old party p) (sym own.1) own-marked)
-        by number that (inr other) =
-            (
-              that,
-              other.1,
-              record {
-                client = refl;
-                uploads = refl;
-                like = like-refl that.attempts;
-                stays = stay-refl that.attempts;
-                attempts_are = (calls old sound number that other.1).attempts_are;
-              },
-            )
+        by number that (inr other) = (
+          that,
+          other.1,
+          record {
+            client = refl;
+            uploads = refl;
+            like = like-refl that.attempts;
+            stays = stay-refl that.attempts;
+            attempts_are = (calls old sound number that other.1).attempts_are;
+          },
+        )

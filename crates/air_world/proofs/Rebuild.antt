@@ -61,22 +61,22 @@ work-same files one other (work.Download at) client uploads is = (is.0 ∙ ap (�
 
 pub tasks-same : (files : List Asked) (c : ℕ) (one other : Party) → other.client ≡ one.client → other.uploads ≡ one.uploads → AreTasks files c one → AreTasks files c other
 tasks-same files c one other client uploads tasks = record {
-    each = λ task entry is.
-        let was = tasks.each task entry (subst (λ (it : Client). task_of it.lists task ≡ Some entry) client is) in
-        record {
-          upload = was.upload;
-          is_upload = subst (λ (u : List ℕ). upload_of (record other { uploads = u }) task ≡ Some was.upload) (sym uploads) was.is_upload;
-          asked = was.asked;
-          is_asked = was.is_asked;
-          whose = was.whose;
-          server_is = was.server_is ∙ ap (λ (it : Client). it.server) (sym client);
-          caller_is = was.caller_is ∙ ap (λ (it : Client). it.me) (sym client);
-          name_is = was.name_is;
-          length_is = was.length_is;
-          digest_is = was.digest_is;
-        };
-    as_many = ap (λ (u : List ℕ). length u) uploads ∙ tasks.as_many ∙ ap (λ (it : Client). length it.lists.tasks) (sym client);
-  }
+  each = λ task entry is.
+      let was = tasks.each task entry (subst (λ (it : Client). task_of it.lists task ≡ Some entry) client is) in
+      record {
+        upload = was.upload;
+        is_upload = subst (λ (u : List ℕ). upload_of (record other { uploads = u }) task ≡ Some was.upload) (sym uploads) was.is_upload;
+        asked = was.asked;
+        is_asked = was.is_asked;
+        whose = was.whose;
+        server_is = was.server_is ∙ ap (λ (it : Client). it.server) (sym client);
+        caller_is = was.caller_is ∙ ap (λ (it : Client). it.me) (sym client);
+        name_is = was.name_is;
+        length_is = was.length_is;
+        digest_is = was.digest_is;
+      };
+  as_many = ap (λ (u : List ℕ). length u) uploads ∙ tasks.as_many ∙ ap (λ (it : Client). length it.lists.tasks) (sym client);
+}
 
 -- the notes go with the job of the current attempt, of whatever one that is
 pub stands-at : (party : Party) (o : Option Attempt) (a : Attempt) → o ≡ Some a → StandsBy party o
@@ -102,18 +102,18 @@ module _ (old new : World) (sound : Sound old) (stay : StayParties old new) (mad
 
   stations : AreStationsOf new
   stations = record {
-      server = subst IsCall (sym stay.me) sound.stations.server;
-      window = made.between.window;
-      most = subst (λ n. n ≤ 8) (sym stay.many) sound.stations.most;
-      are_calls = each-client (λ (it : Client). IsCall it.me) sound.stations.are_calls;
-      distinct = λ c other party that is is_that same.
-          let one = stay.each c party is in
-          let two = stay.each other that is_that in
-          let me = λ (it : Client). it.me in
-          sound.stations.distinct c other one.0 two.0 one.1 two.1 (ap me (sym one.2.client) ∙ same ∙ ap me two.2.client);
-      servers = subst (λ me. AllByRecursion (λ (p : Party). p.client.server ≡ me) new.parties) (sym stay.me) (each-client (λ (it : Client). it.server ≡ old.server.me) sound.stations.servers);
-      windows = subst (λ w. AllByRecursion (λ (p : Party). p.client.window ≡ w) new.parties) (sym stay.window) (each-client (λ (it : Client). it.window ≡ old.server.window) sound.stations.windows);
-    }
+    server = subst IsCall (sym stay.me) sound.stations.server;
+    window = made.between.window;
+    most = subst (λ n. n ≤ 8) (sym stay.many) sound.stations.most;
+    are_calls = each-client (λ (it : Client). IsCall it.me) sound.stations.are_calls;
+    distinct = λ c other party that is is_that same.
+        let one = stay.each c party is in
+        let two = stay.each other that is_that in
+        let me = λ (it : Client). it.me in
+        sound.stations.distinct c other one.0 two.0 one.1 two.1 (ap me (sym one.2.client) ∙ same ∙ ap me two.2.client);
+    servers = subst (λ me. AllByRecursion (λ (p : Party). p.client.server ≡ me) new.parties) (sym stay.me) (each-client (λ (it : Client). it.server ≡ old.server.me) sound.stations.servers);
+    windows = subst (λ w. AllByRecursion (λ (p : Party). p.client.window ≡ w) new.parties) (sym stay.window) (each-client (λ (it : Client). it.window ≡ old.server.window) sound.stations.windows);
+  }
 
   module _ (c : ℕ) (party : Party) (is : PartyAt new c party) where
     server-is : party.client.server ≡ new.server.me
@@ -129,8 +129,8 @@ module _ (old new : World) (sound : Sound old) (stay : StayParties old new) (mad
         let calls = made.calls c party is in
         let asked = stay-each (λ side. IsWork old.files before side.asked) before.attempts party.attempts same.attempts it.works in
         let stands = stay-newest
-            (λ side. before.client.attempt ≡ Some side.attempted → AttemptStands side.asked before.client.lists side.attempted)
-            before.attempts party.attempts same.attempts (λ a now link. stands-at before (newest before) a now it.job link) in
+        (λ side. before.client.attempt ≡ Some side.attempted → AttemptStands side.asked before.client.lists side.attempted)
+        before.attempts party.attempts same.attempts (λ a now link. stands-at before (newest before) a now it.job link) in
         record {
           attempts = subst (λ server. AreAttempts party.client.me server party.attempts) (sym server-is) calls.attempts_are;
           windows = subst (λ w. AllByRecursion (λ (a : Attempt). a.window ≡ w) party.attempts) (sym window-is) calls.windows;
@@ -150,12 +150,12 @@ module _ (old new : World) (sound : Sound old) (stay : StayParties old new) (mad
 
   pub rebuilt : Sound new
   rebuilt = record {
-      stations = stations;
-      store = made.store;
-      may_step = made.between.may_step;
-      places = together new made.between made.known (λ c party is. (made.calls c party is).sits);
-      lists = made.lists;
-      files = subst (λ files. AllByRecursion (λ (asked : Asked). IsGoodFile asked.file) files) (sym stay.files) sound.files;
-      parties = λ c party is. let before = stay.each c party is in made-by c party is before.0 before.1 before.2;
-      granted = made.granted;
-    }
+    stations = stations;
+    store = made.store;
+    may_step = made.between.may_step;
+    places = together new made.between made.known (λ c party is. (made.calls c party is).sits);
+    lists = made.lists;
+    files = subst (λ files. AllByRecursion (λ (asked : Asked). IsGoodFile asked.file) files) (sym stay.files) sound.files;
+    parties = λ c party is. let before = stay.each c party is in made-by c party is before.0 before.1 before.2;
+    granted = made.granted;
+  }

@@ -143,13 +143,13 @@ same-connected one other same = cc
 module _ (world : World) (sound : Sound world) where
   pub between : IsBetween world.server
   between = record {
-      window = sound.stations.window;
-      may_step = sound.may_step;
-      eight = sound.places.eight;
-      distinct = sound.places.distinct;
-      none_leaving = sound.places.none_leaving;
-      ups = sound.places.ups;
-    }
+    window = sound.stations.window;
+    may_step = sound.may_step;
+    eight = sound.places.eight;
+    distinct = sound.places.distinct;
+    none_leaving = sound.places.none_leaving;
+    ups = sound.places.ups;
+  }
 
   module _ (c : ℕ) (party : Party) (is : PartyAt world c party) where
     it : IsParty world c party
@@ -203,14 +203,14 @@ module _ (world : World) (sound : Sound world) where
 
     pub calls : Calls world.server party.client.me party.attempts
     calls = record {
-        attempts_are = subst (λ server. AreAttempts party.client.me server party.attempts) server-is it.attempts;
-        windows = subst (λ w. AllByRecursion (λ (a : Attempt). a.window ≡ w) party.attempts) window-is it.windows;
-        sits = record {
-          none = all-over;
-          some = its-session;
-          newest_up = all-at (λ (p : Party). OnlyNewestUp p.attempts) world.parties c party sound.places.newest_up is;
-        };
-      }
+      attempts_are = subst (λ server. AreAttempts party.client.me server party.attempts) server-is it.attempts;
+      windows = subst (λ w. AllByRecursion (λ (a : Attempt). a.window ≡ w) party.attempts) window-is it.windows;
+      sits = record {
+        none = all-over;
+        some = its-session;
+        newest_up = all-at (λ (p : Party). OnlyNewestUp p.attempts) world.parties c party sound.places.newest_up is;
+      };
+    }
 
 -- ---- together
 
@@ -279,13 +279,13 @@ AreSeatsKnown world =
 pub together : (world : World) → IsBetween world.server → AreSeatsKnown world
     → ((c : ℕ) (party : Party) → PartyAt world c party → SitsBy world.server party.client.me party.attempts) → ArePlaces world
 together world between known sits = record {
-    eight = between.eight;
-    sessions = λ place seat at.
-        let of = known place seat at in session-sits world of.0 of.1 of.2 between (sits of.0 of.1 of.2) place seat at of.3;
-    ups = between.ups;
-    seated = λ c at party side is is_side up.
-        side-sits world.server party.client.me party.attempts at is_side.attempt side (sits c party is) is_side.is_attempt is_side.is_side up;
-    newest_up = all-by (λ (p : Party). OnlyNewestUp p.attempts) world.parties (λ c party is. (sits c party is).newest_up);
-    distinct = between.distinct;
-    none_leaving = between.none_leaving;
-  }
+  eight = between.eight;
+  sessions = λ place seat at.
+      let of = known place seat at in session-sits world of.0 of.1 of.2 between (sits of.0 of.1 of.2) place seat at of.3;
+  ups = between.ups;
+  seated = λ c at party side is is_side up.
+      side-sits world.server party.client.me party.attempts at is_side.attempt side (sits c party is) is_side.is_attempt is_side.is_side up;
+  newest_up = all-by (λ (p : Party). OnlyNewestUp p.attempts) world.parties (λ c party is. (sits c party is).newest_up);
+  distinct = between.distinct;
+  none_leaving = between.none_leaving;
+}

@@ -37,13 +37,13 @@ stands world sound c party is =
 
 pub granted-at : (world : World) (c : ℕ) (party : Party) → PartyAt world c party → (at number : ℕ) → GrantedAt party at number → sound.GrantedAt world c at number
 granted-at world c party is at number granted = record {
-    party = party;
-    is_party = is;
-    side = granted.side;
-    is_side = record { attempt = granted.attempt; is_attempt = granted.is_attempt; is_side = granted.is_side };
-    file_length = granted.file_length;
-    grants = granted.grants;
-  }
+  party = party;
+  is_party = is;
+  side = granted.side;
+  is_side = record { attempt = granted.attempt; is_attempt = granted.is_attempt; is_side = granted.is_side };
+  file_length = granted.file_length;
+  grants = granted.grants;
+}
 
 pub grants-once : (world : World) → Sound world → (c : ℕ) (party : Party) → PartyAt world c party → GrantsOnce party
 grants-once world sound c party is at that number one two =
@@ -105,36 +105,36 @@ module _ (laws : SessionLaws) (old : World) (sound : Sound old) (c : ℕ) (party
 
   pub served : IsServed old.files c party before-session
   served = record {
-      stands = stands old sound c party coming.is;
-      attempt = attempt;
-      older = by-session.older;
-      attempts_are = by-session.attempts_are;
-      side = side;
-      is_side = by-session.is_side;
-      is_up = by-session.is_up;
-      caller_is = caller-is;
-      state_is = ap (λ (c : Connected). c.state) (sym by-session.connected_is);
-      none_lost = answered.session.none_lost by-session.is_up;
-      greets = answered.session.greets;
-      begun = is-attempt.job.begun;
-      heard = (laws.fronts party.client.me old.server.me attempt side is-attempt by-session.is_side).1;
-      older_over = older-over;
-      once = grants-once old sound c party coming.is;
-      store = sound.store;
-      lists = sound.lists;
-      facts = (sound.parties c party coming.is).facts;
-    }
+    stands = stands old sound c party coming.is;
+    attempt = attempt;
+    older = by-session.older;
+    attempts_are = by-session.attempts_are;
+    side = side;
+    is_side = by-session.is_side;
+    is_up = by-session.is_up;
+    caller_is = caller-is;
+    state_is = ap (λ (c : Connected). c.state) (sym by-session.connected_is);
+    none_lost = answered.session.none_lost by-session.is_up;
+    greets = answered.session.greets;
+    begun = is-attempt.job.begun;
+    heard = (laws.fronts party.client.me old.server.me attempt side is-attempt by-session.is_side).1;
+    older_over = older-over;
+    once = grants-once old sound c party coming.is;
+    store = sound.store;
+    lists = sound.lists;
+    facts = (sound.parties c party coming.is).facts;
+  }
 
   pub goes : (up : Bool) → (up ≡ true → AllByRecursion session.IsNotLost entries) → SessionGoes party moment before-session now-session entries up attempt side
   goes up none_lost = record {
-      goes =
-          subst (λ caller. session.GoesBy caller moment before-session entries now-session) (ap caller_of (sym by-session.connected_is) ∙ caller-is)
-          (laws.entries old.server.window moment old.server.store old.server.lists seat t.frame ((between old sound).ups at seat seated) is_packet).1;
-      none_lost = none_lost;
-      front = laws.heard_front old.server t.frame moment party.attempts (marked old sound c party place t coming) at seat (between old sound) calls-src
-          (delivers old sound c party place t coming) is_packet found seated by-session;
-      client_fits = is-attempt.job.fits;
-    }
+    goes =
+        subst (λ caller. session.GoesBy caller moment before-session entries now-session) (ap caller_of (sym by-session.connected_is) ∙ caller-is)
+        (laws.entries old.server.window moment old.server.store old.server.lists seat t.frame ((between old sound).ups at seat seated) is_packet).1;
+    none_lost = none_lost;
+    front = laws.heard_front old.server t.frame moment party.attempts (marked old sound c party place t coming) at seat (between old sound) calls-src
+        (delivers old sound c party place t coming) is_packet found seated by-session;
+    client_fits = is-attempt.job.fits;
+  }
 
   -- the commands are those of the entries
   pub done-are : (hearing old.server.window moment old.server.store old.server.lists seat t.frame []).done ≡ session.commands_in entries

@@ -39,13 +39,13 @@ none-leaving place c is = absurd (let no_free = all-free place (leaving c) is in
 
 new-between : (me : CallSign) (w : Window) (store : Store) → IsWindow w → IsBetween (new_server me w store)
 new-between me w store window = record {
-    window = window;
-    may_step = record { silent = refl; fits = (tt, (tt, (tt, (tt, (tt, (tt, (tt, (tt, tt)))))))); queued = (tt, (tt, (tt, (tt, (tt, (tt, (tt, (tt, tt)))))))) };
-    eight = refl;
-    distinct = λ place other c that is is_that same. absurd (none-connected place c is);
-    none_leaving = none-leaving;
-    ups = λ place c is. absurd (none-connected place c is);
-  }
+  window = window;
+  may_step = record { silent = refl; fits = (tt, (tt, (tt, (tt, (tt, (tt, (tt, (tt, tt)))))))); queued = (tt, (tt, (tt, (tt, (tt, (tt, (tt, (tt, tt)))))))) };
+  eight = refl;
+  distinct = λ place other c that is is_that same. absurd (none-connected place c is);
+  none_leaving = none-leaving;
+  ups = λ place c is. absurd (none-connected place c is);
+}
 
 -- ---- sessions that are over
 
@@ -160,49 +160,49 @@ module _ (left_law : LeftLaw) (old delivered : World) (sound : Sound old) (marke
     facts-then c was mid is mark =
         subst (λ files. HasFacts left files (sessions_over mid)) (sym marked.files)
         (stay_law.same left old.files (sessions_over was) (sessions_over mid)
-         (same-party (sessions_over was) (sessions_over mid) mark.client mark.uploads (both-over was.attempts mid.attempts mark.like) (both-stay was.attempts mid.attempts mark.stays))
-         (facts c was is))
+        (same-party (sessions_over was) (sessions_over mid) mark.client mark.uploads (both-over was.attempts mid.attempts mark.like) (both-stay was.attempts mid.attempts mark.stays))
+        (facts c was is))
 
     made : IsMade cut
     made = record {
-        between = new-between old.server.me old.server.window left (between old sound).window;
-        known = λ place seat at. absurd (none-connected place seat at);
-        store = store;
-        lists = λ k d within. absurd (omega (arith, within));
-        calls = λ c party is.
-            let was = before c party is in
-            subst (λ (p : Party). Calls cut.server p.client.me p.attempts) (sym was.4) (calls-then c was.0 was.2 was.1 was.3);
-        facts = λ c party is.
-            let was = before c party is in subst (λ (p : Party). HasFacts left delivered.files p) (sym was.4) (facts-then c was.0 was.2 was.1 was.3);
-        granted =
-            granted-like old cut
-            (λ c party is.
-            let was = before c party is in (
-              was.0,
-              was.1,
-              subst (λ (p : Party). LookLike was.0.attempts p.attempts) (sym was.4) (like-over was.0.attempts was.2.attempts was.3.like),
-            ))
-            sound.granted;
-      }
+      between = new-between old.server.me old.server.window left (between old sound).window;
+      known = λ place seat at. absurd (none-connected place seat at);
+      store = store;
+      lists = λ k d within. absurd (omega (arith, within));
+      calls = λ c party is.
+          let was = before c party is in
+          subst (λ (p : Party). Calls cut.server p.client.me p.attempts) (sym was.4) (calls-then c was.0 was.2 was.1 was.3);
+      facts = λ c party is.
+          let was = before c party is in subst (λ (p : Party). HasFacts left delivered.files p) (sym was.4) (facts-then c was.0 was.2 was.1 was.3);
+      granted =
+          granted-like old cut
+          (λ c party is.
+          let was = before c party is in (
+            was.0,
+            was.1,
+            subst (λ (p : Party). LookLike was.0.attempts p.attempts) (sym was.4) (like-over was.0.attempts was.2.attempts was.3.like),
+          ))
+          sound.granted;
+    }
 
     stay : StayParties old cut
     stay = record {
-        me = refl;
-        window = refl;
-        files = marked.files;
-        many = length-map delivered.parties sessions_over ∙ marked.many;
-        each = λ c party is.
-            let was = before c party is in (
-              was.0,
-              was.1,
-              subst (λ (p : Party). StaysParty was.0 p) (sym was.4)
-              (record {
-                client = was.3.client;
-                uploads = was.3.uploads;
-                attempts = stay-trans was.0.attempts was.2.attempts (all_over was.2.attempts) was.3.stays (over-stays was.2.attempts);
-              }),
-            );
-      }
+      me = refl;
+      window = refl;
+      files = marked.files;
+      many = length-map delivered.parties sessions_over ∙ marked.many;
+      each = λ c party is.
+          let was = before c party is in (
+            was.0,
+            was.1,
+            subst (λ (p : Party). StaysParty was.0 p) (sym was.4)
+                (record {
+                  client = was.3.client;
+                  uploads = was.3.uploads;
+                  attempts = stay-trans was.0.attempts was.2.attempts (all_over was.2.attempts) was.3.stays (over-stays was.2.attempts);
+                }),
+          );
+    }
 
     pub cut-sound : Sound cut
     cut-sound = rebuilt old cut sound stay made

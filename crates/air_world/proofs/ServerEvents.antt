@@ -40,8 +40,8 @@ module _ (laws : ServerLaws) (old new : World) (sound : Sound old) where
       let it = subst (λ coming. ServerGoes old coming old new) coming_is (subst (λ d. ServerGoes old coming d new) those_is goes) in
       subst Sound
       (sym
-       (it.new_is
-        ∙ ap (λ (did : ServerDid). counted (record old { server = it.gives.new; parties = parties_after did (tick_comes (next_moment old)) old.parties })) it.did_is))
+      (it.new_is
+      ∙ ap (λ (did : ServerDid). counted (record old { server = it.gives.new; parties = parties_after did (tick_comes (next_moment old)) old.parties })) it.did_is))
       (tick-sound laws.ticks laws.hearing.stay old sound (next_moment old) it.gives it.step)
 
   tick-cut : (coming : NodeEvent) (those : World) → coming ≡ tick_comes (next_moment old) → those ≡ old → ServerIsCut old coming those new → Sound new
@@ -81,8 +81,8 @@ module _ (laws : ServerLaws) (old new : World) (sound : Sound old) where
           let it = subst (λ coming. ServerGoes old coming those-delivered new) came (subst (λ d. ServerGoes old coming d new) marked goes) in
           subst Sound
           (sym
-           (it.new_is
-            ∙ ap (λ (did : ServerDid). counted (record those-delivered { server = it.gives.new; parties = parties_after did (frame_comes t.frame (next_moment old)) those-delivered.parties })) it.did_is))
+          (it.new_is
+          ∙ ap (λ (did : ServerDid). counted (record those-delivered { server = it.gives.new; parties = parties_after did (frame_comes t.frame (next_moment old)) those-delivered.parties })) it.did_is))
           (heard-sound laws.hearing old sound c party place t coming_is (next_moment old) (soon-moment old) it.gives it.step)
 
       frame-cut : (coming : NodeEvent) (those : World) → coming ≡ frame_comes t.frame (next_moment old) → those ≡ those-delivered → ServerIsCut old coming those new → Sound new

@@ -85,7 +85,7 @@ module _ (laws : HearingLaws) (old : World) (sound : Sound old) (c : ℕ) (party
   calls-then fits =
       subst (λ me. Calls gives.new me (after_hearing did t.frame those)) src-is
       (laws.hears.own old.server t.frame moment gives party.attempts those (between old sound) fits calls-src
-       (delivers old sound c party place t coming) step)
+      (delivers old sound c party place t coming) step)
 
   -- where the store and the lists stay, and the attempts are such as they were
   module _ (quiet : (gives.done ≡ []) × (gives.new.lists ≡ old.server.lists)) where
@@ -95,12 +95,12 @@ module _ (laws : HearingLaws) (old : World) (sound : Sound old) (c : ℕ) (party
     quiet-made : (attempts : List Attempt) → HasFacts old.server.store old.files (record party { attempts = attempts })
         → ((at number : ℕ) → GrantedAt (record party { attempts = attempts }) at number → GrantedAt party at number) → OwnMade old party gives attempts
     quiet-made attempts facts grants = record {
-        facts = subst (λ store. HasFacts store old.files (record party { attempts = attempts })) (sym store-is) facts;
-        store = subst IsSoundStore (sym store-is) sound.store;
-        lists = subst (λ store. AreComplete store gives.new.lists) (sym store-is) (subst (λ lists. AreComplete old.server.store lists) (sym quiet.1) sound.lists);
-        follows = record { commands = []; own = tt; does = (tt, store-is) };
-        grants = λ at number granted. inl (grants at number granted);
-      }
+      facts = subst (λ store. HasFacts store old.files (record party { attempts = attempts })) (sym store-is) facts;
+      store = subst IsSoundStore (sym store-is) sound.store;
+      lists = subst (λ store. AreComplete store gives.new.lists) (sym store-is) (subst (λ lists. AreComplete old.server.store lists) (sym quiet.1) sound.lists);
+      follows = record { commands = []; own = tt; does = (tt, store-is) };
+      grants = λ at number granted. inl (grants at number granted);
+    }
 
   -- ---- no session hears it
 
@@ -128,8 +128,8 @@ module _ (laws : HearingLaws) (old : World) (sound : Sound old) (c : ℕ) (party
   passed-made quiet frames =
       let like = passed-like frames party.attempts in
       let stay = stay-trans party.attempts those (with_newest (server_sends frames) those)
-          (newest-stays (to_server_delivered place t) party.attempts (λ a. record { client = refl; window = refl }))
-          (newest-stays (server_sends frames) those (λ a. record { client = refl; window = refl })) in
+      (newest-stays (to_server_delivered place t) party.attempts (λ a. record { client = refl; window = refl }))
+      (newest-stays (server_sends frames) those (λ a. record { client = refl; window = refl })) in
       quiet-made quiet (with_newest (server_sends frames) those) (passed-facts (with_newest (server_sends frames) those) like stay)
       (passed-grants (with_newest (server_sends frames) those) like stay)
     where
@@ -190,8 +190,8 @@ module _ (laws : HearingLaws) (old : World) (sound : Sound old) (c : ℕ) (party
           let mid = with_attempt party (record coming.attempt { server = Some side }) (all_over older) in
           laws.stay.same old.server.store old.files mid (record party { attempts = first ∷ all_over older })
           (same-party mid (record party { attempts = first ∷ all_over older }) refl refl
-           (record { asked = refl; entries = refl; job = refl; served = served-same (Some side) }, like-refl (all_over older))
-           (record { client = refl; window = refl }, stay-refl (all_over older)))
+          (record { asked = refl; entries = refl; job = refl; served = served-same (Some side) }, like-refl (all_over older))
+          (record { client = refl; window = refl }, stay-refl (all_over older)))
           begun_facts
 
       opened-made : (gives.done ≡ []) × (gives.new.lists ≡ old.server.lists) → AreAttempts party.client.me gives.new.me (opened did now those)
@@ -201,17 +201,17 @@ module _ (laws : HearingLaws) (old : World) (sound : Sound old) (c : ℕ) (party
           let state = its-state party.client.me gives.new.me first side of.0 refl in
           subst (λ attempts. OwnMade old party gives attempts) (sym opened-is)
           (quiet-made quiet (first ∷ all_over older)
-           (opened-facts (record { greets = (did.moment, has_left did.old.lists (caller_of now), refl); entries = refl; state = state })) opened-grants)
+          (opened-facts (record { greets = (did.moment, has_left did.old.lists (caller_of now), refl); entries = refl; state = state })) opened-grants)
 
   -- ---- a session hears it
 
   -- what the server says fits
   pub fits : SaysFit old.server t.frame moment
   fits = record {
-      moment_fits = soon;
-      said = λ at seat found seated is_packet.
-          (keeps laws.sessions old sound c party place t coming moment is_packet at seat found seated false (λ up. absurd cc)).fits;
-    }
+    moment_fits = soon;
+    said = λ at seat found seated is_packet.
+        (keeps laws.sessions old sound c party place t coming moment is_packet at seat found seated false (λ up. absurd cc)).fits;
+  }
 
   module _ (is_packet : is_call t.frame.kind.control ≡ false) (at : ℕ) (seat : Connected) (found : place_of t.frame.src old.server.slots ≡ Some at)
       (seated : IsSeatedIn old.server at seat) where
@@ -238,9 +238,9 @@ module _ (laws : HearingLaws) (old : World) (sound : Sound old) (c : ℕ) (party
       served-is =
           ap (λ (attempts : List Attempt). with_answered (served did now these) (with_newest (to_server_delivered place t) attempts)) served-by.attempts_are
           ∙ ap
-            (λ (o : Option ServerSide).
-            option_map_or (λ side. served did now these (to_server_delivered place t a) side ∷ served-by.older) o
-            (to_server_delivered place t a ∷ with_answered (served did now these) served-by.older)) served-by.is_side
+          (λ (o : Option ServerSide).
+          option_map_or (λ side. served did now these (to_server_delivered place t a) side ∷ served-by.older) o
+          (to_server_delivered place t a ∷ with_answered (served did now these) served-by.older)) served-by.is_side
 
       abbrev up : Bool
       up = has_session did.last (caller_of now)
@@ -251,8 +251,8 @@ module _ (laws : HearingLaws) (old : World) (sound : Sound old) (c : ℕ) (party
 
         kept : SessionKeeps old.files party
             (with_attempt party
-             (session_gone these (now-session laws.sessions old sound c party place t coming moment is_packet at seat found seated).state up a its)
-             served-by.older)
+            (session_gone these (now-session laws.sessions old sound c party place t coming moment is_packet at seat found seated).state up a its)
+            served-by.older)
             (before-session laws.sessions old sound c party place t coming moment is_packet at seat found seated)
             (now-session laws.sessions old sound c party place t coming moment is_packet at seat found seated) these its
         kept = keeps laws.sessions old sound c party place t coming moment is_packet at seat found seated up none-lost
@@ -268,8 +268,8 @@ module _ (laws : HearingLaws) (old : World) (sound : Sound old) (c : ℕ) (party
             let mid = with_attempt party (session_gone these now-is.state up a its) served-by.older in
             laws.stay.same now-is.store old.files mid (record party { attempts = gone ∷ served-by.older })
             (same-party mid (record party { attempts = gone ∷ served-by.older }) refl refl
-             (record { asked = refl; entries = refl; job = refl; served = record { greeting = refl; entries = refl; state = state; up = λ is_up. is_up } }, like-refl served-by.older)
-             (record { client = refl; window = refl }, stay-refl served-by.older))
+            (record { asked = refl; entries = refl; job = refl; served = record { greeting = refl; entries = refl; state = state; up = λ is_up. is_up } }, like-refl served-by.older)
+            (record { client = refl; window = refl }, stay-refl served-by.older))
             kept.facts
 
         heard-grants : (place number : ℕ) → GrantedAt (record party { attempts = gone ∷ served-by.older }) place number
@@ -279,13 +279,13 @@ module _ (laws : HearingLaws) (old : World) (sound : Sound old) (c : ℕ) (party
             before : (place : ℕ) (attempt : Attempt) (side : ServerSide) → slice_get (a ∷ served-by.older) place ≡ Some attempt → attempt.server ≡ Some side
                 → Grants side number granted.file_length → GrantedAt party place number
             before place attempt side is is_side grants = record {
-                attempt = attempt;
-                is_attempt = ap (λ (attempts : List Attempt). slice_get attempts place) served-by.attempts_are ∙ is;
-                side = side;
-                is_side = is_side;
-                file_length = granted.file_length;
-                grants = grants;
-              }
+              attempt = attempt;
+              is_attempt = ap (λ (attempts : List Attempt). slice_get attempts place) served-by.attempts_are ∙ is;
+              side = side;
+              is_side = is_side;
+              file_length = granted.file_length;
+              grants = grants;
+            }
 
             cases : Grants its number granted.file_length ⊎ (old.server.store.next ≤ number) → GrantedAt party 0 number ⊎ (◌≡◌ {A = ℕ} 0 0 × (old.server.store.next ≤ number))
             cases (inl grants) = inl (before 0 a its refl served-by.is_side grants)
@@ -299,12 +299,12 @@ module _ (laws : HearingLaws) (old : World) (sound : Sound old) (c : ℕ) (party
 
         heard-made : now.state ≡ now-is.state → OwnMade old party gives (gone ∷ served-by.older)
         heard-made state = record {
-            facts = subst (λ store. HasFacts store old.files (record party { attempts = gone ∷ served-by.older })) (sym store-now) (heard-facts state);
-            store = subst IsSoundStore (sym store-now) kept.store;
-            lists = subst (λ store. AreComplete store gives.new.lists) (sym store-now) (subst (λ lists. AreComplete now-is.store lists) (sym hears.lists_are) kept.lists);
-            follows = subst (λ store. FollowsBy party.client.me old.server.store store) (sym store-now) kept.follows;
-            grants = heard-grants;
-          }
+          facts = subst (λ store. HasFacts store old.files (record party { attempts = gone ∷ served-by.older })) (sym store-now) (heard-facts state);
+          store = subst IsSoundStore (sym store-now) kept.store;
+          lists = subst (λ store. AreComplete store gives.new.lists) (sym store-now) (subst (λ lists. AreComplete now-is.store lists) (sym hears.lists_are) kept.lists);
+          follows = subst (λ store. FollowsBy party.client.me old.server.store store) (sym store-now) kept.follows;
+          grants = heard-grants;
+        }
 
   -- ---- all
 
@@ -341,4 +341,4 @@ module _ (laws : HearingLaws) (old : World) (sound : Sound old) (c : ℕ) (party
           let P : List Attempt → Type 0 = λ attempts. OwnMade old party gives attempts in
           subst P (sym are)
           (heard-made is_packet sits.0 seat sits.1 sits.2 now (subst (λ attempts. AreAttempts party.client.me gives.new.me attempts) are all)
-           (ap (λ (c : Connected). c.state) now_is))
+          (ap (λ (c : Connected). c.state) now_is))

@@ -125,39 +125,39 @@ module _ (ticks_law : ServerTicksLaw) (stay_law : StayLaw) (old : World) (sound 
   facts-then c was is =
       subst (λ store. HasFacts store old.files (party_ticked did was)) (sym store-is)
       (stay_law.same old.server.store old.files was (party_ticked did was)
-       (same-party was (party_ticked did was) refl refl (like-then c was is) (tick-stays did was.client.me was.attempts))
-       (sound.parties c was is).facts)
+      (same-party was (party_ticked did was) refl refl (like-then c was is) (tick-stays did was.client.me was.attempts))
+      (sound.parties c was is).facts)
 
   made : IsMade ticked
   made = record {
-      between = stays.between;
-      known = known;
-      store = subst IsSoundStore (sym store-is) sound.store;
-      lists = subst (λ store. AreComplete store gives.new.lists) (sym store-is) (subst (λ lists. AreComplete old.server.store lists) (sym lists-are) sound.lists);
-      calls = λ c party is.
-          let was = before c party is in
-          subst (λ (p : Party). Calls gives.new p.client.me p.attempts) (sym was.2) (calls-then c was.0 was.1);
-      facts = λ c party is. let was = before c party is in subst (λ (p : Party). HasFacts gives.new.store old.files p) (sym was.2) (facts-then c was.0 was.1);
-      granted =
-          granted-like old ticked
-          (λ c party is. let was = before c party is in (was.0, was.1, subst (λ (p : Party). LookLike was.0.attempts p.attempts) (sym was.2) (like-then c was.0 was.1)))
-          sound.granted;
-    }
+    between = stays.between;
+    known = known;
+    store = subst IsSoundStore (sym store-is) sound.store;
+    lists = subst (λ store. AreComplete store gives.new.lists) (sym store-is) (subst (λ lists. AreComplete old.server.store lists) (sym lists-are) sound.lists);
+    calls = λ c party is.
+        let was = before c party is in
+        subst (λ (p : Party). Calls gives.new p.client.me p.attempts) (sym was.2) (calls-then c was.0 was.1);
+    facts = λ c party is. let was = before c party is in subst (λ (p : Party). HasFacts gives.new.store old.files p) (sym was.2) (facts-then c was.0 was.1);
+    granted =
+        granted-like old ticked
+        (λ c party is. let was = before c party is in (was.0, was.1, subst (λ (p : Party). LookLike was.0.attempts p.attempts) (sym was.2) (like-then c was.0 was.1)))
+        sound.granted;
+  }
 
   stay : StayParties old ticked
   stay = record {
-      me = stays.me_is;
-      window = stays.window_is;
-      files = refl;
-      many = length-map old.parties (party_ticked did);
-      each = λ c party is.
-          let was = before c party is in (
-            was.0,
-            was.1,
-            subst (λ (p : Party). StaysParty was.0 p) (sym was.2)
-            (record { client = refl; uploads = refl; attempts = tick-stays did was.0.client.me was.0.attempts }),
-          );
-    }
+    me = stays.me_is;
+    window = stays.window_is;
+    files = refl;
+    many = length-map old.parties (party_ticked did);
+    each = λ c party is.
+        let was = before c party is in (
+          was.0,
+          was.1,
+          subst (λ (p : Party). StaysParty was.0 p) (sym was.2)
+              (record { client = refl; uploads = refl; attempts = tick-stays did was.0.client.me was.0.attempts }),
+        );
+  }
 
   pub tick-sound : Sound ticked
   tick-sound = rebuilt old ticked sound stay made

@@ -120,7 +120,7 @@ module _ (laws : HearingLaws) (old : World) (sound_old : Sound old) (c : ℕ) (p
   calls-now number that (own number_is that_is) =
       subst (λ (p : Party). Calls gives.new p.client.me p.attempts) (sym that_is)
       (calls-then laws old sound_old c party place t coming moment soon gives step
-       (fits laws old sound_old c party place t coming moment soon gives step))
+      (fits laws old sound_old c party place t coming moment soon gives step))
   calls-now number that (other number_is was differs) =
       laws.hears.other old.server t.frame moment gives that.client.me that.attempts (between old sound_old) (calls old sound_old number that was)
       (λ same. differs (same ∙ src-is)) step
@@ -141,13 +141,13 @@ module _ (laws : HearingLaws) (old : World) (sound_old : Sound old) (c : ℕ) (p
     where
       here : (that : Party) → IsSideAt that at granted.side → GrantedAt that at grant
       here that is_side = record {
-          attempt = is_side.attempt;
-          is_attempt = is_side.is_attempt;
-          side = granted.side;
-          is_side = is_side.is_side;
-          file_length = granted.file_length;
-          grants = granted.grants;
-        }
+        attempt = is_side.attempt;
+        is_attempt = is_side.is_attempt;
+        side = granted.side;
+        is_side = is_side.is_side;
+        file_length = granted.file_length;
+        grants = granted.grants;
+      }
 
       cases : number ≡ c → GrantedAt party at grant ⊎ ((at ≡ 0) × (old.server.store.next ≤ grant)) → IsGrantThen number at grant
       cases number_is (inl was) = before (granted-at old number party (ap (λ i. slice_get old.parties i) number_is ∙ coming.is) at grant was)
@@ -162,7 +162,7 @@ module _ (laws : HearingLaws) (old : World) (sound_old : Sound old) (c : ℕ) (p
   below number at grant granted =
       let P : Attempt → ServerSide → Type 0 = λ a side. (number file_length : ℕ) → Grants side number file_length → IsGrantKept old.server.store granted.party a number file_length in
       let each = all-at (λ (a : Attempt). IfSome a.server (P a)) granted.party.attempts at granted.is_side.attempt
-          (sound_old.parties number granted.party granted.is_party).facts.sessions.granted granted.is_side.is_attempt in
+      (sound_old.parties number granted.party granted.is_party).facts.sessions.granted granted.is_side.is_attempt in
       let its = subst (λ (o : Option ServerSide). IfSome o (P granted.is_side.attempt)) granted.is_side.is_side each in
       (its grant granted.file_length granted.grants).below
 
@@ -177,21 +177,20 @@ module _ (laws : HearingLaws) (old : World) (sound_old : Sound old) (c : ℕ) (p
 
   made : IsMade heard
   made = record {
-      between = stays-server.between;
-      known = known;
-      store = made-own.store;
-      lists = made-own.lists;
-      calls = λ number that is. calls-now number that (then-is number that is);
-      facts = λ number that is. facts-now number that (then-is number that is);
-      granted = granted-now;
-    }
+    between = stays-server.between;
+    known = known;
+    store = made-own.store;
+    lists = made-own.lists;
+    calls = λ number that is. calls-now number that (then-is number that is);
+    facts = λ number that is. facts-now number that (then-is number that is);
+    granted = granted-now;
+  }
 
   stays-then : (number : ℕ) (that : Party) → IsThen number that → (was : Party) × PartyAt old number was × StaysParty was that
-  stays-then number that (own number_is that_is) =
-      (
-        party,
-        ap (λ i. slice_get old.parties i) number_is ∙ coming.is,
-        subst (λ (p : Party). StaysParty party p) (sym that_is)
+  stays-then number that (own number_is that_is) = (
+    party,
+    ap (λ i. slice_get old.parties i) number_is ∙ coming.is,
+    subst (λ (p : Party). StaysParty party p) (sym that_is)
         (record {
           client = refl;
           uploads = refl;
@@ -200,17 +199,17 @@ module _ (laws : HearingLaws) (old : World) (sound_old : Sound old) (c : ℕ) (p
               (newest-stays (to_server_delivered place t) party.attempts (λ a. record { client = refl; window = refl }))
               (hearing-stays own-did t.frame (marked old sound_old c party place t coming));
         }),
-      )
+  )
   stays-then number that (other number_is was differs) = (that, was, record { client = refl; uploads = refl; attempts = stay-refl that.attempts })
 
   stay : StayParties old heard
   stay = record {
-      me = stays-server.me_is;
-      window = stays-server.window_is;
-      files = refl;
-      many = length-map those.parties (party_heard own-did t.frame) ∙ length-set-slice old.parties c (with_current (to_server_delivered place t) party);
-      each = λ number that is. stays-then number that (then-is number that is);
-    }
+    me = stays-server.me_is;
+    window = stays-server.window_is;
+    files = refl;
+    many = length-map those.parties (party_heard own-did t.frame) ∙ length-set-slice old.parties c (with_current (to_server_delivered place t) party);
+    each = λ number that is. stays-then number that (then-is number that is);
+  }
 
   pub heard-sound : Sound heard
   heard-sound = rebuilt old heard sound_old stay made
