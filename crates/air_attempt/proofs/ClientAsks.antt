@@ -20,19 +20,11 @@ use Rattle.ftl0_client.specs.Attempt.Attempted.{calling}
 use Rattle.ftl0_client.specs.Attempt.Hearing.{with_end}
 use Rattle.air_attempt.specs.Attempt.{AreFromTo, Attempt, IsAnsweredBy, IsAttempt, IsFromTo, IsRefusal, client_station, server_station}
 use Rattle.air_attempt.specs.Sides.{IsJob, ServerSide}
-use Rattle.air_attempt.proofs.Sent.{all-at}
+use Rattle.air_attempt.proofs.ListLemmas.{all-at, each-append}
 use Rattle.air_attempt.proofs.Transmissions.{all-delivered, from-delivered, one-call-sent}
-use Rattle.air_attempt.proofs.PacketLists.{all-append}
+use Rattle.air_attempt.proofs.PacketLists.{no-packets, no-rest}
 
 -- ---- what is asked
-
-none-packets : packets_of [] ≡ []
-unfolding packets_of
-none-packets = refl
-
-none-left : rest_of [] ≡ []
-unfolding rest_of
-none-left = refl
 
 module _ (w : Window) (window : IsWindow w) (me server : CallSign) (job : JobState) (new : IsNew job) where
   -- the end that called, and has sent its SABM
@@ -58,8 +50,8 @@ module _ (w : Window) (window : IsWindow w) (me server : CallSign) (job : JobSta
   asked-job = record {
     begun = new.1;
     reached = ap (λ (o : Option _). record { work = job.work; ending = o }) new.0;
-    packets = none-packets;
-    rest = sym none-left;
+    packets = no-packets;
+    rest = sym no-rest;
     said = refl;
     fits = tt;
     told_down = λ why is. absurd (cc is);
@@ -155,7 +147,7 @@ module _ (me server : CallSign) (a : Attempt) (is : IsAttempt me server a) (plac
     stations = record {
       client = is.stations.client;
       serves = is.stations.serves;
-      from_client = all-append (λ u. IsFromTo a.window me server u.frame) a.by_client (map fresh answers) is.stations.from_client answers-are.own;
+      from_client = each-append (λ u. IsFromTo a.window me server u.frame) a.by_client (map fresh answers) is.stations.from_client answers-are.own;
       from_server = from-delivered a.window server me a.by_server place t lawful.sent is.stations.from_server;
     };
     call = one-call-sent a.by_client answers is.call answers-are.no_call;

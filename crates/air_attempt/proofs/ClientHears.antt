@@ -22,7 +22,7 @@ use Rattle.air_attempt.proofs.ClientHappens.{frame-happens}
 use Rattle.air_attempt.proofs.ClientJob.{SaysInRange, gone_on, job-goes-on}
 use Rattle.air_attempt.proofs.ClientLink.{StepOf, step-keeps}
 use Rattle.air_attempt.proofs.ClientUnanswered.{dm-waits}
-use Rattle.air_attempt.proofs.Sent.{all-at}
+use Rattle.air_attempt.proofs.ListLemmas.{all-at}
 use Rattle.air_attempt.proofs.Transmissions.{all-delivered, from-delivered}
 
 module _ (law : HearingLaw) (outcome : OutcomeLaw) (me server : CallSign) (lists : Lists) (a : Attempt) (is : IsAttempt me server a) (says : SaysInRange lists a.client) where

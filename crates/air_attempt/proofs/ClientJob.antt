@@ -25,7 +25,8 @@ use Rattle.air_attempt.proofs.ClientWorks.{CallsOrUp, KeepsWorking, after_of, ke
 use Rattle.air_attempt.proofs.JobAppend.{items-then, reaches-by, reaches-then, said-then, texts-then}
 use Rattle.air_attempt.proofs.JobSays.{entries-fit, reached-fits}
 use Rattle.air_attempt.proofs.LinkKeeps.{KeepsStreams, does-taken, taken_as}
-use Rattle.air_attempt.proofs.PacketLists.{ReadsOn, all-append, reads-on}
+use Rattle.air_attempt.proofs.PacketLists.{ReadsOn, reads-on}
+use Rattle.air_attempt.proofs.ListLemmas.{each-append}
 
 -- ---- what came
 
@@ -105,7 +106,7 @@ module _ (lists last : Lists) (side : ClientSide) (o : Outcome) (information : L
             keeps.pushed ∙ happens.said ∙ ap (λ (text : List ℕ). text ++ texts (said_in entries)) (happens.comes.pushed ∙ job.said) ∙ sym (texts-then side.entries entries);
         fits =
             subst (λ (packets : List PacketValue). AllByRecursion Fits packets) (sym (said-then side.entries entries))
-            (all-append Fits (said_in side.entries) (said_in entries) job.fits
+            (each-append Fits (said_in side.entries) (said_in entries) job.fits
             (entries-fit lists last side.attempted.job now.job entries happens.goes (reached-fits (new_job side.asked) side.attempted.job side.entries job.reached says.asked) says.go_with));
         told_down = λ why is. keeps.state ∙ happens.told_down why is;
         closed = working.closed;

@@ -32,7 +32,8 @@ use Rattle.air_attempt.proofs.ClientHears.{frame-moves}
 use Rattle.air_attempt.proofs.ClientJob.{SaysInRange, gone_on}
 use Rattle.air_attempt.proofs.ClientLink.{StepOf}
 use Rattle.air_attempt.proofs.ClientTicks.{tick-begins, tick-moves}
-use Rattle.air_attempt.proofs.Sent.{all-at}
+use Rattle.air_attempt.proofs.ListLemmas.{all-at}
+use Rattle.ftl0_session.proofs.uploads.UploadRows.{same_call-decides}
 
 -- the laws of a client that these lean on
 pub record Below : Type 0 where
@@ -42,9 +43,6 @@ pub record Below : Type 0 where
   pub outcome : OutcomeLaw
   pub some : SomeStepLaw
   pub one : OneStepLaw
-
-same-call : (call : CallSign) → is_same_call call call ≡ true
-same-call call = (Decides-and (bytes_eq call.chars call.chars) (call.ssid == call.ssid) (bytes_eq-Decides call.chars call.chars) (Decides-eqb call.ssid call.ssid)).1 (refl, refl)
 
 -- the attempts after an event, and that they go with the client
 abbrev Goes : Client → ClientEvent → Client → List FrameValue → List Attempt → Type 0
@@ -116,7 +114,7 @@ module _ (below : Below) (old new : Client) (noted : List NotesCommand) (frames 
     attempt-is : attempt_for old t.frame ≡ old.attempt
     attempt-is =
         let from = all-at (λ u. IsFromTo a.window old.server old.me u.frame) a.by_server place t is.stations.from_server lawful.sent in
-        ap (λ (src : CallSign). if is_same_call src old.server then old.attempt else None) from.src_is ∙ ap (λ (b : Bool). if b then old.attempt else None) (same-call old.server)
+        ap (λ (src : CallSign). if is_same_call src old.server then old.attempt else None) from.src_is ∙ ap (λ (b : Bool). if b then old.attempt else None) ((same_call-decides old.server old.server).1 refl)
 
     -- without a link
     passes : old.attempt ≡ None → Goes old (hears t.frame) new frames delivered

@@ -30,6 +30,7 @@ use Rattle.air_attempt.proofs.ClientLink.{StepKeeps, StepOf, step-keeps}
 use Rattle.air_attempt.proofs.ClientRows.{tick_outcome}
 use Rattle.air_attempt.proofs.ClientUnanswered.{StaysWaiting, tick-stays, ticks-nothing}
 use Rattle.air_attempt.proofs.Sent.{has-none, none-calls, stays-of}
+use Rattle.air_attempt.proofs.PacketLists.{no-packets}
 
 -- a SABM alone is one
 no-call-one : (frames : List FrameValue) (last : LinkEnd) → SendsCall frames last → has_call frames ≡ false → ⊥
@@ -48,14 +49,10 @@ no-texts (lost item row ∷ entries) items said = absurd (cc items)
 no-texts (passed item ∷ entries) items said = absurd (cc items)
 no-texts (queued due ∷ entries) items said = absurd (cc said)
 
-none-read : packets_of [] ≡ []
-unfolding packets_of
-none-read = refl
-
 -- behind an end that was never used there are no entries
 pub unused-entries : (side : ClientSide) → IsJob side → IsUnused side.attempted.end → side.entries ≡ []
 unused-entries side job unused =
-    no-texts side.entries (sym job.packets ∙ ap (λ (pieces : List (List ℕ)). packets_of (concat pieces)) unused.taken ∙ none-read) (sym job.said ∙ unused.pushed)
+    no-texts side.entries (sym job.packets ∙ ap (λ (pieces : List (List ℕ)). packets_of (concat pieces)) unused.taken ∙ no-packets) (sym job.said ∙ unused.pushed)
 
 module _ (law : TickingLaw) (outcome : OutcomeLaw) (me server : CallSign) (lists : Lists) (a : Attempt) (is : IsAttempt me server a) (says : SaysInRange lists a.client) where
   -- what the tick makes of the attempt

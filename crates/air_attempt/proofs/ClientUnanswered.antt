@@ -23,7 +23,8 @@ use Rattle.ftl0_client.specs.Attempt.Hearing.{after_told, packets_told, with_end
 use Rattle.ftl0_client.specs.Attempt.Taking.{taking}
 use Rattle.ftl0_client.specs.Entries.{JobEntry, entries_behind, entries_due, entries_heard, entries_taken, entries_ticked}
 use Rattle.air_attempt.proofs.ClientCalling.{tick-unused}
-use Rattle.air_attempt.proofs.ClientIdle.{Idle, SendsCall, drains-nothing, idle-down, idle-quiet, quiet-idle, tick-down, tick-sends}
+use Rattle.air_attempt.proofs.ClientIdle.{Idle, SendsCall, drains-nothing, idle-down, idle-quiet, quiet-idle, tick-down}
+use Rattle.air_attempt.proofs.ClientIdle.{tick-sends}
 use Rattle.air_attempt.proofs.ClientLink.{StepOf}
 
 -- the end calls, or is down

@@ -76,7 +76,7 @@ goes-taken lists a (item ∷ items) =
 
 -- ---- the end of an event
 
-due-none : (o : Option Ending) (doing : Work) (due : DuePacket JobState) → due_by o doing ≡ Some due → o ≡ None
+pub due-none : (o : Option Ending) (doing : Work) (due : DuePacket JobState) → due_by o doing ≡ Some due → o ≡ None
 due-none None doing due is = refl
 due-none (Some ending) doing due is = absurd (cc is)
 

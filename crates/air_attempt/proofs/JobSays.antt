@@ -32,7 +32,7 @@ use Rattle.ftl0_job.proofs.Offered.{download-rows, job-in, stays-item, upload-ro
 use Rattle.ftl0_client.specs.Entries.{GoesBy, JobEntry, after_losing, lost, passed, queued, said_in, took}
 use Rattle.air_attempt.specs.Laws.{WorkFits}
 use Rattle.air_attempt.specs.Sides.{IsJobRow, JobReaches}
-use Rattle.air_attempt.proofs.PacketLists.{all-append}
+use Rattle.air_attempt.proofs.ListLemmas.{each-append}
 
 -- the replies of a row fit, where so many octets of a file at most were got, and its work does
 record RowFits {S : Type 0} (made : S → Work) (row : Row S) : Type 0 where
@@ -189,7 +189,7 @@ entries-fit lists last doing now entries goes fits notes = by lists doing entrie
     by lists doing [] goes says = tt
     by lists doing (took item row ∷ entries) goes says =
         let one = row-fits lists doing item row goes.0 goes.1 says in
-        all-append Fits row.replies (said_in entries) one.0 (by (after_all lists row.commands) (job_after row) entries goes.2 one.1)
+        each-append Fits row.replies (said_in entries) one.0 (by (after_all lists row.commands) (job_after row) entries goes.2 one.1)
     by lists doing (lost item row ∷ entries) goes says =
         let one = row-fits lists doing item row goes.0 goes.1 says in
         by (after_all lists row.commands) (after_losing (kind_of_item item) row) entries goes.2 (record { work = one.1.work; go_with = tt })

@@ -9,13 +9,17 @@ use Rattle.ftl0_packets.specs.Reading.{packets_of, rest_of}
 use Rattle.ftl0_packets.proofs.OctetLemmas.{IsOctets-append, IsOctets-cons, IsOctets-nil}
 use Rattle.ftl0_packets.proofs.SplitLemmas.{octets_front, read-append}
 use Rattle.ax25_link.proofs.Offered.{concat-append_one}
+use Rattle.std.proofs.Common.{refl}
 
--- ---- lists of which each is so
+-- ---- no octets
 
-module _ {X : Type 0} (P : X → Type 0) where
-  pub all-append : (xs ys : List X) → AllByRecursion P xs → AllByRecursion P ys → AllByRecursion P (xs ++ ys)
-  all-append [] ys h k = k
-  all-append (x ∷ xs) ys h k = (h.0, all-append xs ys h.1 k)
+pub no-packets : packets_of [] ≡ []
+unfolding packets_of
+no-packets = refl
+
+pub no-rest : rest_of [] ≡ []
+unfolding rest_of
+no-rest = refl
 
 -- ---- the octets of packets
 

@@ -14,12 +14,7 @@ use Rattle.ax25_link.specs.Window.{IsWindow, Window}
 use Rattle.air_attempt.specs.Attempt.{AreFromTo, IsEndOf}
 use Rattle.air_attempt.specs.Transfers.{has_call}
 use Rattle.air_attempt.proofs.Transmissions.{from-sent}
-
--- the one at a place of a list of which each is so
-pub all-at : {X : Type 0} (P : X → Type 0) (xs : List X) (place : ℕ) (x : X) → AllByRecursion P xs → slice_get xs place ≡ Some x → P x
-all-at P [] place x all is = absurd (cc is)
-all-at P (y ∷ xs) zero x all is = subst P (same_Some y x is) all.0
-all-at P (y ∷ xs) (suc place) x all is = all-at P xs place x all.1 is
+use Rattle.air_attempt.proofs.ListLemmas.{all-at}
 
 -- ---- whether a SABM is among them
 

@@ -26,9 +26,10 @@ use Rattle.air_attempt.specs.Sides.{IsSession, ServerSide}
 use Rattle.air_attempt.proofs.Current.{at-alone}
 use Rattle.air_attempt.proofs.Left.{delivered-alone}
 use Rattle.air_attempt.proofs.LinkKeeps.{drains-keep, drains-quiet}
-use Rattle.air_attempt.proofs.Sent.{all-at}
+use Rattle.air_attempt.proofs.ListLemmas.{all-at}
 use Rattle.air_attempt.proofs.ServerLink.{gone}
 use Rattle.air_attempt.proofs.Transmissions.{from-delivered, from-sent, one-call-delivered}
+use Rattle.air_attempt.proofs.PacketLists.{no-packets, no-rest}
 
 -- ---- before
 
@@ -82,14 +83,6 @@ alone-opens t calls =
     }
 
 -- ---- the session
-
-no-packets : packets_of [] ≡ []
-unfolding packets_of
-no-packets = refl
-
-no-rest : rest_of [] ≡ []
-unfolding rest_of
-no-rest = refl
 
 -- LOGIN_RESP is queued whole
 greeted-pushed : (me peer : CallSign) (poll : Bool) (moment : ℕ) (left : Bool)

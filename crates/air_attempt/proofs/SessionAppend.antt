@@ -27,7 +27,8 @@ use Rattle.ftl0_server.specs.Entries as session
 use Rattle.ftl0_server.specs.Entries.{GoesBy, HeardBy, IsNotLost, SessionEntry, after_row, packets_told, session_after}
 use Rattle.air_attempt.specs.Sides.{IsSession, ServerSide, SessionReaches, said_by_server}
 use Rattle.air_attempt.proofs.LinkKeeps.{IsNoReopening, does-taken, drains-keep, frame-brings, taken_as}
-use Rattle.air_attempt.proofs.PacketLists.{all-append, reads-on}
+use Rattle.air_attempt.proofs.PacketLists.{reads-on}
+use Rattle.air_attempt.proofs.ListLemmas.{each-append}
 
 -- ---- entries behind others
 
@@ -179,13 +180,13 @@ module _ (w : Window) (moment : ℕ) (store : Store) (lists : List CallerList) (
         unread = h.heard.unread;
         packets = packets-are;
         all = λ all. h.heard.all (none-lost-second side.entries entries all);
-        none_lost = λ still. all-append IsNotLost side.entries entries none (h.heard.none_lost (h.goes_on still));
+        none_lost = λ still. each-append IsNotLost side.entries entries none (h.heard.none_lost (h.goes_on still));
         rest = read.rest ∙ ap (λ (t : List (List ℕ)). rest_of (concat t)) (sym taken-is);
         said = pushed-is;
         greets = is.greets;
         fits = (
           is.fits.0,
           subst (AllByRecursion Fits) (sym (said-then side.entries entries))
-              (all-append Fits (session.said_in side.entries) (session.said_in entries) is.fits.1 fits),
+              (each-append Fits (session.said_in side.entries) (session.said_in entries) is.fits.1 fits),
         );
       }

@@ -37,7 +37,7 @@ use Rattle.air_files.specs.Laws.{IsBeginning, IsGreeted, with_attempt}
 use Rattle.air_files.specs.UploadDialogue.{answered_in, silent, unasked}
 use Rattle.air_files.proofs.ApartLemmas.{HasClientFacts, HasFactsApart, HasSideFacts, apart, together}
 use Rattle.air_files.proofs.GoneLemmas.{facts-over, like-fetches_by}
-use Rattle.air_files.proofs.LiftLemmas.{each-weaker, some-weaker}
+use Rattle.air_attempt.proofs.Offered.{each-weaker, some-weaker}
 use Rattle.air_files.proofs.LikeLemmas.{like-client, like-side, number-like}
 
 -- ---- an attempt that begins

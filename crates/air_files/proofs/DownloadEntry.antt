@@ -18,7 +18,8 @@ use Rattle.air_files.specs.DownloadDialogue.{IsLast, IsSendingState, IsWord, Sen
 use Rattle.air_files.proofs.DownloadNext.{IsNextOf, next-is}
 use Rattle.air_files.proofs.DownloadQueued.{due-sends, keeps-queued}
 use Rattle.air_files.proofs.DownloadRows.{last_row, refusal, row-none, row-sends, row-word, sending_row}
-use Rattle.air_files.proofs.DownloadServed.{IsDownloading, KeepsDownload, keeps-ended, keeps-granted, keeps-lost, keeps-refused}
+use Rattle.air_files.proofs.DownloadServed.{IsDownloading, KeepsDownload, keeps-ended, keeps-granted, keeps-lost}
+use Rattle.air_files.proofs.DownloadServed.{keeps-refused}
 use Rattle.air_files.proofs.QuietKeeps.{gone_side}
 
 -- ---- the row of a packet that comes

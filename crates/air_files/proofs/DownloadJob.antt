@@ -39,13 +39,12 @@ use Rattle.air_files.proofs.DownloadJobSaid.{DoesDownload, Told, does-download, 
 use Rattle.air_files.proofs.FetchesOn.{flat_map-one}
 use Rattle.air_files.proofs.JobNotes.{NotesKept}
 use Rattle.air_files.proofs.JobOne.{OneLaw}
-use Rattle.air_files.proofs.JobReach.{reaches-by, reaches-then, row-of-work}
+use Rattle.air_files.proofs.JobReach.{row-of-work}
+use Rattle.air_attempt.proofs.Offered.{one-cases, reaches-by, reaches-then, some-at}
 use Rattle.air_files.proofs.JobStep.{of_attempts}
-use Rattle.air_files.proofs.LiftLemmas.{some-at}
 use Rattle.air_files.proofs.JobUploadNotes.{fronts-none}
 use Rattle.air_files.proofs.JobUploadSaid.{said-one}
 use Rattle.air_files.proofs.JobWorking.{OneKept, Working, heard-last}
-use Rattle.air_files.proofs.LiftLemmas.{one-cases}
 
 -- ---- outcomes
 
@@ -130,7 +129,7 @@ module _ (store : Store) (files : List Asked) (c : ℕ) (base : Party) (a : Atte
       does-now =
           does-download server number b.client.entries now.job
           (subst (λ (doing : Work). JobReaches (new_job doing) b.client.entries now.job) asked_new
-          (reaches-then a.client.entries (entry ∷ []) (new_job a.client.asked) job_is now.job w.reached (reaches-by (entry ∷ []) lists lists_now job_is now.job goes)))
+          (reaches-then (new_job a.client.asked) job_is now.job a.client.entries (entry ∷ []) w.reached (reaches-by lists lists_now job_is now.job (entry ∷ []) goes)))
 
       commands-are : job.commands_in (entry ∷ []) ≡ job.commands_of entry
       commands-are = append-nil (job.commands_of entry)

@@ -11,6 +11,7 @@ use Rattle.air_attempt.specs.Sides.{ClientSide, IsGreeting, ServerSide, said_by_
 use Rattle.air_files.specs.DownloadDialogue.{AreAllSent, AreSent, Fetching, IsFetchingFile, IsLast, SaysDownload, Sending, ServesDownload, asked, ended, fetching_said, refused, sending_items, sending_said, sends, silent, told, unasked, waits}
 use Rattle.air_files.specs.UploadDialogue.{answered_in}
 use Rattle.air_files.proofs.DownloadComing.{greeting-silent, word-other}
+use Rattle.air_files.proofs.FetchesOn.{octets-all}
 
 -- ---- the packet among those that were said
 
@@ -42,10 +43,6 @@ next-of (item ∷ items) packet (first ∷ said) front =
       said_is = ap (λ (l : List PacketValue). first ∷ l) next.said_is;
       items_are = ap (λ (i : Item). i ∷ items) (sym both.0) ∙ ap (λ (l : List Item). Ok first ∷ l) next.items_are;
     }
-
-octets-all : (packets : List PacketValue) → octets_taken (map Ok packets) ≡ octets_said packets
-octets-all [] = refl
-octets-all (packet ∷ packets) = ap (λ (l : List ℕ). octets_of_data packet ++ l) (octets-all packets)
 
 drop-before : (before behind : List PacketValue) → drop (length (map {B = Item} Ok before)) (before ++ behind) ≡ behind
 drop-before [] behind = refl

@@ -38,7 +38,8 @@ use Rattle.air_files.specs.Facts.{AreFirstIfAny, Fetches, FetchesIn, HasFacts, c
 use Rattle.air_files.specs.Laws.{job_gone, with_job}
 use Rattle.air_files.specs.SoundStore.{IsSoundStore}
 use Rattle.air_files.proofs.DownloadComing.{front-if-any}
-use Rattle.air_files.proofs.DownloadJobHeard.{IsNext, asks-once, coming-octets, end-sent, error-other, left-octets, unasked-silent}
+use Rattle.air_files.proofs.DownloadJobHeard.{IsNext, asks-once, coming-octets, end-sent, error-other, left-octets}
+use Rattle.air_files.proofs.DownloadJobHeard.{unasked-silent}
 use Rattle.air_files.proofs.DownloadJobRows.{DownloadCases, download-cases, download_at}
 use Rattle.air_files.proofs.DownloadJobSaid.{CameTo}
 use Rattle.air_files.proofs.FetchesOn.{flat_map-one}
@@ -48,7 +49,7 @@ use Rattle.air_files.proofs.JobStep.{of_attempts}
 use Rattle.air_files.proofs.JobTook.{answered-item, front-has, has-ok}
 use Rattle.air_files.proofs.JobUploadNotes.{fronts-none}
 use Rattle.air_files.proofs.JobUploadSaid.{said-one}
-use Rattle.air_files.proofs.LiftLemmas.{one-left, one-right}
+use Rattle.air_attempt.proofs.Offered.{one-left, one-right}
 use Rattle.air_files.proofs.ShortOctets.{whole-fault}
 
 -- What is known of a client whose job is a download, and of its session.

@@ -22,7 +22,7 @@ use Rattle.air_files.specs.DownloadDialogue.{Fetching, IsWord, asked, fetching_s
 use Rattle.air_files.proofs.DownloadJobRows.{DownloadCases, download-cases, download_at}
 use Rattle.air_files.proofs.JobReach.{Stays, of-reached}
 use Rattle.air_files.proofs.JobUploadSaid.{one-last, said-one}
-use Rattle.air_files.proofs.LiftLemmas.{one-left}
+use Rattle.air_attempt.proofs.Offered.{one-left}
 
 -- what a job that has said so much has taken: its word came behind DATA_END
 abbrev pub Told : List JobEntry → Fetching → Type 0

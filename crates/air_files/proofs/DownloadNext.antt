@@ -15,17 +15,11 @@ use Rattle.air_attempt.specs.Sides.{IsGreeting, ServerSide, said_by_client, said
 use Rattle.air_files.specs.DownloadDialogue.{Fetching, IsFetchingFile, IsWord, SaysDownload, Sending, asked, ended, fetching_said, refused, sending_items, sending_said, sends, silent, told, unasked, waits}
 use Rattle.air_files.specs.UploadDialogue.{answered_in}
 use Rattle.air_files.proofs.FetchesOn.{flat_map-one}
-use Rattle.air_files.proofs.LiftLemmas.{one-left, one-right}
+use Rattle.air_attempt.proofs.Offered.{one-left, one-right}
+use Rattle.air_files.proofs.JobTook.{took-item}
+use Rattle.air_files.proofs.UploadNext.{answered-all}
 
 -- ---- what a client took was said
-
-took-item : (entries : List JobEntry) (item : Item) → OneIs (IsTaken item) entries → Has (job.items_in entries) item
-took-item [] item one = one
-took-item (job.took taken row ∷ entries) item (inl is) = inl is
-took-item (job.lost taken row ∷ entries) item (inl is) = absurd is
-took-item (job.passed taken ∷ entries) item (inl is) = absurd is
-took-item (job.queued due ∷ entries) item (inl is) = absurd is
-took-item (entry ∷ entries) item (inr there) = one-right (λ it. it ≡ item) (job.items_of entry) (job.items_in entries) (took-item entries item there)
 
 had-ok : (packets : List PacketValue) (packet : PacketValue) → Has (map {B = Item} Ok packets) (Ok packet) → Has packets packet
 had-ok [] packet has = has
@@ -102,12 +96,6 @@ module _ (number : ℕ) (a : Attempt) (item : Item) where
   next-by stage (told from word) said is end front = next-told stage from word is.0 (end is.1) front
 
 -- ---- the packets of a session that lost none
-
-pub answered-all : (entries : List SessionEntry) → AllByRecursion session.IsNotLost entries → answered_in entries ≡ session.items_in entries
-answered-all [] none = refl
-answered-all (session.took item row ∷ entries) none = ap (λ (l : List Item). item ∷ l) (answered-all entries none.1)
-answered-all (session.lost item row ∷ entries) none = absurd none.0
-answered-all (session.queued due ∷ entries) none = answered-all entries none.1
 
 -- The item that such a session takes next is so.
 pub next-is : (number : ℕ) (a : Attempt) (side : ServerSide) (stage : Sending) (entry : SessionEntry) (item : Item)

@@ -21,8 +21,9 @@ use Rattle.air_attempt.specs.Sides.{ServerSide, said_by_client}
 use Rattle.air_files.specs.DownloadDialogue.{AreSent, AreSentFrom, IsSendingState, Sending, ended, refused, sending_items, sending_said, sends, unasked, waits}
 use Rattle.air_files.specs.UploadDialogue.{answered_by, answered_in}
 use Rattle.air_files.proofs.DownloadComing.{comes-data}
-use Rattle.air_files.proofs.DownloadDue.{all-sent, due-then, left-is, left_then, more-sent, place-more, place-within, place_then, rest_due}
-use Rattle.air_files.proofs.DownloadNext.{answered-all}
+use Rattle.air_files.proofs.DownloadDue.{all-sent, due-then, left-is, left_then, more-sent, place-more, place-within}
+use Rattle.air_files.proofs.DownloadDue.{place_then, rest_due}
+use Rattle.air_files.proofs.UploadNext.{answered-all}
 use Rattle.air_files.proofs.DownloadServed.{IsDownloading, KeepsDownload, due-waiting, said-one}
 use Rattle.air_files.proofs.FetchesOn.{comes-silent, flat_map-one}
 use Rattle.air_files.proofs.FileOctets.{due-sending, octets-entry}

@@ -28,7 +28,7 @@ use Rattle.air_files.proofs.DownloadEntry.{keeps-entry}
 use Rattle.air_files.proofs.DownloadServed.{IsDownloading, KeepsDownload}
 use Rattle.air_files.proofs.FetchesOn.{fetching-on}
 use Rattle.air_files.proofs.GoneLemmas.{facts-over}
-use Rattle.air_files.proofs.LiftLemmas.{each-append}
+use Rattle.air_attempt.proofs.Offered.{each-append}
 use Rattle.air_files.proofs.QuietKeeps.{StaysQuiet, gone_side, keeps-quiet}
 use Rattle.air_files.proofs.QuietLemmas.{IsNoUpload, IsQuiet}
 

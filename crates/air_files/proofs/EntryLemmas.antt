@@ -20,7 +20,7 @@ use Rattle.air_attempt.specs.Sides.{ServerSide, said_by_server}
 use Rattle.air_files.specs.Facts.{coming_by}
 use Rattle.air_files.specs.SoundStore.{IsSoundStore}
 use Rattle.air_files.specs.UploadDialogue.{answered_by, answered_in}
-use Rattle.air_files.proofs.LiftLemmas.{one-cases, one-left, one-right}
+use Rattle.air_attempt.proofs.Offered.{one-cases, one-left, one-right}
 use Rattle.air_files.proofs.StoreLemmas.{sound-kept}
 
 -- ---- lists of entries

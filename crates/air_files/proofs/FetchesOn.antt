@@ -21,19 +21,16 @@ use Rattle.air_attempt.specs.Said.{octets_of_data, octets_of_item, octets_said, 
 use Rattle.air_attempt.specs.Sides.{ServerSide, said_by_server}
 use Rattle.air_files.specs.Facts.{AreFirstIfAny, Fetches, FetchesBy, FetchesIn, IsFetching, coming_by, got}
 use Rattle.air_files.specs.Laws.{with_attempt}
+use Rattle.std.proofs.lemmas.List.{length-map}
 
 -- ---- lists
 
 pub flat_map-one : {X Y : Type 0} (f : X → List Y) (xs : List X) (x : X) → flat_map f (xs ++ x ∷ []) ≡ flat_map f xs ++ f x
 flat_map-one {Y = Y} f xs x = flat_map-append f xs (x ∷ []) ∙ ap (λ (l : List Y). flat_map f xs ++ l) (append-nil (f x))
 
-pub map-length : {X Y : Type 0} (f : X → Y) (xs : List X) → length (map f xs) ≡ length xs
-map-length f [] = refl
-map-length f (x ∷ xs) = ap suc (map-length f xs)
-
 -- ---- the octets that one side said, of which the other one took the first
 
-octets-all : (packets : List PacketValue) → octets_taken (map Ok packets) ≡ octets_said packets
+pub octets-all : (packets : List PacketValue) → octets_taken (map Ok packets) ≡ octets_said packets
 octets-all [] = refl
 octets-all (packet ∷ packets) = ap (λ (l : List ℕ). octets_of_data packet ++ l) (octets-all packets)
 
@@ -49,7 +46,7 @@ drop-taken (item ∷ items) more = drop-taken items more
 module _ (items : List Item) (packets : List PacketValue) (front : AreFirstIn items (map Ok packets)) where
   pub front-few : length items ≤ length packets
   front-few =
-      let all : length packets ≡ length items + length front.0 = sym (map-length {Y = Item} Ok packets) ∙ ap length front.1 ∙ length-append items front.0 in
+      let all : length packets ≡ length items + length front.0 = sym (length-map {B = Item} packets Ok) ∙ ap length front.1 ∙ length-append items front.0 in
       omega (arith, all)
 
   -- what was taken, and what comes behind it

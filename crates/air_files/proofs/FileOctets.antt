@@ -13,15 +13,7 @@ use Rattle.ftl0_session.proofs.downloads.FileLemmas.{file-complete}
 use Rattle.air_attempt.specs.Sides.{ServerSide}
 use Rattle.air_files.specs.Dialogue.{IsDueNow}
 use Rattle.air_files.specs.SoundStore.{IsSoundStore}
-
--- what is found is such as all are
-pub found-such : {X : Type 0} (P : X → Type 0) (test : X → Bool) (xs : List X) (x : X) → find test xs ≡ Some x → AllByRecursion P xs → P x
-found-such P test [] x found all = absurd (cc)
-found-such P test (y ∷ ys) x found all = by (λ there. found-such P test ys x there all.1) (test y) found
-  where
-    by : (find test ys ≡ Some x → P x) → (b : Bool) → cond b (Some y) (find test ys) ≡ Some x → P x
-    by later true is = let same : y ≡ x = cc in subst P same all.0
-    by later false is = later is
+use Rattle.air_files.proofs.StoreLemmas.{found-such}
 
 pub octets-entry : (store : Store) (number : ℕ) → IsSoundStore store → IsOctets (octets_in store number)
 octets-entry store number sound = by (entry_of store number) refl

@@ -216,7 +216,7 @@ facts-over store files party facts =
     })
     facts
 
-served-itself : (o : Option ServerSide) → LooksServed o o
+pub served-itself : (o : Option ServerSide) → LooksServed o o
 served-itself None = tt
 served-itself (Some side) = record { greeting = refl; entries = refl; state = refl; up = λ is. is }
 

@@ -25,6 +25,7 @@ use Rattle.air_files.specs.SoundStore.{IsSoundStore}
 use Rattle.air_files.proofs.FileOctets.{octets-entry}
 use Rattle.air_files.proofs.JobNotes.{NotesKept, NumberIn}
 use Rattle.air_files.proofs.ShortOctets.{whole-fault}
+use Rattle.ftl0_packets.proofs.SplitLemmas.{octets_front}
 
 -- ---- pieces that are noted, one after another
 
@@ -96,9 +97,6 @@ first-front (suc count) (piece ∷ pieces) =
 
 -- ---- fronts of a complete file
 
-front-octets : (front more : List ℕ) → IsOctets (front ++ more) → IsOctets front
-front-octets front more are = subst IsOctets (take-append_seam front more) (All-take (λ octet. octet < 256) (length front) (front ++ more) are)
-
 append-none : (some more : List ℕ) → some ++ more ≡ some → more ≡ []
 append-none some more is = nil_from_length more (omega (arith, ap length is, length-append some more))
 
@@ -119,7 +117,7 @@ front-whole store number file front sound is_file is_front none =
     let octets : IsOctets file = subst IsOctets whole.1 (octets-entry store number sound) in
     let good : fault_code file ≡ None = ap fault_code (sym whole.1) ∙ whole-fault store number sound whole.0 in
     let all = (no_fault file octets).1 (no_fault-code file good) in
-    let parts : IsOctets front = front-octets front is_front.0 (subst IsOctets is_front.1 octets) in
+    let parts : IsOctets front = octets_front front is_front.0 (subst IsOctets is_front.1 octets) in
     let some = (no_fault front parts).1 (no_fault-code front none) in
     let more : is_front.0 ≡ [] = no_front all.0 some.0 all.1 some.1 front is_front.0 (subst (IsFaultless all.0 all.1) is_front.1 all.2) some.2 in
     sym (is_front.1 ∙ ap (λ (l : List ℕ). front ++ l) more ∙ append-nil front)

@@ -31,12 +31,11 @@ use Rattle.air_attempt.specs.Sides.{ServerSide, said_by_client, said_by_server}
 use Rattle.air_files.specs.Facts.{HasFacts}
 use Rattle.air_files.specs.Laws.{IsDirectoryOf, IsDownloadOf, IsUploadOf, JobKeeps, JobLaw, JobTookFront, Stands, TookFront, job_gone, started_with, with_job}
 use Rattle.air_files.specs.Tasks.{IsWork}
-use Rattle.air_files.proofs.LiftLemmas.{each-weaker}
+use Rattle.air_attempt.proofs.Offered.{each-weaker, reaches-by, reaches-then}
 use Rattle.air_files.proofs.JobChange.{moved}
 use Rattle.air_files.proofs.JobEarlier.{earlier, outcome-stays}
 use Rattle.air_files.proofs.JobNotes.{NotesKept}
 use Rattle.air_files.proofs.JobOne.{OneLaw, keeps-same, working}
-use Rattle.air_files.proofs.JobReach.{reaches-by, reaches-then}
 use Rattle.air_files.proofs.JobStep.{keeps-by, left, of_attempts}
 use Rattle.air_files.proofs.JobStill.{keeps-none}
 use Rattle.air_files.proofs.JobTasks.{tasks-same}
@@ -155,8 +154,8 @@ module _ (promises : PromisesLaw) (due_stands : DueLaw) where
       link = refl;
       begun = w.begun;
       reached =
-          reaches-then a.client.entries (entry ∷ []) (new_job a.client.asked) a.client.attempted.job now.job w.reached
-          (reaches-by (entry ∷ []) base.client.lists lists a.client.attempted.job now.job goes);
+          reaches-then (new_job a.client.asked) a.client.attempted.job now.job a.client.entries (entry ∷ []) w.reached
+          (reaches-by base.client.lists lists a.client.attempted.job now.job (entry ∷ []) goes);
       job = job-then a.client.asked entry base.client.lists lists a.client.attempted.job now.job goes w.job;
       sound = w.sound;
       facts = (keeps-by store files base a older w.facts (entry ∷ []) lists now kept.fronts kept.lists_are kept.kept).facts;

@@ -17,7 +17,7 @@ use Rattle.air_files.specs.Facts.{AreFirstIfAny, AskedWithin, GoesOnWithTask, Ha
 use Rattle.air_files.specs.Facts.{NotesGrant, Receives, got}
 use Rattle.air_files.specs.Kept.{HoldsAck, IsTaskKept}
 use Rattle.air_files.specs.UploadDialogue.{GoesOnWith}
-use Rattle.air_files.proofs.LiftLemmas.{each-weaker}
+use Rattle.air_attempt.proofs.Offered.{each-weaker}
 
 -- the client with these notes, this link, this DM to be sent and these attempts
 abbrev pub made : Party → Lists → Option Attempted → Option Refused → List Attempt → Party

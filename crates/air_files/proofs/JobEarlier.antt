@@ -26,7 +26,7 @@ use Rattle.air_files.proofs.JobChange.{change}
 use Rattle.air_files.proofs.JobStep.{of_attempts}
 use Rattle.air_files.proofs.JobTook.{whole}
 use Rattle.air_files.proofs.JobUploadSaid.{said-one}
-use Rattle.air_files.proofs.LiftLemmas.{one-left}
+use Rattle.air_attempt.proofs.Offered.{due-none, one-left}
 
 -- ---- fewer packets
 
@@ -53,10 +53,6 @@ reached-none (Some why) reached is = let no : LinkDown why ≡ Reached reached =
 
 unended : (o : Option Ending) (down : Option Why) (reached : Outcome) → o ≡ None → outcome_by o down ≡ Some (Reached reached) → ⊥
 unended o down reached none is = reached-none down reached (ap (λ (e : Option Ending). outcome_by e down) (sym none) ∙ is)
-
-due-none : (o : Option Ending) (doing : Work) (due : DuePacket JobState) → due_by o doing ≡ Some due → o ≡ None
-due-none None doing due is = refl
-due-none (Some ending) doing due is = absurd (cc is)
 
 -- what an entry leads to has the outcome that there was
 pub outcome-stays : (entry : JobEntry) (lists lists_now : Lists) (before now : JobState) (down : Option Why) (reached : Outcome)
@@ -105,3 +101,8 @@ earlier store files base a older entry now lists stays before facts =
     from : (task number : ℕ) → HasNumber (started_with (of_attempts base a older) lists) task number
         → HasNumber (started_with (of_attempts base (job_gone (entry ∷ []) now a) older) lists) task number
     from task number n = record { entry = n.entry; is_entry = n.is_entry; number_is = n.number_is; some = n.some }
+
+-- an outcome that isn't the link's doesn't depend on that
+pub reached-any : (o : Option Ending) (down other : Option Why) (reached : Outcome) → outcome_by o down ≡ Some (Reached reached) → outcome_by o other ≡ Some (Reached reached)
+reached-any None down other reached is = absurd (reached-none down reached is)
+reached-any (Some ending) down other reached is = is

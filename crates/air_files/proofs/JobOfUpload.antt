@@ -30,17 +30,17 @@ use Rattle.air_files.specs.Laws.{TookFront, job_gone, with_job}
 use Rattle.air_files.specs.Tasks.{IsWork}
 use Rattle.air_files.specs.UploadDialogue.{GoesOnWith, SaysUpload, ServesUpload}
 use Rattle.air_files.proofs.JobNotes.{NotesKept, NumberIn}
-use Rattle.air_files.proofs.JobReach.{reaches-by, reaches-then, row-of-work}
+use Rattle.air_files.proofs.JobReach.{row-of-work}
+use Rattle.air_attempt.proofs.Offered.{one-cases, one-left, reaches-by, reaches-then, some-at}
 use Rattle.air_files.proofs.JobStep.{of_attempts}
 use Rattle.air_files.proofs.JobTook.{whole}
-use Rattle.air_files.proofs.LiftLemmas.{one-cases, some-at}
 use Rattle.air_files.proofs.JobUploadCases.{keeps-notes, notes-number, says-nothing}
 use Rattle.air_files.proofs.JobUploadGoes.{goes-behind, no-download, says-came, says-same}
 use Rattle.air_files.proofs.JobUploadNotes.{Uploading, fronts-none, upload-same}
 use Rattle.air_files.proofs.JobUploadRows.{upload_at}
 use Rattle.air_files.proofs.JobUploadSaid.{DoesUpload, does-upload, due-of, said-one}
-use Rattle.air_files.proofs.LiftLemmas.{one-left}
-use Rattle.air_files.proofs.JobWorking.{OneKept, Working, heard-all, heard-before, heard-last, never-fetched, told-before}
+use Rattle.air_files.proofs.JobWorking.{OneKept, Working, heard-all, heard-before, heard-last, never-fetched}
+use Rattle.air_files.proofs.JobWorking.{told-before}
 
 -- What an entry of an upload's job does, beside what it says: the notes are those after its commands, each front of
 -- which keeps the notes; with the outcome it says nothing; and the number of a new upload is noted.
@@ -189,7 +189,7 @@ module _ (store : Store) (files : List Asked) (c : ℕ) (base : Party) (a : Atte
     does-now =
         does-upload task known file b.client.entries now.job
         (subst (λ (doing : Work). JobReaches (new_job doing) b.client.entries now.job) asked
-        (reaches-then a.client.entries (entry ∷ []) (new_job a.client.asked) job_is now.job w.reached (reaches-by (entry ∷ []) lists lists_now job_is now.job goes)))
+        (reaches-then (new_job a.client.asked) job_is now.job a.client.entries (entry ∷ []) w.reached (reaches-by lists lists_now job_is now.job (entry ∷ []) goes)))
 
     says-now : SaysUpload known file b.client
     says-now = by now.job.ending refl

@@ -12,24 +12,6 @@ use Rattle.ftl0_job.specs.Table.{JobState, item_row, job_after, job_row, row_by}
 use Rattle.ftl0_client.specs.Entries.{GoesBy, JobEntry, after_losing, lost, passed, queued, took}
 use Rattle.air_attempt.specs.Sides.{JobReaches}
 
--- by some entries, and then by others
-pub reaches-then : (es fs : List JobEntry) (job mid now : JobState) → JobReaches job es mid → JobReaches mid fs now → JobReaches job (es ++ fs) now
-reaches-then [] fs job mid now is there = subst (λ (j : JobState). JobReaches j fs now) is there
-reaches-then (took item row ∷ es) fs job mid now h there = (h.0, reaches-then es fs (job_after row) mid now h.1 there)
-reaches-then (lost item row ∷ es) fs job mid now h there = (h.0, reaches-then es fs (after_losing (kind_of_item item) row) mid now h.1 there)
-reaches-then (passed item ∷ es) fs job mid now h there = (h.0, reaches-then es fs job mid now h.1 there)
-reaches-then (queued due ∷ es) fs job mid now h there = (h.0, reaches-then es fs due.state mid now h.1 there)
-
--- entries that come over notes lead it there
-pub reaches-by : (es : List JobEntry) (lists now_lists : Lists) (job now : JobState) → GoesBy lists job es now_lists now → JobReaches job es now
-reaches-by [] lists now_lists job now h = h.1
-reaches-by (took item row ∷ es) lists now_lists job now h =
-    ((h.0, (lists, h.1)), reaches-by es (after_all lists row.commands) now_lists (job_after row) now h.2)
-reaches-by (lost item row ∷ es) lists now_lists job now h =
-    ((h.0, (lists, h.1)), reaches-by es (after_all lists row.commands) now_lists (after_losing (kind_of_item item) row) now h.2)
-reaches-by (passed item ∷ es) lists now_lists job now h = (h.0, reaches-by es lists now_lists job now h.1)
-reaches-by (queued due ∷ es) lists now_lists job now h = (h.0, reaches-by es lists now_lists due.state now h.1)
-
 -- before the outcome a packet's row is that of the work
 pub row-of-work : (lists : Lists) (job : JobState) (item : Item) → job.ending ≡ None → job_row lists job item ≡ item_row lists job.work item
 unfolding job_row

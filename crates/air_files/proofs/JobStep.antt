@@ -17,7 +17,7 @@ use Rattle.air_files.specs.Dialogue.{Says}
 use Rattle.air_files.specs.Facts.{AskedWithin, HasFacts, HasFetched, HasNumber, IsFetching, NotesGrant, Receives}
 use Rattle.air_files.specs.Laws.{JobKeeps, job_gone, started_with, with_job}
 use Rattle.air_files.specs.UploadDialogue.{GoesOnWith}
-use Rattle.air_files.proofs.LiftLemmas.{each-weaker}
+use Rattle.air_attempt.proofs.Offered.{each-weaker}
 use Rattle.air_files.proofs.JobChange.{change}
 use Rattle.air_files.proofs.JobNotes.{NotesKept, NumberIn}
 

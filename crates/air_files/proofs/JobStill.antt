@@ -20,15 +20,10 @@ use Rattle.air_attempt.specs.Sides.{ServerSide}
 use Rattle.air_files.specs.Facts.{AreFirstIfAny, FetchesBy, FetchesIn, HasFacts, coming_by, got}
 use Rattle.air_files.specs.Laws.{JobKeeps, job_gone, with_job}
 use Rattle.air_files.proofs.JobChange.{moved}
-use Rattle.air_files.proofs.JobEarlier.{reached-none}
+use Rattle.air_files.proofs.JobEarlier.{reached-any, reached-none}
 use Rattle.air_files.proofs.JobSays.{says-still}
 use Rattle.air_files.proofs.JobStep.{JobKept, keeps-by, of_attempts}
 use Rattle.air_files.proofs.JobUploadNotes.{fronts-none}
-
--- an outcome that isn't the link's doesn't depend on that
-pub reached-any : (o : Option Ending) (down other : Option Why) (reached : Outcome) → outcome_by o down ≡ Some (Reached reached) → outcome_by o other ≡ Some (Reached reached)
-reached-any None down other reached is = absurd (reached-none down reached is)
-reached-any (Some ending) down other reached is = is
 
 module _ (store : Store) (files : List Asked) (base : Party) (a : Attempt) (older : List Attempt) (now : Attempted) (same : now.job ≡ a.client.attempted.job) where
   abbrev party : Party

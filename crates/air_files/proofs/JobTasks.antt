@@ -30,8 +30,9 @@ use Rattle.air_files.specs.Tasks.{AreTasks}
 use Rattle.air_files.proofs.DownloadJobRows.{DownloadCases, download-cases}
 use Rattle.air_files.proofs.JobNotes.{SameTasks}
 use Rattle.air_files.proofs.JobUploadRows.{UploadCases, upload-cases}
-use Rattle.air_files.proofs.LiftLemmas.{each-append}
+use Rattle.air_attempt.proofs.Offered.{each-append}
 use Rattle.air_files.proofs.ListJobSaid.{item-silent}
+use Rattle.std.proofs.Common.{subst, sym}
 
 -- the command begins no task
 abbrev pub IsNoStart : NotesCommand → Type 0
@@ -222,6 +223,14 @@ tasks-same files c old new uploads server me same tasks = record {
       };
   as_many = ap length uploads ∙ tasks.as_many ∙ sym same.as_many;
 }
+
+-- They are, where its stations, its notes and its uploads are as they were.
+pub tasks-lists : (files : List Asked) (c : ℕ) (one other : Party) → other.client.me ≡ one.client.me
+    → other.client.server ≡ one.client.server → other.client.lists ≡ one.client.lists → other.uploads ≡ one.uploads
+    → AreTasks files c one → AreTasks files c other
+tasks-lists files c one other me server lists uploads tasks =
+    tasks-same files c one other uploads server me
+    (subst (λ (it : Lists). SameTasks one.client.lists it) (sym lists) (same-none one.client.lists)) tasks
 
 pub job-tasks : JobTasksLaw
 job-tasks files c party entries lists_now before now tasks goes count =

@@ -23,7 +23,8 @@ use Rattle.air_files.specs.Facts.{HasNumber}
 use Rattle.air_files.proofs.JobNotes.{NotesKept, NumberIn}
 use Rattle.air_files.proofs.JobStep.{of_attempts}
 use Rattle.air_files.proofs.JobTook.{offer-behind, one-offer, refusal-answers, whole, word-behind}
-use Rattle.air_files.proofs.JobUploadNotes.{Uploading, fronts-none, fronts-one, grant-some, kept-acked, kept-numbered, kept-refusal}
+use Rattle.air_files.proofs.JobUploadNotes.{Uploading, fronts-none, fronts-one, grant-some, kept-acked, kept-numbered}
+use Rattle.air_files.proofs.JobUploadNotes.{kept-refusal}
 use Rattle.air_files.proofs.JobUploadRows.{IsNoOffer, UploadCases, upload-cases, upload_at}
 use Rattle.air_files.proofs.JobUploadSaid.{CameTo, no-end}
 

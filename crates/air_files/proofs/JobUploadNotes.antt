@@ -26,7 +26,7 @@ use Rattle.air_files.specs.UploadDialogue.{ServesUpload}
 use Rattle.air_files.proofs.JobNotes.{NotesKept, kept-same, kept-task}
 use Rattle.air_files.proofs.JobStep.{of_attempts}
 use Rattle.air_files.proofs.JobTook.{offer-answers, whole}
-use Rattle.air_files.proofs.LiftLemmas.{some-at}
+use Rattle.air_attempt.proofs.Offered.{some-at}
 use Rattle.air_files.proofs.JobUploadRows.{upload_at}
 
 -- ---- the first of some commands

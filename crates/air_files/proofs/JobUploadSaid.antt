@@ -25,7 +25,7 @@ use Rattle.air_attempt.specs.Said.{IsTaken}
 use Rattle.air_attempt.specs.Sides.{JobReaches}
 use Rattle.air_files.specs.UploadDialogue.{GoesOnWith}
 use Rattle.air_files.proofs.JobReach.{Stays, of-reached}
-use Rattle.air_files.proofs.LiftLemmas.{one-left, one-right}
+use Rattle.air_attempt.proofs.Offered.{one-left, one-right}
 use Rattle.air_files.proofs.JobUploadRows.{UploadCases, upload-cases, upload_at}
 
 -- ---- packets that go on with a file

@@ -22,6 +22,7 @@ use Rattle.air_files.specs.UploadDialogue.{IsSendingFile, Sending, asked, silent
 use Rattle.air_files.specs.Facts.{HasNumber, IsGrantKept, Receives}
 use Rattle.air_files.specs.Laws.{IsSameParty, LooksLike, LooksLikeSession}
 use Rattle.air_files.proofs.ApartLemmas.{HasClientFacts, HasSideFacts}
+use Rattle.air_files.proofs.JobEarlier.{reached-any}
 
 -- ---- a client, an attempt and a session with what the facts look at of others
 
@@ -173,14 +174,6 @@ like-side store party now a b side other up facts = record {
   serves = like-serves store a.client.asked side other facts.serves;
 }
 
--- what a job reached it reached, whatever became of its link
-reached-by : (ending : Option Ending) (down other : Option Why) (outcome : Outcome)
-    → outcome_by ending down ≡ Some (Reached outcome)
-    → outcome_by ending other ≡ Some (Reached outcome)
-reached-by None None other outcome is = absurd (cc)
-reached-by None (Some why) other outcome is = absurd (cc)
-reached-by (Some ending) down other outcome is = is
-
 like-says : (asked : Work) (side now : ClientSide) → Says asked side → Says asked (like_client side now)
 like-says (work.Upload at) side now s = record {
   stage = s.stage;
@@ -209,7 +202,7 @@ like-client party now a b facts = record {
   says = like-says a.client.asked a.client b.client facts.says;
   fetched = λ number is.
       facts.fetched number
-      (reached-by a.client.attempted.job.ending b.client.attempted.down a.client.attempted.down
+      (reached-any a.client.attempted.job.ending b.client.attempted.down a.client.attempted.down
       (reached.Fetched number) is);
   asked_within = facts.asked_within;
 }

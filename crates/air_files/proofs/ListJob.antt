@@ -25,7 +25,8 @@ use Rattle.air_files.specs.Facts.{FetchesBy}
 use Rattle.air_files.specs.Laws.{IsDirectoryOf, job_gone, with_job}
 use Rattle.air_files.proofs.JobNotes.{NotesKept}
 use Rattle.air_files.proofs.JobOne.{OneLaw}
-use Rattle.air_files.proofs.JobReach.{reaches-by, reaches-then, row-of-work}
+use Rattle.air_files.proofs.JobReach.{row-of-work}
+use Rattle.air_attempt.proofs.Offered.{reaches-by, reaches-then}
 use Rattle.air_files.proofs.JobStep.{of_attempts}
 use Rattle.air_files.proofs.JobUploadNotes.{fronts-none}
 use Rattle.air_files.proofs.JobWorking.{OneKept, Working, never-fetched}
@@ -83,7 +84,7 @@ module _ (store : Store) (files : List Asked) (c : ℕ) (base : Party) (a : Atte
     does-now =
         does-list tokens b.client.entries now.job
         (subst (λ (doing : Work). JobReaches (new_job doing) b.client.entries now.job) asked
-        (reaches-then a.client.entries (entry ∷ []) (new_job a.client.asked) job_is now.job w.reached (reaches-by (entry ∷ []) lists lists_now job_is now.job goes)))
+        (reaches-then (new_job a.client.asked) job_is now.job a.client.entries (entry ∷ []) w.reached (reaches-by lists lists_now job_is now.job (entry ∷ []) goes)))
 
     -- it is no upload
     no-upload : (upload : Upload) → a.client.asked ≢ work.Upload upload

@@ -22,7 +22,7 @@ use Rattle.air_attempt.specs.Sides.{JobReaches}
 use Rattle.air_files.specs.Dialogue.{IsListSaid}
 use Rattle.air_files.proofs.JobReach.{Stays, of-reached}
 use Rattle.air_files.proofs.JobUploadSaid.{NeverFetched, said-one}
-use Rattle.air_files.proofs.LiftLemmas.{each-append}
+use Rattle.air_attempt.proofs.Offered.{each-append}
 
 -- the list of these tokens' selection, come so far
 abbrev pub directory_at : List ℕ → List ℕ → DirectoryPhase → Directory

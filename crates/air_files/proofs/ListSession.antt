@@ -22,7 +22,7 @@ use Rattle.air_files.specs.Dialogue.{IsDueNow, IsListSaid, IsOfListing, Says, Se
 use Rattle.air_files.specs.Laws.{IsDirectoryOf, IsOne, IsServed, SessionGoes, SessionKeeps, SessionLawOf, session_gone, with_attempt}
 use Rattle.air_files.proofs.FetchesOn.{ComesOn, fetching-on, flat_map-one}
 use Rattle.air_files.proofs.GoneLemmas.{facts-over}
-use Rattle.air_files.proofs.LiftLemmas.{each-append, each-weaker}
+use Rattle.air_attempt.proofs.Offered.{each-append, each-weaker}
 use Rattle.air_files.proofs.ListRows.{IsListReply, IsListRow, IsListed, list-row}
 use Rattle.air_files.proofs.ListServed.{due-listed, front-last, list-packet, none-asked}
 use Rattle.air_files.proofs.QuietKeeps.{StaysQuiet, gone_side, keeps-quiet}

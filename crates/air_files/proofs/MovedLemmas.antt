@@ -24,9 +24,10 @@ use Rattle.air_files.specs.Facts.{AreFirstIfAny, Fetches, FetchesBy, FetchesIn, 
 use Rattle.air_files.specs.Kept.{IsFileAt, WhereStands}
 use Rattle.air_files.proofs.ApartLemmas.{GrantFact, HasClientFacts, HasFactsApart, HasSideFacts, apart, together}
 use Rattle.air_files.proofs.GrowingLemmas.{StayOthers}
-use Rattle.air_files.proofs.LiftLemmas.{one-map}
+use Rattle.air_attempt.proofs.Offered.{one-map}
 use Rattle.air_files.proofs.LikeLemmas.{like-client, like-side, number-like}
-use Rattle.air_files.proofs.StableLemmas.{keeps-complete, keeps-fetching, keeps-first_any, keeps-offer, keeps-serves, keeps-task_kept}
+use Rattle.air_files.proofs.StableLemmas.{keeps-complete, keeps-fetching, keeps-fetching_some, keeps-first_any}
+use Rattle.air_files.proofs.StableLemmas.{keeps-offer, keeps-serves, keeps-task_kept}
 
 -- a session that gave this number to a new upload did so for a task that has it
 abbrev pub OwnGrants : Party → ℕ → Attempt → ServerSide → Type 0
@@ -241,11 +242,6 @@ fetching-over : (store : Store) (party : Party) (attempts all : List Attempt) �
 fetching-over store party [] all f = tt
 fetching-over store party (a ∷ older) all f = fetching-as store party a all (option_map over a.server) (coming-over a a.server) f
 
-fetching-moved : (before now : Store) (party : Party) (o : Option Attempt) → KeepsComplete before now → IfSome o (IsFetching before party)
-    → IfSome o (IsFetching now party)
-fetching-moved before now party None keeps f = tt
-fetching-moved before now party (Some a) keeps f = keeps-fetching before now party a keeps f
-
 -- ---- all facts
 
 -- they hold over the store then, with all sessions over
@@ -263,5 +259,5 @@ facts-left files party before now moves facts =
       got_front = λ number. keeps-first_any before now number (got party number) moves.keeps.complete (each.got_front number);
       fetching =
           fetching-over now party party.attempts (all_over party.attempts)
-          (fetching-moved before now party (slice_get party.attempts 0) moves.keeps.complete each.fetching);
+          (keeps-fetching_some before now party (slice_get party.attempts 0) moves.keeps.complete each.fetching);
     })

@@ -20,8 +20,7 @@ use Rattle.air_files.specs.SoundStore.{IsSoundStore}
 use Rattle.air_files.proofs.ApartLemmas.{HasFactsApart, HasSideFacts, ReceiveFact, apart, together}
 use Rattle.air_files.proofs.LiftLemmas.{each-side, side-at}
 use Rattle.air_files.proofs.StableLemmas.{keeps-complete, keeps-due, keeps-fetching_some, keeps-first_any, keeps-kept}
-use Rattle.air_files.proofs.StableLemmas.{keeps-offer}
-use Rattle.air_files.proofs.StableLemmas.{keeps-serves, keeps-task_kept}
+use Rattle.air_files.proofs.StableLemmas.{keeps-offer, keeps-serves, keeps-task_kept}
 use Rattle.air_files.proofs.StoreLemmas.{drop-keeps, dropped-none}
 
 -- the entry stands as it did

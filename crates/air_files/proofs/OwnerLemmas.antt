@@ -12,21 +12,11 @@ use Rattle.air_attempt.specs.Sides.{ServerSide}
 use Rattle.air_files.specs.Facts.{HasFacts, HasNumber, IsGranted}
 use Rattle.air_files.specs.Laws.{GrantedAt, GrantsOnce}
 use Rattle.air_files.proofs.ApartLemmas.{GrantFact}
-use Rattle.air_files.proofs.LiftLemmas.{each-side, side-at, some-from}
+use Rattle.air_files.proofs.LiftLemmas.{each-side, side-at}
+use Rattle.air_attempt.proofs.Offered.{all-by, one-placed, some-from}
 use Rattle.air_files.proofs.MovedLemmas.{OwnGrants, same-task}
 
 -- ---- places of a list
-
--- each is so, if what stands at any place is
-each-placed : {X : Type 0} (P : X → Type 0) (xs : List X) → ((place : ℕ) (x : X) → slice_get xs place ≡ Some x → P x) → AllByRecursion P xs
-each-placed P [] holds = tt
-each-placed P (x ∷ xs) holds = (holds zero x refl, each-placed P xs (λ place y there. holds (suc place) y there))
-
--- the place of one that is so
-one-placed : {X : Type 0} (P : X → Type 0) (xs : List X) → OneIs P xs → (place : ℕ) × (x : X) × (slice_get xs place ≡ Some x) × P x
-one-placed P [] one = absurd one
-one-placed P (x ∷ xs) (inl here) = (zero, x, refl, here)
-one-placed P (x ∷ xs) (inr there) = let later = one-placed P xs there in (suc later.0, later.1, later.2, later.3)
 
 -- ---- the task of a number
 
@@ -71,7 +61,7 @@ module _ (store : Store) (files : List Asked) (party : Party) (facts : HasFacts 
   pub own-number : (task number : ℕ) (file : List ℕ) → HasNumber party task number → IsFileOf files party task file
       → AllByRecursion (λ a. IfSome a.server (OwnGrants party number a)) party.attempts
   own-number task number file has is =
-      each-placed (λ a. IfSome a.server (OwnGrants party number a)) party.attempts
+      all-by (λ a. IfSome a.server (OwnGrants party number a)) party.attempts
       (λ place a there. some-from a.server
       (λ side is_side file_length other that grants asks.
       let one = granted-place task number file has is in

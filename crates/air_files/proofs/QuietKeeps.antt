@@ -26,7 +26,7 @@ gone_side side entries state up =
     record side { connected = record side.connected { state = state }; entries = side.entries ++ entries; is_up = up }
 
 -- no command is done
-first-none : (count : ℕ) (store : Store) → after_first count store [] ≡ store
+pub first-none : (count : ℕ) (store : Store) → after_first count store [] ≡ store
 first-none zero store = refl
 first-none (suc count) store = refl
 

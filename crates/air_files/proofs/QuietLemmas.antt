@@ -19,7 +19,7 @@ use Rattle.air_attempt.specs.Sides.{ServerSide}
 use Rattle.air_files.specs.Dialogue.{IsDueNow, Says, Serves}
 use Rattle.air_files.specs.Facts.{AskedWithin, GoesOnWithTask, HasFacts, HasFetched, HasNumber, HasSessionFacts, HasTaskFacts, IsFetching, IsGrantKept, IsGranted, IsOfferKept, NotesGrant, Receives}
 use Rattle.air_files.specs.Laws.{with_attempt}
-use Rattle.air_files.proofs.LiftLemmas.{each-at, each-weaker, one-left, one-right}
+use Rattle.air_attempt.proofs.Offered.{each-at, each-weaker, one-left, one-right}
 
 -- ---- what was said of uploading
 

@@ -25,7 +25,7 @@ use Rattle.air_files.specs.Laws.{IsDirectoryOf, IsDownloadOf, IsOne, IsServed, I
 use Rattle.air_files.proofs.ApartLemmas.{GrantFact}
 use Rattle.air_files.proofs.GoneLemmas.{alike-itself, facts-over, facts-same}
 use Rattle.air_files.proofs.LikeLemmas.{number-like}
-use Rattle.air_files.proofs.LiftLemmas.{each-append, one-left}
+use Rattle.air_attempt.proofs.Offered.{each-append, one-left}
 use Rattle.air_files.proofs.MovedLemmas.{GrantsBegun, facts-left, same-task}
 use Rattle.air_files.proofs.SessionFirst.{attempt_mid, first-goes, front-first, party_mid, served-mid, side_mid}
 

@@ -21,7 +21,8 @@ use Rattle.air_files.specs.Laws.{GrantedAt, GrantsOnce, IsServed, SessionKeeps, 
 use Rattle.air_files.specs.Tasks.{IsTaskFor, IsWork}
 use Rattle.air_files.proofs.ApartLemmas.{GrantFact}
 use Rattle.air_files.proofs.EntryLemmas.{said-gone, with_entry}
-use Rattle.air_files.proofs.LiftLemmas.{each-append, has-at, side-at}
+use Rattle.air_files.proofs.LiftLemmas.{side-at}
+use Rattle.air_attempt.proofs.Offered.{each-append, has-at}
 
 -- ---- the first entry
 

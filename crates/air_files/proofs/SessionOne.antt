@@ -27,9 +27,11 @@ use Rattle.air_files.specs.Facts.{HasFacts, coming_by}
 use Rattle.air_files.specs.Laws.{AreNewGrants, IsOne, IsServed, IsUploadOf, LeftIn, SessionGoes, SessionKeeps, SessionLawOf, session_gone, with_attempt}
 use Rattle.air_files.specs.UploadDialogue.{AnsweredFirst, Receiving, ServesUpload, answered_in, ended, receives, refused, unasked}
 use Rattle.air_files.proofs.ApartLemmas.{HasSideFacts}
-use Rattle.air_files.proofs.EntryLemmas.{answered-more, answers-cases, answers-still, coming-gone, said-more, with_entry}
+use Rattle.air_files.proofs.EntryLemmas.{answered-more, answers-cases, answers-still, coming-gone, said-more}
+use Rattle.air_files.proofs.EntryLemmas.{with_entry}
 use Rattle.air_files.proofs.GoneOnLemmas.{facts-gone_on}
-use Rattle.air_files.proofs.SideLemmas.{EntryDoes, RowDoes, done, gone_attempt, left-all, row-all, row-left, side-kept, side-new, silent-true}
+use Rattle.air_files.proofs.SideLemmas.{EntryDoes, RowDoes, done, gone_attempt, left-all, row-all, row-left, side-kept}
+use Rattle.air_files.proofs.SideLemmas.{side-new, silent-true}
 use Rattle.air_files.proofs.UploadEntry.{upload-does, upload-none-due}
 use Rattle.air_files.proofs.UploadServed.{serves-upload}
 

@@ -18,7 +18,8 @@ use Rattle.file_store.specs.Store.{Entry, Holding, Store, complete, octets_at, o
 use Rattle.ftl0_session.specs.Downloads.Needs.{AreFiles}
 use Rattle.ftl0_session.specs.Downloads.Table.{octets_in, short_octets}
 use Rattle.air_files.specs.SoundStore.{IsSoundStore}
-use Rattle.air_files.proofs.FileOctets.{found-such, octets-entry}
+use Rattle.air_files.proofs.FileOctets.{octets-entry}
+use Rattle.air_files.proofs.StoreLemmas.{found-such}
 
 abbrev IsOctet : ℕ → Type 0
 IsOctet octet = octet < 256

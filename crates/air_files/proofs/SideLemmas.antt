@@ -22,12 +22,14 @@ use Rattle.air_files.specs.Facts.{HasNumber, IsGrantKept, IsOfferKept}
 use Rattle.air_files.specs.Kept.{IsFileAt}
 use Rattle.air_files.specs.Laws.{IsServed, LeftIn, with_attempt}
 use Rattle.air_files.proofs.ApartLemmas.{DueFact, HasSideFacts, ReceiveFact, apart}
-use Rattle.air_files.proofs.EntryLemmas.{AreRowCommands, answers-cases, row-follows, row-keeps, row-sound, says-cases, with_entry}
+use Rattle.air_files.proofs.EntryLemmas.{AreRowCommands, answers-cases, row-follows, row-keeps, row-sound, says-cases}
+use Rattle.air_files.proofs.EntryLemmas.{with_entry}
 use Rattle.air_files.proofs.GrowingLemmas.{StayOthers}
-use Rattle.air_files.proofs.LiftLemmas.{some-at}
+use Rattle.air_attempt.proofs.Offered.{some-at}
 use Rattle.air_files.proofs.LikeLemmas.{like-side}
 use Rattle.air_files.proofs.MovedLemmas.{GrantsBegun, MovesTo, OwnGrants, facts-left, moves-to, side-moved}
 use Rattle.air_files.proofs.OwnerLemmas.{next-none, own-next}
+use Rattle.air_files.proofs.QuietKeeps.{first-none}
 
 -- ---- what the row of an entry does
 
@@ -113,10 +115,6 @@ module _ (files : List Asked) (c : ℕ) (party : Party) (before : Session) (serv
 
 -- ---- a row without commands
 
-none-first : (count : ℕ) (store : Store) → after_first count store [] ≡ store
-none-first zero store = refl
-none-first (suc count) store = refl
-
 -- the row of a packet at which only the state changes, and something is said
 abbrev pub idle_row : Session → State → List PacketValue → Row
 idle_row before state replies = record { state = state; lists = before.lists; commands = []; replies = replies }
@@ -132,7 +130,7 @@ module _ (files : List Asked) (c : ℕ) (party : Party) (before : Session) (serv
     fits = fits;
     quiet = quiet;
     n = before.store.next;
-    others = λ count other differs. ap (λ (s : Store). entry_of s other) (none-first count before.store);
+    others = λ count other differs. ap (λ (s : Store). entry_of s other) (first-none count before.store);
     file = λ count task file has is. absurd (next-none before.store files party served.facts served.once task file has is);
     own = own-next before.store files party served.facts served.once;
     new = λ number file_length is. new number file_length is.0 is.1;

@@ -16,7 +16,7 @@ use Rattle.air_files.specs.Facts.{HasFacts, HasNumber, IsNumbered}
 use Rattle.air_files.specs.Kept.{HoldsAck}
 use Rattle.air_files.specs.Laws.{Stands}
 use Rattle.air_files.proofs.ApartLemmas.{HasFactsApart, apart, together}
-use Rattle.air_files.proofs.LiftLemmas.{each-weaker, some-weaker}
+use Rattle.air_attempt.proofs.Offered.{each-weaker, some-weaker}
 use Rattle.air_files.proofs.LongerLemmas.{acked-task, facts-longer, file-more, place-last, place-more, task-file}
 use Rattle.air_files.proofs.LongerLemmas.{task-some}
 use Rattle.air_files.proofs.NotedLemmas.{KeepsNoted, client-noted, fetches_by-noted, side-noted}

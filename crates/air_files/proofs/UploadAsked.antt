@@ -28,7 +28,8 @@ use Rattle.air_files.specs.UploadDialogue.{GoesOnWith, IsOfferFor, ServesUpload,
 use Rattle.air_files.proofs.EntryLemmas.{answered-more, answers-now, items-more, said-more, with_entry}
 use Rattle.air_files.proofs.GrowingLemmas.{begun-first, begun-there}
 use Rattle.air_files.proofs.OwnerLemmas.{next-none, own-next}
-use Rattle.air_files.proofs.SideLemmas.{EntryDoes, RowDoes, acks-still, done, gone_attempt, idle-does, idle_row, side-kept, side-new}
+use Rattle.air_files.proofs.SideLemmas.{EntryDoes, RowDoes, acks-still, done, gone_attempt, idle-does, idle_row}
+use Rattle.air_files.proofs.SideLemmas.{side-kept, side-new}
 use Rattle.air_files.proofs.UploadServed.{Stage, asks-upload, items-taken, serves-upload, unasked-alone}
 
 -- a side in command, or in receiving, has nothing due

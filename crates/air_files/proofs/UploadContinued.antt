@@ -23,8 +23,10 @@ use Rattle.air_files.specs.Kept.{IsFileAt}
 use Rattle.air_files.specs.Laws.{IsServed}
 use Rattle.air_files.specs.UploadDialogue.{unasked}
 use Rattle.air_files.proofs.EntryLemmas.{with_entry}
-use Rattle.air_files.proofs.SideLemmas.{EntryDoes, RowDoes, done, gone_attempt, idle-does, idle_row, newest-client, side-kept, side-new}
-use Rattle.air_files.proofs.UploadAsked.{alone-is, asked-begun, asked-refused, asking, cmd-number, due-receiving, none-acked, receives-offer, serves-as, serves-offer}
+use Rattle.air_files.proofs.SideLemmas.{EntryDoes, RowDoes, done, gone_attempt, idle-does, idle_row, newest-client}
+use Rattle.air_files.proofs.SideLemmas.{side-kept, side-new}
+use Rattle.air_files.proofs.UploadAsked.{alone-is, asked-begun, asked-refused, asking, cmd-number, due-receiving}
+use Rattle.air_files.proofs.UploadAsked.{none-acked, receives-offer, serves-as, serves-offer}
 use Rattle.air_files.proofs.UploadRows.{IsAskedBy, IsResumed, asked-by, row-asked}
 use Rattle.air_files.proofs.UploadServed.{Stage, asks-upload, file-of-upload}
 

@@ -37,12 +37,14 @@ use Rattle.air_files.specs.Laws.{IsServed}
 use Rattle.air_files.specs.UploadDialogue.{AnsweredFirst, IsOfferedBy, ServesUpload, ended, received_items, receives, receiving_said}
 use Rattle.air_files.specs.Uploads.{IsGoodFile}
 use Rattle.air_files.proofs.EntryLemmas.{answered-more, answers-still, said-more, says-cases, with_entry}
-use Rattle.air_files.proofs.GrowingLemmas.{ended-first, ended-store, ending-allowed, ending_commands, front-entry, front-others, sealed-others, sealed_store, with_front}
+use Rattle.air_files.proofs.GrowingLemmas.{ended-first, ended-store, ending-allowed, ending_commands, front-entry}
+use Rattle.air_files.proofs.GrowingLemmas.{front-others, sealed-others, sealed_store, with_front}
 use Rattle.air_files.proofs.OwnerLemmas.{one-file, own-number}
 use Rattle.air_files.proofs.SideLemmas.{EntryDoes, RowDoes, done, gone_attempt, side-kept, side-new}
 use Rattle.air_files.proofs.UploadAsked.{alone-is, due-command}
 use Rattle.air_files.proofs.UploadData.{front-of, waiting-octets}
-use Rattle.air_files.proofs.UploadNext.{IsOfferIn, offers-in}
+use Rattle.air_files.proofs.UploadNext.{offers-in}
+use Rattle.air_files.proofs.JobTook.{IsOffer}
 use Rattle.air_files.proofs.UploadReceived.{TakesFile, is-good, place_come, takes, waiting}
 use Rattle.air_files.proofs.UploadRows.{end-whole, row-ended}
 use Rattle.air_files.proofs.UploadServed.{Stage, file-of-upload, serves-upload}
@@ -219,8 +221,8 @@ module _ (files : List Asked) (c : ℕ) (party : Party) (before : Session) (serv
         let was = serves-upload files c party before served at asked_is in
         let said : Has (served.side.greeting ∷ receiving_said was.stage) (ul_go_resp n from_place) =
         subst (λ (packets : List PacketValue). Has (served.side.greeting ∷ packets) (ul_go_resp n from_place)) was.said offers in
-        let both : IsOfferIn (receives number offset parts) n from_place =
-        subst (λ stage. IsOfferIn stage n from_place) is
+        let both : IsOffer (receives number offset parts) n from_place =
+        subst (λ stage. IsOffer stage n from_place) is
         (offers-in at.known was.stage served.side.greeting n from_place served.greets was.offered said) in
         both.0
 

@@ -12,8 +12,9 @@ use Rattle.air_attempt.specs.Laws.{ClientTookFront}
 use Rattle.air_attempt.specs.Lists.{Has, OneIs}
 use Rattle.air_attempt.specs.Said.{IsTaken, Took}
 use Rattle.air_attempt.specs.Sides.{ClientSide, IsGreeting, ServerSide, said_by_server}
-use Rattle.air_files.proofs.LiftLemmas.{one-left, one-right}
+use Rattle.air_attempt.proofs.Offered.{one-left, one-right}
 use Rattle.air_files.specs.UploadDialogue.{GoesOnWith, IsOfferedBy, IsSendingFile, IsWord, Receiving, Sending, answered_in, asked, data_items, ended, received_items, receives, receiving_said, refused, sending_said, sends, silent, unasked}
+use Rattle.air_files.proofs.JobTook.{IsOffer, has-ok}
 
 -- ---- what was taken
 
@@ -78,11 +79,6 @@ taken-item (job.passed item ∷ entries) packet (inl is) = absurd is
 taken-item (job.queued due ∷ entries) packet (inl is) = absurd is
 taken-item (entry ∷ entries) packet (inr one) = one-right (λ item. item ≡ Ok packet) (job.items_of entry) (job.items_in entries) (taken-item entries packet one)
 
-has-ok : (said : List PacketValue) (packet : PacketValue) → Has {X = Item} (map Ok said) (Ok packet) → Has said packet
-has-ok [] packet has = has
-has-ok (first ∷ said) packet (inl is) = inl (cc)
-has-ok (first ∷ said) packet (inr has) = inr (has-ok said packet has)
-
 -- a packet that the client took is one that its session said
 pub took-said : (a : Attempt) (side : ServerSide) (packet : PacketValue) → ClientTookFront a side → Took a.client packet
     → Has (said_by_server side) packet
@@ -92,13 +88,6 @@ took-said a side packet heard took =
 
 -- ---- what a session has offered
 
--- the number and offset that a session has offered
-abbrev pub IsOfferIn : Receiving → ℕ → ℕ → Type 0
-IsOfferIn unasked number offset = ⊥
-IsOfferIn (refused code) number offset = ⊥
-IsOfferIn (receives own from parts) number offset = (own ≡ number) × (from ≡ offset)
-IsOfferIn (ended own from parts word) number offset = (own ≡ number) × (from ≡ offset)
-
 no-greeting : (greeting packet : PacketValue) (number offset : ℕ) → IsGreeting greeting → greeting ≡ ul_go_resp number offset → ⊥
 no-greeting greeting packet number offset greets is = let both = sym greets.2 ∙ is in cc
 
@@ -107,7 +96,7 @@ no-word word number offset (inl acks) is = cc
 no-word word number offset (inr refuses) is = let both = sym refuses.1 ∙ is in cc
 
 pub offers-in : (known : ℕ) (stage : Receiving) (greeting : PacketValue) (number offset : ℕ) → IsGreeting greeting → IsOfferedBy known stage
-    → Has (greeting ∷ receiving_said stage) (ul_go_resp number offset) → IsOfferIn stage number offset
+    → Has (greeting ∷ receiving_said stage) (ul_go_resp number offset) → IsOffer stage number offset
 offers-in known stage greeting number offset greets offered (inl is) = absurd (no-greeting greeting greeting number offset greets is)
 offers-in known unasked greeting number offset greets offered (inr has) = has
 offers-in known (refused code) greeting number offset greets offered (inr (inl is)) = absurd (cc)
@@ -129,7 +118,7 @@ IsNextIn known file_length (ended number offset parts word) item = ⊥
 
 -- the client took an offer only where one was made
 abbrev pub TookOffered : ClientSide → Receiving → Type 0
-TookOffered side stage = (number offset : ℕ) → Took side (ul_go_resp number offset) → IsOfferIn stage number offset
+TookOffered side stage = (number offset : ℕ) → Took side (ul_go_resp number offset) → IsOffer stage number offset
 
 pub next-in : (known : ℕ) (file : List ℕ) (side : ClientSide) (stage : Receiving) (sending : Sending) (item : Item) (more : List Item)
     → TookOffered side stage → IsSendingFile file side sending

@@ -22,7 +22,7 @@ use Rattle.air_files.specs.UploadDialogue.{GoesOnWith, IsReceivingState, receive
 use Rattle.air_files.specs.Uploads.{IsGoodFile}
 use Rattle.air_files.proofs.ApartLemmas.{ReceiveFact}
 use Rattle.air_files.proofs.EntryLemmas.{items-more, with_entry}
-use Rattle.air_files.proofs.LiftLemmas.{each-at, has-at}
+use Rattle.air_attempt.proofs.Offered.{each-at, has-at}
 use Rattle.air_files.proofs.SideLemmas.{newest-side}
 use Rattle.air_files.proofs.UploadNext.{SaidNext}
 use Rattle.air_files.proofs.UploadServed.{Stage, asks-upload, file-of-upload, serves-upload}

@@ -14,6 +14,7 @@ use Rattle.ftl0_session.specs.Lists.Lists.{CallerList}
 use Rattle.ftl0_session.specs.Table.{by_upload, command, receiving, session_row}
 use Rattle.ftl0_session.specs.Uploads.Session as upload
 use Rattle.ftl0_session.specs.Uploads.Session.{begin_row, continue_row, data_row, end_row, granted_row, is_all, is_same_call, is_theirs, refused_row, resumed_row, taken_row, upload_row, whole_row}
+use Rattle.ftl0_session.proofs.uploads.UploadRows.{theirs-decides}
 
 -- ---- the rows of the whole table
 
@@ -46,16 +47,6 @@ module _ (law : UploadsLaw) (caller : CallSign) (moment : ℕ) (store : Store) (
   row-ended number rest = law caller moment store lists (upload.receiving number rest) _ false _ (part-ended caller moment store number rest)
 
 -- ---- UPLOAD_CMD
-
-both-hold : (a b : Bool) → a && b ≡ true → (a ≡ true) × (b ≡ true)
-both-hold true b holds = (refl, holds)
-both-hold false b holds = absurd (cc)
-
-same-call : (one other : CallSign) → is_same_call one other ≡ true → one ≡ other
-same-call one other same =
-    let both = both-hold (bytes_eq one.chars other.chars) (one.ssid == other.ssid) same in
-    ap₂ (λ (chars : List ℕ) (ssid : ℕ). record { chars = chars; ssid = ssid }) ((bytes_eq-Decides one.chars other.chars).0 both.0)
-    ((Decides-eqb one.ssid other.ssid).0 both.1)
 
 -- The file of this number goes on: it is the caller's, of this length, and so many octets of it are held.
 pub record IsResumed (caller : CallSign) (store : Store) (known file_length : ℕ) (row : upload.Row) : Type 0 where
@@ -108,8 +99,8 @@ module _ (caller : CallSign) (moment : ℕ) (store : Store) (known file_length :
   goes-on-theirs : (entry : Entry) (b : Bool) → 1 ≤ known → entry_of store known ≡ Some entry → is_theirs caller file_length entry ≡ b
       → Asked (if not b then refused_row upload.command 2 else if is_complete entry.holding then refused_row upload.command 12 else resumed_row known (length (octets_of entry.holding)))
   goes-on-theirs entry true some found theirs =
-      let both = both-hold (is_same_call entry.caller caller) (entry.length == file_length) theirs in
-      goes-on-held entry entry.holding some found (same-call entry.caller caller both.0) ((Decides-eqb entry.length file_length).0 both.1) refl
+      let both = (theirs-decides caller file_length entry).0 theirs in
+      goes-on-held entry entry.holding some found both.0 both.1 refl
   goes-on-theirs entry false some found theirs = refused-by 2 (omega arith) (λ same. absurd (let x : ⊥ = omega (arith, same) in x))
 
   goes-on-by : (o : Option Entry) → 1 ≤ known → entry_of store known ≡ o → Asked (continue_row caller known file_length o)

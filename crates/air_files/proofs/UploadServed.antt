@@ -22,7 +22,9 @@ use Rattle.air_files.specs.Tasks.{IsWork}
 use Rattle.air_files.specs.UploadDialogue.{IsOfferFor, IsOfferedBy, IsSendingFile, Receiving, SaysUpload, Sending, ServesUpload, asked, data_items, received_items, receives, sending_said, sends, silent, unasked}
 use Rattle.air_files.proofs.EntryLemmas.{items-more}
 use Rattle.air_files.proofs.SideLemmas.{newest-client, newest-side}
-use Rattle.air_files.proofs.UploadNext.{IsNextIn, IsOfferIn, SaidNext, TookOffered, answered-all, next-in, next-said, offers-in, took-said}
+use Rattle.air_files.proofs.UploadNext.{IsNextIn, SaidNext, TookOffered, answered-all, next-in, next-said, offers-in}
+use Rattle.air_files.proofs.UploadNext.{took-said}
+use Rattle.air_files.proofs.JobTook.{IsOffer}
 
 -- ---- the exchange so far
 
@@ -130,7 +132,7 @@ module _ (files : List Asked) (c : ℕ) (party : Party) (before : Session) (serv
       ∙ ap (λ (items : List Item). items ++ item ∷ front.0)
       (items-taken files c party before served at asked_is ∙ ap (received_items at.known (length at.file)) is) in
       let took = took-some at.known at.file served.attempt.client says.stage parts item front.0 says.sends_file whole in
-      let same : IsOfferIn (receives number offset parts) took.0 took.1 =
+      let same : IsOffer (receives number offset parts) took.0 took.1 =
       subst (TookOffered served.attempt.client) is (took-offered files c party before served at asked_is) took.0 took.1 took.2 in
       let offer : IsOfferFor at.known number offset = subst (IsOfferedBy at.known) is serves.offered in
       let mine : Took served.attempt.client (ul_go_resp number offset) =

@@ -8,10 +8,10 @@ use Rattle.air_files.specs.Tasks.{IsWork}
 use Rattle.air_world.specs.World.{World}
 use Rattle.air_world.proofs.ClientMade.{IsClientMade}
 use Rattle.air_world.proofs.ClientsStay.{stay-refl}
-use Rattle.air_world.proofs.JobWent.{tasks-lists, work-by}
-use Rattle.air_world.proofs.Likes.{like-refl, same-party}
-use Rattle.air_world.proofs.Rebuild.{stands-at, stands-by}
-use Rattle.air_world.proofs.WorldLists.{all-map}
+use Rattle.air_files.proofs.Offered.{alike-itself, tasks-lists}
+use Rattle.air_world.proofs.Rebuild.{stands-at, stands-by, work-by}
+use Rattle.air_world.proofs.Likes.{same-party}
+use Rattle.air_attempt.proofs.Offered.{each-weaker}
 
 -- a client by its parts
 party-is : (one other : Party) → other.client ≡ one.client → other.uploads ≡ one.uploads → other.attempts ≡ one.attempts → record one { is_cut = other.is_cut } ≡ other
@@ -30,13 +30,13 @@ module _ (stay_law : StayLaw) (old : World) (c : ℕ) (was now : Party) (asked :
         window = made.window;
         goes = made.goes;
         works =
-            all-map (λ (a : Attempt). IsWork (old.files ++ asked) now a.client.asked) (λ a. IsWork (old.files ++ asked) that a.client.asked) now.attempts
+            each-weaker {P = (λ (a : Attempt). IsWork (old.files ++ asked) now a.client.asked)} {Q = (λ a. IsWork (old.files ++ asked) that a.client.asked)} now.attempts
             (λ a work. work-by (old.files ++ asked) now that a.client.asked refl refl work) made.works;
         tasks = tasks-lists (old.files ++ asked) c now that refl refl refl refl made.tasks;
         job = stands-by that (newest that) (λ a first link. stands-at now (newest now) a first made.job link);
         facts =
             stay_law.same old.server.store (old.files ++ asked) now that
-            (same-party now that refl refl (like-refl now.attempts) (stay-refl now.attempts)) made.facts;
+            (same-party now that refl refl (alike-itself now.attempts) (stay-refl now.attempts)) made.facts;
         sessions = made.sessions;
         good = made.good;
       }

@@ -21,14 +21,14 @@ use Rattle.air_attempt.specs.Party.{Asked, IsFileOf, Party, upload_of}
 use Rattle.air_files.specs.Laws.{BeginLaw}
 use Rattle.air_files.specs.Tasks.{AreTasks, IsTaskFor, IsWork}
 use Rattle.air_files.specs.Uploads.{IsGoodFile}
-use Rattle.air_files.proofs.Offered.{file-more, place-more, task-some}
+use Rattle.air_files.proofs.Offered.{file-more, place-more, task-some, task_for}
 use Rattle.air_world.specs.Events.{next_upload}
 use Rattle.air_world.specs.Sound.{Sound}
 use Rattle.air_world.specs.World.{PartyAt, World}
 use Rattle.air_world.proofs.Asked.{MayBeAsked}
 use Rattle.air_world.proofs.GoodFile.{good-upload}
 use Rattle.air_world.proofs.Served.{stands}
-use Rattle.air_world.proofs.WorldLists.{all-map}
+use Rattle.air_attempt.proofs.Offered.{each-weaker}
 
 -- ---- one more at the end of a list
 
@@ -84,10 +84,6 @@ tasked world it party =
       uploads = party.uploads ++ length world.files ∷ [];
     }
 
--- the task that is noted
-abbrev task-for : Party → Asked → Task
-task-for party it = new_task party.client.server party.client.me it.name (length it.file) (sha256 it.file)
-
 module _ (old : World) (c : ℕ) (party : Party) (it : Asked) (sound : Sound old) (is : PartyAt old c party)
     (whose : it.client ≡ c) where
   abbrev base : Party
@@ -111,13 +107,13 @@ module _ (old : World) (c : ℕ) (party : Party) (it : Asked) (sound : Sound old
         (place-new party.uploads (length old.files)))
   ]
 
-  last-task : task_of base.client.lists last ≡ Some (task-for party it)
+  last-task : task_of base.client.lists last ≡ Some (task_for party it)
   last-task = elim (eqb_tells last 0) [
     | inl w ↦ absurd (let none = w.1 in omega arith)
     | inr w ↦ rw w.0
-        (subst (λ place. slice_get base.client.lists.tasks place ≡ Some (task-for party it))
+        (subst (λ place. slice_get base.client.lists.tasks place ≡ Some (task_for party it))
         (let same : length party.client.lists.tasks ≡ last - 1 = omega arith in same)
-        (place-new party.client.lists.tasks (task-for party it)))
+        (place-new party.client.lists.tasks (task_for party it)))
   ]
 
   last-file : IsFileOf files base last it.file
@@ -126,7 +122,7 @@ module _ (old : World) (c : ℕ) (party : Party) (it : Asked) (sound : Sound old
       ∙ ap (option_map (λ (asked : Asked). asked.file)) (place-new old.files it)
 
   -- the new task is such as it should be
-  new-task-for : IsTaskFor files c base last (task-for party it)
+  new-task-for : IsTaskFor files c base last (task_for party it)
   new-task-for = record {
     upload = length old.files;
     is_upload = last-upload;
@@ -163,12 +159,12 @@ module _ (old : World) (c : ℕ) (party : Party) (it : Asked) (sound : Sound old
       ⊎_elim
       (λ (was : slice_get party.client.lists.tasks (task - 1) ≡ Some entry).
       old-task-for task entry (tasks.each task entry (rw some was)))
-      (λ (new : (task - 1 ≡ length party.client.lists.tasks) × (entry ≡ task-for party it)).
+      (λ (new : (task - 1 ≡ length party.client.lists.tasks) × (entry ≡ task_for party it)).
       by some new.0 new.1)
-      (place-before party.client.lists.tasks (task-for party it) (task - 1) entry
+      (place-before party.client.lists.tasks (task_for party it) (task - 1) entry
       (task-at base.client.lists task entry found))
     where
-      by : (task == 0) ≡ false → task - 1 ≡ length party.client.lists.tasks → entry ≡ task-for party it
+      by : (task == 0) ≡ false → task - 1 ≡ length party.client.lists.tasks → entry ≡ task_for party it
           → IsTaskFor files c base task entry
       by some place entry_is = elim (eqb_tells task 0) [
         | inl w ↦ absurd (let is = w.0 in let x : ⊥ = cc in x)
@@ -187,7 +183,7 @@ module _ (old : World) (c : ℕ) (party : Party) (it : Asked) (sound : Sound old
         omega (
           arith,
           length-append party.uploads (length old.files ∷ []),
-          length-append party.client.lists.tasks (task-for party it ∷ []),
+          length-append party.client.lists.tasks (task_for party it ∷ []),
         );
   }
 
@@ -213,14 +209,13 @@ module _ (old : World) (c : ℕ) (party : Party) (it : Asked) (sound : Sound old
             (sound.parties c party is).facts;
         tasks = tasks-now;
         works =
-            all-map (λ (a : Attempt). IsWork old.files party a.client.asked)
-            (λ a. IsWork files base a.client.asked) party.attempts
+            each-weaker {P = (λ (a : Attempt). IsWork old.files party a.client.asked)} {Q = (λ a. IsWork files base a.client.asked)} party.attempts
             (λ a works. work-now a.client.asked works) (sound.parties c party is).works;
         good = (good, tt);
         begun = refl;
         go_with =
             record {
-              entry = task-for party it;
+              entry = task_for party it;
               is_entry = last-task;
               going = refl;
               number = refl;

@@ -18,7 +18,7 @@ use Rattle.air_world.specs.Sound.{IsParty, Sound}
 use Rattle.air_world.specs.World.{PartyAt, World}
 use Rattle.air_world.proofs.Served.{stands}
 use Rattle.air_world.proofs.ServerHeard.{first-of}
-use Rattle.air_world.proofs.WorldLists.{all-at}
+use Rattle.air_attempt.proofs.Offered.{all-at}
 
 -- ---- links
 

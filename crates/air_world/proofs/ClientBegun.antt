@@ -14,8 +14,10 @@ use Rattle.air_files.specs.Uploads.{IsGoodFile}
 use Rattle.air_world.specs.World.{World}
 use Rattle.air_world.proofs.ClientBasics.{stands-job}
 use Rattle.air_world.proofs.ClientMade.{IsClientMade, sessions_of}
-use Rattle.air_world.proofs.JobWent.{ClientLaws, tasks-lists, work-by}
-use Rattle.air_world.proofs.WorldLists.{all-map}
+use Rattle.air_world.proofs.JobWent.{ClientLaws}
+use Rattle.air_files.proofs.Offered.{tasks-lists}
+use Rattle.air_world.proofs.Rebuild.{work-by}
+use Rattle.air_attempt.proofs.Offered.{each-weaker}
 
 -- What is known of a client that begins this attempt, and of its base, which has its task already: its facts, its tasks
 -- and works, where these files were asked; and that the attempt begins, with a work of these.
@@ -43,7 +45,7 @@ module _ (laws : ClientLaws) (old : World) (c : ℕ) (party base : Party) (asked
   works-now =
       let server : begun-party.client.server ≡ base.client.server = ap (λ (it : Client). it.server) begins.now_is in (
         work-by (old.files ++ asked) base begun-party begun.client.asked server refl begins.work,
-        all-map (λ (a : Attempt). IsWork (old.files ++ asked) base a.client.asked) (λ a. IsWork (old.files ++ asked) begun-party a.client.asked) party.attempts
+        each-weaker {P = (λ (a : Attempt). IsWork (old.files ++ asked) base a.client.asked)} {Q = (λ a. IsWork (old.files ++ asked) begun-party a.client.asked)} party.attempts
             (λ a work. work-by (old.files ++ asked) base begun-party a.client.asked server refl work) begins.works,
       )
 

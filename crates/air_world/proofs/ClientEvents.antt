@@ -29,15 +29,17 @@ use Rattle.air_world.specs.World.{PartyAt, World, counted, with_party}
 use Rattle.air_world.proofs.ClientBasics.{goes-with}
 use Rattle.air_world.proofs.CutWorld.{take-none}
 use Rattle.air_world.proofs.Alike.{made-alike}
-use Rattle.air_world.proofs.ClientHeard.{IsReceiving, did-of, heard-client, heard-facts, heard-tasks, nothing-noted, received, receives}
+use Rattle.air_world.proofs.ClientHeard.{IsReceiving, did-of, heard-client, heard-facts, heard-tasks, nothing-noted}
+use Rattle.air_world.proofs.ClientHeard.{received, receives}
 use Rattle.air_world.proofs.Asked.{MayBeAsked}
 use Rattle.air_world.proofs.ClientAsked.{asked-client, asked-party}
 use Rattle.air_world.proofs.ClientMade.{IsClientMade, tasks-more, then-sound, work-more}
 use Rattle.air_world.proofs.Served.{stands}
-use Rattle.air_world.proofs.WorldLists.{all-map}
 use Rattle.air_world.proofs.ClientQuiet.{IsStill, quiet-made, started-made, still-delivered, still-itself}
 use Rattle.air_world.proofs.ClientTicked.{ticked-client}
-use Rattle.air_world.proofs.JobWent.{ClientLaws, tasks-lists}
+use Rattle.air_world.proofs.JobWent.{ClientLaws}
+use Rattle.air_files.proofs.Offered.{tasks-lists}
+use Rattle.air_attempt.proofs.Offered.{each-weaker}
 
 module _ (laws : ClientLaws) (some_step : SomeStepLaw) (old new : World) (sound : Sound old) where
   asked-sound : (c : ℕ) (was now : Party) (asked : List Asked) (part : ClientPart) → PartyAt old c was → part.asked ≡ asked → IsClientMade old c was now asked → new ≡ with_asked old c part now → Sound new
@@ -218,7 +220,7 @@ module _ (laws : ClientLaws) (some_step : SomeStepLaw) (old new : World) (sound 
           let longer = laws.begin.longer old.server.store old.files c party (it ∷ []) (stands old sound c party is) own.facts in
           made-alike laws.stay old c party (record (started_with party party.client.lists) { attempts = party.attempts }) (it ∷ [])
           (started-made laws.stay old sound c party is party.attempts (still-itself party.attempts) own.attempts (it ∷ []) party party.client.lists refl refl refl refl
-          (all-map (λ (a : Attempt). IsWork old.files party a.client.asked) (λ a. IsWork (old.files ++ it ∷ []) party a.client.asked) party.attempts
+          (each-weaker {P = (λ (a : Attempt). IsWork old.files party a.client.asked)} {Q = (λ a. IsWork (old.files ++ it ∷ []) party a.client.asked)} party.attempts
           (λ a work. work-more old.files (it ∷ []) party a.client.asked work) own.works)
           (tasks-lists (old.files ++ it ∷ []) c party (started_with party party.client.lists) refl refl refl refl (tasks-more old.files (it ∷ []) c party own.tasks))
           (laws.stay.started old.server.store (old.files ++ it ∷ []) party longer) may.good)

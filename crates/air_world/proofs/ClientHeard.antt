@@ -27,10 +27,12 @@ use Rattle.air_world.specs.World.{PartyAt, World}
 use Rattle.air_world.proofs.ClientBasics.{HasLink, goes-with, has-link}
 use Rattle.air_world.proofs.ClientMade.{IsClientMade}
 use Rattle.air_world.proofs.ClientQuiet.{quiet-made, still-answered}
-use Rattle.air_world.proofs.JobWent.{ClientLaws, Went, client-made, facts-during, tasks-during, tasks-lists}
+use Rattle.air_world.proofs.JobWent.{ClientLaws, Went, client-made, facts-during, tasks-during}
+use Rattle.air_files.proofs.Offered.{tasks-lists}
 use Rattle.air_world.proofs.Rebuild.{stands-at}
 use Rattle.air_world.proofs.SayLemmas.{may-say-at}
-use Rattle.air_world.proofs.WorldLists.{all-at, is-same}
+use Rattle.air_attempt.proofs.Offered.{all-at}
+use Rattle.ftl0_session.proofs.uploads.UploadRows.{same_call-decides}
 
 -- where nothing is noted the notes stay
 pub nothing-noted : (count : ℕ) (lists : Lists) (noted : List NotesCommand) → noted ≡ [] → notes.after_first count lists noted ≡ lists
@@ -72,7 +74,7 @@ module _ (laws : ClientLaws) (old : World) (sound : Sound old) (c : ℕ) (party 
 
     for-link : attempt_for party.client t.frame ≡ party.client.attempt
     for-link =
-        let same : is_same_call t.frame.src party.client.server ≡ true = subst (λ call. is_same_call call party.client.server ≡ true) (sym src-is) (is-same party.client.server) in
+        let same : is_same_call t.frame.src party.client.server ≡ true = subst (λ call. is_same_call call party.client.server ≡ true) (sym src-is) ((same_call-decides party.client.server party.client.server).1 refl) in
         ap (λ (b : Bool). if b then party.client.attempt else None) same
 
     module _ (noted : List NotesCommand) (frames : List FrameValue) (now : Client) (step : ClientStep party.client (hears t.frame) noted frames now) where

@@ -17,13 +17,15 @@ use Rattle.air_files.specs.Facts.{HasFacts}
 use Rattle.air_files.specs.Laws.{BeginLaw}
 use Rattle.air_files.specs.Tasks.{AreTasks, IsWork, StandsBy}
 use Rattle.air_files.specs.Uploads.{IsGoodFile}
-use Rattle.air_files.proofs.Offered.{each-append, file-more, place-more}
+use Rattle.air_files.proofs.Offered.{file-more, place-more}
+use Rattle.air_attempt.proofs.Offered.{all-at, all-by, each-append, each-weaker}
 use Rattle.air_world.specs.Sound.{AreGrantedOnce, AreStationsOf, GrantedAt, IsParty, IsSideAt, Sound}
 use Rattle.air_world.specs.World.{PartyAt, World, counted, with_party}
-use Rattle.air_world.proofs.Marked.{length-set-slice}
+use Rattle.std.proofs.lemmas.List.{length-set}
 use Rattle.air_world.proofs.Seats.{AreSeatsKnown, between, calls, together}
 use Rattle.air_world.proofs.Served.{stands}
-use Rattle.air_world.proofs.WorldLists.{all-at, all-by, all-map, at-map, at-set, map-at, set-at, set-other}
+use Rattle.air_world.proofs.WorldLists.{at-map, at-set, map-at, set-at}
+use Rattle.ax25_link.proofs.Offered.{slice_get-set_other}
 
 -- ---- the sessions of attempts
 
@@ -181,7 +183,7 @@ module _ (begin_law : BeginLaw) (old : World) (sound : Sound old) (c : ℕ) (was
       by (inl number_is) =
           let same = same_Some was that (sym is ∙ ap (λ i. slice_get old.parties i) (sym number_is) ∙ there) in
           (now, ap (λ i. slice_get then.parties i) number_is ∙ at-set old.parties c now was is, made.me ∙ ap (λ (p : Party). p.client.me) same)
-      by (inr differs) = (that, set-other old.parties c number now differs ∙ there, refl)
+      by (inr differs) = (that, slice_get-set_other old.parties c number now differs ∙ there, refl)
 
   each-station : (P : Party → Type 0) → ((number : ℕ) (that it : Party) → PartyAt old number it → that.client.me ≡ it.client.me → that.client.server ≡ it.client.server → that.client.window ≡ it.client.window → P that)
       → AllByRecursion P then.parties
@@ -193,7 +195,7 @@ module _ (begin_law : BeginLaw) (old : World) (sound : Sound old) (c : ℕ) (was
   stations = record {
     server = sound.stations.server;
     window = sound.stations.window;
-    most = subst (λ n. n ≤ 8) (sym (length-set-slice old.parties c now)) sound.stations.most;
+    most = subst (λ n. n ≤ 8) (sym (length-set old.parties c now)) sound.stations.most;
     are_calls = each-station (λ (p : Party). IsCall p.client.me)
         (λ number that it there me server window. subst IsCall (sym me) (all-at (λ (p : Party). IsCall p.client.me) old.parties number it sound.stations.are_calls there));
     distinct = λ one two party that at_one at_two same.
@@ -238,7 +240,7 @@ module _ (begin_law : BeginLaw) (old : World) (sound : Sound old) (c : ℕ) (was
       record {
         attempts = it.attempts;
         windows = it.windows;
-        works = all-map (λ (a : Attempt). IsWork old.files that a.client.asked) (λ a. IsWork then.files that a.client.asked) that.attempts
+        works = each-weaker {P = (λ (a : Attempt). IsWork old.files that a.client.asked)} {Q = (λ a. IsWork then.files that a.client.asked)} that.attempts
             (λ a works. work-more old.files asked that a.client.asked works) it.works;
         link = it.link;
         may_step = it.may_step;

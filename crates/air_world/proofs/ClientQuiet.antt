@@ -18,11 +18,11 @@ use Rattle.air_world.specs.Sound.{IsParty, Sound}
 use Rattle.air_world.specs.World.{PartyAt, World}
 use Rattle.air_world.proofs.ClientBasics.{goes-with}
 use Rattle.air_world.proofs.ClientMade.{IsClientMade, sessions_of}
-use Rattle.air_world.proofs.ClientsStay.{ClientsStay, stay-each, stay-refl, stay-newest, stay-windows}
-use Rattle.air_world.proofs.JobWent.{tasks-lists, work-by}
-use Rattle.air_world.proofs.Likes.{like-refl, same-party, served-same}
-use Rattle.air_world.proofs.Rebuild.{stands-at, stands-by}
-use Rattle.air_world.proofs.WorldLists.{all-map}
+use Rattle.air_world.proofs.ClientsStay.{ClientsStay, stay-each, stay-newest, stay-refl, stay-windows}
+use Rattle.air_files.proofs.Offered.{alike-itself, served-itself, tasks-lists}
+use Rattle.air_world.proofs.Rebuild.{stands-at, stands-by, work-by}
+use Rattle.air_world.proofs.Likes.{same-party}
+use Rattle.air_attempt.proofs.Offered.{each-weaker}
 
 -- attempts whose sides are as they were, and so their sessions
 pub record IsStill (olds news : List Attempt) : Type 0 where
@@ -37,7 +37,7 @@ module _ (stay_law : StayLaw) (old : World) (sound : Sound old) (c : ℕ) (party
 
   works-of : (now : Party) → now.client.server ≡ party.client.server → now.uploads ≡ party.uploads → AllByRecursion (λ (a : Attempt). IsWork old.files now a.client.asked) attempts
   works-of now server uploads =
-      all-map (λ (a : Attempt). IsWork old.files party a.client.asked) (λ a. IsWork old.files now a.client.asked) attempts
+      each-weaker {P = (λ (a : Attempt). IsWork old.files party a.client.asked)} {Q = (λ a. IsWork old.files now a.client.asked)} attempts
       (λ a works. work-by old.files party now a.client.asked server uploads works)
       (stay-each (λ side. IsWork old.files party side.asked) party.attempts attempts still.clients it.works)
 
@@ -89,7 +89,7 @@ module _ (stay_law : StayLaw) (old : World) (sound : Sound old) (c : ℕ) (party
             may_step = record { silent = refl; fits = tt };
           };
       works =
-          all-map (λ (a : Attempt). IsWork (old.files ++ asked) base a.client.asked) (λ a. IsWork (old.files ++ asked) started-party a.client.asked) attempts
+          each-weaker {P = (λ (a : Attempt). IsWork (old.files ++ asked) base a.client.asked)} {Q = (λ a. IsWork (old.files ++ asked) started-party a.client.asked)} attempts
           (λ a work. work-by (old.files ++ asked) base started-party a.client.asked refl refl work)
           (stay-each (λ side. IsWork (old.files ++ asked) base side.asked) party.attempts attempts still.clients works);
       tasks = tasks-lists (old.files ++ asked) c (started_with base lists) started-party refl refl refl refl tasks;
@@ -116,13 +116,13 @@ still-newest change [] each = record { like = tt; clients = tt; sessions = refl 
 still-newest change (a ∷ older) each =
     let one = each a in
     record {
-      like = (one.like.0, like-refl older);
+      like = (one.like.0, alike-itself older);
       clients = (one.clients.0, stay-refl older);
       sessions = ap (λ (sessions : List (Option ServerSide)). sessions ++ sessions_of older) one.sessions;
     }
 
 pub still-itself : (attempts : List Attempt) → IsStill attempts attempts
-still-itself attempts = record { like = like-refl attempts; clients = stay-refl attempts; sessions = refl }
+still-itself attempts = record { like = alike-itself attempts; clients = stay-refl attempts; sessions = refl }
 
 -- a delivery to the client is marked, and it sends frames
 pub still-delivered : (place : ℕ) (t : Transmission) (attempts : List Attempt) → IsStill attempts (with_newest (to_client_delivered place t) attempts)
@@ -131,13 +131,13 @@ still-delivered place t attempts =
     (λ a. record { like = (alike a, tt); clients = (record { client = refl; window = refl }, tt); sessions = refl })
   where
     alike : (a : Attempt) → LooksLike a (to_client_delivered place t a)
-    alike a = record { asked = refl; entries = refl; job = refl; served = served-same a.server }
+    alike a = record { asked = refl; entries = refl; job = refl; served = served-itself a.server }
 
 pub still-answered : (place : ℕ) (t : Transmission) (frames : List FrameValue) (attempts : List Attempt)
     → IsStill attempts (with_newest (client_sends frames) (with_newest (to_client_delivered place t) attempts))
 still-answered place t frames [] = record { like = tt; clients = tt; sessions = refl }
 still-answered place t frames (a ∷ older) = record {
-  like = (record { asked = refl; entries = refl; job = refl; served = served-same a.server }, like-refl older);
+  like = (record { asked = refl; entries = refl; job = refl; served = served-itself a.server }, alike-itself older);
   clients = (record { client = refl; window = refl }, stay-refl older);
   sessions = refl;
 }

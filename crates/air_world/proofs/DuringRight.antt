@@ -14,7 +14,7 @@ use Rattle.air_world.specs.World.{PartyAt, World}
 use Rattle.air_world.proofs.DuringNotes.{AreRight}
 use Rattle.air_world.proofs.PartsLemmas.{has-headline}
 use Rattle.air_world.proofs.WholeLemmas.{whole-got}
-use Rattle.air_world.proofs.WorldLists.{all-at}
+use Rattle.air_attempt.proofs.Offered.{all-at}
 
 module _ (fault : HasNoFault) (front : HasNoFront) (world : World) (sound : Sound world) (c : ℕ) (party : Party)
     (is : PartyAt world c party) where

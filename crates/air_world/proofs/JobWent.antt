@@ -33,9 +33,11 @@ use Rattle.air_world.specs.Sound.{IsParty, Sound}
 use Rattle.air_world.specs.World.{PartyAt, World}
 use Rattle.air_world.proofs.ClientBasics.{HasLink, has-link, its-attempt, stands-job, working}
 use Rattle.air_world.proofs.ClientMade.{IsClientMade, SessionsStay, sessions_of}
-use Rattle.air_world.proofs.WorldLists.{all-map}
-use Rattle.air_world.proofs.Likes.{like-refl, served-same}
+use Rattle.air_files.proofs.Offered.{alike-itself, served-itself}
 use Rattle.air_world.proofs.ServerTicked.{its-session}
+use Rattle.air_attempt.proofs.Offered.{each-weaker}
+use Rattle.air_files.proofs.Offered.{tasks-lists}
+use Rattle.air_world.proofs.Rebuild.{work-by}
 
 -- the laws that the client's events are proved by
 pub record ClientLaws : Type 0 where
@@ -63,36 +65,9 @@ goes-lists lists lists_now before now (job.lost item row ∷ entries) goes =
 goes-lists lists lists_now before now (job.passed item ∷ entries) goes = goes-lists lists lists_now before now entries goes.1
 goes-lists lists lists_now before now (job.queued due ∷ entries) goes = goes-lists lists lists_now due.state now entries goes.1
 
--- a client's tasks, by its stations, its notes and its uploads
-pub tasks-lists : (files : List Asked) (c : ℕ) (one other : Party) → other.client.me ≡ one.client.me → other.client.server ≡ one.client.server → other.client.lists ≡ one.client.lists
-    → other.uploads ≡ one.uploads → AreTasks files c one → AreTasks files c other
-tasks-lists files c one other me server lists uploads tasks = record {
-  each = λ task entry is.
-      let was = tasks.each task entry (subst (λ (it : Lists). task_of it task ≡ Some entry) lists is) in
-      record {
-        upload = was.upload;
-        is_upload = subst (λ (u : List ℕ). upload_of (record other { uploads = u }) task ≡ Some was.upload) (sym uploads) was.is_upload;
-        asked = was.asked;
-        is_asked = was.is_asked;
-        whose = was.whose;
-        server_is = was.server_is ∙ sym server;
-        caller_is = was.caller_is ∙ sym me;
-        name_is = was.name_is;
-        length_is = was.length_is;
-        digest_is = was.digest_is;
-      };
-  as_many = ap (λ (u : List ℕ). length u) uploads ∙ tasks.as_many ∙ ap (λ (it : Lists). length it.tasks) (sym lists);
-}
-
 no-more : {X : Type 0} (xs : List X) (y : X) (ys : List X) → xs ++ (y ∷ ys) ≡ [] → ⊥
 no-more [] y ys is = absurd cc
 no-more (x ∷ xs) y ys is = absurd cc
-
--- a work, by the client's server and its uploads
-pub work-by : (files : List Asked) (one other : Party) (asked : Work) → other.client.server ≡ one.client.server → other.uploads ≡ one.uploads → IsWork files one asked → IsWork files other asked
-work-by files one other (work.Upload at) server uploads is = subst (λ (u : List ℕ). IsFileOf files (record other { uploads = u }) at.task at.file) (sym uploads) is
-work-by files one other (work.Directory at) server uploads is = is
-work-by files one other (work.Download at) server uploads is = (is.0 ∙ sym server, is.1)
 
 -- ---- the job goes on
 
@@ -192,9 +167,9 @@ module _ (laws : ClientLaws) (old : World) (sound : Sound old) (c : ℕ) (party 
               asked = ap (λ (side : ClientSide). side.asked) went.client_is;
               entries = entries-are;
               job = ap (λ (side : ClientSide). side.attempted.job) went.client_is;
-              served = subst (λ (o : Option ServerSide). LooksServed a.server o) (sym went.server_is) (served-same a.server);
+              served = subst (λ (o : Option ServerSide). LooksServed a.server o) (sym went.server_is) (served-itself a.server);
             },
-            like-refl linked.older,
+            alike-itself linked.older,
           );
           link = λ one other first newest_is linked_is. ap Some (ap (λ (it : Attempt). it.client.attempted) (same_Some (job_gone went.entries attempted-now a) one first));
         })
@@ -222,7 +197,7 @@ module _ (laws : ClientLaws) (old : World) (sound : Sound old) (c : ℕ) (party 
         subst (λ attempts. AllByRecursion (λ (it : Attempt). IsWork old.files party it.client.asked) attempts) linked.attempts_are it.works in
         let of = λ (asked : Work) (works : IsWork old.files party asked). work-by old.files party now-party asked server-is refl works in (
           of went.gone.client.asked (subst (λ asked. IsWork old.files party asked) (sym (ap (λ (side : ClientSide). side.asked) went.client_is)) all.0),
-          all-map (λ (it : Attempt). IsWork old.files party it.client.asked) (λ it. IsWork old.files now-party it.client.asked) linked.older (λ it works. of it.client.asked works) all.1,
+          each-weaker {P = (λ (it : Attempt). IsWork old.files party it.client.asked)} {Q = (λ it. IsWork old.files now-party it.client.asked)} linked.older (λ it works. of it.client.asked works) all.1,
         )
 
     job-now : StandsBy now-party (newest now-party)

@@ -23,7 +23,7 @@ use Rattle.air_world.proofs.FirstLemmas.{first-sound}
 use Rattle.air_world.specs.World.{PartyAt, World, counted, with_party}
 use Rattle.air_world.proofs.ClientsStay.{stay-refl}
 use Rattle.air_world.proofs.Granted.{granted-like}
-use Rattle.air_world.proofs.Likes.{like-refl}
+use Rattle.air_files.proofs.Offered.{alike-itself}
 use Rattle.air_world.proofs.Rebuild.{IsMade, StayParties, rebuilt}
 use Rattle.air_world.proofs.Seats.{between, calls}
 use Rattle.air_world.proofs.AskOthers.{ask-download, ask-list}
@@ -155,7 +155,7 @@ module _ (laws : KeptLaws) (old new : World) (sound : Sound old) where
     lists = sound.lists;
     calls = λ c party is. calls old sound c party is;
     facts = λ c party is. (sound.parties c party is).facts;
-    granted = granted-like old noted (λ c party is. (party, is, like-refl party.attempts)) sound.granted;
+    granted = granted-like old noted (λ c party is. (party, is, alike-itself party.attempts)) sound.granted;
   }
 
   noted-stay : StayParties old noted

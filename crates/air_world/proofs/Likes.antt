@@ -15,21 +15,11 @@ use Rattle.air_attempt.specs.Said.{Grants}
 use Rattle.air_attempt.specs.Sides.{ClientSide, ServerSide, SessionReaches}
 use Rattle.air_files.specs.Laws.{IsSameParty, LookLike, LooksLike, LooksLikeSession, LooksServed}
 use Rattle.air_world.proofs.ClientsStay.{ClientsStay, stay-newest}
-
-pub session-same : (side : ServerSide) → LooksLikeSession side side
-session-same side = record { greeting = refl; entries = refl; state = refl; up = λ up. up }
-
-pub served-same : (o : Option ServerSide) → LooksServed o o
-served-same None = tt
-served-same (Some side) = session-same side
-
-pub like-refl : (attempts : List Attempt) → LookLike attempts attempts
-like-refl [] = tt
-like-refl (a ∷ older) = (record { asked = refl; entries = refl; job = refl; served = served-same a.server }, like-refl older)
+use Rattle.air_files.proofs.Offered.{alike-itself, served-itself}
 
 pub newest-like : (change : Attempt → Attempt) (attempts : List Attempt) → ((a : Attempt) → LooksLike a (change a)) → LookLike attempts (with_newest change attempts)
 newest-like change [] each = tt
-newest-like change (a ∷ older) each = (each a, like-refl older)
+newest-like change (a ∷ older) each = (each a, alike-itself older)
 
 -- where no session answered, nothing is changed
 answered-none : (change : Attempt → ServerSide → Attempt) (attempts : List Attempt) → newest_side attempts ≡ None → with_answered change attempts ≡ attempts
@@ -52,11 +42,11 @@ module _ (change : Attempt → ServerSide → Attempt) (P Q : Attempt → Type 0
           → AllByRecursion Q (option_map_or (λ side. change a side ∷ older) o (a ∷ with_answered change older))
           → (newest_side older ≡ Some side → AllByRecursion Q (with_answered change older) → LookLike older (with_answered change older))
           → LookLike (a ∷ older) (option_map_or (λ side. change a side ∷ older) o (a ∷ with_answered change older))
-      by None same is all later = (record { asked = refl; entries = refl; job = refl; served = served-same a.server }, later is all.1)
+      by None same is all later = (record { asked = refl; entries = refl; job = refl; served = served-itself a.server }, later is all.1)
       by (Some that) same is all later =
           let that_is = same_Some that side is in
           let changed = subst (λ (s : ServerSide). Q (change a s)) that_is all.0 in
-          (subst (λ (s : ServerSide). LooksLike a (change a s)) (sym that_is) (each a olds.0 (same ∙ ap Some that_is) changed), like-refl older)
+          (subst (λ (s : ServerSide). LooksLike a (change a s)) (sym that_is) (each a olds.0 (same ∙ ap Some that_is) changed), alike-itself older)
 
   pub answered-like : (attempts : List Attempt) → AllByRecursion P attempts → AllByRecursion Q (with_answered change attempts)
       → ((a : Attempt) (side : ServerSide) → newest_side attempts ≡ Some side → P a → a.server ≡ Some side → Q (change a side) → LooksLike a (change a side))
@@ -64,7 +54,7 @@ module _ (change : Attempt → ServerSide → Attempt) (P Q : Attempt → Type 0
   answered-like attempts olds all each = by (newest_side attempts) refl
     where
       by : (o : Option ServerSide) → newest_side attempts ≡ o → LookLike attempts (with_answered change attempts)
-      by None is = subst (λ (those : List Attempt). LookLike attempts those) (sym (answered-none change attempts is)) (like-refl attempts)
+      by None is = subst (λ (those : List Attempt). LookLike attempts those) (sym (answered-none change attempts is)) (alike-itself attempts)
       by (Some side) is = answered-one attempts side is olds all (λ a own is_side changed. each a side is own is_side changed)
 
 -- ---- what follows

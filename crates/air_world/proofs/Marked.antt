@@ -9,15 +9,13 @@ use Rattle.air_world.specs.Events.{with_current}
 use Rattle.air_world.specs.Sound.{Sound}
 use Rattle.air_world.specs.World.{PartyAt, World, with_party}
 use Rattle.air_world.proofs.ClientsStay.{newest-stays, stay-refl}
-use Rattle.air_world.proofs.Likes.{like-refl, newest-like, served-same}
+use Rattle.air_world.proofs.Likes.{newest-like}
+use Rattle.air_files.proofs.Offered.{alike-itself, served-itself}
 use Rattle.air_world.proofs.Seats.{calls}
 use Rattle.air_world.proofs.ServerCut.{AreMarked, IsMarked}
-use Rattle.air_world.proofs.WorldLists.{all-at, set-at}
-
-pub length-set-slice : {X : Type 0} (xs : List X) (i : ℕ) (x : X) → length (slice_set xs i x) ≡ length xs
-length-set-slice [] i x = refl
-length-set-slice (y ∷ ys) zero x = refl
-length-set-slice (y ∷ ys) (suc i) x = ap suc (length-set-slice ys i x)
+use Rattle.air_world.proofs.WorldLists.{set-at}
+use Rattle.air_attempt.proofs.Offered.{all-at}
+use Rattle.std.proofs.lemmas.List.{length-set}
 
 -- nothing is delivered
 pub none-marked : (old : World) → Sound old → AreMarked old old
@@ -30,7 +28,7 @@ none-marked old sound = record {
     record {
       client = refl;
       uploads = refl;
-      like = like-refl party.attempts;
+      like = alike-itself party.attempts;
       stays = stay-refl party.attempts;
       attempts_are = (calls old sound c party is).attempts_are;
     },
@@ -77,7 +75,7 @@ module _ (old : World) (sound : Sound old) (c : ℕ) (party : Party) (place : �
     own-marked = record {
       client = refl;
       uploads = refl;
-      like = newest-like (to_server_delivered place t) party.attempts (λ a. record { asked = refl; entries = refl; job = refl; served = served-same a.server });
+      like = newest-like (to_server_delivered place t) party.attempts (λ a. record { asked = refl; entries = refl; job = refl; served = served-itself a.server });
       stays = newest-stays (to_server_delivered place t) party.attempts (λ a. record { client = refl; window = refl });
       attempts_are = left_law.to_server party.client.me old.server.me party.attempts marked t.frame its-calls.attempts_are delivers;
     }
@@ -85,7 +83,7 @@ module _ (old : World) (sound : Sound old) (c : ℕ) (party : Party) (place : �
     pub are-marked : AreMarked old delivered
     are-marked = record {
       files = refl;
-      many = length-set-slice old.parties c (with_current (to_server_delivered place t) party);
+      many = length-set old.parties c (with_current (to_server_delivered place t) party);
       each = λ number that is. by number that (set-at old.parties c number (with_current (to_server_delivered place t) party) that is);
     }
       where
@@ -99,7 +97,7 @@ module _ (old : World) (sound : Sound old) (c : ℕ) (party : Party) (place : �
           record {
             client = refl;
             uploads = refl;
-            like = like-refl that.attempts;
+            like = alike-itself that.attempts;
             stays = stay-refl that.attempts;
             attempts_are = (calls old sound number that other.1).attempts_are;
           },

@@ -20,13 +20,7 @@ use Rattle.air_files.proofs.Offered.{acked-task, later-number, task-file}
 use Rattle.air_world.specs.Parts.{AreAcknowledged, AreNumbered}
 use Rattle.air_world.specs.Sound.{AreGrantedOnce, IsParty, Sound}
 use Rattle.air_world.specs.World.{PartyAt, World}
-
--- where the one that is so stands
-pub place-of_one : {X : Type 0} (P : X → Type 0) (xs : List X) → OneIs P xs
-    → (at : ℕ) × (x : X) × (slice_get xs at ≡ Some x) × P x
-place-of_one P [] one = absurd one
-place-of_one P (x ∷ xs) (inl here) = (0, x, refl, here)
-place-of_one P (x ∷ xs) (inr there) = let found = place-of_one P xs there in (suc found.0, found.1, found.2, found.3)
+use Rattle.air_attempt.proofs.Offered.{one-placed}
 
 -- a session of this attempt of the client, which is one to send this task's file for the first time, gave the number
 pub record IsTaskGrant (party : Party) (task number : ℕ) : Type 0 where
@@ -53,7 +47,7 @@ pub task-grant : (world : World) (c : ℕ) (party : Party) (task number : ℕ) �
     → HasNumber party task number
     → IsTaskGrant party task number
 task-grant world c party task number is has =
-    let one = place-of_one (IsGranted task number) party.attempts
+    let one = one-placed (IsGranted task number) party.attempts
     (task-of world c party task number is has).2.granted in
     record {
       at = one.0;

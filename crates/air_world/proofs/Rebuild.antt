@@ -22,7 +22,8 @@ use Rattle.air_world.specs.Sound.{AreGrantedOnce, AreStationsOf, IsParty, Sound}
 use Rattle.air_world.specs.World.{PartyAt, World}
 use Rattle.air_world.proofs.ClientsStay.{ClientsStay, stay-each, stay-link, stay-newest}
 use Rattle.air_world.proofs.Seats.{AreSeatsKnown, together}
-use Rattle.air_world.proofs.WorldLists.{all-at, all-by, all-map}
+use Rattle.air_attempt.proofs.Offered.{all-at, all-by, each-weaker}
+use Rattle.air_files.proofs.Offered.{tasks-lists}
 
 -- the client, with its uploads, is as it was, and so are its sides of attempts
 pub record StaysParty (old new : Party) : Type 0 where
@@ -54,29 +55,11 @@ file-same : (files : List Asked) (one other : Party) (task : ℕ) (file : List �
 file-same files one other task file uploads is =
     subst (λ (u : List ℕ). IsFileOf files (record other { uploads = u }) task file) (sym uploads) is
 
-pub work-same : (files : List Asked) (one other : Party) (asked : Work) → other.client ≡ one.client → other.uploads ≡ one.uploads → IsWork files one asked → IsWork files other asked
-work-same files one other (work.Upload at) client uploads is = file-same files one other at.task at.file uploads is
-work-same files one other (work.Directory at) client uploads is = is
-work-same files one other (work.Download at) client uploads is = (is.0 ∙ ap (λ (it : Client). it.server) (sym client), is.1)
-
-pub tasks-same : (files : List Asked) (c : ℕ) (one other : Party) → other.client ≡ one.client → other.uploads ≡ one.uploads → AreTasks files c one → AreTasks files c other
-tasks-same files c one other client uploads tasks = record {
-  each = λ task entry is.
-      let was = tasks.each task entry (subst (λ (it : Client). task_of it.lists task ≡ Some entry) client is) in
-      record {
-        upload = was.upload;
-        is_upload = subst (λ (u : List ℕ). upload_of (record other { uploads = u }) task ≡ Some was.upload) (sym uploads) was.is_upload;
-        asked = was.asked;
-        is_asked = was.is_asked;
-        whose = was.whose;
-        server_is = was.server_is ∙ ap (λ (it : Client). it.server) (sym client);
-        caller_is = was.caller_is ∙ ap (λ (it : Client). it.me) (sym client);
-        name_is = was.name_is;
-        length_is = was.length_is;
-        digest_is = was.digest_is;
-      };
-  as_many = ap (λ (u : List ℕ). length u) uploads ∙ tasks.as_many ∙ ap (λ (it : Client). length it.lists.tasks) (sym client);
-}
+-- a work, by the client's server and its uploads
+pub work-by : (files : List Asked) (one other : Party) (asked : Work) → other.client.server ≡ one.client.server → other.uploads ≡ one.uploads → IsWork files one asked → IsWork files other asked
+work-by files one other (work.Upload at) server uploads is = file-same files one other at.task at.file uploads is
+work-by files one other (work.Directory at) server uploads is = is
+work-by files one other (work.Download at) server uploads is = (is.0 ∙ sym server, is.1)
 
 -- the notes go with the job of the current attempt, of whatever one that is
 pub stands-at : (party : Party) (o : Option Attempt) (a : Attempt) → o ≡ Some a → StandsBy party o
@@ -135,12 +118,14 @@ module _ (old new : World) (sound : Sound old) (stay : StayParties old new) (mad
           attempts = subst (λ server. AreAttempts party.client.me server party.attempts) (sym server-is) calls.attempts_are;
           windows = subst (λ w. AllByRecursion (λ (a : Attempt). a.window ≡ w) party.attempts) (sym window-is) calls.windows;
           works = subst (λ files. EachAttempt party (λ a. IsWork files party a.client.asked)) (sym stay.files)
-              (all-map (λ (a : Attempt). IsWork old.files before a.client.asked) (λ a. IsWork old.files party a.client.asked) party.attempts
-              (λ a is. work-same old.files before party a.client.asked same.client same.uploads is) asked);
+              (each-weaker {P = (λ (a : Attempt). IsWork old.files before a.client.asked)} {Q = (λ a. IsWork old.files party a.client.asked)} party.attempts
+              (λ a is. work-by old.files before party a.client.asked (ap (λ (it : Client). it.server) same.client) same.uploads is) asked);
           link = subst (λ link. IsLinkOf (newest party) link) (ap (λ (it : Client). it.attempt) (sym same.client))
               (stay-link before.attempts party.attempts before.client.attempt same.attempts it.link);
           may_step = subst client.MayStep (sym same.client) it.may_step;
-          tasks = subst (λ files. AreTasks files c party) (sym stay.files) (tasks-same old.files c before party same.client same.uploads it.tasks);
+          tasks = subst (λ files. AreTasks files c party) (sym stay.files)
+              (tasks-lists old.files c before party (ap (λ (it : Client). it.me) same.client)
+              (ap (λ (it : Client). it.server) same.client) (ap (λ (it : Client). it.lists) same.client) same.uploads it.tasks);
           job = stands-by party (newest party)
               (λ a now link.
               subst (λ (it : Client). AttemptStands a.client.asked it.lists a.client.attempted) (sym same.client)

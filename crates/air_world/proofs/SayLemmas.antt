@@ -24,12 +24,7 @@ use Rattle.air_files.specs.Tasks.{IsWork, StandsBy}
 use Rattle.air_files.specs.Uploads.{IsGoodFile}
 use Rattle.air_world.specs.Sound.{IsParty, Sound}
 use Rattle.air_world.specs.World.{PartyAt, World}
-
--- the one at a place of a list of which each is so
-all-at : {X : Type 0} (P : X → Type 0) (xs : List X) (place : ℕ) (x : X) → AllByRecursion P xs → slice_get xs place ≡ Some x → P x
-all-at P [] place x all is = absurd (cc is)
-all-at P (y ∷ xs) zero x all is = subst P (same_Some y x is) all.0
-all-at P (y ∷ xs) (suc place) x all is = all-at P xs place x all.1 is
+use Rattle.air_attempt.proofs.Offered.{all-at}
 
 -- ---- a number that was granted
 

@@ -20,36 +20,12 @@ use Rattle.air_attempt.specs.Sides.{ServerSide}
 use Rattle.air_attempt.specs.Transfers.{connection_at, connection_of}
 use Rattle.air_world.specs.Sound.{ArePlaces, IsParty, IsSeated, IsSessionOf, IsSideAt, Sound}
 use Rattle.air_world.specs.World.{PartyAt, World}
-use Rattle.air_world.proofs.WorldLists.{all-at, all-by, is-same, same-call}
+use Rattle.air_attempt.proofs.Offered.{all-at, all-by, place-of-is, place-of-not}
+use Rattle.ftl0_session.proofs.uploads.UploadRows.{same_call-decides}
 
 -- ---- the place of a caller
 
-callers-slot : (caller : CallSign) (slot : Slot) → is_callers caller slot ≡ true → (c : Connected) × (slot ≡ connected c) × (caller_of c ≡ caller)
-callers-slot caller free is = absurd cc
-callers-slot caller (connected c) is = (c, refl, same-call (caller_of c) caller is)
-callers-slot caller (leaving c) is = absurd cc
-
--- the place that is found has a connection of the caller
-pub found-slot : (caller : CallSign) (slots : List Slot) (place : ℕ) → place_of caller slots ≡ Some place
-    → (c : Connected) × (slice_get slots place ≡ Some (connected c)) × (caller_of c ≡ caller)
-found-slot caller slots place found =
-    let is = position-Some (is_callers caller) slots place free found in
-    let slot = callers-slot caller (get_or slots place free) is.1 in
-    (slot.0, slice_get-get_or slots place free is.0 ∙ ap Some slot.1, slot.2)
-
-position-none : {X : Type 0} (p : X → Bool) (xs : List X) (i : ℕ) (x : X) → position p xs ≡ None → slice_get xs i ≡ Some x → p x ≡ false
-position-none p xs i x none at =
-    let within = slice_get_within xs i x at in
-    let past : length xs ≤ position_or_len p xs = grind (arith, common_steps) in
-    ap p (sym (get_or_from_slice_get xs i x x at)) ∙ fails_before_first p xs i x (omega (arith, within, past))
-
 module _ (caller : CallSign) (slots : List Slot) where
-  -- where no place is found, none has a connection of the caller
-  pub finds-none : (place : ℕ) (c : Connected) → place_of caller slots ≡ None → slice_get slots place ≡ Some (connected c) → caller_of c ≢ caller
-  finds-none place c none at is =
-      let fails : is_callers caller (connected c) ≡ false = position-none (is_callers caller) slots place (connected c) none at in
-      absurd (true≢false (sym (subst (λ call. is_same_call call caller ≡ true) (sym is) (is-same caller)) ∙ fails))
-
   -- where a place has one, one is found
   pub finds-slot : (place : ℕ) (c : Connected) → slice_get slots place ≡ Some (connected c) → caller_of c ≡ caller
       → (found : ℕ) × (place_of caller slots ≡ Some found)
@@ -57,7 +33,7 @@ module _ (caller : CallSign) (slots : List Slot) where
     where
       by : (o : Option ℕ) → place_of caller slots ≡ o → (found : ℕ) × (place_of caller slots ≡ Some found)
       by (Some found) same = (found, same)
-      by None same = absurd (finds-none place c same at is)
+      by None same = absurd (place-of-not caller slots same place c at is)
 
 -- ---- the connection of a caller
 
@@ -68,13 +44,13 @@ connection-slot caller (connected it) c is = by (is_same_call (caller_of it) cal
   where
     by : (b : Bool) → is_same_call (caller_of it) caller ≡ b → (if b then Some it else None) ≡ Some c
         → ((connected it ≡ connected c) ⊎ (connected it ≡ leaving c)) × (caller_of c ≡ caller)
-    by true same is = let it_is = same_Some it c is in (inl (ap connected it_is), subst (λ (c : Connected). caller_of c ≡ caller) it_is (same-call (caller_of it) caller same))
+    by true same is = let it_is = same_Some it c is in (inl (ap connected it_is), subst (λ (c : Connected). caller_of c ≡ caller) it_is ((same_call-decides (caller_of it) caller).0 same))
     by false same is = absurd cc
 connection-slot caller (leaving it) c is = by (is_same_call (caller_of it) caller) refl is
   where
     by : (b : Bool) → is_same_call (caller_of it) caller ≡ b → (if b then Some it else None) ≡ Some c
         → ((leaving it ≡ connected c) ⊎ (leaving it ≡ leaving c)) × (caller_of c ≡ caller)
-    by true same is = let it_is = same_Some it c is in (inr (ap leaving it_is), subst (λ (c : Connected). caller_of c ≡ caller) it_is (same-call (caller_of it) caller same))
+    by true same is = let it_is = same_Some it c is in (inr (ap leaving it_is), subst (λ (c : Connected). caller_of c ≡ caller) it_is ((same_call-decides (caller_of it) caller).0 same))
     by false same is = absurd cc
 
 -- the connection of a caller is at a place
@@ -102,7 +78,7 @@ no-connection server caller between none = by (connection_of server caller) refl
   where
     by : (o : Option Connected) → connection_of server caller ≡ o → connection_of server caller ≡ None
     by None is = is
-    by (Some c) is = let seat = connection-seat server caller c between is in absurd (finds-none caller server.slots seat.0 c none seat.1 seat.2)
+    by (Some c) is = let seat = connection-seat server caller c between is in absurd (place-of-not caller server.slots none seat.0 c seat.1 seat.2)
 
 -- where one of them has something, the first one that has is found
 first-some : {X Y : Type 0} (f : X → Option Y) (xs : List X) (i : ℕ) (x : X) → slice_get xs i ≡ Some x → is_some (f x) ≡ true
@@ -126,14 +102,14 @@ connection-none server caller none = by (place_of caller server.slots) refl
 
     no-slot : (place : ℕ) (c : Connected) → slice_get server.slots place ≡ Some (connected c) → caller_of c ≡ caller → ⊥
     no-slot place c at is =
-        let own = subst (λ call. is_same_call (caller_of c) call ≡ true) is (is-same (caller_of c)) in
+        let own = subst (λ call. is_same_call (caller_of c) call ≡ true) is ((same_call-decides (caller_of c) (caller_of c)).1 refl) in
         let passes : has (connected c) ≡ true = ap (λ (b : Bool). is_some (if b then Some c else None)) own in
         first-some (connection_at caller) server.slots place (connected c) at passes none
 
     by : (o : Option ℕ) → place_of caller server.slots ≡ o → place_of caller server.slots ≡ None
     by None found = found
     by (Some place) found =
-        let slot = found-slot caller server.slots place found in absurd (no-slot place slot.0 slot.1 slot.2)
+        let slot = place-of-is caller server.slots place found in absurd (no-slot place slot.0 slot.1 slot.2)
 
 -- ---- apart
 
@@ -179,7 +155,7 @@ module _ (world : World) (sound : Sound world) where
         side-over at a is_at side is_side false same = same
         side-over at a is_at side is_side true same =
             let seat = seated-side at side (record { attempt = a; is_attempt = is_at; is_side = is_side }) same in
-            absurd (finds-none party.client.me world.server.slots seat.0 side.connected none seat.1 seat.2)
+            absurd (place-of-not party.client.me world.server.slots none seat.0 side.connected seat.1 seat.2)
 
         by : (at : ℕ) (a : Attempt) → slice_get party.attempts at ≡ Some a → (o : Option ServerSide) → a.server ≡ o → IfSome a.server (λ side. side.is_up ≡ false)
         by at a is_at None same = subst (λ (o : Option ServerSide). IfSome o (λ side. side.is_up ≡ false)) (sym same) tt
@@ -188,7 +164,7 @@ module _ (world : World) (sound : Sound world) where
 
     its-session : (place : ℕ) (seat : Connected) → place_of party.client.me world.server.slots ≡ Some place → IsSeatedIn world.server place seat → IsNewestSession seat party.attempts
     its-session place seat found at =
-        let slot = found-slot party.client.me world.server.slots place found in
+        let slot = place-of-is party.client.me world.server.slots place found in
         let same = same-connected slot.0 seat (same_Some (connected slot.0) (connected seat) (sym slot.1 ∙ at)) in
         let session = sound.places.sessions place seat at in
         let caller : session.party.client.me ≡ party.client.me = sym session.caller_is ∙ ap caller_of (sym same) ∙ slot.2 in
@@ -245,7 +221,7 @@ side-sits server me attempts at a side sits is_at is_side up = by (place_of me s
         let down = subst (λ (o : Option ServerSide). IfSome o (λ side. side.is_up ≡ false)) is_side over in
         absurd (true≢false (sym up ∙ down))
     by (Some place) found =
-        let slot = found-slot me server.slots place found in
+        let slot = place-of-is me server.slots place found in
         let newest = sits.some place slot.0 found slot.1 in
         let same = same_Some newest.side side (sym newest.is_newest ∙ up-is-newest attempts at a side sits.newest_up is_at is_side up) in
         (place, slot.1 ∙ ap (λ (c : Connected). Some (connected c)) (sym newest.connected_is ∙ ap (λ (s : ServerSide). s.connected) same))
@@ -255,7 +231,7 @@ session-sits : (world : World) (c : ℕ) (party : Party) → PartyAt world c par
     → (place : ℕ) (seat : Connected) → IsSeated world place seat → caller_of seat ≡ party.client.me → IsSessionOf world seat
 session-sits world c party is between sits place seat at caller =
     let found = finds-slot party.client.me world.server.slots place seat at caller in
-    let slot = found-slot party.client.me world.server.slots found.0 found.1 in
+    let slot = place-of-is party.client.me world.server.slots found.0 found.1 in
     let number = between.distinct found.0 place slot.0 seat slot.1 at (slot.2 ∙ sym caller) in
     let there = ap (λ i. slice_get world.server.slots i) number ∙ at in
     let newest = sits.some found.0 seat found.1 there in

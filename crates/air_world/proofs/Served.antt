@@ -22,7 +22,7 @@ use Rattle.air_world.specs.World.{PartyAt, World}
 use Rattle.air_world.proofs.Marked.{IsComing, delivers, from-client, marked}
 use Rattle.air_world.proofs.Seats.{between, calls}
 use Rattle.air_world.proofs.ServerTicked.{its-session}
-use Rattle.air_world.proofs.WorldLists.{all-at}
+use Rattle.air_attempt.proofs.Offered.{all-at}
 
 -- what stands of each client beside its facts
 pub stands : (world : World) → Sound world → (c : ℕ) (party : Party) → PartyAt world c party → Stands world.files c party

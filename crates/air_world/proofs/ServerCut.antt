@@ -24,17 +24,19 @@ use Rattle.air_world.specs.World.{PartyAt, World, counted}
 use Rattle.air_world.proofs.ClientsStay.{ClientsStay, over-stays, stay-trans, stay-windows}
 use Rattle.air_world.proofs.Granted.{granted-like}
 use Rattle.air_world.proofs.Rebuild.{IsMade, StayParties, StaysParty, rebuilt}
-use Rattle.air_world.proofs.WorldLists.{all-at, map-at}
+use Rattle.air_world.proofs.WorldLists.{map-at}
+use Rattle.air_attempt.proofs.Offered.{all-at, are-over}
+use Rattle.air_files.proofs.Offered.{over-alike}
 
 -- ---- a server without sessions
 
-all-free : (place : ℕ) (slot : Slot) → slice_get all_free place ≡ Some slot → slot ≡ free
+pub all-free : (place : ℕ) (slot : Slot) → slice_get all_free place ≡ Some slot → slot ≡ free
 all-free place slot is = all-at (λ (slot : Slot). slot ≡ free) all_free place slot (refl, (refl, (refl, (refl, (refl, (refl, (refl, (refl, tt)))))))) is
 
-none-connected : (place : ℕ) (c : Connected) → slice_get all_free place ≡ Some (connected c) → ⊥
+pub none-connected : (place : ℕ) (c : Connected) → slice_get all_free place ≡ Some (connected c) → ⊥
 none-connected place c is = absurd (let no_free = all-free place (connected c) is in cc)
 
-none-leaving : (place : ℕ) (c : Connected) → slice_get all_free place ≡ Some (leaving c) → ⊥
+pub none-leaving : (place : ℕ) (c : Connected) → slice_get all_free place ≡ Some (leaving c) → ⊥
 none-leaving place c is = absurd (let no_free = all-free place (leaving c) is in cc)
 
 new-between : (me : CallSign) (w : Window) (store : Store) → IsWindow w → IsBetween (new_server me w store)
@@ -49,30 +51,14 @@ new-between me w store window = record {
 
 -- ---- sessions that are over
 
-all-over : (attempts : List Attempt) → AreOver (all_over attempts)
-all-over [] = tt
-all-over (a ∷ older) = (by a.server, all-over older)
-  where
-    by : (o : Option ServerSide) → IfSome (option_map over o) (λ side. side.is_up ≡ false)
-    by None = tt
-    by (Some side) = refl
-
 over-newest : (attempts : List Attempt) → OnlyNewestUp (all_over attempts)
 over-newest [] = tt
-over-newest (a ∷ older) = by a.server (over-newest older) (all-over older)
+over-newest (a ∷ older) = by a.server (over-newest older) (are-over older)
   where
     by : (o : Option ServerSide) → OnlyNewestUp (all_over older) → AreOver (all_over older)
         → MatchOption (option_map over o) (OnlyNewestUp (all_over older)) (λ _. AreOver (all_over older))
     by None newest all = newest
     by (Some side) newest all = all
-
-pub over-like : (attempts : List Attempt) → LookLike attempts (all_over attempts)
-over-like [] = tt
-over-like (a ∷ older) = (record { asked = refl; entries = refl; job = refl; served = by a.server }, over-like older)
-  where
-    by : (o : Option ServerSide) → LooksServed o (option_map over o)
-    by None = tt
-    by (Some side) = record { greeting = refl; entries = refl; state = refl; up = λ up. absurd cc }
 
 -- the same of attempts that are such as others were
 both-over : (olds news : List Attempt) → LookLike olds news → LookLike (all_over olds) (all_over news)
@@ -150,7 +136,7 @@ module _ (left_law : LeftLaw) (old delivered : World) (sound : Sound old) (marke
           attempts_are = left_law.over was.client.me old.server.me mid.attempts mark.attempts_are;
           windows = stay-windows old.server.window was.attempts (all_over mid.attempts) (stay-trans was.attempts mid.attempts (all_over mid.attempts) mark.stays (over-stays mid.attempts)) it.windows;
           sits = record {
-            none = λ none. all-over mid.attempts;
+            none = λ none. are-over mid.attempts;
             some = λ place c found seat. absurd (none-connected place c seat);
             newest_up = over-newest mid.attempts;
           };

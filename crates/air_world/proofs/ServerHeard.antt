@@ -24,7 +24,7 @@ use Rattle.air_attempt.specs.Laws.{AreAttempts, Calls, HeardLaw, IsSeatedIn, IsS
 use Rattle.air_attempt.specs.Party.{Party, all_over, server_sends, to_server_delivered, with_answered, with_newest}
 use Rattle.air_attempt.specs.Said.{Grants}
 use Rattle.air_attempt.specs.Sides.{ServerSide}
-use Rattle.air_world.proofs.ServerCut.{over-like}
+use Rattle.air_files.proofs.Offered.{alike-itself, over-alike, served-itself}
 use Rattle.air_attempt.specs.Transfers.{ServerDid, after_hearing, begun, connection_of, gone_on, has_session, heard_by, opened, served}
 use Rattle.air_files.specs.Facts.{HasFacts}
 use Rattle.air_files.specs.Laws.{BeginLaw, GrantedAt, IsGreeted, LookLike, SessionKeeps, StayLaw, session_gone, with_attempt}
@@ -32,9 +32,10 @@ use Rattle.air_files.specs.SoundStore.{IsSoundStore}
 use Rattle.air_world.specs.Sound.{Sound}
 use Rattle.air_world.specs.World.{World}
 use Rattle.air_world.proofs.ClientsStay.{ClientsStay, newest-stays, stay-refl, stay-trans}
-use Rattle.air_world.proofs.Likes.{grants-like, like-at, like-refl, same-party, served-same}
+use Rattle.air_world.proofs.Likes.{grants-like, like-at, same-party}
 use Rattle.air_world.proofs.Marked.{IsComing, delivers, from-client, marked}
-use Rattle.air_world.proofs.Seats.{between, calls, connection-none, connection-seat, finds-slot, found-slot}
+use Rattle.air_world.proofs.Seats.{between, calls, connection-none, connection-seat, finds-slot}
+use Rattle.air_attempt.proofs.Offered.{place-of-is}
 use Rattle.air_world.proofs.Served.{SessionLaws, before-session, by-session, keeps, now-session}
 use Rattle.air_world.proofs.ServerTicked.{its-state}
 
@@ -135,7 +136,7 @@ module _ (laws : HearingLaws) (old : World) (sound : Sound old) (c : ℕ) (party
     where
       passed-like : (frames : List FrameValue) (attempts : List Attempt) → LookLike attempts (with_newest (server_sends frames) (with_newest (to_server_delivered place t) attempts))
       passed-like frames [] = tt
-      passed-like frames (a ∷ older) = (record { asked = refl; entries = refl; job = refl; served = served-same a.server }, like-refl older)
+      passed-like frames (a ∷ older) = (record { asked = refl; entries = refl; job = refl; served = served-itself a.server }, alike-itself older)
 
   -- ---- a session begins
 
@@ -173,7 +174,7 @@ module _ (laws : HearingLaws) (old : World) (sound : Sound old) (c : ℕ) (party
               let side_is : side ≡ granted.side = same_Some side granted.side (ap (λ (it : Attempt). it.server) (same_Some first granted.attempt is) ∙ granted.is_side) in
               absurd (subst (λ (it : ServerSide). Grants it number granted.file_length) (sym side_is) granted.grants)
           by (suc at) is =
-              let before = like-at older (all_over older) at granted.attempt granted.side (over-like older) is granted.is_side in
+              let before = like-at older (all_over older) at granted.attempt granted.side (over-alike older) is granted.is_side in
               record {
                 attempt = before.0;
                 is_attempt = ap (λ (attempts : List Attempt). slice_get attempts (suc at)) attempts-are.1 ∙ before.2;
@@ -190,7 +191,7 @@ module _ (laws : HearingLaws) (old : World) (sound : Sound old) (c : ℕ) (party
           let mid = with_attempt party (record coming.attempt { server = Some side }) (all_over older) in
           laws.stay.same old.server.store old.files mid (record party { attempts = first ∷ all_over older })
           (same-party mid (record party { attempts = first ∷ all_over older }) refl refl
-          (record { asked = refl; entries = refl; job = refl; served = served-same (Some side) }, like-refl (all_over older))
+          (record { asked = refl; entries = refl; job = refl; served = served-itself (Some side) }, alike-itself (all_over older))
           (record { client = refl; window = refl }, stay-refl (all_over older)))
           begun_facts
 
@@ -268,7 +269,7 @@ module _ (laws : HearingLaws) (old : World) (sound : Sound old) (c : ℕ) (party
             let mid = with_attempt party (session_gone these now-is.state up a its) served-by.older in
             laws.stay.same now-is.store old.files mid (record party { attempts = gone ∷ served-by.older })
             (same-party mid (record party { attempts = gone ∷ served-by.older }) refl refl
-            (record { asked = refl; entries = refl; job = refl; served = record { greeting = refl; entries = refl; state = state; up = λ is_up. is_up } }, like-refl served-by.older)
+            (record { asked = refl; entries = refl; job = refl; served = record { greeting = refl; entries = refl; state = state; up = λ is_up. is_up } }, alike-itself served-by.older)
             (record { client = refl; window = refl }, stay-refl served-by.older))
             kept.facts
 
@@ -313,7 +314,7 @@ module _ (laws : HearingLaws) (old : World) (sound : Sound old) (c : ℕ) (party
   seat-found seat was =
       let there = connection-seat old.server t.frame.src seat (between old sound) was in
       let found = finds-slot t.frame.src old.server.slots there.0 seat there.1 there.2 in
-      let slot = found-slot t.frame.src old.server.slots found.0 found.1 in
+      let slot = place-of-is t.frame.src old.server.slots found.0 found.1 in
       let number = (between old sound).distinct found.0 there.0 slot.0 seat slot.1 there.1 (slot.2 ∙ sym there.2) in
       (found.0, found.1, ap (λ i. slice_get old.server.slots i) number ∙ there.1)
 

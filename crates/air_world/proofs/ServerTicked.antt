@@ -23,10 +23,12 @@ use Rattle.air_world.specs.Sound.{Sound}
 use Rattle.air_world.specs.Step.{party_ticked}
 use Rattle.air_world.specs.World.{PartyAt, World, counted}
 use Rattle.air_world.proofs.ClientsStay.{tick-stays}
-use Rattle.air_world.proofs.Likes.{answered-like, like-refl, reaches-one, same-party}
+use Rattle.air_world.proofs.Likes.{answered-like, reaches-one, same-party}
+use Rattle.air_files.proofs.Offered.{alike-itself}
 use Rattle.air_world.proofs.Rebuild.{IsMade, StayParties, StaysParty, rebuilt}
 use Rattle.air_world.proofs.Granted.{granted-like}
-use Rattle.air_world.proofs.Seats.{AreSeatsKnown, between, calls, connection-seat, finds-slot, found-slot}
+use Rattle.air_world.proofs.Seats.{AreSeatsKnown, between, calls, connection-seat, finds-slot}
+use Rattle.air_attempt.proofs.Offered.{place-of-is}
 use Rattle.air_world.proofs.WorldLists.{at-map, map-at}
 
 -- the session of an answered attempt
@@ -49,7 +51,7 @@ module _ (it : Server) (me : CallSign) (attempts : List Attempt) (between_is : I
   newest-up c side is newest =
       let seat = connection-seat it me c between_is is in
       let found = finds-slot me it.slots seat.0 c seat.1 seat.2 in
-      let slot = found-slot me it.slots found.0 found.1 in
+      let slot = place-of-is me it.slots found.0 found.1 in
       let session = call.sits.some found.0 slot.0 found.1 slot.1 in
       subst (λ (s : ServerSide). s.is_up ≡ true) (same_Some session.side side (sym session.is_newest ∙ newest)) session.is_up
 
@@ -58,8 +60,8 @@ module _ (it : Server) (me : CallSign) (attempts : List Attempt) (between_is : I
     where
       by : (before : Option Connected) → connection_of did.old me ≡ before → (after : Option Connected) → AreAttempts me it.me (ticked_by before after (did_to me did) attempts)
           → LookLike attempts (ticked_by before after (did_to me did) attempts)
-      by None is after now = like-refl attempts
-      by (Some c) is None now = like-refl attempts
+      by None is after now = alike-itself attempts
+      by (Some c) is None now = alike-itself attempts
       by (Some c) is (Some then) now =
           answered-like (served (did_to me did) then []) (IsAttempt me it.me) (IsAttempt me it.me) attempts call.attempts_are now
           (λ a side newest old is_side new.

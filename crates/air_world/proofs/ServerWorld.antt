@@ -23,12 +23,16 @@ use Rattle.air_world.specs.Sound.{AreGrantedOnce, IsSideAt, Sound}
 use Rattle.air_world.specs.Step.{party_heard}
 use Rattle.air_world.specs.World.{PartyAt, World, counted}
 use Rattle.air_world.proofs.ClientsStay.{hearing-stays, newest-stays, stay-refl, stay-trans}
-use Rattle.air_world.proofs.Marked.{IsComing, delivered, from-client, length-set-slice, marked}
+use Rattle.air_world.proofs.Marked.{IsComing, delivered, from-client, marked}
+use Rattle.std.proofs.lemmas.List.{length-set}
 use Rattle.air_world.proofs.Rebuild.{IsMade, StayParties, StaysParty, rebuilt}
 use Rattle.air_world.proofs.Seats.{AreSeatsKnown, between, calls}
 use Rattle.air_world.proofs.Served.{granted-at, stands}
 use Rattle.air_world.proofs.ServerHeard.{HearingLaws, OwnMade, calls-then, did, fits, own-made, stays}
-use Rattle.air_world.proofs.WorldLists.{all-at, at-map, at-set, is-same, map-at, other-call, set-at, set-other}
+use Rattle.air_world.proofs.WorldLists.{at-map, at-set, map-at, other-call, set-at}
+use Rattle.air_attempt.proofs.Offered.{all-at}
+use Rattle.ax25_link.proofs.Offered.{slice_get-set_other}
+use Rattle.ftl0_session.proofs.uploads.UploadRows.{same_call-decides}
 
 module _ (laws : HearingLaws) (old : World) (sound_old : Sound old) (c : ℕ) (party : Party) (place : ℕ) (t : Transmission) (coming : IsComing old c party place t)
     (moment : ℕ) (soon : moment < 2 ^ 32) (gives : Stepped) (step : ServerStep old.server (frame_comes t.frame moment) [] gives) where
@@ -56,7 +60,7 @@ module _ (laws : HearingLaws) (old : World) (sound_old : Sound old) (c : ℕ) (p
   -- the client of the frame
   own-heard : party_heard own-did t.frame (with_current (to_server_delivered place t) party) ≡ own-now
   own-heard =
-      let same : is_same_call party.client.me t.frame.src ≡ true = subst (λ call. is_same_call party.client.me call ≡ true) (sym src-is) (is-same party.client.me) in
+      let same : is_same_call party.client.me t.frame.src ≡ true = subst (λ call. is_same_call party.client.me call ≡ true) (sym src-is) ((same_call-decides party.client.me party.client.me).1 refl) in
       ap
       (λ (b : Bool).
       if b
@@ -101,7 +105,7 @@ module _ (laws : HearingLaws) (old : World) (sound_old : Sound old) (c : ℕ) (p
           let at = at-map (party_heard own-did t.frame) those.parties c mid (at-set old.parties c mid party coming.is) in
           (own-now, ap (λ i. slice_get heard.parties i) own_is ∙ at ∙ ap Some own-heard, ap (λ (p : Party). p.client.me) (sym same))
       by (inr other_is) =
-          let at = at-map (party_heard own-did t.frame) those.parties number that (set-other old.parties c number (with_current (to_server_delivered place t) party) other_is ∙ is) in
+          let at = at-map (party_heard own-did t.frame) those.parties number that (slice_get-set_other old.parties c number (with_current (to_server_delivered place t) party) other_is ∙ is) in
           (that, at ∙ ap Some (other-heard that (differs number that other_is is)), refl)
 
   known : AreSeatsKnown heard
@@ -207,7 +211,7 @@ module _ (laws : HearingLaws) (old : World) (sound_old : Sound old) (c : ℕ) (p
     me = stays-server.me_is;
     window = stays-server.window_is;
     files = refl;
-    many = length-map those.parties (party_heard own-did t.frame) ∙ length-set-slice old.parties c (with_current (to_server_delivered place t) party);
+    many = length-map those.parties (party_heard own-did t.frame) ∙ length-set old.parties c (with_current (to_server_delivered place t) party);
     each = λ number that is. stays-then number that (then-is number that is);
   }
 
