@@ -13,7 +13,6 @@ use Rattle.ax25_link.specs.Refusals.{is_answered, refusal_frame}
 use Rattle.ax25_link.specs.Rows.{is_call}
 use Rattle.ax25_link.specs.Window.{IsWindow, Window}
 use Rattle.ax25_link.proofs.Offered.{prefix_law}
-use Rattle.ftl0_packets.specs.Reading.{packets_of, rest_of}
 use Rattle.ftl0_job.specs.JobState.{IsNew}
 use Rattle.ftl0_job.specs.Table.{JobState}
 use Rattle.ftl0_client.specs.Attempt.Attempted.{calling}

@@ -1,8 +1,7 @@
 -- What a station of an attempt sends at an event: whether a SABM is among the frames, and whose they are.
-use Rattle.std.proofs.Common.{◌≡◌, ℕ, zero, suc, List, [], ◌∷◌, Bool, true, false, Some, refl, ap, ◌∙◌, subst}
-use Rattle.std.specs.Prelude.{◌||◌, slice_get}
+use Rattle.std.proofs.Common.{◌≡◌, List, [], ◌∷◌, Bool, true, false, refl, ap, ◌∙◌, subst}
+use Rattle.std.specs.Prelude.{◌||◌}
 use Rattle.std.specs.List.{AllByRecursion}
-use Rattle.std.proofs.lemmas.Option.{same_Some}
 use Rattle.px_base.specs.CallSign.{CallSign}
 use Rattle.ax25_frames.specs.FrameText.{FrameValue}
 use Rattle.ax25_link.specs.Air.{Transmission, sending_all}
@@ -14,7 +13,6 @@ use Rattle.ax25_link.specs.Window.{IsWindow, Window}
 use Rattle.air_attempt.specs.Attempt.{AreFromTo, IsEndOf}
 use Rattle.air_attempt.specs.Transfers.{has_call}
 use Rattle.air_attempt.proofs.Transmissions.{from-sent}
-use Rattle.air_attempt.proofs.ListLemmas.{all-at}
 
 -- ---- whether a SABM is among them
 

@@ -9,13 +9,13 @@ use Rattle.ftl0_client.specs.Entries as job
 use Rattle.ftl0_client.specs.Entries.{JobEntry}
 use Rattle.air_attempt.specs.Attempt.{Attempt}
 use Rattle.air_attempt.specs.Laws.{ClientTookFront, ServerTookFront}
-use Rattle.air_attempt.specs.Lists.{AreFirstOf, Has, OneIs}
-use Rattle.air_attempt.specs.Said.{IsTaken, Took}
+use Rattle.air_attempt.specs.Lists.{AreFirstOf, Has}
+use Rattle.air_attempt.specs.Said.{Took}
 use Rattle.air_attempt.specs.Sides.{IsGreeting, ServerSide, said_by_client, said_by_server}
 use Rattle.air_files.specs.DownloadDialogue.{Fetching, IsFetchingFile, IsWord, SaysDownload, Sending, asked, ended, fetching_said, refused, sending_items, sending_said, sends, silent, told, unasked, waits}
 use Rattle.air_files.specs.UploadDialogue.{answered_in}
 use Rattle.air_files.proofs.FetchesOn.{flat_map-one}
-use Rattle.air_attempt.proofs.Offered.{one-left, one-right}
+use Rattle.air_attempt.proofs.Offered.{one-left}
 use Rattle.air_files.proofs.JobTook.{took-item}
 use Rattle.air_files.proofs.UploadNext.{answered-all}
 

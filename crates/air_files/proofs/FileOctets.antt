@@ -1,7 +1,5 @@
 -- The octets of a complete file of a sound store, and of what is due of it.
-use Rattle.std.proofs.Common.{◌≡◌, ℕ, ◌-◌, ◌≤◌, ◌<◌, ◌==◌, List, [], ◌∷◌, length, take, drop, refl, ap, sym, subst, cond, Bool, true, false, Option, None, Some, arith}
-use Rattle.std.specs.Prelude.{find}
-use Rattle.std.specs.List.{AllByRecursion}
+use Rattle.std.proofs.Common.{◌≡◌, ℕ, ◌-◌, ◌≤◌, ◌<◌, ◌==◌, List, length, take, drop, refl, ap, sym, subst, Option, None, Some, arith}
 use Rattle.std.proofs.lemmas.List.Elements.{All-drop, All-nil, All-take}
 use Rattle.px_base.specs.Octets.{IsOctets}
 use Rattle.file_store.specs.Store.{Entry, Store, entry_of, octets_at, octets_of}

@@ -1,10 +1,8 @@
 -- A job that took and queued nothing leaves its client's facts.
 use Rattle.std.proofs.Common.{◌≡◌, ℕ, List, [], ◌++◌, Option, None, Some, refl, sym, ◌∙◌, ap, subst, append-nil}
-use Rattle.ax25_link.specs.declared.state.Why.{Why}
 use Rattle.file_store.specs.Store.{Store}
 use Rattle.client_notes.specs.Notes.{Lists}
 use Rattle.ftl0_job.specs.declared.ending.Ending.{Ending}
-use Rattle.ftl0_job.specs.declared.ending.Outcome.{Outcome}
 use Rattle.ftl0_job.specs.declared.ending.Outcome.TheVariants as outcome
 use Rattle.ftl0_job.specs.declared.phases.DownloadPhase.{DownloadPhase}
 use Rattle.ftl0_job.specs.declared.phases.DownloadPhase.TheVariants as fetch
@@ -12,7 +10,6 @@ use Rattle.ftl0_job.specs.declared.work.Work.{Work}
 use Rattle.ftl0_job.specs.declared.work.Work.TheVariants as work
 use Rattle.ftl0_job.specs.Table.{JobState}
 use Rattle.ftl0_client.specs.Attempt.Attempted.{Attempted, outcome_by}
-use Rattle.ftl0_client.specs.declared.attempt.outcome.AttemptOutcome.TheVariants.{Reached}
 use Rattle.ftl0_client.specs.Entries.{JobEntry}
 use Rattle.air_attempt.specs.Attempt.{Attempt}
 use Rattle.air_attempt.specs.Party.{Asked, Party}
@@ -20,7 +17,7 @@ use Rattle.air_attempt.specs.Sides.{ServerSide}
 use Rattle.air_files.specs.Facts.{AreFirstIfAny, FetchesBy, FetchesIn, HasFacts, coming_by, got}
 use Rattle.air_files.specs.Laws.{JobKeeps, job_gone, with_job}
 use Rattle.air_files.proofs.JobChange.{moved}
-use Rattle.air_files.proofs.JobEarlier.{reached-any, reached-none}
+use Rattle.air_files.proofs.JobEarlier.{reached-any}
 use Rattle.air_files.proofs.JobSays.{says-still}
 use Rattle.air_files.proofs.JobStep.{JobKept, keeps-by, of_attempts}
 use Rattle.air_files.proofs.JobUploadNotes.{fronts-none}

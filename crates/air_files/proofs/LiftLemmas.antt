@@ -1,11 +1,8 @@
 -- What is so of each session of a client.
-use Rattle.std.proofs.Common.{◌≡◌, ◌⊎◌, ℕ, List, [], ◌∷◌, ◌++◌, map, refl, sym, subst, Option, None, Some, inl, inr}
-use Rattle.std.proofs.Common.{zero, suc}
-use Rattle.std.specs.Prelude.{IfSome, slice_get}
-use Rattle.std.specs.List.{AllByRecursion}
-use Rattle.std.proofs.lemmas.Option.{same_Some}
+use Rattle.std.proofs.Common.{◌≡◌, Some}
+use Rattle.std.specs.Prelude.{IfSome}
 use Rattle.air_attempt.specs.Attempt.{Attempt}
-use Rattle.air_attempt.specs.Lists.{Has, OneIs}
+use Rattle.air_attempt.specs.Lists.{Has}
 use Rattle.air_attempt.specs.Party.{EachSide, Party}
 use Rattle.air_attempt.specs.Sides.{ServerSide}
 use Rattle.air_attempt.proofs.Offered.{each-at, each-from, some-at, some-from}

@@ -1,16 +1,11 @@
 -- What the facts look at of a client, an attempt and a session, put into others in place of theirs: these have the
 -- facts.
 -- Ends of links, transmissions and what else is theirs don't matter, and a session may be over.
-use Rattle.std.proofs.Common.{◌≡◌, ℕ, List, length, ap, sym, ◌∙◌, true, Option, None, Some}
+use Rattle.std.proofs.Common.{◌≡◌, ℕ, List, length, ap, sym, ◌∙◌, true}
 use Rattle.file_store.specs.Store.{Store}
-use Rattle.ftl0_job.specs.declared.ending.Ending.{Ending}
 use Rattle.ftl0_job.specs.declared.work.Work.{Work}
 use Rattle.ftl0_job.specs.declared.work.Work.TheVariants as work
-use Rattle.ftl0_job.specs.declared.ending.Outcome.{Outcome}
 use Rattle.ftl0_job.specs.declared.ending.Outcome.TheVariants as reached
-use Rattle.ax25_link.specs.declared.state.Why.{Why}
-use Rattle.ftl0_client.specs.declared.attempt.outcome.AttemptOutcome.TheVariants.{Reached}
-use Rattle.ftl0_client.specs.Attempt.Attempted.{outcome_by}
 use Rattle.air_attempt.specs.Attempt.{Attempt}
 use Rattle.air_attempt.specs.Party.{Party}
 use Rattle.air_attempt.specs.Sides.{ClientSide, ServerSide}

@@ -7,7 +7,6 @@ use Rattle.std.specs.Option.{option_map}
 use Rattle.std.proofs.lemmas.Bool.Decides.{eqb_tells}
 use Rattle.px_base.specs.CallSign.{CallSign}
 use Rattle.file_entries.specs.Follows.{KeepsEntries}
-use Rattle.file_store.specs.EntriesKept.{KeepsComplete}
 use Rattle.file_store.specs.Store.{Store, entry_of}
 use Rattle.ftl0_job.specs.declared.ending.Ending.{Ending}
 use Rattle.ftl0_job.specs.declared.phases.DownloadPhase.{DownloadPhase}
@@ -26,7 +25,7 @@ use Rattle.air_files.proofs.ApartLemmas.{GrantFact, HasClientFacts, HasFactsApar
 use Rattle.air_files.proofs.GrowingLemmas.{StayOthers}
 use Rattle.air_attempt.proofs.Offered.{one-map}
 use Rattle.air_files.proofs.LikeLemmas.{like-client, like-side, number-like}
-use Rattle.air_files.proofs.StableLemmas.{keeps-complete, keeps-fetching, keeps-fetching_some, keeps-first_any}
+use Rattle.air_files.proofs.StableLemmas.{keeps-complete, keeps-fetching_some, keeps-first_any}
 use Rattle.air_files.proofs.StableLemmas.{keeps-offer, keeps-serves, keeps-task_kept}
 
 -- a session that gave this number to a new upload did so for a task that has it

@@ -1,8 +1,7 @@
 -- The rows of an upload's packets.
-use Rattle.std.proofs.Common.{◌≡◌, ◌⊎◌, inl, inr, ℕ, ◌+◌, ◌≤◌, ◌<◌, ◌==◌, ◌&&◌, Bool, true, false, not, List, ◌++◌, length, refl, ap, ap₂, sym, ◌∙◌, subst, arith, length-append, Option, None, Some}
+use Rattle.std.proofs.Common.{◌≡◌, ◌⊎◌, inl, inr, ℕ, ◌+◌, ◌≤◌, ◌<◌, ◌==◌, Bool, true, false, not, List, ◌++◌, length, refl, ap, sym, ◌∙◌, subst, arith, length-append, Option, None, Some}
 use Rattle.std.proofs.lemmas.Bool.Decides.{Decides-eqb, nat_tests}
-use Rattle.std.proofs.lemmas.Slice.Eq.{bytes_eq-Decides}
-use Rattle.std.specs.Prelude.{Ok, bytes_eq, nat_le, if◌then◌else◌, IsTrue}
+use Rattle.std.specs.Prelude.{Ok, nat_le, if◌then◌else◌, IsTrue}
 use Rattle.px_base.specs.CallSign.{CallSign}
 use Rattle.pfh_items.specs.Faults.{fault_code}
 use Rattle.ftl0_packets.specs.Layout.{data_end, data_part, upload_cmd}

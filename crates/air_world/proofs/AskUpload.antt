@@ -7,7 +7,6 @@ use Rattle.std.specs.Prelude.{slice_get}
 use Rattle.std.proofs.lemmas.Bool.Decides.{eqb_tells}
 use Rattle.std.proofs.lemmas.Option.{same_Some}
 use Rattle.client_notes.specs.Answers.{fresh_task}
-use Rattle.client_notes.specs.Command.{new_task}
 use Rattle.client_notes.specs.Laws.{after_all}
 use Rattle.client_notes.specs.Limits.{most_tasks}
 use Rattle.client_notes.specs.Notes.{Task, task_count, task_of}

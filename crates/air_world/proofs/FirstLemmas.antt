@@ -8,19 +8,15 @@ use Rattle.std.proofs.lemmas.Option.{same_Some}
 use Rattle.px_base.specs.CallSign.{CallSign, IsCall, is_call_char}
 use Rattle.ax25_link.specs.Window.{Window, window_of}
 use Rattle.file_store.specs.Store.{empty_store}
-use Rattle.ftl0_server.specs.Connection.Connected.{Connected}
-use Rattle.ftl0_server.specs.Server.{all_free}
-use Rattle.ftl0_server.specs.Slots.{Slot, connected, free, leaving}
 use Rattle.air_attempt.specs.Attempt.{Attempt}
 use Rattle.air_attempt.specs.Party.{OnlyNewestUp, Party, first_party}
 use Rattle.air_attempt.specs.Sides.{ServerSide}
 use Rattle.air_files.specs.SoundStore.{IsSoundStore}
 use Rattle.air_files.proofs.Offered.{facts-first, no-task}
-use Rattle.air_attempt.proofs.Offered.{each-at, has-at}
 use Rattle.air_world.specs.Schedule.{AreDistinct, IsSchedule, Schedule}
 use Rattle.air_world.specs.Sound.{ArePlaces, AreStationsOf, IsParty, IsSideAt, Sound}
 use Rattle.air_world.specs.World.{PartyAt, first_world, pacsat, store_blocks}
-use Rattle.air_world.proofs.ServerCut.{all-free, none-connected, none-leaving}
+use Rattle.air_world.proofs.ServerCut.{none-connected, none-leaving}
 
 -- the party at a place is the first one of the call there
 first-at : (server : CallSign) (w : Window) (calls : List CallSign) (c : ℕ) (party : Party)

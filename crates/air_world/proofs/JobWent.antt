@@ -6,12 +6,11 @@ use Rattle.std.proofs.lemmas.Option.{same_Some}
 use Rattle.ax25_link.specs.Ends.{LinkEnd}
 use Rattle.client_laws.specs.Steps.{StepLaw}
 use Rattle.client_notes.specs.Laws.{after_all}
-use Rattle.client_notes.specs.Notes.{Lists, task_of}
+use Rattle.client_notes.specs.Notes.{Lists}
 use Rattle.client_notes.specs.Several as notes
 use Rattle.client_notes.proofs.Offered.{after_all-append}
 use Rattle.ftl0_packets.specs.Items.{kind_of_item}
 use Rattle.ftl0_job.specs.declared.work.Work.{Work}
-use Rattle.ftl0_job.specs.declared.work.Work.TheVariants as work
 use Rattle.ftl0_job.specs.Promises.{JobStands}
 use Rattle.ftl0_job.specs.Table.{JobState, job_after}
 use Rattle.ftl0_client.specs.Attempt.Attempted.{Attempted}
@@ -23,7 +22,7 @@ use Rattle.ftl0_client.specs.Entries as job
 use Rattle.ftl0_client.specs.Entries.{HearingLaw, JobEntry, TickingLaw}
 use Rattle.air_attempt.specs.Attempt.{Attempt, IsAnsweredBy, IsAttempt}
 use Rattle.air_attempt.specs.Laws.{ClientLaw, FrontLaw, GoesWith, LeftLaw}
-use Rattle.air_attempt.specs.Party.{Asked, EachAttempt, IsFileOf, Party, newest, upload_of}
+use Rattle.air_attempt.specs.Party.{EachAttempt, Party, newest}
 use Rattle.air_attempt.specs.Lists.{AreFirstOf}
 use Rattle.air_attempt.specs.Sides.{ClientSide, ServerSide, said_by_server}
 use Rattle.air_files.specs.Facts.{HasFacts}

@@ -1,6 +1,6 @@
 -- A world in which a transmission of one client's is marked as delivered to the server.
-use Rattle.std.proofs.Common.{◌≡◌, ◌⊎◌, ℕ, zero, suc, List, [], ◌∷◌, Some, length, refl, sym, ap, subst, ◌∙◌, inl, inr}
-use Rattle.std.specs.Prelude.{slice_get, slice_set}
+use Rattle.std.proofs.Common.{◌≡◌, ◌⊎◌, ℕ, List, Some, refl, sym, ap, subst, ◌∙◌, inl, inr}
+use Rattle.std.specs.Prelude.{slice_get}
 use Rattle.ax25_link.specs.Air.{IsLawful, Transmission}
 use Rattle.air_attempt.specs.Attempt.{Attempt, IsAttempt, IsFromTo}
 use Rattle.air_attempt.specs.Laws.{Calls, DeliversToServer, LeftLaw}

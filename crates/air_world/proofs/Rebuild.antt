@@ -9,8 +9,7 @@ use Rattle.ftl0_client.specs.Client.{Client}
 use Rattle.ftl0_client.specs.Laws as client
 use Rattle.air_attempt.specs.Attempt.{Attempt}
 use Rattle.air_attempt.specs.Laws.{AreAttempts, Calls, IsBetween}
-use Rattle.air_attempt.specs.Party.{Asked, EachAttempt, IsFileOf, IsLinkOf, Party, newest, upload_of}
-use Rattle.client_notes.specs.Notes.{task_of}
+use Rattle.air_attempt.specs.Party.{Asked, EachAttempt, IsFileOf, IsLinkOf, Party, newest}
 use Rattle.ftl0_job.specs.declared.work.Work.{Work}
 use Rattle.ftl0_job.specs.declared.work.Work.TheVariants as work
 use Rattle.ftl0_client.specs.Attempt.Laws.{AttemptStands}

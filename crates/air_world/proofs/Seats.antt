@@ -1,17 +1,14 @@
 -- The server's places and the attempts of its callers, taken apart by caller and put together again.
-use Rattle.std.proofs.Common.{◌≡◌, ◌≢◌, ◌⊎◌, ℕ, zero, suc, ◌≤◌, List, [], ◌∷◌, Bool, true, false, Option, None, Some, length, get_or, refl, sym, ap, subst, ◌∙◌, inl, inr, true≢false, arith}
+use Rattle.std.proofs.Common.{◌≡◌, ◌⊎◌, ℕ, zero, suc, List, [], ◌∷◌, Bool, true, false, Option, None, Some, refl, sym, ap, subst, ◌∙◌, inl, inr, true≢false}
 use Rattle.std.specs.Prelude.{find, if◌then◌else◌, is_some, slice_get, IfSome, MatchOption}
 use Rattle.std.specs.Option.{option_and_then, option_or}
-use Rattle.std.specs.List.{AllByRecursion, position, position_or_len}
-use Rattle.std.proofs.lemmas.Grind.{common_steps}
+use Rattle.std.specs.List.{AllByRecursion, position_or_len}
 use Rattle.std.proofs.lemmas.List.Folds.{find_at}
-use Rattle.std.proofs.lemmas.List.Sums.{fails_before_first}
-use Rattle.std.proofs.lemmas.List.Quantifiers.{position-Some}
-use Rattle.std.proofs.lemmas.Option.{get_or_from_slice_get, same_Some, slice_get-get_or, slice_get_within}
+use Rattle.std.proofs.lemmas.Option.{same_Some}
 use Rattle.px_base.specs.CallSign.{CallSign}
 use Rattle.ftl0_server.specs.Connection.Connected.{Connected, caller_of}
 use Rattle.ftl0_server.specs.Server.{Server}
-use Rattle.ftl0_server.specs.Slots.{Slot, connected, free, is_callers, leaving, place_of}
+use Rattle.ftl0_server.specs.Slots.{Slot, connected, free, leaving, place_of}
 use Rattle.ftl0_session.specs.Uploads.Session.{is_same_call}
 use Rattle.air_attempt.specs.Attempt.{Attempt, IsAttempt, IsEndOf}
 use Rattle.air_attempt.specs.Laws.{AreAttempts, Calls, IsBetween, IsNewestSession, IsSeatedIn, SitsBy}

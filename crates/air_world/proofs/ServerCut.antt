@@ -1,6 +1,6 @@
 -- An event of the server's that is cut keeps a sound world, where what it leaves of the store does.
 use Rattle.std.proofs.Common.{◌≡◌, ℕ, List, [], ◌∷◌, false, Option, None, Some, length, refl, sym, ap, subst, ◌∙◌, arith}
-use Rattle.std.specs.Prelude.{map, slice_get, IfSome, MatchOption}
+use Rattle.std.specs.Prelude.{map, slice_get, MatchOption}
 use Rattle.std.specs.Option.{option_map}
 use Rattle.std.proofs.lemmas.List.{length-map}
 use Rattle.px_base.specs.CallSign.{CallSign}
@@ -26,7 +26,6 @@ use Rattle.air_world.proofs.Granted.{granted-like}
 use Rattle.air_world.proofs.Rebuild.{IsMade, StayParties, StaysParty, rebuilt}
 use Rattle.air_world.proofs.WorldLists.{map-at}
 use Rattle.air_attempt.proofs.Offered.{all-at, are-over}
-use Rattle.air_files.proofs.Offered.{over-alike}
 
 -- ---- a server without sessions
 

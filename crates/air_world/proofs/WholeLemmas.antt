@@ -1,9 +1,7 @@
 -- What was got of a file and has no fault is the whole file.
-use Rattle.std.proofs.Common.{◌≡◌, ℕ, ◌<◌, List, [], ◌∷◌, ◌++◌, refl, ap, sym, ◌∙◌, subst, append-nil, Option, None}
+use Rattle.std.proofs.Common.{◌≡◌, ℕ, List, [], ◌++◌, refl, ap, sym, ◌∙◌, subst, append-nil, Option, None}
 use Rattle.std.proofs.Common.{Some}
-use Rattle.std.specs.List.{AllByRecursion}
 use Rattle.std.specs.Option.{option_map}
-use Rattle.std.proofs.lemmas.List.Elements.{All-from_recursion, recursion_from_All}
 use Rattle.std.proofs.lemmas.Option.{same_Some}
 use Rattle.px_base.specs.Octets.{IsFront, IsOctets}
 use Rattle.pfh_items.specs.Faults.{code_of, fault_code, first_fault}
