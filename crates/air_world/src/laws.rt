@@ -1,6 +1,7 @@
 //! Laws of the world, each the contract of a function that does nothing.
 
-ghost use Rattle.air_world.specs.Laws.{ExistenceLaw, NoCutsLaw, PartsLaw, PrefixesLaw, RemovalLaw, ScheduleLaw, SoundLaw};
+ghost use Rattle.air_world.specs.Laws.{ExistenceLaw, NoCutsLaw, PartsLaw, PrefixesLaw, RemovalLaw, ScheduleLaw};
+ghost use Rattle.air_world.specs.Laws.{SoundLaw};
 
 use air_attempt::laws as attempts;
 use air_files::laws as files;
