@@ -1,5 +1,6 @@
 -- One entry of a job that downloads a file keeps its client's facts.
-use Rattle.std.proofs.Common.{◌≡◌, ◌≢◌, ◌⊎◌, inl, inr, ℕ, ◌≤◌, List, [], ◌∷◌, ◌++◌, length, refl, ap, sym, ◌∙◌, subst, Option, None, Some, Ok, append-nil, take_all, le_refl, le_trans}
+use Rattle.std.proofs.Common.{◌≡◌, ◌≢◌, ◌⊎◌, inl, inr, ℕ, ◌≤◌, List, [], ◌∷◌, ◌++◌, length, refl, ap, sym, ◌∙◌, subst}
+use Rattle.std.proofs.Common.{Option, None, Some, Ok, append-nil, take_all, le_refl, le_trans}
 use Rattle.px_base.specs.CallSign.{CallSign}
 use Rattle.ax25_link.specs.declared.state.Why.{Why}
 use Rattle.ftl0_packets.specs.Items.{kind_of_item}
@@ -54,13 +55,15 @@ pub record HasReached (o : Option Ending) (n : ℕ) : Type 0 where
   pub is : o ≡ Some ending
   pub reached : ending.outcome ≡ outcome.Fetched n
 
-reached-of : (o : Option Ending) (down : Option Why) (n : ℕ) → outcome_by o down ≡ Some (Reached (outcome.Fetched n)) → HasReached o n
+reached-of : (o : Option Ending) (down : Option Why) (n : ℕ) → outcome_by o down ≡ Some (Reached (outcome.Fetched n))
+    → HasReached o n
 reached-of None None n is = absurd (cc)
 reached-of None (Some why) n is = absurd (cc)
 reached-of (Some ending) down n is = record { ending = ending; is = refl; reached = cc }
 
 -- what a job has said is what its client has
-says-of : (number : ℕ) (side : ClientSide) (job_is : JobState) (server : CallSign) → DoesDownload server number side.entries job_is → SaysDownload number side
+says-of : (number : ℕ) (side : ClientSide) (job_is : JobState) (server : CallSign)
+    → DoesDownload server number side.entries job_is → SaysDownload number side
 says-of number side job_is server does = record { stage = does.stage; said = does.said; fetches = by does.stage does.fetches }
   where
     by : (stage : Fetching) → Told side.entries stage → IsFetchingFile side stage
@@ -68,7 +71,8 @@ says-of number side job_is server does = record { stage = does.stage; said = doe
     by (asked offset) told_is = tt
     by (told offset word) told_is = told_is
 
-module _ (store : Store) (files : List Asked) (c : ℕ) (base : Party) (a : Attempt) (older : List Attempt) (w : Working store files c base a older)
+module _ (store : Store) (files : List Asked) (c : ℕ) (base : Party) (a : Attempt) (older : List Attempt)
+    (w : Working store files c base a older)
     (download : Download) (asked_is : a.client.asked ≡ work.Download download) (side : ServerSide) where
   abbrev party : Party
   party = of_attempts base a older
@@ -99,14 +103,18 @@ module _ (store : Store) (files : List Asked) (c : ℕ) (base : Party) (a : Atte
   no-upload upload is = absurd (let other : work.Download download ≡ work.Upload upload = sym asked_is ∙ is in cc)
 
   does : DoesDownload server number a.client.entries job_is
-  does = does-download server number a.client.entries job_is (subst (λ (doing : Work). JobReaches (new_job doing) a.client.entries job_is) asked_new w.reached)
+  does =
+      does-download server number a.client.entries job_is
+      (subst (λ (doing : Work). JobReaches (new_job doing) a.client.entries job_is) asked_new w.reached)
 
   -- what the client fetches
   fetching-by : FetchesBy job_is.ending (work.Download (download_at server number does.rest does.phase_is)) store party a
   fetching-by = subst (λ (doing : Work). FetchesBy job_is.ending doing store party a) does.work_is (w.facts.files_got.fetching w.link)
 
   fetching-in : job_is.ending ≡ None → FetchesIn does.phase_is store party a (download_at server number does.rest does.phase_is)
-  fetching-in none = subst (λ (o : Option Ending). FetchesBy o (work.Download (download_at server number does.rest does.phase_is)) store party a) none fetching-by
+  fetching-in none =
+      subst (λ (o : Option Ending). FetchesBy o
+      (work.Download (download_at server number does.rest does.phase_is)) store party a) none fetching-by
 
   -- ---- what is to be shown of an entry
 
@@ -129,7 +137,8 @@ module _ (store : Store) (files : List Asked) (c : ℕ) (base : Party) (a : Atte
       does-now =
           does-download server number b.client.entries now.job
           (subst (λ (doing : Work). JobReaches (new_job doing) b.client.entries now.job) asked_new
-          (reaches-then (new_job a.client.asked) job_is now.job a.client.entries (entry ∷ []) w.reached (reaches-by lists lists_now job_is now.job (entry ∷ []) goes)))
+          (reaches-then (new_job a.client.asked) job_is now.job a.client.entries (entry ∷ []) w.reached
+          (reaches-by lists lists_now job_is now.job (entry ∷ []) goes)))
 
       commands-are : job.commands_in (entry ∷ []) ≡ job.commands_of entry
       commands-are = append-nil (job.commands_of entry)
@@ -137,14 +146,17 @@ module _ (store : Store) (files : List Asked) (c : ℕ) (base : Party) (a : Atte
       notes-now : NotesKept store files party lists_now
       notes-now =
           subst (NotesKept store files party)
-          (ap (after_all lists) (take_all (length (job.commands_of entry)) (job.commands_of entry) (le_refl (length (job.commands_of entry)))) ∙ sym kept.lists_are)
+          (ap (after_all lists) (take_all (length (job.commands_of entry)) (job.commands_of entry)
+          (le_refl (length (job.commands_of entry)))) ∙ sym kept.lists_are)
           (kept.fronts (length (job.commands_of entry)))
 
       asked-now : AskedWithin new b
       asked-now n offset has =
-          by (one-cases (λ p. p ≡ download_cmd n offset 0) (said_by_client a.client) (job.packets_said entry) (subst (λ (l : List PacketValue). Has l (download_cmd n offset 0)) (said-one a.client.entries entry) has))
+          by (one-cases (λ p. p ≡ download_cmd n offset 0) (said_by_client a.client) (job.packets_said entry)
+          (subst (λ (l : List PacketValue). Has l (download_cmd n offset 0)) (said-one a.client.entries entry) has))
         where
-          by : Has (said_by_client a.client) (download_cmd n offset 0) ⊎ Has (job.packets_said entry) (download_cmd n offset 0) → offset ≤ length (got_of lists_now server n)
+          by : Has (said_by_client a.client) (download_cmd n offset 0) ⊎ Has (job.packets_said entry)
+              (download_cmd n offset 0) → offset ≤ length (got_of lists_now server n)
           by (inl was) = le_trans (w.facts.files_got.asked_within.0 n offset was) (notes-now.longer n)
           by (inr here) = kept.asks n offset here
 
@@ -152,7 +164,8 @@ module _ (store : Store) (files : List Asked) (c : ℕ) (base : Party) (a : Atte
       one-kept = record {
         lists_are = kept.lists_are ∙ sym (ap (after_all lists) commands-are);
         fronts = λ count.
-            subst (λ (cs : List NotesCommand). NotesKept store files party (notes.after_first count lists cs)) (sym commands-are) (kept.fronts count);
+            subst (λ (cs : List NotesCommand). NotesKept store files party (notes.after_first count lists cs))
+            (sym commands-are) (kept.fronts count);
         kept = record {
           noted = λ task n file asks taken. absurd (no-upload (new_upload task 0 file) asks);
           receives = λ other n rest is up state r. absurd (no-upload (new_upload r.task r.known r.file) r.asks);
@@ -167,14 +180,17 @@ module _ (store : Store) (files : List Asked) (c : ℕ) (base : Party) (a : Atte
 
   module _ (now : Attempted) where
     -- a packet before the outcome
-    module _ (packet : PacketValue) (entry : JobEntry) (taken : job.items_of entry ≡ Ok packet ∷ []) (none : job_is.ending ≡ None) (front : TookFront a (entry ∷ []) side) where
+    module _ (packet : PacketValue) (entry : JobEntry) (taken : job.items_of entry ≡ Ok packet ∷ [])
+        (none : job_is.ending ≡ None) (front : TookFront a (entry ∷ []) side) where
       it : Downloading store files base a older number side
       it = record {
         facts = w.facts;
         sound = w.sound;
         is_side = front.is_side;
         greets = front.greets;
-        serves = subst (λ (doing : Work). Serves store doing side) asked_new (some-at (Serves store a.client.asked) a.server side w.facts.sessions.serves.0 front.is_side);
+        serves =
+            subst (λ (doing : Work). Serves store doing side) asked_new
+            (some-at (Serves store a.client.asked) a.server side w.facts.sessions.serves.0 front.is_side);
         says = subst (λ (doing : Work). Says doing a.client) asked_new w.facts.sessions.says.0;
         told = front.server;
       }
@@ -183,17 +199,22 @@ module _ (store : Store) (files : List Asked) (c : ℕ) (base : Party) (a : Atte
       next =
           let items : job.items_in (a.client.entries ++ entry ∷ []) ≡ job.items_in a.client.entries ++ Ok packet ∷ [] =
           flat_map-one job.items_of a.client.entries entry ∙ ap (λ (l : List Item). job.items_in a.client.entries ++ l) taken in
-          next-of (job.items_in a.client.entries) packet (said_by_server side) (front.client.0, front.client.1 ∙ ap (λ (l : List Item). l ++ front.client.0) items)
+          next-of (job.items_in a.client.entries) packet (said_by_server side)
+          (front.client.0, front.client.1 ∙ ap (λ (l : List Item). l ++ front.client.0) items)
 
       abbrev row_is : Row Download
       row_is = download_row held (download_at server number does.rest does.phase_is) packet
 
       kept : RowKept store files base a older number side it does.rest packet row_is
-      kept = packet-kept store files base a older number side it does.rest does.phase_is packet (does.came none) (fetching-in none) next
+      kept =
+          packet-kept store files base a older number side it does.rest does.phase_is packet (does.came none)
+          (fetching-in none) next
 
       -- what is fetched behind its row
       fetching-row : now.job ≡ job_after (row_of work.Download row_is)
-          → FetchesBy now.job.ending now.job.work store (new (took (Ok packet) (row_of work.Download row_is)) (after_all lists row_is.commands) now) (b (took (Ok packet) (row_of work.Download row_is)) (after_all lists row_is.commands) now)
+          → FetchesBy now.job.ending now.job.work store
+          (new (took (Ok packet) (row_of work.Download row_is)) (after_all lists row_is.commands) now)
+          (b (took (Ok packet) (row_of work.Download row_is)) (after_all lists row_is.commands) now)
       fetching-row is =
           subst
           (λ (j : JobState).
@@ -202,22 +223,26 @@ module _ (store : Store) (files : List Asked) (c : ℕ) (base : Party) (a : Atte
           (sym is) (by row_is.ending refl)
         where
           by : (o : Option Ending) → row_is.ending ≡ o
-              → FetchesBy row_is.ending (work.Download row_is.state) store (new (took (Ok packet) (row_of work.Download row_is)) (after_all lists row_is.commands) now)
+              → FetchesBy row_is.ending (work.Download row_is.state) store
+              (new (took (Ok packet) (row_of work.Download row_is)) (after_all lists row_is.commands) now)
               (b (took (Ok packet) (row_of work.Download row_is)) (after_all lists row_is.commands) now)
           by None goes_on =
               subst
               (λ (o : Option Ending).
-              FetchesBy o (work.Download row_is.state) store (new (took (Ok packet) (row_of work.Download row_is)) (after_all lists row_is.commands) now)
+              FetchesBy o (work.Download row_is.state) store
+              (new (took (Ok packet) (row_of work.Download row_is)) (after_all lists row_is.commands) now)
               (b (took (Ok packet) (row_of work.Download row_is)) (after_all lists row_is.commands) now))
               (sym goes_on) (kept.fetches now goes_on)
           by (Some ending) over =
               subst
               (λ (o : Option Ending).
-              FetchesBy o (work.Download row_is.state) store (new (took (Ok packet) (row_of work.Download row_is)) (after_all lists row_is.commands) now)
+              FetchesBy o (work.Download row_is.state) store
+              (new (took (Ok packet) (row_of work.Download row_is)) (after_all lists row_is.commands) now)
               (b (took (Ok packet) (row_of work.Download row_is)) (after_all lists row_is.commands) now))
               (sym over) kept.checked
 
-      took-kept : now.job ≡ job_after (row_of work.Download row_is) → EntryKept (took (Ok packet) (row_of work.Download row_is)) (after_all lists row_is.commands) now
+      took-kept : now.job ≡ job_after (row_of work.Download row_is)
+          → EntryKept (took (Ok packet) (row_of work.Download row_is)) (after_all lists row_is.commands) now
       took-kept is = record {
         lists_are = refl;
         fronts = kept.fronts;
@@ -234,7 +259,8 @@ module _ (store : Store) (files : List Asked) (c : ℕ) (base : Party) (a : Atte
         fetching =
             subst
             (λ (j : JobState).
-            FetchesBy j.ending j.work store (new (lost (Ok packet) (row_of work.Download row_is)) (after_all lists row_is.commands) now)
+            FetchesBy j.ending j.work store
+            (new (lost (Ok packet) (row_of work.Download row_is)) (after_all lists row_is.commands) now)
             (b (lost (Ok packet) (row_of work.Download row_is)) (after_all lists row_is.commands) now))
             (sym is) kept.checked;
         fetched = λ n reached. absurd (strange-never n reached);
@@ -243,23 +269,28 @@ module _ (store : Store) (files : List Asked) (c : ℕ) (base : Party) (a : Atte
         where
           strange-never : (n : ℕ) → HasReached now.job.ending n → ⊥
           strange-never n reached =
-              let end : Some (strange_ending (kind_of_item (Ok packet))) ≡ Some reached.ending = sym (ap (λ (j : JobState). j.ending) is) ∙ reached.is in
+              let end : Some (strange_ending (kind_of_item (Ok packet))) ≡ Some reached.ending =
+              sym (ap (λ (j : JobState). j.ending) is) ∙ reached.is in
               let same : strange_ending (kind_of_item (Ok packet)) ≡ reached.ending = cc in
-              absurd (let no : outcome.Strange (kind_of_item (Ok packet)) ≡ outcome.Fetched n = ap (λ (e : Ending). e.outcome) same ∙ reached.reached in cc)
+              absurd (let no : outcome.Strange (kind_of_item (Ok packet)) ≡ outcome.Fetched n = ap
+              (λ (e : Ending). e.outcome) same ∙ reached.reached in cc)
 
     -- the row of a packet
-    row-of-packet : (packet : PacketValue) (item : Item) (row : Row Work) → item ≡ Ok packet → job_is.ending ≡ None → row ≡ job_row lists job_is item
+    row-of-packet : (packet : PacketValue) (item : Item) (row : Row Work) → item ≡ Ok packet → job_is.ending ≡ None
+        → row ≡ job_row lists job_is item
         → row ≡ row_of work.Download (download_row held (download_at server number does.rest does.phase_is) packet)
     row-of-packet packet item row item_is none is =
         is ∙ row-of-work lists job_is item none ∙ ap (λ (doing : Work). item_row lists doing item) does.work_is
         ∙ ap (item_row lists (work.Download (download_at server number does.rest does.phase_is))) item_is
 
-    entry-kept : (entry : JobEntry) (lists_now : Lists) → GoesBy lists job_is (entry ∷ []) lists_now now.job → TookFront a (entry ∷ []) side → EntryKept entry lists_now now
+    entry-kept : (entry : JobEntry) (lists_now : Lists) → GoesBy lists job_is (entry ∷ []) lists_now now.job
+        → TookFront a (entry ∷ []) side → EntryKept entry lists_now now
     entry-kept (took item row) lists_now goes front =
         let heard = heard-last a (took item row) side front item (inl refl) in
         let row_as = row-of-packet heard.0 item row (sym heard.1) goes.0 goes.1 in
         let given = row_of work.Download (download_row held (download_at server number does.rest does.phase_is) heard.0) in
-        subst (λ (l : Lists). EntryKept (took item row) l now) (sym (goes.2.0 ∙ ap (λ (r : Row Work). after_all lists r.commands) row_as))
+        subst (λ (l : Lists). EntryKept (took item row) l now)
+        (sym (goes.2.0 ∙ ap (λ (r : Row Work). after_all lists r.commands) row_as))
         (subst (λ (r : Row Work). EntryKept (took item r) (after_all lists given.commands) now) (sym row_as)
         (subst (λ (i : Item). EntryKept (took i given) (after_all lists given.commands) now) heard.1
         (took-kept heard.0 (took item row) (ap (λ (i : Item). i ∷ []) (sym heard.1)) goes.0 front (goes.2.1 ∙ ap job_after row_as))))
@@ -267,11 +298,13 @@ module _ (store : Store) (files : List Asked) (c : ℕ) (base : Party) (a : Atte
         let heard = heard-last a (lost item row) side front item (inl refl) in
         let row_as = row-of-packet heard.0 item row (sym heard.1) goes.0 goes.1 in
         let given = row_of work.Download (download_row held (download_at server number does.rest does.phase_is) heard.0) in
-        subst (λ (l : Lists). EntryKept (lost item row) l now) (sym (goes.2.0 ∙ ap (λ (r : Row Work). after_all lists r.commands) row_as))
+        subst (λ (l : Lists). EntryKept (lost item row) l now)
+        (sym (goes.2.0 ∙ ap (λ (r : Row Work). after_all lists r.commands) row_as))
         (subst (λ (r : Row Work). EntryKept (lost item r) (after_all lists given.commands) now) (sym row_as)
         (subst (λ (i : Item). EntryKept (lost i given) (after_all lists given.commands) now) heard.1
         (lost-kept heard.0 (lost item row) (ap (λ (i : Item). i ∷ []) (sym heard.1)) goes.0 front
-        (goes.2.1 ∙ ap (λ (i : Item). after_losing (kind_of_item i) row) (sym heard.1) ∙ ap (after_losing (kind_of_item (Ok heard.0))) row_as))))
+        (goes.2.1 ∙ ap (λ (i : Item). after_losing (kind_of_item i) row) (sym heard.1)
+        ∙ ap (after_losing (kind_of_item (Ok heard.0))) row_as))))
     entry-kept (passed item) lists_now goes front = record {
       lists_are = goes.1.0;
       fronts = fronts-none store files party w.facts;
@@ -282,7 +315,8 @@ module _ (store : Store) (files : List Asked) (c : ℕ) (base : Party) (a : Atte
       asks = λ n offset has. absurd has;
     }
       where
-        passed-outcome : (n : ℕ) → HasReached job_is.ending n → outcome_by job_is.ending a.client.attempted.down ≡ Some (Reached (outcome.Fetched n))
+        passed-outcome : (n : ℕ) → HasReached job_is.ending n
+            → outcome_by job_is.ending a.client.attempted.down ≡ Some (Reached (outcome.Fetched n))
         passed-outcome n reached =
             ap (λ (o : Option Ending). outcome_by o a.client.attempted.down) reached.is ∙ ap (λ o. Some (Reached o)) reached.reached
 
@@ -290,20 +324,27 @@ module _ (store : Store) (files : List Asked) (c : ℕ) (base : Party) (a : Atte
             → FetchesBy now.job.ending now.job.work store (new entry lists_then now) (b entry lists_then now)
         passed-fetching entry lists_then over same is =
             subst (λ (j : JobState). FetchesBy j.ending j.work store (new entry lists_then now) (b entry lists_then now)) (sym is)
-            (subst (λ (doing : Work). FetchesBy job_is.ending doing store (new entry lists_then now) (b entry lists_then now)) (sym does.work_is)
+            (subst (λ (doing : Work). FetchesBy job_is.ending doing store (new entry lists_then now)
+            (b entry lists_then now)) (sym does.work_is)
             (by job_is.ending refl))
           where
             by : (o : Option Ending) → job_is.ending ≡ o
-                → FetchesBy job_is.ending (work.Download (download_at server number does.rest does.phase_is)) store (new entry lists_then now) (b entry lists_then now)
+                → FetchesBy job_is.ending (work.Download (download_at server number does.rest does.phase_is)) store
+                (new entry lists_then now) (b entry lists_then now)
             by None none = absurd (over none)
             by (Some ending) ended =
                 let was : IsCheckedIn does.phase_is held =
-                subst (λ (o : Option Ending). FetchesBy o (work.Download (download_at server number does.rest does.phase_is)) store party a) ended fetching-by in
-                subst (λ (o : Option Ending). FetchesBy o (work.Download (download_at server number does.rest does.phase_is)) store (new entry lists_then now) (b entry lists_then now)) (sym ended)
+                subst (λ (o : Option Ending). FetchesBy o
+                (work.Download (download_at server number does.rest does.phase_is)) store party a) ended
+                fetching-by in
+                subst (λ (o : Option Ending). FetchesBy o
+                (work.Download (download_at server number does.rest does.phase_is)) store (new entry lists_then now)
+                (b entry lists_then now)) (sym ended)
                 (subst (λ (l : Lists). IsCheckedIn does.phase_is (got_of l server number)) (sym same) was)
     entry-kept (queued due) lists_now goes front =
         absurd (none-due server number job_is due (download_at server number does.rest does.phase_is) does.work_is goes.0)
 
 pub download-one : OneLaw IsDownloadOf
 download-one store files c base a older w kind entry lists now goes side front =
-    one-kept store files c base a older w kind.0 kind.1 side entry lists now goes (entry-kept store files c base a older w kind.0 kind.1 side now entry lists goes front)
+    one-kept store files c base a older w kind.0 kind.1 side entry lists now goes
+    (entry-kept store files c base a older w kind.0 kind.1 side now entry lists goes front)

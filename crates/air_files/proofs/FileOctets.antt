@@ -1,5 +1,6 @@
 -- The octets of a complete file of a sound store, and of what is due of it.
-use Rattle.std.proofs.Common.{◌≡◌, ℕ, ◌-◌, ◌≤◌, ◌<◌, ◌==◌, List, length, take, drop, refl, ap, sym, subst, Option, None, Some, arith}
+use Rattle.std.proofs.Common.{◌≡◌, ℕ, ◌-◌, ◌≤◌, ◌<◌, ◌==◌, List, length, take, drop, refl, ap, sym, subst, Option, None}
+use Rattle.std.proofs.Common.{Some, arith}
 use Rattle.std.proofs.lemmas.List.Elements.{All-drop, All-nil, All-take}
 use Rattle.px_base.specs.Octets.{IsOctets}
 use Rattle.file_store.specs.Store.{Entry, Store, entry_of, octets_at, octets_of}
@@ -18,18 +19,23 @@ octets-entry store number sound = by (entry_of store number) refl
   where
     by : (o : Option Entry) → entry_of store number ≡ o → IsOctets (octets_at o)
     by None is = All-nil _
-    by (Some entry) is = found-such (λ (e : Entry). IsOctets (octets_of e.holding)) (λ (e : Entry). e.number == number) store.entries entry is sound.octets
+    by (Some entry) is =
+        found-such (λ (e : Entry). IsOctets (octets_of e.holding))
+        (λ (e : Entry). e.number == number) store.entries entry is sound.octets
 
 pub octets-part : (count place : ℕ) (octets : List ℕ) → IsOctets octets → IsOctets (take count (drop place octets))
-octets-part count place octets are = All-take (λ octet. octet < 256) count (drop place octets) (All-drop (λ octet. octet < 256) place octets are)
+octets-part count place octets are =
+    All-take (λ octet. octet < 256) count (drop place octets) (All-drop (λ octet. octet < 256) place octets are)
 
 -- what is due of the file of this number, from a place within it to its end
-pub due-sending : (store : Store) (number place : ℕ) (file : List ℕ) (side : ServerSide) → IsSoundStore store → file_of store number ≡ Some file → place ≤ length file
+pub due-sending : (store : Store) (number place : ℕ) (file : List ℕ) (side : ServerSide) → IsSoundStore store
+    → file_of store number ≡ Some file → place ≤ length file
     → side.connected.state ≡ sending number place (length file) → IsDueNow store side
 due-sending store number place file side sound is_file within is =
     let whole = file-complete store number file is_file in
     let all : length (octets_in store number) ≡ length file = ap length whole.1 in
-    let lies : LiesIn store number place (length file) = record { complete = whole.0; forward = within; within = omega (arith, all) } in
+    let lies : LiesIn store number place (length file) =
+    record { complete = whole.0; forward = within; within = omega (arith, all) } in
     record {
       lies = subst (λ (s : State). IsDueIn store (download_part s)) (sym is) lies;
       octets =

@@ -22,7 +22,8 @@ use Rattle.air_files.proofs.JobSays.{says-still}
 use Rattle.air_files.proofs.JobStep.{JobKept, keeps-by, of_attempts}
 use Rattle.air_files.proofs.JobUploadNotes.{fronts-none}
 
-module _ (store : Store) (files : List Asked) (base : Party) (a : Attempt) (older : List Attempt) (now : Attempted) (same : now.job ≡ a.client.attempted.job) where
+module _ (store : Store) (files : List Asked) (base : Party) (a : Attempt) (older : List Attempt) (now : Attempted)
+    (same : now.job ≡ a.client.attempted.job) where
   abbrev party : Party
   party = of_attempts base a older
 
@@ -48,7 +49,9 @@ module _ (store : Store) (files : List Asked) (base : Party) (a : Attempt) (olde
       by fetch.Login fetches = fetches
       by fetch.Done fetches = fetches
       by fetch.Fetching fetches = record {
-        first = subst (λ (octets : List ℕ). AreFirstIfAny store at.number (got party at.number ++ (at.rest ++ octets))) (coming-same a.server) fetches.first;
+        first =
+            subst (λ (octets : List ℕ). AreFirstIfAny store at.number (got party at.number ++ (at.rest ++ octets)))
+            (coming-same a.server) fetches.first;
         offset = fetches.offset;
         asked = fetches.asked;
         counted = fetches.counted;
@@ -71,14 +74,20 @@ module _ (store : Store) (files : List Asked) (base : Party) (a : Attempt) (olde
     asked_within = facts.files_got.asked_within.0;
   }
 
-  still-here : HasFacts store files party → base.client.attempt ≡ Some a.client.attempted → (lists : Lists) → lists ≡ base.client.lists → (entries : List JobEntry)
-      → entries ≡ a.client.entries → JobKept store party (with_job party lists now (moved a now entries) older) a (moved a now entries)
+  still-here : HasFacts store files party → base.client.attempt ≡ Some a.client.attempted → (lists : Lists)
+      → lists ≡ base.client.lists → (entries : List JobEntry)
+      → entries ≡ a.client.entries → JobKept store party (with_job party lists now (moved a now entries) older) a
+      (moved a now entries)
   still-here facts link lists lists_are entries are =
-      subst (λ (l : Lists). JobKept store party (with_job party l now (moved a now entries) older) a (moved a now entries)) (sym lists_are)
-      (subst (λ (es : List JobEntry). JobKept store party (with_job party base.client.lists now (moved a now es) older) a (moved a now es)) (sym are) (still-kept facts link))
+      subst (λ (l : Lists). JobKept store party (with_job party l now (moved a now entries) older) a
+      (moved a now entries)) (sym lists_are)
+      (subst (λ (es : List JobEntry). JobKept store party
+      (with_job party base.client.lists now (moved a now es) older) a (moved a now es)) (sym are)
+      (still-kept facts link))
 
   -- nothing came
-  pub keeps-none : HasFacts store files party → base.client.attempt ≡ Some a.client.attempted → (lists : Lists) → lists ≡ base.client.lists
+  pub keeps-none : HasFacts store files party → base.client.attempt ≡ Some a.client.attempted → (lists : Lists)
+      → lists ≡ base.client.lists
       → JobKeeps store files party (with_job party lists now (job_gone [] now a) older) []
   keeps-none facts link lists lists_are =
       keeps-by store files base a older facts [] lists now (fronts-none store files party facts) lists_are

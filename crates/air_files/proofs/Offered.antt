@@ -1,5 +1,6 @@
 -- The lemmas that crates above may use.
-pub use Rattle.air_files.proofs.GoneLemmas.{alike-itself, facts-over, facts-same, facts-started, over-alike, served-itself}
+pub use Rattle.air_files.proofs.GoneLemmas.{alike-itself, facts-over, facts-same, facts-started, over-alike}
+pub use Rattle.air_files.proofs.GoneLemmas.{served-itself}
 pub use Rattle.air_files.proofs.JobTasks.{tasks-lists}
 pub use Rattle.air_files.proofs.LiftLemmas.{each-side, side-at}
 pub use Rattle.air_files.proofs.LongerLemmas.{acked-task, facts-first, file-more, no-task, place-last, place-more}

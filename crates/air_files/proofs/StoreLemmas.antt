@@ -14,7 +14,8 @@ use Rattle.air_files.specs.SoundStore.{IsSoundStore}
 use Rattle.std.proofs.Common.{Bool, true, false, cond}
 
 -- what is found is such as all are
-pub found-such : {X : Type 0} (P : X → Type 0) (test : X → Bool) (xs : List X) (x : X) → find test xs ≡ Some x → AllByRecursion P xs → P x
+pub found-such : {X : Type 0} (P : X → Type 0) (test : X → Bool) (xs : List X) (x : X) → find test xs ≡ Some x
+    → AllByRecursion P xs → P x
 found-such P test [] x found all = absurd (cc)
 found-such P test (y ∷ ys) x found all = by (λ there. found-such P test ys x there all.1) (test y) found
   where
@@ -50,7 +51,8 @@ each-found P low next (x ∷ xs) are holds = (
 
 pub sound-files : (store : Store) → IsSoundStore store → HaveFiles store
 sound-files store sound number entry found = record {
-  octets = found-such (λ it. IsOctets (octets_of it.holding)) (has_number number) store.entries entry found sound.octets;
+  octets =
+      found-such (λ it. IsOctets (octets_of it.holding)) (has_number number) store.entries entry found sound.octets;
   rules = found-such (λ it. KeepsRules it.holding) (has_number number) store.entries entry found sound.keeps_rules;
 }
 

@@ -65,7 +65,8 @@ tasked-number party place it task number has =
     (task-last party.client.lists (task_for party it) task has.entry has.is_entry)
 
 -- and it isn't acknowledged
-pub tasked-acked : (party : Party) (place : ℕ) (it : Asked) (task number : ℕ) → HoldsAck (tasked party place it) task number
+pub tasked-acked : (party : Party) (place : ℕ) (it : Asked) (task number : ℕ)
+    → HoldsAck (tasked party place it) task number
     → HoldsAck party task number
 tasked-acked party place it task number holds =
     let acked = acked-task (tasked party place it).client.lists task number holds in

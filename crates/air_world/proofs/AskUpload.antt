@@ -208,7 +208,8 @@ module _ (old : World) (c : ℕ) (party : Party) (it : Asked) (sound : Sound old
             (sound.parties c party is).facts;
         tasks = tasks-now;
         works =
-            each-weaker {P = (λ (a : Attempt). IsWork old.files party a.client.asked)} {Q = (λ a. IsWork files base a.client.asked)} party.attempts
+            each-weaker {P = (λ (a : Attempt). IsWork old.files party a.client.asked)} {Q =
+            (λ a. IsWork files base a.client.asked)} party.attempts
             (λ a works. work-now a.client.asked works) (sound.parties c party is).works;
         good = (good, tt);
         begun = refl;

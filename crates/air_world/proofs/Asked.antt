@@ -29,5 +29,6 @@ pub record MayBeAsked (old : World) (c : ℕ) (party base : Party) (asked : List
   pub good : AllByRecursion (λ (it : Asked). IsGoodFile it.file) asked
   pub begun : IsNotBegun wanted
   pub go_with : NotesGoWith base.client.lists (new_job wanted)
-  pub goes_on : (task known : ℕ) (file : List ℕ) → wanted ≡ work.Upload (new_upload task known file) → 1 ≤ known → HasNumber base task known
+  pub goes_on : (task known : ℕ) (file : List ℕ) → wanted ≡ work.Upload (new_upload task known file) → 1 ≤ known
+      → HasNumber base task known
   pub work : IsWork (old.files ++ asked) base wanted

@@ -23,12 +23,14 @@ use Rattle.air_attempt.proofs.Offered.{all-at}
 -- ---- links
 
 -- the link is that of the current attempt
-link-of : (o : Option Attempt) (it : Attempted) → IsLinkOf o (Some it) → (a : Attempt) × (o ≡ Some a) × (a.client.attempted ≡ it)
+link-of : (o : Option Attempt) (it : Attempted) → IsLinkOf o (Some it)
+    → (a : Attempt) × (o ≡ Some a) × (a.client.attempted ≡ it)
 link-of None it is = absurd is
 link-of (Some a) it is = (a, refl, is)
 
 -- the notes go with the job, where its own is such
-pub stands-job : (asked : Work) (lists : Lists) (side : ClientSide) → IsJob side → JobStands asked lists side.attempted.job → AttemptStands asked lists side.attempted
+pub stands-job : (asked : Work) (lists : Lists) (side : ClientSide) → IsJob side
+    → JobStands asked lists side.attempted.job → AttemptStands asked lists side.attempted
 stands-job asked lists side job stands = record {
   job = stands;
   told_down = job.told_down;
@@ -47,7 +49,9 @@ module _ (world : World) (sound : Sound world) (c : ℕ) (party : Party) (is : P
 
   pub goes-with : GoesWith party.client party.attempts
   goes-with = record {
-    window = subst IsWindow (sym (all-at (λ (p : Party). p.client.window ≡ world.server.window) world.parties c party sound.stations.windows is)) sound.stations.window;
+    window =
+        subst IsWindow (sym (all-at (λ (p : Party). p.client.window ≡ world.server.window) world.parties c party
+        sound.stations.windows is)) sound.stations.window;
     attempts_are = it.attempts;
     windows = it.windows;
     link = it.link;
@@ -72,7 +76,8 @@ module _ (world : World) (sound : Sound world) (c : ℕ) (party : Party) (is : P
     linked = has-link link has
 
     pub its-attempt : IsAttempt party.client.me party.client.server linked.attempt
-    its-attempt = (subst (λ attempts. AreAttempts party.client.me party.client.server attempts) linked.attempts_are it.attempts).0
+    its-attempt =
+        (subst (λ attempts. AreAttempts party.client.me party.client.server attempts) linked.attempts_are it.attempts).0
 
     abbrev pub working : IsWorking world.server.store world.files c party
     working = record {
@@ -81,7 +86,9 @@ module _ (world : World) (sound : Sound world) (c : ℕ) (party : Party) (is : P
       older = linked.older;
       attempts_are = linked.attempts_are;
       link = has ∙ ap Some (sym linked.attempted_is);
-      job = subst (λ (o : Option Attempt). StandsBy party o) (ap (λ (attempts : List Attempt). slice_get attempts 0) linked.attempts_are) it.job;
+      job =
+          subst (λ (o : Option Attempt). StandsBy party o)
+          (ap (λ (attempts : List Attempt). slice_get attempts 0) linked.attempts_are) it.job;
       begun = its-attempt.job.begun;
       reached = its-attempt.job.reached;
       sound = sound.store;

@@ -13,7 +13,8 @@ use Rattle.air_files.specs.Tasks.{AreTasks, IsWork}
 use Rattle.air_files.specs.Uploads.{IsGoodFile}
 use Rattle.air_world.specs.World.{World}
 use Rattle.air_world.proofs.ClientBasics.{stands-job}
-use Rattle.air_world.proofs.ClientMade.{IsClientMade, sessions_of}
+use Rattle.air_world.proofs.ClientMade.{IsClientMade}
+use Rattle.air_world.proofs.SessionsStay.{sessions_of}
 use Rattle.air_world.proofs.JobWent.{ClientLaws}
 use Rattle.air_files.proofs.Offered.{tasks-lists}
 use Rattle.air_world.proofs.Rebuild.{work-by}
@@ -21,7 +22,8 @@ use Rattle.air_attempt.proofs.Offered.{each-weaker}
 
 -- What is known of a client that begins this attempt, and of its base, which has its task already: its facts, its tasks
 -- and works, where these files were asked; and that the attempt begins, with a work of these.
-pub record Begins (old : World) (c : ℕ) (party base : Party) (asked : List Asked) (begun : Attempt) (now : Client) : Type 0 where
+pub record Begins (old : World) (c : ℕ) (party base : Party) (asked : List Asked) (begun : Attempt)
+    (now : Client) : Type 0 where
   pub me : base.client.me ≡ party.client.me
   pub server : base.client.server ≡ party.client.server
   pub window : base.client.window ≡ party.client.window
@@ -37,7 +39,8 @@ pub record Begins (old : World) (c : ℕ) (party base : Party) (asked : List Ask
   pub now_is : now ≡ record base.client { attempt = Some begun.client.attempted }
   pub goes : GoesWith now (begun ∷ party.attempts)
 
-module _ (laws : ClientLaws) (old : World) (c : ℕ) (party base : Party) (asked : List Asked) (begun : Attempt) (now : Client) (begins : Begins old c party base asked begun now) where
+module _ (laws : ClientLaws) (old : World) (c : ℕ) (party base : Party) (asked : List Asked) (begun : Attempt)
+    (now : Client) (begins : Begins old c party base asked begun now) where
   abbrev pub begun-party : Party
   begun-party = record base { client = now; attempts = begun ∷ party.attempts }
 
@@ -45,7 +48,8 @@ module _ (laws : ClientLaws) (old : World) (c : ℕ) (party base : Party) (asked
   works-now =
       let server : begun-party.client.server ≡ base.client.server = ap (λ (it : Client). it.server) begins.now_is in (
         work-by (old.files ++ asked) base begun-party begun.client.asked server refl begins.work,
-        each-weaker {P = (λ (a : Attempt). IsWork (old.files ++ asked) base a.client.asked)} {Q = (λ a. IsWork (old.files ++ asked) begun-party a.client.asked)} party.attempts
+        each-weaker {P = (λ (a : Attempt). IsWork (old.files ++ asked) base a.client.asked)} {Q =
+            (λ a. IsWork (old.files ++ asked) begun-party a.client.asked)} party.attempts
             (λ a work. work-by (old.files ++ asked) base begun-party a.client.asked server refl work) begins.works,
       )
 
@@ -57,14 +61,21 @@ module _ (laws : ClientLaws) (old : World) (c : ℕ) (party base : Party) (asked
     goes = begins.goes;
     works = works-now;
     tasks =
-        tasks-lists (old.files ++ asked) c base begun-party (ap (λ (it : Client). it.me) begins.now_is) (ap (λ (it : Client). it.server) begins.now_is)
+        tasks-lists (old.files ++ asked) c base begun-party (ap (λ (it : Client). it.me) begins.now_is)
+        (ap (λ (it : Client). it.server) begins.now_is)
         (ap (λ (it : Client). it.lists) begins.now_is) refl begins.tasks;
     job = λ link.
         stands-job begun.client.asked now.lists begun.client begins.goes.attempts_are.0.job
-        (subst (λ (it : Client). JobStands begun.client.asked it.lists begun.client.attempted.job) (sym begins.now_is) begins.stands);
+        (subst (λ (it : Client). JobStands begun.client.asked it.lists begun.client.attempted.job)
+        (sym begins.now_is) begins.stands);
     facts =
-        subst (λ (it : Client). HasFacts old.server.store (old.files ++ asked) (record base { client = it; attempts = begun ∷ party.attempts })) (sym begins.now_is)
-        (subst (λ attempts. HasFacts old.server.store (old.files ++ asked) (record base { client = record base.client { attempt = Some begun.client.attempted }; attempts = begun ∷ attempts }))
+        subst (λ (it : Client). HasFacts old.server.store (old.files ++ asked)
+        (record base { client = it; attempts = begun ∷ party.attempts })) (sym begins.now_is)
+        (subst (λ attempts. HasFacts old.server.store (old.files ++ asked)
+        (record base {
+          client = record base.client { attempt = Some begun.client.attempted };
+          attempts = begun ∷ attempts;
+        }))
         begins.attempts
         (laws.begin.called old.server.store (old.files ++ asked) base begun begins.facts begins.begins begins.goes_on));
     sessions = inr (ap (λ (o : Option ServerSide). o ∷ sessions_of party.attempts) begins.begins.unserved);

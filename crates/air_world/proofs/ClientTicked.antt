@@ -1,5 +1,6 @@
 -- A tick of a client: the client is then as it should be.
-use Rattle.std.proofs.Common.{◌≡◌, ℕ, List, [], ◌∷◌, Bool, true, false, Option, None, Some, refl, sym, ap, subst, ◌∙◌, append-nil}
+use Rattle.std.proofs.Common.{◌≡◌, ℕ, List, [], ◌∷◌, Bool, true, false, Option, None, Some, refl, sym, ap, subst, ◌∙◌}
+use Rattle.std.proofs.Common.{append-nil}
 use Rattle.std.specs.Prelude.{if◌then◌else◌}
 use Rattle.std.specs.List.{AllByRecursion}
 use Rattle.ax25_frames.specs.FrameText.{FrameValue}
@@ -17,7 +18,8 @@ use Rattle.ftl0_client.specs.Entries.{JobEntry}
 use Rattle.air_attempt.specs.Attempt.{Attempt}
 use Rattle.air_attempt.specs.Laws.{GoesWith}
 use Rattle.air_attempt.specs.Party.{Party, with_newest}
-use Rattle.air_attempt.specs.Transfers.{ClientDid, after_client_tick, after_event, beginning, called_again, did_by, has_call, job_gone_on}
+use Rattle.air_attempt.specs.Transfers.{ClientDid, after_client_tick, after_event, beginning, called_again, did_by}
+use Rattle.air_attempt.specs.Transfers.{has_call, job_gone_on}
 use Rattle.air_files.specs.Facts.{GoesOnWithTask, HasFacts}
 use Rattle.air_files.specs.Tasks.{AreTasks, IsWork}
 use Rattle.air_world.specs.Sound.{Sound}
@@ -30,7 +32,8 @@ use Rattle.air_world.proofs.ClientQuiet.{quiet-made, still-itself}
 use Rattle.air_world.proofs.JobWent.{ClientLaws, Went, client-made}
 use Rattle.air_world.proofs.SayLemmas.{may-say-at}
 
-module _ (laws : ClientLaws) (old : World) (sound : Sound old) (c : ℕ) (party : Party) (is : PartyAt old c party) (noted : List NotesCommand) (frames : List FrameValue) (now : Client)
+module _ (laws : ClientLaws) (old : World) (sound : Sound old) (c : ℕ) (party : Party) (is : PartyAt old c party)
+    (noted : List NotesCommand) (frames : List FrameValue) (now : Client)
     (step : ClientStep party.client ticks noted frames now) where
   abbrev did : ClientDid
   did = did-of laws old sound c party now frames
@@ -39,7 +42,9 @@ module _ (laws : ClientLaws) (old : World) (sound : Sound old) (c : ℕ) (party 
   ticked-party = record party { client = now; attempts = after_event ticks did party.attempts }
 
   goes : GoesWith now (after_event ticks did party.attempts)
-  goes = laws.client party.client now ticks noted frames party.attempts party.attempts (goes-with old sound c party is) (may-say-at old c party ticks sound is) refl step
+  goes =
+      laws.client party.client now ticks noted frames party.attempts party.attempts (goes-with old sound c party is)
+      (may-say-at old c party ticks sound is) refl step
 
   -- it has no link
   module _ (none : party.client.attempt ≡ None) where
@@ -51,10 +56,13 @@ module _ (laws : ClientLaws) (old : World) (sound : Sound old) (c : ℕ) (party 
 
     idle-made : IsClientMade old c party ticked-party []
     idle-made =
-        let with-old = subst (λ (it : Client). GoesWith it party.attempts) quiet.new_is (subst (λ attempts. GoesWith now attempts) these-are goes) in
+        let with-old = subst (λ (it : Client). GoesWith it party.attempts) quiet.new_is
+        (subst (λ attempts. GoesWith now attempts) these-are goes) in
         let made = quiet-made laws.stay old sound c party is party.attempts (still-itself party.attempts) with-old in
-        subst (λ attempts. IsClientMade old c party (record party { client = now; attempts = attempts }) []) (sym these-are)
-        (subst (λ (it : Client). IsClientMade old c party (record party { client = it; attempts = party.attempts }) []) (sym quiet.new_is) made)
+        subst (λ attempts. IsClientMade old c party (record party { client = now; attempts = attempts }) [])
+        (sym these-are)
+        (subst (λ (it : Client). IsClientMade old c party (record party { client = it; attempts = party.attempts }) [])
+        (sym quiet.new_is) made)
 
   -- its link ticks
   module _ (link : Attempted) (has : party.client.attempt ≡ Some link) where
@@ -68,13 +76,18 @@ module _ (laws : ClientLaws) (old : World) (sound : Sound old) (c : ℕ) (party 
     attempted = with_end (ticking link) steps.last
 
     stands : AttemptStands linked.attempt.client.asked party.client.lists (ticking link)
-    stands = (laws.stands linked.attempt.client.asked party.client.window party.client.lists link (sabm_of party.client) (its-stands laws old sound c party is link has)).1
+    stands =
+        (laws.stands linked.attempt.client.asked party.client.window party.client.lists link (sabm_of party.client)
+        (its-stands laws old sound c party is link has)).1
 
     ticked-are : (call : Bool) → has_call frames ≡ call
-        → after_event ticks did party.attempts ≡ (if call then called_again did attempted (linked.attempt ∷ linked.older) else with_newest (job_gone_on did attempted (job.entries_ticked link)) (linked.attempt ∷ linked.older))
+        → after_event ticks did party.attempts ≡ (if call then called_again did attempted
+        (linked.attempt ∷ linked.older) else with_newest (job_gone_on did attempted (job.entries_ticked link))
+        (linked.attempt ∷ linked.older))
     ticked-are call is_call =
         ap (λ (before : Option Attempted). did_by ticks before now.attempt did party.attempts) has
-        ∙ ap (λ (after : Option Attempted). did_by ticks (Some link) after did party.attempts) (ap (λ (it : Client). it.attempt) steps.new_is)
+        ∙ ap (λ (after : Option Attempted). did_by ticks (Some link) after did party.attempts)
+        (ap (λ (it : Client). it.attempt) steps.new_is)
         ∙ ap (λ (attempts : List Attempt). after_client_tick did link attempted attempts) linked.attempts_are
         ∙ ap
         (λ (call : Bool).
@@ -107,7 +120,8 @@ module _ (laws : ClientLaws) (old : World) (sound : Sound old) (c : ℕ) (party 
       went-made : IsClientMade old c party ticked-party []
       unfolding went-ticked
       went-made =
-          subst (λ attempts. IsClientMade old c party (record party { client = now; attempts = attempts }) []) (sym (ticked-are false no_call))
+          subst (λ attempts. IsClientMade old c party (record party { client = now; attempts = attempts }) [])
+          (sym (ticked-are false no_call))
           (client-made laws old sound c party is link has now went-ticked)
 
     -- it calls again
@@ -132,7 +146,9 @@ module _ (laws : ClientLaws) (old : World) (sound : Sound old) (c : ℕ) (party 
             attempts = refl;
             facts = subst (λ files. HasFacts old.server.store files party) files it.facts;
             tasks = subst (λ files. AreTasks files c party) files it.tasks;
-            works = subst (λ files. AllByRecursion (λ (a : Attempt). IsWork files party a.client.asked) party.attempts) files it.works;
+            works =
+                subst (λ files. AllByRecursion (λ (a : Attempt). IsWork files party a.client.asked) party.attempts)
+                files it.works;
             good = tt;
             begins =
                 record {
@@ -142,10 +158,12 @@ module _ (laws : ClientLaws) (old : World) (sound : Sound old) (c : ℕ) (party 
                   unserved = refl;
                 };
             goes_on =
-                (subst (λ attempts. AllByRecursion (GoesOnWithTask party) attempts) linked.attempts_are it.facts.tasks.goes_on).0;
+                (subst (λ attempts. AllByRecursion (GoesOnWithTask party) attempts) linked.attempts_are
+                it.facts.tasks.goes_on).0;
             work =
                 subst (λ files. IsWork files party linked.attempt.client.asked) files
-                (subst (λ attempts. AllByRecursion (λ (a : Attempt). IsWork old.files party a.client.asked) attempts) linked.attempts_are it.works).0;
+                (subst (λ attempts. AllByRecursion (λ (a : Attempt). IsWork old.files party a.client.asked) attempts)
+                linked.attempts_are it.works).0;
             stands = stands.job;
             now_is = steps.new_is;
             goes = goes-again;
@@ -153,7 +171,8 @@ module _ (laws : ClientLaws) (old : World) (sound : Sound old) (c : ℕ) (party 
 
       again-made : IsClientMade old c party ticked-party []
       again-made =
-          subst (λ attempts. IsClientMade old c party (record party { client = now; attempts = attempts }) []) (sym again-are)
+          subst (λ attempts. IsClientMade old c party (record party { client = now; attempts = attempts }) [])
+          (sym again-are)
           (begun-made laws old c party party [] again now begins)
 
     linked-made : IsClientMade old c party ticked-party []

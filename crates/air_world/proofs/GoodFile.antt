@@ -92,11 +92,13 @@ module _ (file_size body_sum body_offset sum : ℕ) where
                 (
                   given-item 0x08 (0 ∷ []) (omega arith) (omega arith) (omega arith) refl,
                   (
-                    one-item 0x09 (le16_octets body_sum) (omega arith) (omega arith) (omega arith) (IsOctets-le16 body_sum),
+                    one-item 0x09 (le16_octets body_sum) (omega arith) (omega arith) (omega arith)
+                        (IsOctets-le16 body_sum),
                     (
                       one-item 0x0A (le16_octets sum) (omega arith) (omega arith) (omega arith) (IsOctets-le16 sum),
                       (
-                        one-item 0x0B (le16_octets body_offset) (omega arith) (omega arith) (omega arith) (IsOctets-le16 body_offset),
+                        one-item 0x0B (le16_octets body_offset) (omega arith) (omega arith) (omega arith)
+                            (IsOctets-le16 body_offset),
                         (
                           given-item 0x11 (replicate 6 32) (omega arith) (omega arith) (omega arith) refl,
                           (given-item 0x12 (replicate 4 0) (omega arith) (omega arith) (omega arith) refl, tt),

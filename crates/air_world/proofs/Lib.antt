@@ -41,5 +41,6 @@ mod ServerEvents
 mod ServerHeard
 mod ServerTicked
 mod ServerWorld
+mod SessionsStay
 mod WholeLemmas
 mod WorldLists

@@ -42,7 +42,8 @@ pub record IsComing (old : World) (c : ℕ) (party : Party) (place : ℕ) (t : T
   pub current : newest party ≡ Some attempt
   pub lawful : IsLawful attempt.window attempt.by_client place t
 
-module _ (old : World) (sound : Sound old) (c : ℕ) (party : Party) (place : ℕ) (t : Transmission) (coming : IsComing old c party place t) where
+module _ (old : World) (sound : Sound old) (c : ℕ) (party : Party) (place : ℕ) (t : Transmission)
+    (coming : IsComing old c party place t) where
   abbrev pub marked : List Attempt
   marked = with_newest (to_server_delivered place t) party.attempts
 
@@ -66,8 +67,10 @@ module _ (old : World) (sound : Sound old) (c : ℕ) (party : Party) (place : �
   -- the frame is the client's
   pub from-client : t.frame.src ≡ party.client.me
   from-client =
-      let attempt = all-at (IsAttempt party.client.me old.server.me) party.attempts 0 coming.attempt its-calls.attempts_are coming.current in
-      let from = all-at (λ (t : Transmission). IsFromTo coming.attempt.window party.client.me old.server.me t.frame) coming.attempt.by_client place t attempt.stations.from_client coming.lawful.sent in
+      let attempt = all-at (IsAttempt party.client.me old.server.me) party.attempts 0 coming.attempt
+      its-calls.attempts_are coming.current in
+      let from = all-at (λ (t : Transmission). IsFromTo coming.attempt.window party.client.me old.server.me t.frame)
+      coming.attempt.by_client place t attempt.stations.from_client coming.lawful.sent in
       from.src_is
 
   module _ (left_law : LeftLaw) where
@@ -75,22 +78,34 @@ module _ (old : World) (sound : Sound old) (c : ℕ) (party : Party) (place : �
     own-marked = record {
       client = refl;
       uploads = refl;
-      like = newest-like (to_server_delivered place t) party.attempts (λ a. record { asked = refl; entries = refl; job = refl; served = served-itself a.server });
+      like =
+          newest-like (to_server_delivered place t) party.attempts
+          (λ a. record { asked = refl; entries = refl; job = refl; served = served-itself a.server });
       stays = newest-stays (to_server_delivered place t) party.attempts (λ a. record { client = refl; window = refl });
-      attempts_are = left_law.to_server party.client.me old.server.me party.attempts marked t.frame its-calls.attempts_are delivers;
+      attempts_are =
+          left_law.to_server party.client.me old.server.me party.attempts marked t.frame its-calls.attempts_are
+          delivers;
     }
 
     pub are-marked : AreMarked old delivered
     are-marked = record {
       files = refl;
       many = length-set old.parties c (with_current (to_server_delivered place t) party);
-      each = λ number that is. by number that (set-at old.parties c number (with_current (to_server_delivered place t) party) that is);
+      each =
+          λ number that is. by number that
+          (set-at old.parties c number (with_current (to_server_delivered place t) party) that is);
     }
       where
-        by : (number : ℕ) (that : Party) → ((number ≡ c) × (that ≡ with_current (to_server_delivered place t) party)) ⊎ ((number ≡ c → ⊥) × (slice_get old.parties number ≡ Some that))
+        by : (number : ℕ) (that : Party)
+            → ((number ≡ c) × (that ≡ with_current (to_server_delivered place t) party)) ⊎ ((number ≡ c
+            → ⊥) × (slice_get old.parties number ≡ Some that))
             → (was : Party) × PartyAt old number was × IsMarked old was that
-        by number that (inl own) =
-            (party, ap (λ i. slice_get old.parties i) own.0 ∙ coming.is, subst (λ (p : Party). IsMarked old party p) (sym own.1) own-marked)
+        by number that (inl own) = (
+          party,
+          ap (λ i. slice_get old.parties i) own.0
+              ∙ coming.is,
+          subst (λ (p : Party). IsMarked old party p) (sym own.1) own-marked,
+        )
         by number that (inr other) = (
           that,
           other.1,

@@ -36,7 +36,8 @@ pub record StayParties (old new : World) : Type 0 where
   pub window : new.server.window ≡ old.server.window
   pub files : new.files ≡ old.files
   pub many : length new.parties ≡ length old.parties
-  pub each : (c : ℕ) (party : Party) → PartyAt new c party → (before : Party) × PartyAt old c before × StaysParty before party
+  pub each : (c : ℕ) (party : Party) → PartyAt new c party
+      → (before : Party) × PartyAt old c before × StaysParty before party
 
 -- what the server, its store and each client are to be
 pub record IsMade (new : World) : Type 0 where
@@ -50,32 +51,38 @@ pub record IsMade (new : World) : Type 0 where
 
 -- ---- what looks at the client and its uploads alone
 
-file-same : (files : List Asked) (one other : Party) (task : ℕ) (file : List ℕ) → other.uploads ≡ one.uploads → IsFileOf files one task file → IsFileOf files other task file
+file-same : (files : List Asked) (one other : Party) (task : ℕ) (file : List ℕ) → other.uploads ≡ one.uploads
+    → IsFileOf files one task file → IsFileOf files other task file
 file-same files one other task file uploads is =
     subst (λ (u : List ℕ). IsFileOf files (record other { uploads = u }) task file) (sym uploads) is
 
 -- a work, by the client's server and its uploads
-pub work-by : (files : List Asked) (one other : Party) (asked : Work) → other.client.server ≡ one.client.server → other.uploads ≡ one.uploads → IsWork files one asked → IsWork files other asked
+pub work-by : (files : List Asked) (one other : Party) (asked : Work) → other.client.server ≡ one.client.server
+    → other.uploads ≡ one.uploads → IsWork files one asked → IsWork files other asked
 work-by files one other (work.Upload at) server uploads is = file-same files one other at.task at.file uploads is
 work-by files one other (work.Directory at) server uploads is = is
 work-by files one other (work.Download at) server uploads is = (is.0 ∙ sym server, is.1)
 
 -- the notes go with the job of the current attempt, of whatever one that is
 pub stands-at : (party : Party) (o : Option Attempt) (a : Attempt) → o ≡ Some a → StandsBy party o
-    → party.client.attempt ≡ Some a.client.attempted → AttemptStands a.client.asked party.client.lists a.client.attempted
+    → party.client.attempt ≡ Some a.client.attempted
+    → AttemptStands a.client.asked party.client.lists a.client.attempted
 stands-at party None a is stands link = absurd cc
 stands-at party (Some b) a is stands link =
-    subst (λ (it : Attempt). party.client.attempt ≡ Some it.client.attempted → AttemptStands it.client.asked party.client.lists it.client.attempted)
+    subst (λ (it : Attempt). party.client.attempt ≡ Some it.client.attempted
+    → AttemptStands it.client.asked party.client.lists it.client.attempted)
     (same_Some b a is) stands link
 
 pub stands-by : (party : Party) (o : Option Attempt)
-    → ((a : Attempt) → o ≡ Some a → party.client.attempt ≡ Some a.client.attempted → AttemptStands a.client.asked party.client.lists a.client.attempted) → StandsBy party o
+    → ((a : Attempt) → o ≡ Some a → party.client.attempt ≡ Some a.client.attempted
+    → AttemptStands a.client.asked party.client.lists a.client.attempted) → StandsBy party o
 stands-by party None each = tt
 stands-by party (Some a) each = each a refl
 
 module _ (old new : World) (sound : Sound old) (stay : StayParties old new) (made : IsMade new) where
   -- what held of each client holds of each
-  each-client : (P : Client → Type 0) → AllByRecursion (λ (p : Party). P p.client) old.parties → AllByRecursion (λ (p : Party). P p.client) new.parties
+  each-client : (P : Client → Type 0) → AllByRecursion (λ (p : Party). P p.client) old.parties
+      → AllByRecursion (λ (p : Party). P p.client) new.parties
   each-client P all =
       all-by (λ (p : Party). P p.client) new.parties
       (λ c party is.
@@ -93,8 +100,12 @@ module _ (old new : World) (sound : Sound old) (stay : StayParties old new) (mad
         let two = stay.each other that is_that in
         let me = λ (it : Client). it.me in
         sound.stations.distinct c other one.0 two.0 one.1 two.1 (ap me (sym one.2.client) ∙ same ∙ ap me two.2.client);
-    servers = subst (λ me. AllByRecursion (λ (p : Party). p.client.server ≡ me) new.parties) (sym stay.me) (each-client (λ (it : Client). it.server ≡ old.server.me) sound.stations.servers);
-    windows = subst (λ w. AllByRecursion (λ (p : Party). p.client.window ≡ w) new.parties) (sym stay.window) (each-client (λ (it : Client). it.window ≡ old.server.window) sound.stations.windows);
+    servers =
+        subst (λ me. AllByRecursion (λ (p : Party). p.client.server ≡ me) new.parties) (sym stay.me)
+        (each-client (λ (it : Client). it.server ≡ old.server.me) sound.stations.servers);
+    windows =
+        subst (λ w. AllByRecursion (λ (p : Party). p.client.window ≡ w) new.parties) (sym stay.window)
+        (each-client (λ (it : Client). it.window ≡ old.server.window) sound.stations.windows);
   }
 
   module _ (c : ℕ) (party : Party) (is : PartyAt new c party) where
@@ -109,22 +120,30 @@ module _ (old new : World) (sound : Sound old) (stay : StayParties old new) (mad
     made-by before was same =
         let it = sound.parties c before was in
         let calls = made.calls c party is in
-        let asked = stay-each (λ side. IsWork old.files before side.asked) before.attempts party.attempts same.attempts it.works in
+        let asked = stay-each (λ side. IsWork old.files before side.asked) before.attempts party.attempts same.attempts
+        it.works in
         let stands = stay-newest
-        (λ side. before.client.attempt ≡ Some side.attempted → AttemptStands side.asked before.client.lists side.attempted)
-        before.attempts party.attempts same.attempts (λ a now link. stands-at before (newest before) a now it.job link) in
+        (λ side. before.client.attempt ≡ Some side.attempted
+        → AttemptStands side.asked before.client.lists side.attempted)
+        before.attempts party.attempts same.attempts
+        (λ a now link. stands-at before (newest before) a now it.job link) in
         record {
-          attempts = subst (λ server. AreAttempts party.client.me server party.attempts) (sym server-is) calls.attempts_are;
-          windows = subst (λ w. AllByRecursion (λ (a : Attempt). a.window ≡ w) party.attempts) (sym window-is) calls.windows;
+          attempts =
+              subst (λ server. AreAttempts party.client.me server party.attempts) (sym server-is) calls.attempts_are;
+          windows =
+              subst (λ w. AllByRecursion (λ (a : Attempt). a.window ≡ w) party.attempts) (sym window-is) calls.windows;
           works = subst (λ files. EachAttempt party (λ a. IsWork files party a.client.asked)) (sym stay.files)
-              (each-weaker {P = (λ (a : Attempt). IsWork old.files before a.client.asked)} {Q = (λ a. IsWork old.files party a.client.asked)} party.attempts
-              (λ a is. work-by old.files before party a.client.asked (ap (λ (it : Client). it.server) same.client) same.uploads is) asked);
+              (each-weaker {P = (λ (a : Attempt). IsWork old.files before a.client.asked)} {Q =
+              (λ a. IsWork old.files party a.client.asked)} party.attempts
+              (λ a is. work-by old.files before party a.client.asked
+              (ap (λ (it : Client). it.server) same.client) same.uploads is) asked);
           link = subst (λ link. IsLinkOf (newest party) link) (ap (λ (it : Client). it.attempt) (sym same.client))
               (stay-link before.attempts party.attempts before.client.attempt same.attempts it.link);
           may_step = subst client.MayStep (sym same.client) it.may_step;
           tasks = subst (λ files. AreTasks files c party) (sym stay.files)
               (tasks-lists old.files c before party (ap (λ (it : Client). it.me) same.client)
-              (ap (λ (it : Client). it.server) same.client) (ap (λ (it : Client). it.lists) same.client) same.uploads it.tasks);
+              (ap (λ (it : Client). it.server) same.client)
+              (ap (λ (it : Client). it.lists) same.client) same.uploads it.tasks);
           job = stands-by party (newest party)
               (λ a now link.
               subst (λ (it : Client). AttemptStands a.client.asked it.lists a.client.attempted) (sym same.client)
@@ -139,7 +158,8 @@ module _ (old new : World) (sound : Sound old) (stay : StayParties old new) (mad
     may_step = made.between.may_step;
     places = together new made.between made.known (λ c party is. (made.calls c party is).sits);
     lists = made.lists;
-    files = subst (λ files. AllByRecursion (λ (asked : Asked). IsGoodFile asked.file) files) (sym stay.files) sound.files;
+    files =
+        subst (λ files. AllByRecursion (λ (asked : Asked). IsGoodFile asked.file) files) (sym stay.files) sound.files;
     parties = λ c party is. let before = stay.each c party is in made-by c party is before.0 before.1 before.2;
     granted = made.granted;
   }

@@ -15,7 +15,8 @@ use Rattle.air_attempt.specs.Attempt.{Attempt, IsAnswered, IsAttempt, IsEndOf}
 use Rattle.air_attempt.specs.Laws.{Calls, CurrentLaw, FrontLaw, HeardFrontLaw, IsSeatedIn, IsServedBy}
 use Rattle.air_attempt.specs.Party.{AreOver, OnlyNewestUp, Party}
 use Rattle.air_attempt.specs.Sides.{ServerSide}
-use Rattle.air_files.specs.Laws.{GrantedAt, GrantsOnce, IsServed, SessionGoes, SessionKeeps, SessionLaw, Stands, session_gone, with_attempt}
+use Rattle.air_files.specs.Laws.{GrantedAt, GrantsOnce, IsServed, SessionGoes, SessionKeeps, SessionLaw, Stands}
+use Rattle.air_files.specs.Laws.{session_gone, with_attempt}
 use Rattle.air_world.specs.Sound as sound
 use Rattle.air_world.specs.Sound.{IsParty, Sound}
 use Rattle.air_world.specs.World.{PartyAt, World}
@@ -25,7 +26,8 @@ use Rattle.air_world.proofs.ServerTicked.{its-session}
 use Rattle.air_attempt.proofs.Offered.{all-at}
 
 -- what stands of each client beside its facts
-pub stands : (world : World) → Sound world → (c : ℕ) (party : Party) → PartyAt world c party → Stands world.files c party
+pub stands : (world : World) → Sound world → (c : ℕ) (party : Party) → PartyAt world c party
+    → Stands world.files c party
 stands world sound c party is =
     let it = sound.parties c party is in
     record {
@@ -35,7 +37,8 @@ stands world sound c party is =
       works = it.works;
     }
 
-pub granted-at : (world : World) (c : ℕ) (party : Party) → PartyAt world c party → (at number : ℕ) → GrantedAt party at number → sound.GrantedAt world c at number
+pub granted-at : (world : World) (c : ℕ) (party : Party) → PartyAt world c party → (at number : ℕ)
+    → GrantedAt party at number → sound.GrantedAt world c at number
 granted-at world c party is at number granted = record {
   party = party;
   is_party = is;
@@ -47,7 +50,8 @@ granted-at world c party is at number granted = record {
 
 pub grants-once : (world : World) → Sound world → (c : ℕ) (party : Party) → PartyAt world c party → GrantsOnce party
 grants-once world sound c party is at that number one two =
-    (sound.granted c at c that number (granted-at world c party is at number one) (granted-at world c party is that number two)).1
+    (sound.granted c at c that number (granted-at world c party is at number one)
+    (granted-at world c party is that number two)).1
 
 -- the laws that are used here
 pub record SessionLaws : Type 0 where
@@ -57,8 +61,10 @@ pub record SessionLaws : Type 0 where
   pub current : CurrentLaw
   pub session : SessionLaw
 
-module _ (laws : SessionLaws) (old : World) (sound : Sound old) (c : ℕ) (party : Party) (place : ℕ) (t : Transmission) (coming : IsComing old c party place t)
-    (moment : ℕ) (is_packet : is_call t.frame.kind.control ≡ false) (at : ℕ) (seat : Connected) (found : place_of t.frame.src old.server.slots ≡ Some at)
+module _ (laws : SessionLaws) (old : World) (sound : Sound old) (c : ℕ) (party : Party) (place : ℕ) (t : Transmission)
+    (coming : IsComing old c party place t)
+    (moment : ℕ) (is_packet : is_call t.frame.kind.control ≡ false) (at : ℕ) (seat : Connected)
+    (found : place_of t.frame.src old.server.slots ≡ Some at)
     (seated : IsSeatedIn old.server at seat) where
   src-is : t.frame.src ≡ party.client.me
   src-is = from-client old sound c party place t coming
@@ -78,14 +84,18 @@ module _ (laws : SessionLaws) (old : World) (sound : Sound old) (c : ℕ) (party
   attempt = by-session.attempt
 
   is-attempt : IsAttempt party.client.me old.server.me attempt
-  is-attempt = (subst (λ attempts. AllByRecursion (IsAttempt party.client.me old.server.me) attempts) by-session.attempts_are (calls old sound c party coming.is).attempts_are).0
+  is-attempt =
+      (subst (λ attempts. AllByRecursion (IsAttempt party.client.me old.server.me) attempts) by-session.attempts_are
+      (calls old sound c party coming.is).attempts_are).0
 
   answered : IsAnswered attempt side
   answered = its-session attempt attempt.server side by-session.is_side is-attempt.answered
 
   caller-is : caller_of side.connected ≡ party.client.me
   caller-is =
-      let serves = subst (λ (o : Option ServerSide). IfSome o (λ it. IsEndOf false old.server.me party.client.me it.connected.end)) by-session.is_side is-attempt.stations.serves in
+      let serves = subst (λ (o : Option ServerSide). IfSome o
+      (λ it. IsEndOf false old.server.me party.client.me it.connected.end)) by-session.is_side
+      is-attempt.stations.serves in
       serves.peer_is
 
   abbrev pub before-session : Session
@@ -95,13 +105,16 @@ module _ (laws : SessionLaws) (old : World) (sound : Sound old) (c : ℕ) (party
   entries = session.entries_heard old.server.window moment old.server.store old.server.lists seat t.frame
 
   abbrev pub now-session : Session
-  now-session = session_after old.server.store (hearing old.server.window moment old.server.store old.server.lists seat t.frame [])
+  now-session =
+      session_after old.server.store
+      (hearing old.server.window moment old.server.store old.server.lists seat t.frame [])
 
   older-over : AreOver by-session.older
   older-over =
       let only = (calls old sound c party coming.is).sits.newest_up in
       let of = subst (λ attempts. OnlyNewestUp attempts) by-session.attempts_are only in
-      subst (λ (o : Option ServerSide). MatchOption o (OnlyNewestUp by-session.older) (λ _. AreOver by-session.older)) by-session.is_side of
+      subst (λ (o : Option ServerSide). MatchOption o (OnlyNewestUp by-session.older) (λ _. AreOver by-session.older))
+      by-session.is_side of
 
   pub served : IsServed old.files c party before-session
   served = record {
@@ -125,22 +138,33 @@ module _ (laws : SessionLaws) (old : World) (sound : Sound old) (c : ℕ) (party
     facts = (sound.parties c party coming.is).facts;
   }
 
-  pub goes : (up : Bool) → (up ≡ true → AllByRecursion session.IsNotLost entries) → SessionGoes party moment before-session now-session entries up attempt side
+  pub goes : (up : Bool) → (up ≡ true → AllByRecursion session.IsNotLost entries)
+      → SessionGoes party moment before-session now-session entries up attempt side
   goes up none_lost = record {
     goes =
-        subst (λ caller. session.GoesBy caller moment before-session entries now-session) (ap caller_of (sym by-session.connected_is) ∙ caller-is)
-        (laws.entries old.server.window moment old.server.store old.server.lists seat t.frame ((between old sound).ups at seat seated) is_packet).1;
+        subst (λ caller. session.GoesBy caller moment before-session entries now-session)
+        (ap caller_of (sym by-session.connected_is) ∙ caller-is)
+        (laws.entries old.server.window moment old.server.store old.server.lists seat t.frame
+        ((between old sound).ups at seat seated) is_packet).1;
     none_lost = none_lost;
-    front = laws.heard_front old.server t.frame moment party.attempts (marked old sound c party place t coming) at seat (between old sound) calls-src
+    front =
+        laws.heard_front old.server t.frame moment party.attempts (marked old sound c party place t coming) at seat
+        (between old sound) calls-src
         (delivers old sound c party place t coming) is_packet found seated by-session;
     client_fits = is-attempt.job.fits;
   }
 
   -- the commands are those of the entries
-  pub done-are : (hearing old.server.window moment old.server.store old.server.lists seat t.frame []).done ≡ session.commands_in entries
-  done-are = (laws.entries old.server.window moment old.server.store old.server.lists seat t.frame ((between old sound).ups at seat seated) is_packet).0.done
+  pub done-are : (hearing old.server.window moment old.server.store old.server.lists seat t.frame
+      []).done ≡ session.commands_in entries
+  done-are =
+      (laws.entries old.server.window moment old.server.store old.server.lists seat t.frame
+      ((between old sound).ups at seat seated) is_packet).0.done
 
   pub keeps : (up : Bool) → (up ≡ true → AllByRecursion session.IsNotLost entries)
-      → SessionKeeps old.files party (with_attempt party (session_gone entries now-session.state up attempt side) by-session.older) before-session now-session entries side
+      → SessionKeeps old.files party
+      (with_attempt party (session_gone entries now-session.state up attempt side) by-session.older) before-session
+      now-session entries side
   unfolding served
-  keeps up none_lost = laws.session old.files c party moment before-session now-session entries up served tt tt (goes up none_lost)
+  keeps up none_lost =
+      laws.session old.files c party moment before-session now-session entries up served tt tt (goes up none_lost)

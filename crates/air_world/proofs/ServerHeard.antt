@@ -187,7 +187,8 @@ module _ (laws : HearingLaws) (old : World) (sound : Sound old) (c : ℕ) (party
       opened-facts : IsGreeted side → HasFacts old.server.store old.files (record party { attempts = first ∷ all_over older })
       opened-facts greeted =
           let none = unserved coming.attempt.server refl in
-          let begun_facts = laws.begin.opened old.server.store old.files party coming.attempt older side (sound.parties c party coming.is).facts attempts-are.1 none.0 none.1.unserved greeted in
+          let begun_facts = laws.begin.opened old.server.store old.files party coming.attempt older side
+          (sound.parties c party coming.is).facts attempts-are.1 none.0 none.1.unserved greeted in
           let mid = with_attempt party (record coming.attempt { server = Some side }) (all_over older) in
           laws.stay.same old.server.store old.files mid (record party { attempts = first ∷ all_over older })
           (same-party mid (record party { attempts = first ∷ all_over older }) refl refl
@@ -268,8 +269,15 @@ module _ (laws : HearingLaws) (old : World) (sound : Sound old) (c : ℕ) (party
         heard-facts state =
             let mid = with_attempt party (session_gone these now-is.state up a its) served-by.older in
             laws.stay.same now-is.store old.files mid (record party { attempts = gone ∷ served-by.older })
-            (same-party mid (record party { attempts = gone ∷ served-by.older }) refl refl
-            (record { asked = refl; entries = refl; job = refl; served = record { greeting = refl; entries = refl; state = state; up = λ is_up. is_up } }, alike-itself served-by.older)
+            (same-party mid (record party { attempts = gone ∷ served-by.older }) refl refl (
+              record {
+                asked = refl;
+                entries = refl;
+                job = refl;
+                served = record { greeting = refl; entries = refl; state = state; up = λ is_up. is_up };
+              },
+              alike-itself served-by.older,
+            )
             (record { client = refl; window = refl }, stay-refl served-by.older))
             kept.facts
 
@@ -294,7 +302,9 @@ module _ (laws : HearingLaws) (old : World) (sound : Sound old) (c : ℕ) (party
 
             by : (place : ℕ) → slice_get (gone ∷ served-by.older) place ≡ Some granted.attempt → GrantedAt party place number ⊎ ((place ≡ 0) × (old.server.store.next ≤ number))
             by zero is =
-                let side_is : gone_on did now these its ≡ granted.side = same_Some (gone_on did now these its) granted.side (ap (λ (it : Attempt). it.server) (same_Some gone granted.attempt is) ∙ granted.is_side) in
+                let side_is : gone_on did now these its ≡ granted.side =
+                same_Some (gone_on did now these its) granted.side
+                (ap (λ (it : Attempt). it.server) (same_Some gone granted.attempt is) ∙ granted.is_side) in
                 cases (kept.grants number granted.file_length (subst (λ (it : ServerSide). Grants it number granted.file_length) (sym side_is) granted.grants))
             by (suc place) is = inl (before (suc place) granted.attempt granted.side is granted.is_side granted.grants)
 

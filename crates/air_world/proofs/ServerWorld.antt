@@ -1,5 +1,6 @@
 -- A frame that the server hears keeps a sound world.
-use Rattle.std.proofs.Common.{◌≡◌, ◌≢◌, ◌⊎◌, ℕ, ◌≤◌, ◌<◌, ◌^◌, [], Bool, true, false, Option, Some, refl, sym, ap, subst, ◌∙◌, inl, inr, arith}
+use Rattle.std.proofs.Common.{◌≡◌, ◌≢◌, ◌⊎◌, ℕ, ◌≤◌, ◌<◌, ◌^◌, [], Bool, true, false, Option, Some, refl, sym, ap}
+use Rattle.std.proofs.Common.{subst, ◌∙◌, inl, inr, arith}
 use Rattle.std.specs.Prelude.{map, slice_get, if◌then◌else◌, IfSome}
 use Rattle.std.proofs.lemmas.Bool.{cases_eq}
 use Rattle.std.proofs.lemmas.List.{length-map}
@@ -34,8 +35,10 @@ use Rattle.air_attempt.proofs.Offered.{all-at}
 use Rattle.ax25_link.proofs.Offered.{slice_get-set_other}
 use Rattle.ftl0_session.proofs.uploads.UploadRows.{same_call-decides}
 
-module _ (laws : HearingLaws) (old : World) (sound_old : Sound old) (c : ℕ) (party : Party) (place : ℕ) (t : Transmission) (coming : IsComing old c party place t)
-    (moment : ℕ) (soon : moment < 2 ^ 32) (gives : Stepped) (step : ServerStep old.server (frame_comes t.frame moment) [] gives) where
+module _ (laws : HearingLaws) (old : World) (sound_old : Sound old) (c : ℕ) (party : Party) (place : ℕ)
+    (t : Transmission) (coming : IsComing old c party place t)
+    (moment : ℕ) (soon : moment < 2 ^ 32) (gives : Stepped)
+    (step : ServerStep old.server (frame_comes t.frame moment) [] gives) where
   abbrev those : World
   those = delivered old sound_old c party place t coming
 
@@ -60,7 +63,9 @@ module _ (laws : HearingLaws) (old : World) (sound_old : Sound old) (c : ℕ) (p
   -- the client of the frame
   own-heard : party_heard own-did t.frame (with_current (to_server_delivered place t) party) ≡ own-now
   own-heard =
-      let same : is_same_call party.client.me t.frame.src ≡ true = subst (λ call. is_same_call party.client.me call ≡ true) (sym src-is) ((same_call-decides party.client.me party.client.me).1 refl) in
+      let same : is_same_call party.client.me t.frame.src ≡ true =
+      subst (λ call. is_same_call party.client.me call ≡ true) (sym src-is)
+      ((same_call-decides party.client.me party.client.me).1 refl) in
       ap
       (λ (b : Bool).
       if b
@@ -70,8 +75,10 @@ module _ (laws : HearingLaws) (old : World) (sound_old : Sound old) (c : ℕ) (p
   -- any other one
   other-heard : (that : Party) → that.client.me ≢ party.client.me → party_heard own-did t.frame that ≡ that
   other-heard that differs =
-      let other : is_same_call that.client.me t.frame.src ≡ false = other-call that.client.me t.frame.src (λ same. differs (same ∙ src-is)) in
-      ap (λ (b : Bool). if b then record that { attempts = after_hearing own-did t.frame that.attempts } else that) other
+      let other : is_same_call that.client.me t.frame.src ≡ false =
+      other-call that.client.me t.frame.src (λ same. differs (same ∙ src-is)) in
+      ap (λ (b : Bool). if b then record that { attempts = after_hearing own-did t.frame that.attempts } else that)
+      other
 
   -- Each client in the world then is the frame's, or another one, as it was.
   pub data IsThen (number : ℕ) (that : Party) : Type 0 where
@@ -87,34 +94,46 @@ module _ (laws : HearingLaws) (old : World) (sound_old : Sound old) (c : ℕ) (p
       by mid.0 mid.2 (set-at old.parties c number (with_current (to_server_delivered place t) party) mid.0 mid.1)
     where
       by : (mid : Party) → that ≡ party_heard own-did t.frame mid
-          → ((number ≡ c) × (mid ≡ with_current (to_server_delivered place t) party)) ⊎ ((number ≡ c → ⊥) × (slice_get old.parties number ≡ Some mid)) → IsThen number that
+          → ((number ≡ c) × (mid ≡ with_current (to_server_delivered place t) party)) ⊎ ((number ≡ c
+          → ⊥) × (slice_get old.parties number ≡ Some mid)) → IsThen number that
       by mid that_is (inl own_is) = own own_is.0 (that_is ∙ ap (party_heard own-did t.frame) own_is.1 ∙ own-heard)
       by mid that_is (inr other_is) =
           let differs_is = differs number mid other_is.0 other_is.1 in
           let same = that_is ∙ other-heard mid differs_is in
-          other other_is.0 (other_is.1 ∙ ap Some (sym same)) (subst (λ (p : Party). p.client.me ≢ party.client.me) (sym same) differs_is)
+          other other_is.0 (other_is.1 ∙ ap Some (sym same))
+          (subst (λ (p : Party). p.client.me ≢ party.client.me) (sym same) differs_is)
 
   -- each client is there still
-  there : (number : ℕ) (that : Party) → PartyAt old number that → (now : Party) × PartyAt heard number now × (now.client.me ≡ that.client.me)
+  there : (number : ℕ) (that : Party) → PartyAt old number that
+      → (now : Party) × PartyAt heard number now × (now.client.me ≡ that.client.me)
   there number that is = by (cases_eq number c)
     where
       by : (number ≡ c) ⊎ (number ≢ c) → (now : Party) × PartyAt heard number now × (now.client.me ≡ that.client.me)
       by (inl own_is) =
           let same = same_Some that party (sym is ∙ ap (λ i. slice_get old.parties i) own_is ∙ coming.is) in
           let mid = with_current (to_server_delivered place t) party in
-          let at = at-map (party_heard own-did t.frame) those.parties c mid (at-set old.parties c mid party coming.is) in
-          (own-now, ap (λ i. slice_get heard.parties i) own_is ∙ at ∙ ap Some own-heard, ap (λ (p : Party). p.client.me) (sym same))
+          let at = at-map (party_heard own-did t.frame) those.parties c mid
+          (at-set old.parties c mid party coming.is) in (
+            own-now,
+            ap (λ i. slice_get heard.parties i) own_is ∙ at
+                ∙ ap Some own-heard,
+            ap (λ (p : Party). p.client.me) (sym same),
+          )
       by (inr other_is) =
-          let at = at-map (party_heard own-did t.frame) those.parties number that (slice_get-set_other old.parties c number (with_current (to_server_delivered place t) party) other_is ∙ is) in
+          let at = at-map (party_heard own-did t.frame) those.parties number that
+          (slice_get-set_other old.parties c number (with_current (to_server_delivered place t) party) other_is
+          ∙ is) in
           (that, at ∙ ap Some (other-heard that (differs number that other_is is)), refl)
 
   known : AreSeatsKnown heard
   known seat_place seat at = by (stays-server.known seat_place seat at)
     where
-      found : (number : ℕ) (that : Party) → PartyAt old number that → caller_of seat ≡ that.client.me → (number : ℕ) × (now : Party) × PartyAt heard number now × (caller_of seat ≡ now.client.me)
+      found : (number : ℕ) (that : Party) → PartyAt old number that → caller_of seat ≡ that.client.me
+          → (number : ℕ) × (now : Party) × PartyAt heard number now × (caller_of seat ≡ now.client.me)
       found number that is caller = let now = there number that is in (number, now.0, now.1, caller ∙ sym now.2)
 
-      by : IsKnown old.server (λ caller. caller ≡ t.frame.src) (caller_of seat) → (number : ℕ) × (now : Party) × PartyAt heard number now × (caller_of seat ≡ now.client.me)
+      by : IsKnown old.server (λ caller. caller ≡ t.frame.src) (caller_of seat)
+          → (number : ℕ) × (now : Party) × PartyAt heard number now × (caller_of seat ≡ now.client.me)
       by (inl new) = found c party coming.is (new ∙ src-is)
       by (inr was) =
           let session = sound_old.places.sessions was.0 was.1 was.2 in
@@ -126,14 +145,18 @@ module _ (laws : HearingLaws) (old : World) (sound_old : Sound old) (c : ℕ) (p
       (calls-then laws old sound_old c party place t coming moment soon gives step
       (fits laws old sound_old c party place t coming moment soon gives step))
   calls-now number that (other number_is was differs) =
-      laws.hears.other old.server t.frame moment gives that.client.me that.attempts (between old sound_old) (calls old sound_old number that was)
+      laws.hears.other old.server t.frame moment gives that.client.me that.attempts (between old sound_old)
+      (calls old sound_old number that was)
       (λ same. differs (same ∙ src-is)) step
 
   facts-now : (number : ℕ) (that : Party) → IsThen number that → HasFacts gives.new.store old.files that
-  facts-now number that (own number_is that_is) = subst (λ (p : Party). HasFacts gives.new.store old.files p) (sym that_is) made-own.facts
+  facts-now number that (own number_is that_is) =
+      subst (λ (p : Party). HasFacts gives.new.store old.files p) (sym that_is) made-own.facts
   facts-now number that (other number_is was differs) =
-      laws.stay.other old.files number that party.client.me old.server.store gives.new.store (stands old sound_old number that was)
-      (stands old sound_old c party coming.is).call differs sound_old.store made-own.follows (sound_old.parties number that was).facts
+      laws.stay.other old.files number that party.client.me old.server.store gives.new.store
+      (stands old sound_old number that was)
+      (stands old sound_old c party coming.is).call differs sound_old.store made-own.follows
+      (sound_old.parties number that was).facts
 
   -- a number was given before, or now
   pub data IsGrantThen (number at grant : ℕ) : Type 0 where
@@ -153,25 +176,31 @@ module _ (laws : HearingLaws) (old : World) (sound_old : Sound old) (c : ℕ) (p
         grants = granted.grants;
       }
 
-      cases : number ≡ c → GrantedAt party at grant ⊎ ((at ≡ 0) × (old.server.store.next ≤ grant)) → IsGrantThen number at grant
-      cases number_is (inl was) = before (granted-at old number party (ap (λ i. slice_get old.parties i) number_is ∙ coming.is) at grant was)
+      cases : number ≡ c → GrantedAt party at grant ⊎ ((at ≡ 0) × (old.server.store.next ≤ grant))
+          → IsGrantThen number at grant
+      cases number_is (inl was) =
+          before (granted-at old number party (ap (λ i. slice_get old.parties i) number_is ∙ coming.is) at grant was)
       cases number_is (inr new) = now number_is new.0 new.1
 
       by : (that : Party) → IsThen number that → IsSideAt that at granted.side → IsGrantThen number at grant
       by that (own number_is that_is) is_side =
-          cases number_is (made-own.grants at grant (here own-now (subst (λ (p : Party). IsSideAt p at granted.side) that_is is_side)))
-      by that (other number_is was differs) is_side = before (granted-at old number that was at grant (here that is_side))
+          cases number_is (made-own.grants at grant
+          (here own-now (subst (λ (p : Party). IsSideAt p at granted.side) that_is is_side)))
+      by that (other number_is was differs) is_side =
+          before (granted-at old number that was at grant (here that is_side))
 
   below : (number at grant : ℕ) → sound.GrantedAt old number at grant → grant < old.server.store.next
   below number at grant granted =
-      let P : Attempt → ServerSide → Type 0 = λ a side. (number file_length : ℕ) → Grants side number file_length → IsGrantKept old.server.store granted.party a number file_length in
+      let P : Attempt → ServerSide → Type 0 = λ a side. (number file_length : ℕ) → Grants side number file_length
+      → IsGrantKept old.server.store granted.party a number file_length in
       let each = all-at (λ (a : Attempt). IfSome a.server (P a)) granted.party.attempts at granted.is_side.attempt
       (sound_old.parties number granted.party granted.is_party).facts.sessions.granted granted.is_side.is_attempt in
       let its = subst (λ (o : Option ServerSide). IfSome o (P granted.is_side.attempt)) granted.is_side.is_side each in
       (its grant granted.file_length granted.grants).below
 
   granted-now : AreGrantedOnce heard
-  granted-now one at two that number first second = by (grant-then one at number first) (grant-then two that number second)
+  granted-now one at two that number first second =
+      by (grant-then one at number first) (grant-then two that number second)
     where
       by : IsGrantThen one at number → IsGrantThen two that number → (one ≡ two) × (at ≡ that)
       by (before was) (before is) = sound_old.granted one at two that number was is
@@ -190,7 +219,8 @@ module _ (laws : HearingLaws) (old : World) (sound_old : Sound old) (c : ℕ) (p
     granted = granted-now;
   }
 
-  stays-then : (number : ℕ) (that : Party) → IsThen number that → (was : Party) × PartyAt old number was × StaysParty was that
+  stays-then : (number : ℕ) (that : Party) → IsThen number that
+      → (was : Party) × PartyAt old number was × StaysParty was that
   stays-then number that (own number_is that_is) = (
     party,
     ap (λ i. slice_get old.parties i) number_is ∙ coming.is,
@@ -204,14 +234,17 @@ module _ (laws : HearingLaws) (old : World) (sound_old : Sound old) (c : ℕ) (p
               (hearing-stays own-did t.frame (marked old sound_old c party place t coming));
         }),
   )
-  stays-then number that (other number_is was differs) = (that, was, record { client = refl; uploads = refl; attempts = stay-refl that.attempts })
+  stays-then number that (other number_is was differs) =
+      (that, was, record { client = refl; uploads = refl; attempts = stay-refl that.attempts })
 
   stay : StayParties old heard
   stay = record {
     me = stays-server.me_is;
     window = stays-server.window_is;
     files = refl;
-    many = length-map those.parties (party_heard own-did t.frame) ∙ length-set old.parties c (with_current (to_server_delivered place t) party);
+    many =
+        length-map those.parties (party_heard own-did t.frame)
+        ∙ length-set old.parties c (with_current (to_server_delivered place t) party);
     each = λ number that is. stays-then number that (then-is number that is);
   }
 

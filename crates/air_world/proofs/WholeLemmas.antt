@@ -53,5 +53,6 @@ whole-got store number octets fault front sound first good =
     let found = complete-entry (entry_of store number) it.0 it.1 in
     let file = complete-good found.0.holding it.0 found.3
     (found-such (λ entry. KeepsRules entry.holding) (has_number number) store.entries found.0 found.1 sound.keeps_rules)
-    (found-such (λ entry. IsOctets (octets_of entry.holding)) (has_number number) store.entries found.0 found.1 sound.octets) in
+    (found-such (λ entry. IsOctets (octets_of entry.holding))
+    (has_number number) store.entries found.0 found.1 sound.octets) in
     it.1 ∙ ap Some (whole-front fault front it.0 octets file.1 file.0 it.2 good)
