@@ -5,6 +5,9 @@ use Rattle.std.specs.Prelude.{IfSome, slice_get}
 use Rattle.std.specs.List.{AllByRecursion}
 use Rattle.std.proofs.lemmas.Option.{same_Some}
 use Rattle.air_attempt.specs.Lists.{Has, OneIs}
+use Rattle.std.specs.List.{flat_map}
+use Rattle.std.proofs.lemmas.Grind.{flat_map-append}
+use Rattle.std.proofs.Common.{ap, ◌∙◌, append-nil}
 
 -- ---- each of a list
 
@@ -73,6 +76,9 @@ one-cases P (x ∷ xs) ys (inr there) = by (one-cases P xs ys there)
     by (inl left) = inl (inr left)
     by (inr right) = inr right
 
+pub one-last : {X : Type 0} (P : X → Type 0) (xs : List X) (x : X) → P x → OneIs P (xs ++ x ∷ [])
+one-last P xs x holds = one-right P xs (x ∷ []) (inl holds)
+
 -- the one that is so
 pub one-at : {X : Type 0} {P : X → Type 0} (xs : List X) → OneIs P xs → (x : X) × Has xs x × P x
 one-at [] one = absurd one
@@ -89,6 +95,12 @@ pub has-at : {X : Type 0} (xs : List X) (place : ℕ) (x : X) → slice_get xs p
 has-at [] place x there = absurd (cc)
 has-at (y ∷ ys) zero x there = inl (same_Some y x there)
 has-at (y ∷ ys) (suc place) x there = inr (has-at ys place x there)
+
+-- ---- one more of a list
+
+pub flat_map-one : {X Y : Type 0} (f : X → List Y) (xs : List X) (x : X)
+    → flat_map f (xs ++ x ∷ []) ≡ flat_map f xs ++ f x
+flat_map-one {Y = Y} f xs x = flat_map-append f xs (x ∷ []) ∙ ap (λ (l : List Y). flat_map f xs ++ l) (append-nil (f x))
 
 -- ---- places of a list
 

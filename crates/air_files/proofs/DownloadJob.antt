@@ -2,7 +2,6 @@
 use Rattle.std.proofs.Common.{◌≡◌, ◌≢◌, ◌⊎◌, inl, inr, ℕ, ◌≤◌, List, [], ◌∷◌, ◌++◌, length, refl, ap, sym, ◌∙◌, subst}
 use Rattle.std.proofs.Common.{Option, None, Some, Ok, append-nil, take_all, le_refl, le_trans}
 use Rattle.px_base.specs.CallSign.{CallSign}
-use Rattle.ax25_link.specs.declared.state.Why.{Why}
 use Rattle.ftl0_packets.specs.Items.{kind_of_item}
 use Rattle.ftl0_packets.specs.Layout.{Item, PacketValue, download_cmd}
 use Rattle.pfh_items.specs.Faults.{fault_code}
@@ -27,49 +26,24 @@ use Rattle.ftl0_client.specs.Entries.{GoesBy, JobEntry, after_losing, lost, pass
 use Rattle.air_attempt.specs.Attempt.{Attempt}
 use Rattle.air_attempt.specs.Lists.{Has}
 use Rattle.air_attempt.specs.Party.{Asked, Party}
-use Rattle.air_attempt.specs.Sides.{ClientSide, JobReaches, ServerSide, said_by_client, said_by_server}
+use Rattle.air_attempt.specs.Sides.{JobReaches, ServerSide, said_by_client, said_by_server}
 use Rattle.air_files.specs.Dialogue.{Says, Serves}
-use Rattle.air_files.specs.DownloadDialogue.{Fetching, IsFetchingFile, SaysDownload, asked, silent, told}
 use Rattle.air_files.specs.Facts.{AskedWithin, FetchesBy, FetchesIn}
 use Rattle.air_files.specs.Laws.{IsDownloadOf, TookFront, job_gone, with_job}
 use Rattle.air_files.specs.Tasks.{IsWork}
 use Rattle.air_files.proofs.DownloadJobHeard.{IsNext, next-of}
 use Rattle.air_files.proofs.DownloadJobNotes.{Downloading, RowKept, packet-kept}
 use Rattle.air_files.proofs.DownloadJobRows.{download_at}
-use Rattle.air_files.proofs.DownloadJobSaid.{DoesDownload, Told, does-download, none-due}
-use Rattle.air_files.proofs.FetchesOn.{flat_map-one}
+use Rattle.air_files.proofs.DownloadJobSaid.{DoesDownload, does-download, none-due}
+use Rattle.air_attempt.proofs.Offered.{flat_map-one, one-cases, reaches-by, reaches-then, some-at}
 use Rattle.air_files.proofs.JobNotes.{NotesKept}
 use Rattle.air_files.proofs.JobOne.{OneLaw}
 use Rattle.air_files.proofs.JobReach.{row-of-work}
-use Rattle.air_attempt.proofs.Offered.{one-cases, reaches-by, reaches-then, some-at}
 use Rattle.air_files.proofs.JobStep.{of_attempts}
 use Rattle.air_files.proofs.JobUploadNotes.{fronts-none}
-use Rattle.air_files.proofs.JobUploadSaid.{said-one}
+use Rattle.air_files.proofs.JobUploadCame.{said-one}
 use Rattle.air_files.proofs.JobWorking.{OneKept, Working, heard-last}
-
--- ---- outcomes
-
--- the outcome of an attempt that a file was fetched is its job's
-pub record HasReached (o : Option Ending) (n : ℕ) : Type 0 where
-  pub ending : Ending
-  pub is : o ≡ Some ending
-  pub reached : ending.outcome ≡ outcome.Fetched n
-
-reached-of : (o : Option Ending) (down : Option Why) (n : ℕ) → outcome_by o down ≡ Some (Reached (outcome.Fetched n))
-    → HasReached o n
-reached-of None None n is = absurd (cc)
-reached-of None (Some why) n is = absurd (cc)
-reached-of (Some ending) down n is = record { ending = ending; is = refl; reached = cc }
-
--- what a job has said is what its client has
-says-of : (number : ℕ) (side : ClientSide) (job_is : JobState) (server : CallSign)
-    → DoesDownload server number side.entries job_is → SaysDownload number side
-says-of number side job_is server does = record { stage = does.stage; said = does.said; fetches = by does.stage does.fetches }
-  where
-    by : (stage : Fetching) → Told side.entries stage → IsFetchingFile side stage
-    by silent told_is = tt
-    by (asked offset) told_is = tt
-    by (told offset word) told_is = told_is
+use Rattle.air_files.proofs.DownloadReached.{HasReached, reached-of, says-of}
 
 module _ (store : Store) (files : List Asked) (c : ℕ) (base : Party) (a : Attempt) (older : List Attempt)
     (w : Working store files c base a older)
@@ -96,7 +70,9 @@ module _ (store : Store) (files : List Asked) (c : ℕ) (base : Party) (a : Atte
   works = subst (IsWork files party) asked_is w.stands.works.0
 
   asked_new : a.client.asked ≡ work.Download (new_download server number)
-  asked_new = asked_is ∙ ap work.Download (subst IsNotBegun asked_is w.begun ∙ ap (λ (s : CallSign). new_download s number) works.0)
+  asked_new =
+      asked_is ∙ ap work.Download
+      (subst IsNotBegun asked_is w.begun ∙ ap (λ (s : CallSign). new_download s number) works.0)
 
   -- it is no upload
   no-upload : (upload : Upload) → a.client.asked ≢ work.Upload upload
@@ -108,10 +84,14 @@ module _ (store : Store) (files : List Asked) (c : ℕ) (base : Party) (a : Atte
       (subst (λ (doing : Work). JobReaches (new_job doing) a.client.entries job_is) asked_new w.reached)
 
   -- what the client fetches
-  fetching-by : FetchesBy job_is.ending (work.Download (download_at server number does.rest does.phase_is)) store party a
-  fetching-by = subst (λ (doing : Work). FetchesBy job_is.ending doing store party a) does.work_is (w.facts.files_got.fetching w.link)
+  fetching-by : FetchesBy job_is.ending (work.Download (download_at server number does.rest does.phase_is)) store party
+      a
+  fetching-by =
+      subst (λ (doing : Work). FetchesBy job_is.ending doing store party a) does.work_is
+      (w.facts.files_got.fetching w.link)
 
-  fetching-in : job_is.ending ≡ None → FetchesIn does.phase_is store party a (download_at server number does.rest does.phase_is)
+  fetching-in : job_is.ending ≡ None
+      → FetchesIn does.phase_is store party a (download_at server number does.rest does.phase_is)
   fetching-in none =
       subst (λ (o : Option Ending). FetchesBy o
       (work.Download (download_at server number does.rest does.phase_is)) store party a) none fetching-by
@@ -130,7 +110,8 @@ module _ (store : Store) (files : List Asked) (c : ℕ) (base : Party) (a : Atte
       fronts : (count : ℕ) → NotesKept store files party (notes.after_first count lists (job.commands_of entry))
       fetching : FetchesBy now.job.ending now.job.work store new b
       fetched : (n : ℕ) → HasReached now.job.ending n → fault_code (got_of lists_now server n) ≡ None
-      asks : (n offset : ℕ) → Has (job.packets_said entry) (download_cmd n offset 0) → offset ≤ length (got_of lists_now server n)
+      asks : (n offset : ℕ) → Has (job.packets_said entry) (download_cmd n offset 0)
+          → offset ≤ length (got_of lists_now server n)
 
     module _ (goes : GoesBy lists job_is (entry ∷ []) lists_now now.job) (kept : EntryKept) where
       does-now : DoesDownload server number b.client.entries now.job
@@ -169,7 +150,9 @@ module _ (store : Store) (files : List Asked) (c : ℕ) (base : Party) (a : Atte
         kept = record {
           noted = λ task n file asks taken. absurd (no-upload (new_upload task 0 file) asks);
           receives = λ other n rest is up state r. absurd (no-upload (new_upload r.task r.known r.file) r.asks);
-          says = subst (λ (doing : Work). Says doing b.client) (sym asked_is) (says-of number b.client now.job server does-now);
+          says =
+              subst (λ (doing : Work). Says doing b.client) (sym asked_is)
+              (says-of number b.client now.job server does-now);
           fetching = λ link. kept.fetching;
           fetched = λ n is. kept.fetched n (reached-of now.job.ending now.down n is);
           asked_within = asked-now;
@@ -198,7 +181,8 @@ module _ (store : Store) (files : List Asked) (c : ℕ) (base : Party) (a : Atte
       next : IsNext (job.items_in a.client.entries) packet (said_by_server side)
       next =
           let items : job.items_in (a.client.entries ++ entry ∷ []) ≡ job.items_in a.client.entries ++ Ok packet ∷ [] =
-          flat_map-one job.items_of a.client.entries entry ∙ ap (λ (l : List Item). job.items_in a.client.entries ++ l) taken in
+          flat_map-one job.items_of a.client.entries entry
+          ∙ ap (λ (l : List Item). job.items_in a.client.entries ++ l) taken in
           next-of (job.items_in a.client.entries) packet (said_by_server side)
           (front.client.0, front.client.1 ∙ ap (λ (l : List Item). l ++ front.client.0) items)
 
@@ -218,7 +202,8 @@ module _ (store : Store) (files : List Asked) (c : ℕ) (base : Party) (a : Atte
       fetching-row is =
           subst
           (λ (j : JobState).
-          FetchesBy j.ending j.work store (new (took (Ok packet) (row_of work.Download row_is)) (after_all lists row_is.commands) now)
+          FetchesBy j.ending j.work store
+          (new (took (Ok packet) (row_of work.Download row_is)) (after_all lists row_is.commands) now)
           (b (took (Ok packet) (row_of work.Download row_is)) (after_all lists row_is.commands) now))
           (sym is) (by row_is.ending refl)
         where
@@ -247,7 +232,9 @@ module _ (store : Store) (files : List Asked) (c : ℕ) (base : Party) (a : Atte
         lists_are = refl;
         fronts = kept.fronts;
         fetching = fetching-row is;
-        fetched = λ n reached. kept.fetched reached.ending n (sym (ap (λ (j : JobState). j.ending) is) ∙ reached.is) reached.reached;
+        fetched =
+            λ n reached. kept.fetched reached.ending n
+            (sym (ap (λ (j : JobState). j.ending) is) ∙ reached.is) reached.reached;
         asks = kept.asks;
       }
 
@@ -288,16 +275,19 @@ module _ (store : Store) (files : List Asked) (c : ℕ) (base : Party) (a : Atte
     entry-kept (took item row) lists_now goes front =
         let heard = heard-last a (took item row) side front item (inl refl) in
         let row_as = row-of-packet heard.0 item row (sym heard.1) goes.0 goes.1 in
-        let given = row_of work.Download (download_row held (download_at server number does.rest does.phase_is) heard.0) in
+        let given = row_of work.Download
+        (download_row held (download_at server number does.rest does.phase_is) heard.0) in
         subst (λ (l : Lists). EntryKept (took item row) l now)
         (sym (goes.2.0 ∙ ap (λ (r : Row Work). after_all lists r.commands) row_as))
         (subst (λ (r : Row Work). EntryKept (took item r) (after_all lists given.commands) now) (sym row_as)
         (subst (λ (i : Item). EntryKept (took i given) (after_all lists given.commands) now) heard.1
-        (took-kept heard.0 (took item row) (ap (λ (i : Item). i ∷ []) (sym heard.1)) goes.0 front (goes.2.1 ∙ ap job_after row_as))))
+        (took-kept heard.0 (took item row) (ap (λ (i : Item). i ∷ []) (sym heard.1)) goes.0 front
+        (goes.2.1 ∙ ap job_after row_as))))
     entry-kept (lost item row) lists_now goes front =
         let heard = heard-last a (lost item row) side front item (inl refl) in
         let row_as = row-of-packet heard.0 item row (sym heard.1) goes.0 goes.1 in
-        let given = row_of work.Download (download_row held (download_at server number does.rest does.phase_is) heard.0) in
+        let given = row_of work.Download
+        (download_row held (download_at server number does.rest does.phase_is) heard.0) in
         subst (λ (l : Lists). EntryKept (lost item row) l now)
         (sym (goes.2.0 ∙ ap (λ (r : Row Work). after_all lists r.commands) row_as))
         (subst (λ (r : Row Work). EntryKept (lost item r) (after_all lists given.commands) now) (sym row_as)
@@ -311,19 +301,23 @@ module _ (store : Store) (files : List Asked) (c : ℕ) (base : Party) (a : Atte
       fetching = passed-fetching (passed item) lists_now goes.0 goes.1.0 goes.1.1;
       fetched = λ n reached.
           ap (λ (l : Lists). fault_code (got_of l server n)) goes.1.0
-          ∙ w.facts.files_got.fetched.0 n (passed-outcome n (subst (λ (j : JobState). HasReached j.ending n) goes.1.1 reached));
+          ∙ w.facts.files_got.fetched.0 n
+          (passed-outcome n (subst (λ (j : JobState). HasReached j.ending n) goes.1.1 reached));
       asks = λ n offset has. absurd has;
     }
       where
         passed-outcome : (n : ℕ) → HasReached job_is.ending n
             → outcome_by job_is.ending a.client.attempted.down ≡ Some (Reached (outcome.Fetched n))
         passed-outcome n reached =
-            ap (λ (o : Option Ending). outcome_by o a.client.attempted.down) reached.is ∙ ap (λ o. Some (Reached o)) reached.reached
+            ap (λ (o : Option Ending). outcome_by o a.client.attempted.down) reached.is
+            ∙ ap (λ o. Some (Reached o)) reached.reached
 
-        passed-fetching : (entry : JobEntry) (lists_then : Lists) → job_is.ending ≢ None → lists_then ≡ lists → now.job ≡ job_is
+        passed-fetching : (entry : JobEntry) (lists_then : Lists) → job_is.ending ≢ None → lists_then ≡ lists
+            → now.job ≡ job_is
             → FetchesBy now.job.ending now.job.work store (new entry lists_then now) (b entry lists_then now)
         passed-fetching entry lists_then over same is =
-            subst (λ (j : JobState). FetchesBy j.ending j.work store (new entry lists_then now) (b entry lists_then now)) (sym is)
+            subst (λ (j : JobState). FetchesBy j.ending j.work store (new entry lists_then now)
+            (b entry lists_then now)) (sym is)
             (subst (λ (doing : Work). FetchesBy job_is.ending doing store (new entry lists_then now)
             (b entry lists_then now)) (sym does.work_is)
             (by job_is.ending refl))
@@ -342,7 +336,8 @@ module _ (store : Store) (files : List Asked) (c : ℕ) (base : Party) (a : Atte
                 (b entry lists_then now)) (sym ended)
                 (subst (λ (l : Lists). IsCheckedIn does.phase_is (got_of l server number)) (sym same) was)
     entry-kept (queued due) lists_now goes front =
-        absurd (none-due server number job_is due (download_at server number does.rest does.phase_is) does.work_is goes.0)
+        absurd (none-due server number job_is due
+        (download_at server number does.rest does.phase_is) does.work_is goes.0)
 
 pub download-one : OneLaw IsDownloadOf
 download-one store files c base a older w kind entry lists now goes side front =

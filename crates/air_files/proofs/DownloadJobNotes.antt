@@ -44,14 +44,13 @@ use Rattle.air_files.proofs.DownloadJobHeard.{IsNext, asks-once, coming-octets, 
 use Rattle.air_files.proofs.DownloadJobHeard.{unasked-silent}
 use Rattle.air_files.proofs.DownloadJobRows.{DownloadCases, download-cases, download_at}
 use Rattle.air_files.proofs.DownloadJobSaid.{CameTo}
-use Rattle.air_files.proofs.FetchesOn.{flat_map-one}
+use Rattle.air_attempt.proofs.Offered.{flat_map-one, one-left, one-right}
 use Rattle.air_files.proofs.GotKept.{first-before, last-pieces, noted-after, pieces-fronts, whole-pieces}
 use Rattle.air_files.proofs.JobNotes.{NotesKept}
 use Rattle.air_files.proofs.JobStep.{of_attempts}
 use Rattle.air_files.proofs.JobTook.{answered-item, front-has, has-ok}
 use Rattle.air_files.proofs.JobUploadNotes.{fronts-none}
-use Rattle.air_files.proofs.JobUploadSaid.{said-one}
-use Rattle.air_attempt.proofs.Offered.{one-left, one-right}
+use Rattle.air_files.proofs.JobUploadCame.{said-one}
 use Rattle.air_files.proofs.ShortOctets.{whole-fault}
 
 -- What is known of a client whose job is a download, and of its session.

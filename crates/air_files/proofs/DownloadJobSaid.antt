@@ -22,8 +22,8 @@ use Rattle.air_attempt.specs.Sides.{JobReaches}
 use Rattle.air_files.specs.DownloadDialogue.{Fetching, IsWord, asked, fetching_said, silent, told}
 use Rattle.air_files.proofs.DownloadJobRows.{DownloadCases, download-cases, download_at}
 use Rattle.air_files.proofs.JobReach.{Stays, of-reached}
-use Rattle.air_files.proofs.JobUploadSaid.{one-last, said-one}
-use Rattle.air_attempt.proofs.Offered.{one-left}
+use Rattle.air_files.proofs.JobUploadCame.{said-one}
+use Rattle.air_attempt.proofs.Offered.{one-last, one-left}
 
 -- what a job that has said so much has taken: its word came behind DATA_END
 abbrev pub Told : List JobEntry → Fetching → Type 0

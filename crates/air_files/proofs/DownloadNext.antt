@@ -16,8 +16,7 @@ use Rattle.air_files.specs.DownloadDialogue.{Fetching, IsFetchingFile, IsWord, S
 use Rattle.air_files.specs.DownloadDialogue.{fetching_said, refused, sending_items, sending_said, sends, silent, told}
 use Rattle.air_files.specs.DownloadDialogue.{unasked, waits}
 use Rattle.air_files.specs.UploadDialogue.{answered_in}
-use Rattle.air_files.proofs.FetchesOn.{flat_map-one}
-use Rattle.air_attempt.proofs.Offered.{one-left}
+use Rattle.air_attempt.proofs.Offered.{flat_map-one, one-left}
 use Rattle.air_files.proofs.JobTook.{took-item}
 use Rattle.air_files.proofs.UploadNext.{answered-all}
 

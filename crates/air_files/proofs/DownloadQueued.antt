@@ -27,7 +27,8 @@ use Rattle.air_files.proofs.DownloadDue.{all-sent, due-then, left-is, left_then,
 use Rattle.air_files.proofs.DownloadDue.{place_then, rest_due}
 use Rattle.air_files.proofs.UploadNext.{answered-all}
 use Rattle.air_files.proofs.DownloadServed.{IsDownloading, KeepsDownload, due-waiting, said-one}
-use Rattle.air_files.proofs.FetchesOn.{comes-silent, flat_map-one}
+use Rattle.air_files.proofs.FetchesOn.{comes-silent}
+use Rattle.air_attempt.proofs.Offered.{flat_map-one}
 use Rattle.air_files.proofs.FileOctets.{due-sending, octets-entry}
 use Rattle.air_files.proofs.QuietKeeps.{gone_side}
 

@@ -27,7 +27,8 @@ use Rattle.air_files.specs.DownloadDialogue.{refused, sending_items, sending_sai
 use Rattle.air_files.specs.SoundStore.{IsSoundStore}
 use Rattle.air_files.specs.UploadDialogue.{answered_by, answered_in}
 use Rattle.air_files.proofs.DownloadRows.{last_row, refusal, sending_row}
-use Rattle.air_files.proofs.FetchesOn.{ComesOn, comes-silent, flat_map-one}
+use Rattle.air_files.proofs.FetchesOn.{ComesOn, comes-silent}
+use Rattle.air_attempt.proofs.Offered.{flat_map-one}
 use Rattle.air_files.proofs.FileOctets.{due-sending}
 use Rattle.air_files.proofs.QuietKeeps.{gone_side}
 

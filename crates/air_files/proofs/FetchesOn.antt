@@ -2,7 +2,6 @@
 use Rattle.std.proofs.Common.{◌≡◌, ℕ, zero, suc, ◌+◌, ◌≤◌, List, [], ◌∷◌, ◌++◌, length, map, drop, refl, ap, sym, ◌∙◌}
 use Rattle.std.proofs.Common.{subst, Option, None, Some, arith, length-append, append-nil}
 use Rattle.std.specs.Prelude.{IfSome, Ok, slice_get}
-use Rattle.std.specs.List.{flat_map}
 use Rattle.std.proofs.lemmas.Grind.{flat_map-append}
 use Rattle.std.proofs.lemmas.List.{drop-append-le}
 use Rattle.ftl0_packets.specs.Layout.{Item, PacketValue}
@@ -25,10 +24,6 @@ use Rattle.air_files.specs.Laws.{with_attempt}
 use Rattle.std.proofs.lemmas.List.{length-map}
 
 -- ---- lists
-
-pub flat_map-one : {X Y : Type 0} (f : X → List Y) (xs : List X) (x : X)
-    → flat_map f (xs ++ x ∷ []) ≡ flat_map f xs ++ f x
-flat_map-one {Y = Y} f xs x = flat_map-append f xs (x ∷ []) ∙ ap (λ (l : List Y). flat_map f xs ++ l) (append-nil (f x))
 
 -- ---- the octets that one side said, of which the other one took the first
 

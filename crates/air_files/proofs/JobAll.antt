@@ -42,7 +42,7 @@ use Rattle.air_files.proofs.JobStep.{keeps-by, left, of_attempts}
 use Rattle.air_files.proofs.JobStill.{keeps-none}
 use Rattle.air_files.proofs.JobTasks.{tasks-same}
 use Rattle.air_files.proofs.JobTook.{whole}
-use Rattle.air_files.proofs.JobUploadSaid.{said-one}
+use Rattle.air_files.proofs.JobUploadCame.{said-one}
 use Rattle.air_files.proofs.JobWorking.{OneKept, Working}
 
 -- ---- the first of some entries

@@ -24,7 +24,7 @@ use Rattle.air_files.specs.UploadDialogue.{GoesOnWith}
 use Rattle.air_files.proofs.JobChange.{change}
 use Rattle.air_files.proofs.JobStep.{of_attempts}
 use Rattle.air_files.proofs.JobTook.{whole}
-use Rattle.air_files.proofs.JobUploadSaid.{said-one}
+use Rattle.air_files.proofs.JobUploadCame.{said-one}
 use Rattle.air_attempt.proofs.Offered.{due-none, one-left}
 
 -- ---- fewer packets

@@ -39,7 +39,8 @@ use Rattle.air_files.proofs.JobUploadCases.{keeps-notes, notes-number, says-noth
 use Rattle.air_files.proofs.JobUploadGoes.{goes-behind, no-download, says-came, says-same}
 use Rattle.air_files.proofs.JobUploadNotes.{Uploading, fronts-none, upload-same}
 use Rattle.air_files.proofs.JobUploadRows.{upload_at}
-use Rattle.air_files.proofs.JobUploadSaid.{DoesUpload, does-upload, due-of, said-one}
+use Rattle.air_files.proofs.JobUploadSaid.{does-upload, due-of}
+use Rattle.air_files.proofs.JobUploadCame.{DoesUpload, said-one}
 use Rattle.air_files.proofs.JobWorking.{OneKept, Working, heard-all, heard-before, heard-last, never-fetched}
 use Rattle.air_files.proofs.JobWorking.{told-before}
 

@@ -27,7 +27,7 @@ use Rattle.air_files.proofs.JobTook.{offer-behind, one-offer, refusal-answers, w
 use Rattle.air_files.proofs.JobUploadNotes.{Uploading, fronts-none, fronts-one, grant-some, kept-acked, kept-numbered}
 use Rattle.air_files.proofs.JobUploadNotes.{kept-refusal}
 use Rattle.air_files.proofs.JobUploadRows.{IsNoOffer, UploadCases, upload-cases, upload_at}
-use Rattle.air_files.proofs.JobUploadSaid.{CameTo, no-end}
+use Rattle.air_files.proofs.JobUploadCame.{CameTo, no-end}
 
 module _ (store : Store) (files : List Asked) (base : Party) (a : Attempt) (older : List Attempt) (upload : Upload)
     (side : ServerSide)

@@ -11,7 +11,7 @@ use Rattle.air_attempt.specs.Sides.{ClientSide, IsGreeting, ServerSide, said_by_
 use Rattle.air_files.specs.UploadDialogue.{GoesOnWith, IsSendingFile, SaysUpload, Sending, ServesUpload, asked}
 use Rattle.air_files.specs.UploadDialogue.{sending_said, sends, silent}
 use Rattle.air_files.proofs.JobTook.{first-same, offer-behind, one-offer, whole}
-use Rattle.air_files.proofs.JobUploadSaid.{CameTo, goes-on}
+use Rattle.air_files.proofs.JobUploadCame.{CameTo, goes-on}
 
 -- ---- what is said, by how far the job came
 

@@ -1,18 +1,15 @@
 -- What a job that uploads a file has said, by how far it has come.
-use Rattle.std.proofs.Common.{◌≡◌, ◌≢◌, ℕ, ◌+◌, ◌-◌, ◌≤◌, List, [], ◌∷◌, ◌++◌, Bool, true, false, length, take, drop}
-use Rattle.std.proofs.Common.{min, Option, None, Some, Ok, Err, inl, inr, refl, sym, ◌∙◌, ap, subst, append-nil, arith}
-use Rattle.std.proofs.Common.{suc, zero}
-use Rattle.std.specs.Prelude.{◌==◌, ◌&&◌, nat_le, nat_lt, if◌then◌else◌, ⊤}
+use Rattle.std.proofs.Common.{◌≡◌, ℕ, ◌+◌, ◌-◌, List, [], ◌∷◌, ◌++◌, Bool, true, false, length, take, drop}
+use Rattle.std.proofs.Common.{min, Option, None, Some, Ok, Err, refl, sym, ◌∙◌, ap, subst, arith}
+use Rattle.std.specs.Prelude.{◌==◌, if◌then◌else◌}
 use Rattle.std.specs.Option.{option_map}
 use Rattle.std.proofs.lemmas.Bool.Decides.{nat_tests}
 use Rattle.std.proofs.lemmas.List.{length-drop, length-take}
-use Rattle.std.proofs.lemmas.List.Concat.{flat_map-append}
 use Rattle.std.proofs.lemmas.Option.{same_Some}
 use Rattle.ftl0_packets.specs.Items.{kind_of_item}
 use Rattle.ftl0_packets.specs.Layout.{Item, PacketValue, data_end, data_part, ul_go_resp, upload_cmd}
 use Rattle.client_notes.specs.Notes.{Lists}
 use Rattle.ftl0_job.specs.declared.ending.Ending.{Ending}
-use Rattle.ftl0_job.specs.declared.ending.Outcome.TheVariants as outcome
 use Rattle.ftl0_job.specs.declared.phases.UploadPhase.{UploadPhase}
 use Rattle.ftl0_job.specs.declared.phases.UploadPhase.TheVariants as phase
 use Rattle.ftl0_job.specs.declared.work.Work.{Work}
@@ -21,121 +18,14 @@ use Rattle.ftl0_job.specs.Due.{DuePacket, due_by, due_from, due_in, in_job, in_w
 use Rattle.ftl0_job.specs.Row.{Row}
 use Rattle.ftl0_job.specs.Table.{JobState, item_row, job_after, new_job, row_of}
 use Rattle.ftl0_job.specs.Upload.{Upload, new_upload, upload_row}
-use Rattle.ftl0_client.specs.Entries.{JobEntry, after_losing, lost, packets_said, queued, said_in, took}
-use Rattle.air_attempt.specs.Lists.{Has, OneIs}
+use Rattle.ftl0_client.specs.Entries.{JobEntry, after_losing, lost, queued, took}
 use Rattle.air_attempt.specs.Said.{IsTaken}
 use Rattle.air_attempt.specs.Sides.{JobReaches}
-use Rattle.air_files.specs.UploadDialogue.{GoesOnWith}
 use Rattle.air_files.proofs.JobReach.{Stays, of-reached}
-use Rattle.air_attempt.proofs.Offered.{one-left, one-right}
+use Rattle.air_attempt.proofs.Offered.{one-last, one-left}
 use Rattle.air_files.proofs.JobUploadRows.{UploadCases, upload-cases, upload_at}
-
--- ---- packets that go on with a file
-
--- these DATA go on with the file from this place to that one
-abbrev pub GoesTo : List ℕ → ℕ → List PacketValue → ℕ → Type 0
-GoesTo file place [] end = place ≡ end
-GoesTo file place (data_part octets ∷ packets) end =
-    (octets ≡ take (length octets) (drop place file)) × GoesTo file (place + length octets) packets end
-GoesTo file place (packet ∷ packets) end = ⊥
-
-module _ (file : List ℕ) where
-  -- with DATA behind them
-  goes-more : (packets : List PacketValue) (place mid : ℕ) (octets : List ℕ) → GoesTo file place packets mid
-      → octets ≡ take (length octets) (drop mid file)
-      → GoesTo file place (packets ++ data_part octets ∷ []) (mid + length octets)
-  goes-more [] place mid octets goes next = (
-    subst (λ (p : ℕ). octets ≡ take (length octets) (drop p file)) (sym goes) next,
-    ap
-        (λ (p : ℕ). p + length octets) goes,
-  )
-  goes-more (data_part more ∷ packets) place mid octets goes next =
-      (goes.0, goes-more packets (place + length more) mid octets goes.1 next)
-  goes-more (packet ∷ packets) place mid octets goes next = absurd goes
-
-  pub goes-on : (packets : List PacketValue) (place end : ℕ) → GoesTo file place packets end
-      → GoesOnWith file place packets
-  goes-on [] place end goes = tt
-  goes-on (data_part more ∷ packets) place end goes = (goes.0, goes-on packets (place + length more) end goes.1)
-  goes-on (packet ∷ packets) place end goes = absurd goes
-
-  -- with DATA_END behind them
-  goes-end : (packets : List PacketValue) (place : ℕ) → GoesTo file place packets (length file)
-      → GoesOnWith file place (packets ++ data_end ∷ [])
-  goes-end [] place goes = (goes, refl)
-  goes-end (data_part more ∷ packets) place goes = (goes.0, goes-end packets (place + length more) goes.1)
-  goes-end (packet ∷ packets) place goes = absurd goes
-
-  pub no-end : (packets : List PacketValue) (place end : ℕ) → GoesTo file place packets end → Has packets data_end → ⊥
-  no-end [] place end goes has = has
-  no-end (data_part more ∷ packets) place end goes (inl same) = absurd (cc same)
-  no-end (data_part more ∷ packets) place end goes (inr has) = no-end packets (place + length more) end goes.1 has
-  no-end (packet ∷ packets) place end goes has = absurd goes
-
--- ---- how far a job has come
-
-pub said-one : (es : List JobEntry) (e : JobEntry) → said_in (es ++ e ∷ []) ≡ said_in es ++ packets_said e
-said-one es e =
-    flat_map-append packets_said es (e ∷ [])
-    ∙ ap (λ (l : List PacketValue). said_in es ++ l) (append-nil (packets_said e))
-
--- the file of this number is sent up to this place
-pub record SendsTo (known : ℕ) (file : List ℕ) (es : List JobEntry) (number place : ℕ) : Type 0 where
-  pub some : 1 ≤ number
-  pub within : place ≤ length file
-  pub offset : ℕ
-  pub packets : List PacketValue
-  pub said : said_in es ≡ upload_cmd known (length file) ∷ packets
-  pub took : OneIs (IsTaken (Ok (ul_go_resp number offset))) es
-  pub goes : GoesTo file offset packets place
-
--- all of it was sent
-pub record SentAll (known : ℕ) (file : List ℕ) (es : List JobEntry) (number : ℕ) : Type 0 where
-  pub some : 1 ≤ number
-  pub offset : ℕ
-  pub packets : List PacketValue
-  pub said : said_in es ≡ upload_cmd known (length file) ∷ packets
-  pub took : OneIs (IsTaken (Ok (ul_go_resp number offset))) es
-  pub goes_on : GoesOnWith file offset packets
-
--- what was said and taken before the outcome
-abbrev pub CameTo : UploadPhase → ℕ → List ℕ → List JobEntry → Type 0
-CameTo phase.Login known file es = said_in es ≡ []
-CameTo phase.Go known file es = said_in es ≡ upload_cmd known (length file) ∷ []
-CameTo (phase.Sending number place) known file es = SendsTo known file es number place
-CameTo (phase.Ack number) known file es = SentAll known file es number
-
--- no outcome is that a file was fetched
-abbrev pub NeverFetched : Option Ending → Type 0
-NeverFetched None = ⊤
-NeverFetched (Some ending) = (number : ℕ) → ending.outcome ≢ outcome.Fetched number
-
--- A job that uploads a file, after these entries.
-pub record DoesUpload (task known : ℕ) (file : List ℕ) (es : List JobEntry) (job : JobState) : Type 0 where
-  pub phase_is : UploadPhase
-  pub work_is : job.work ≡ work.Upload (upload_at task known file phase_is)
-  pub came : job.ending ≡ None → CameTo phase_is known file es
-  pub ended : NeverFetched job.ending
-
-pub one-last : {X : Type 0} (P : X → Type 0) (xs : List X) (x : X) → P x → OneIs P (xs ++ x ∷ [])
-one-last P xs x holds = one-right P xs (x ∷ []) (inl holds)
-
--- an offer that may be taken has a number, and lies within the file
-may-go : (b : Bool) (known number offset len : ℕ)
-    → (if b then nat_lt 0 number && (offset == 0) else (number == known) && nat_le offset len) ≡ true
-    → (b ≡ false → 1 ≤ known)
-    → (1 ≤ number) × (offset ≤ len)
-may-go true known number offset len may some = (grind (arith, nat_tests), grind (arith, nat_tests))
-may-go false known number offset len may some =
-    let least = some refl in (grind (arith, nat_tests), grind (arith, nat_tests))
-
-known-some : (known : ℕ) → (known == 0) ≡ false → 1 ≤ known
-known-some known is = grind (arith, nat_tests)
-
-take-length : (n : ℕ) (xs : List ℕ) → take n xs ≡ take (length (take n xs)) xs
-take-length zero xs = refl
-take-length (suc n) [] = refl
-take-length (suc n) (x ∷ xs) = ap (λ (l : List ℕ). x ∷ l) (take-length n xs)
+use Rattle.air_files.proofs.JobUploadCame.{CameTo, DoesUpload, GoesTo, NeverFetched, SendsTo, goes-end, goes-more}
+use Rattle.air_files.proofs.JobUploadCame.{known-some, may-go, said-one, take-length}
 
 -- ---- what is due
 

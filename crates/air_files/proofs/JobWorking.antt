@@ -27,7 +27,7 @@ use Rattle.air_files.specs.SoundStore.{IsSoundStore}
 use Rattle.air_files.proofs.JobNotes.{NotesKept}
 use Rattle.air_files.proofs.JobStep.{JobKept, of_attempts}
 use Rattle.air_files.proofs.JobTook.{front-has, has-ok, last-item, map-ok, took-item, whole}
-use Rattle.air_files.proofs.JobUploadSaid.{NeverFetched}
+use Rattle.air_files.proofs.JobUploadCame.{NeverFetched}
 use Rattle.air_attempt.proofs.Offered.{one-left}
 
 -- a client whose current attempt is this one, over this store, before its job goes on

@@ -23,7 +23,7 @@ use Rattle.ftl0_client.specs.Entries.{JobEntry, after_losing, lost, passed, said
 use Rattle.air_attempt.specs.Sides.{JobReaches}
 use Rattle.air_files.specs.Dialogue.{IsListSaid}
 use Rattle.air_files.proofs.JobReach.{Stays, of-reached}
-use Rattle.air_files.proofs.JobUploadSaid.{NeverFetched, said-one}
+use Rattle.air_files.proofs.JobUploadCame.{NeverFetched, said-one}
 use Rattle.air_attempt.proofs.Offered.{each-append}
 
 -- the list of these tokens' selection, come so far

@@ -27,8 +27,8 @@ use Rattle.air_files.proofs.ApartLemmas.{GrantFact, HasClientFacts, HasFactsApar
 use Rattle.air_files.proofs.GrowingLemmas.{StayOthers}
 use Rattle.air_attempt.proofs.Offered.{one-map}
 use Rattle.air_files.proofs.LikeLemmas.{like-client, like-side, number-like}
-use Rattle.air_files.proofs.StableLemmas.{keeps-complete, keeps-fetching_some, keeps-first_any}
-use Rattle.air_files.proofs.StableLemmas.{keeps-offer, keeps-serves, keeps-task_kept}
+use Rattle.air_files.proofs.StableLemmas.{keeps-complete, keeps-fetching_some, keeps-first_any, keeps-offer}
+use Rattle.air_files.proofs.StableLemmas.{keeps-serves, keeps-task_kept}
 
 -- a session that gave this number to a new upload did so for a task that has it
 abbrev pub OwnGrants : Party → ℕ → Attempt → ServerSide → Type 0

@@ -17,7 +17,7 @@ use Rattle.air_files.specs.Tasks.{StandsBy}
 use Rattle.air_world.specs.Sound.{IsParty, Sound}
 use Rattle.air_world.specs.World.{PartyAt, World}
 use Rattle.air_world.proofs.Served.{stands}
-use Rattle.air_world.proofs.ServerHeard.{first-of}
+use Rattle.air_world.proofs.HeardMade.{first-of}
 use Rattle.air_attempt.proofs.Offered.{all-at}
 
 -- ---- links

@@ -25,7 +25,8 @@ use Rattle.air_world.proofs.Marked.{IsComing, are-marked, delivered, none-marked
 use Rattle.air_world.proofs.Seats.{between, connection-none}
 use Rattle.air_world.proofs.Served.{done-are, keeps, stands}
 use Rattle.air_world.proofs.ServerCut.{cut, cut-sound}
-use Rattle.air_world.proofs.ServerHeard.{HearingLaws, seat-found}
+use Rattle.air_world.proofs.ServerHeard.{seat-found}
+use Rattle.air_world.proofs.HeardMade.{HearingLaws}
 
 pub take-none : {X : Type 0} (count : ℕ) → take {A = X} count [] ≡ []
 take-none zero = refl

@@ -7,7 +7,7 @@ use Rattle.air_world.specs.Laws.{PrefixesLaw}
 use Rattle.air_world.proofs.DuringClient.{during-client}
 use Rattle.air_world.proofs.DuringServer.{during-server}
 use Rattle.air_world.proofs.JobWent.{ClientLaws}
-use Rattle.air_world.proofs.ServerHeard.{HearingLaws}
+use Rattle.air_world.proofs.HeardMade.{HearingLaws}
 
 -- by the laws of both stations' events, of the store and of file headers
 pub record DuringLaws : Type 0 where

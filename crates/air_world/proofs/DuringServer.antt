@@ -24,7 +24,7 @@ use Rattle.air_world.proofs.CutWorld.{left, own-left, take-none}
 use Rattle.air_world.proofs.HeadlineLemmas.{headline-follows}
 use Rattle.air_world.proofs.Marked.{IsComing}
 use Rattle.air_world.proofs.PartsLemmas.{are-offered, has-headline}
-use Rattle.air_world.proofs.ServerHeard.{HearingLaws}
+use Rattle.air_world.proofs.HeardMade.{HearingLaws}
 use Rattle.air_world.proofs.Served.{stands}
 
 soon : (events : ℕ) → suc events % 2 ^ 32 < 2 ^ 32

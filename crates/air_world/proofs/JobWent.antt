@@ -35,10 +35,9 @@ use Rattle.air_world.specs.World.{PartyAt, World}
 use Rattle.air_world.proofs.ClientBasics.{HasLink, has-link, its-attempt, stands-job, working}
 use Rattle.air_world.proofs.ClientMade.{IsClientMade}
 use Rattle.air_world.proofs.SessionsStay.{SessionsStay, sessions_of}
-use Rattle.air_files.proofs.Offered.{alike-itself, served-itself}
+use Rattle.air_files.proofs.Offered.{alike-itself, served-itself, tasks-lists}
 use Rattle.air_world.proofs.ServerTicked.{its-session}
 use Rattle.air_attempt.proofs.Offered.{each-weaker}
-use Rattle.air_files.proofs.Offered.{tasks-lists}
 use Rattle.air_world.proofs.Rebuild.{work-by}
 
 -- the laws that the client's events are proved by

@@ -23,6 +23,7 @@ mod FirstLemmas
 mod GoodFile
 mod Granted
 mod HeadlineLemmas
+mod HeardMade
 mod JobWent
 mod KeptLemmas
 mod Likes

@@ -18,7 +18,7 @@ use Rattle.air_world.specs.Step.{ServerGoes, parties_after}
 use Rattle.air_world.specs.World.{PartyAt, World, counted, next_moment}
 use Rattle.air_world.proofs.CutWorld.{frame-cut-sound, take-none, tick-cut-sound}
 use Rattle.air_world.proofs.Marked.{IsComing, delivered}
-use Rattle.air_world.proofs.ServerHeard.{HearingLaws}
+use Rattle.air_world.proofs.HeardMade.{HearingLaws}
 use Rattle.air_world.proofs.ServerTicked.{tick-sound}
 use Rattle.air_world.proofs.ServerWorld.{heard-sound}
 

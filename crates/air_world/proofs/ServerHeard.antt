@@ -1,5 +1,6 @@
 -- A frame that the server hears: what it makes of the client whose frame it is.
-use Rattle.std.proofs.Common.{◌≡◌, ◌⊎◌, ℕ, zero, suc, ◌≤◌, ◌<◌, ◌^◌, List, [], ◌∷◌, ◌++◌, Bool, true, false, Option, None, Some, refl, sym, ap, subst, ◌∙◌, inl, inr, true≢false}
+use Rattle.std.proofs.Common.{◌≡◌, ◌⊎◌, ℕ, zero, suc, ◌≤◌, ◌<◌, ◌^◌, List, [], ◌∷◌, Bool, true, false, Option}
+use Rattle.std.proofs.Common.{None, Some, refl, sym, ap, subst, ◌∙◌, inl, inr, true≢false}
 use Rattle.std.specs.Prelude.{slice_get}
 use Rattle.std.specs.List.{AllByRecursion}
 use Rattle.std.specs.Option.{option_map_or}
@@ -20,14 +21,14 @@ use Rattle.ftl0_server.specs.Entries.{SessionEntry}
 use Rattle.ftl0_server.specs.ServerStep.{ServerStep, Stepped}
 use Rattle.ftl0_server.specs.Slots.{place_of}
 use Rattle.air_attempt.specs.Attempt.{Attempt, IsAnsweredBy, IsAttempt, IsUnanswered}
-use Rattle.air_attempt.specs.Laws.{AreAttempts, Calls, HeardLaw, IsSeatedIn, IsServedBy, SaysFit, ServerHearsLaw, SessionHears, StaysServer, did_in, heard_in}
+use Rattle.air_attempt.specs.Laws.{AreAttempts, Calls, IsSeatedIn, IsServedBy, SaysFit, SessionHears, StaysServer, did_in, heard_in}
 use Rattle.air_attempt.specs.Party.{Party, all_over, server_sends, to_server_delivered, with_answered, with_newest}
 use Rattle.air_attempt.specs.Said.{Grants}
 use Rattle.air_attempt.specs.Sides.{ServerSide}
 use Rattle.air_files.proofs.Offered.{alike-itself, over-alike, served-itself}
 use Rattle.air_attempt.specs.Transfers.{ServerDid, after_hearing, begun, connection_of, gone_on, has_session, heard_by, opened, served}
 use Rattle.air_files.specs.Facts.{HasFacts}
-use Rattle.air_files.specs.Laws.{BeginLaw, GrantedAt, IsGreeted, LookLike, SessionKeeps, StayLaw, session_gone, with_attempt}
+use Rattle.air_files.specs.Laws.{GrantedAt, IsGreeted, LookLike, SessionKeeps, session_gone, with_attempt}
 use Rattle.air_files.specs.SoundStore.{IsSoundStore}
 use Rattle.air_world.specs.Sound.{Sound}
 use Rattle.air_world.specs.World.{World}
@@ -36,33 +37,9 @@ use Rattle.air_world.proofs.Likes.{grants-like, like-at, same-party}
 use Rattle.air_world.proofs.Marked.{IsComing, delivers, from-client, marked}
 use Rattle.air_world.proofs.Seats.{between, calls, connection-none, connection-seat, finds-slot}
 use Rattle.air_attempt.proofs.Offered.{place-of-is}
-use Rattle.air_world.proofs.Served.{SessionLaws, before-session, by-session, keeps, now-session}
+use Rattle.air_world.proofs.Served.{before-session, by-session, keeps, now-session}
 use Rattle.air_world.proofs.ServerTicked.{its-state}
-
--- what the frame makes of its client's facts, with these attempts, and of store and lists
-pub record OwnMade (old : World) (party : Party) (gives : Stepped) (attempts : List Attempt) : Type 0 where
-  pub facts : HasFacts gives.new.store old.files (record party { attempts = attempts })
-  pub store : IsSoundStore gives.new.store
-  pub lists : AreComplete gives.new.store gives.new.lists
-  pub follows : FollowsBy party.client.me old.server.store gives.new.store
-  pub grants :
-      (at number : ℕ) → GrantedAt (record party { attempts = attempts }) at number
-      → GrantedAt party at number ⊎ ((at ≡ 0) × (old.server.store.next ≤ number))
-
-pub first-of : {X : Type 0} (xs : List X) (x : X) → slice_get xs 0 ≡ Some x → (older : List X) × (xs ≡ x ∷ older)
-first-of [] x is = absurd cc
-first-of (y ∷ ys) x is = (ys, ap (λ z. z ∷ ys) (same_Some y x is))
-
-lost-second : (some more : List SessionEntry) → AllByRecursion session.IsNotLost (some ++ more) → AllByRecursion session.IsNotLost more
-lost-second [] more all = all
-lost-second (entry ∷ some) more all = lost-second some more all.1
-
-pub record HearingLaws : Type 0 where
-  pub hears : ServerHearsLaw
-  pub heard : HeardLaw
-  pub sessions : SessionLaws
-  pub stay : StayLaw
-  pub begin : BeginLaw
+use Rattle.air_world.proofs.HeardMade.{HearingLaws, OwnMade, first-of, lost-second}
 
 module _ (laws : HearingLaws) (old : World) (sound : Sound old) (c : ℕ) (party : Party) (place : ℕ) (t : Transmission) (coming : IsComing old c party place t)
     (moment : ℕ) (soon : moment < 2 ^ 32) (gives : Stepped) (step : ServerStep old.server (frame_comes t.frame moment) [] gives) where
@@ -134,7 +111,8 @@ module _ (laws : HearingLaws) (old : World) (sound : Sound old) (c : ℕ) (party
       quiet-made quiet (with_newest (server_sends frames) those) (passed-facts (with_newest (server_sends frames) those) like stay)
       (passed-grants (with_newest (server_sends frames) those) like stay)
     where
-      passed-like : (frames : List FrameValue) (attempts : List Attempt) → LookLike attempts (with_newest (server_sends frames) (with_newest (to_server_delivered place t) attempts))
+      passed-like : (frames : List FrameValue) (attempts : List Attempt)
+          → LookLike attempts (with_newest (server_sends frames) (with_newest (to_server_delivered place t) attempts))
       passed-like frames [] = tt
       passed-like frames (a ∷ older) = (record { asked = refl; entries = refl; job = refl; served = served-itself a.server }, alike-itself older)
 
@@ -171,7 +149,8 @@ module _ (laws : HearingLaws) (old : World) (sound : Sound old) (c : ℕ) (party
         where
           by : (at : ℕ) → slice_get (first ∷ all_over older) at ≡ Some granted.attempt → GrantedAt party at number
           by zero is =
-              let side_is : side ≡ granted.side = same_Some side granted.side (ap (λ (it : Attempt). it.server) (same_Some first granted.attempt is) ∙ granted.is_side) in
+              let side_is : side ≡ granted.side = same_Some side granted.side
+              (ap (λ (it : Attempt). it.server) (same_Some first granted.attempt is) ∙ granted.is_side) in
               absurd (subst (λ (it : ServerSide). Grants it number granted.file_length) (sym side_is) granted.grants)
           by (suc at) is =
               let before = like-at older (all_over older) at granted.attempt granted.side (over-alike older) is granted.is_side in
@@ -199,7 +178,8 @@ module _ (laws : HearingLaws) (old : World) (sound : Sound old) (c : ℕ) (party
       opened-made : (gives.done ≡ []) × (gives.new.lists ≡ old.server.lists) → AreAttempts party.client.me gives.new.me (opened did now those)
           → OwnMade old party gives (opened did now those)
       opened-made quiet all =
-          let of : AreAttempts party.client.me gives.new.me (first ∷ all_over older) = subst (λ attempts. AreAttempts party.client.me gives.new.me attempts) opened-is all in
+          let of : AreAttempts party.client.me gives.new.me (first ∷ all_over older) =
+          subst (λ attempts. AreAttempts party.client.me gives.new.me attempts) opened-is all in
           let state = its-state party.client.me gives.new.me first side of.0 refl in
           subst (λ attempts. OwnMade old party gives attempts) (sym opened-is)
           (quiet-made quiet (first ∷ all_over older)
@@ -296,11 +276,13 @@ module _ (laws : HearingLaws) (old : World) (sound : Sound old) (c : ℕ) (party
               grants = grants;
             }
 
-            cases : Grants its number granted.file_length ⊎ (old.server.store.next ≤ number) → GrantedAt party 0 number ⊎ (◌≡◌ {A = ℕ} 0 0 × (old.server.store.next ≤ number))
+            cases : Grants its number granted.file_length ⊎ (old.server.store.next ≤ number)
+                → GrantedAt party 0 number ⊎ (◌≡◌ {A = ℕ} 0 0 × (old.server.store.next ≤ number))
             cases (inl grants) = inl (before 0 a its refl served-by.is_side grants)
             cases (inr next) = inr (refl, next)
 
-            by : (place : ℕ) → slice_get (gone ∷ served-by.older) place ≡ Some granted.attempt → GrantedAt party place number ⊎ ((place ≡ 0) × (old.server.store.next ≤ number))
+            by : (place : ℕ) → slice_get (gone ∷ served-by.older) place ≡ Some granted.attempt
+                → GrantedAt party place number ⊎ ((place ≡ 0) × (old.server.store.next ≤ number))
             by zero is =
                 let side_is : gone_on did now these its ≡ granted.side =
                 same_Some (gone_on did now these its) granted.side
@@ -312,7 +294,9 @@ module _ (laws : HearingLaws) (old : World) (sound : Sound old) (c : ℕ) (party
         heard-made state = record {
           facts = subst (λ store. HasFacts store old.files (record party { attempts = gone ∷ served-by.older })) (sym store-now) (heard-facts state);
           store = subst IsSoundStore (sym store-now) kept.store;
-          lists = subst (λ store. AreComplete store gives.new.lists) (sym store-now) (subst (λ lists. AreComplete now-is.store lists) (sym hears.lists_are) kept.lists);
+          lists =
+              subst (λ store. AreComplete store gives.new.lists) (sym store-now)
+              (subst (λ lists. AreComplete now-is.store lists) (sym hears.lists_are) kept.lists);
           follows = subst (λ store. FollowsBy party.client.me old.server.store store) (sym store-now) kept.follows;
           grants = heard-grants;
         }
@@ -332,7 +316,8 @@ module _ (laws : HearingLaws) (old : World) (sound : Sound old) (c : ℕ) (party
   own-made = by (is_call t.frame.kind.control) refl (connection_of old.server t.frame.src) refl (connection_of did.last t.frame.src) refl (calls-then fits).attempts_are
     where
       by : (call : Bool) → is_call t.frame.kind.control ≡ call → (before : Option Connected) → connection_of old.server t.frame.src ≡ before
-          → (after : Option Connected) → connection_of did.last t.frame.src ≡ after → AreAttempts party.client.me gives.new.me (heard_by call before after did t.frame those)
+          → (after : Option Connected) → connection_of did.last t.frame.src ≡ after
+          → AreAttempts party.client.me gives.new.me (heard_by call before after did t.frame those)
           → OwnMade old party gives (heard_by call before after did t.frame those)
       by true calls_now before was (Some now) is all =
           opened-made calls_now now (laws.heard.unheard old.server t.frame moment gives (between old sound) (inl calls_now) step) all

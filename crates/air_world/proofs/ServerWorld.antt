@@ -29,7 +29,8 @@ use Rattle.std.proofs.lemmas.List.{length-set}
 use Rattle.air_world.proofs.Rebuild.{IsMade, StayParties, StaysParty, rebuilt}
 use Rattle.air_world.proofs.Seats.{AreSeatsKnown, between, calls}
 use Rattle.air_world.proofs.Served.{granted-at, stands}
-use Rattle.air_world.proofs.ServerHeard.{HearingLaws, OwnMade, calls-then, did, fits, own-made, stays}
+use Rattle.air_world.proofs.ServerHeard.{calls-then, did, fits, own-made, stays}
+use Rattle.air_world.proofs.HeardMade.{HearingLaws, OwnMade}
 use Rattle.air_world.proofs.WorldLists.{at-map, at-set, map-at, other-call, set-at}
 use Rattle.air_attempt.proofs.Offered.{all-at}
 use Rattle.ax25_link.proofs.Offered.{slice_get-set_other}
