@@ -81,7 +81,7 @@ module _ (laws : HearingLaws) (some_step : SomeStepLaw) (left_law : LeftLaw) (ol
           quiet-left (laws.heard.unheard old.server t.frame moment has.gives (between old sound) (inl calls) has.step).0
       by false is_packet None was =
           quiet-left (laws.heard.unheard old.server t.frame moment has.gives (between old sound)
-          (inr (connection-none old.server t.frame.src was)) has.step).0
+          (inr (connection-none old.server t.frame.src (between old sound) was)) has.step).0
       by false is_packet (Some seat) was =
           let sits = seat-found laws old sound c party place t coming moment soon has.gives has.step seat was in
           let hears = laws.heard.heard old.server t.frame moment has.gives sits.0 seat

@@ -1,25 +1,22 @@
 -- The server's places and the attempts of its callers, taken apart by caller and put together again.
-use Rattle.std.proofs.Common.{◌≡◌, ◌⊎◌, ℕ, zero, suc, List, [], ◌∷◌, Bool, true, false, Option, None, Some, refl, sym}
-use Rattle.std.proofs.Common.{ap, subst, ◌∙◌, inl, inr, true≢false}
-use Rattle.std.specs.Prelude.{find, if◌then◌else◌, is_some, slice_get, IfSome, MatchOption}
-use Rattle.std.specs.Option.{option_and_then, option_or}
-use Rattle.std.specs.List.{AllByRecursion, position_or_len}
-use Rattle.std.proofs.lemmas.List.Folds.{find_at}
+use Rattle.std.proofs.Common.{◌≡◌, ℕ, zero, suc, List, [], ◌∷◌, Bool, true, false, Option, None, Some, refl, sym}
+use Rattle.std.proofs.Common.{ap, subst, ◌∙◌, true≢false}
+use Rattle.std.specs.Prelude.{slice_get, IfSome, MatchOption}
+use Rattle.std.specs.Option.{option_or}
+use Rattle.std.specs.List.{AllByRecursion}
 use Rattle.std.proofs.lemmas.Option.{same_Some}
 use Rattle.px_base.specs.CallSign.{CallSign}
 use Rattle.ftl0_server.specs.Connection.Connected.{Connected, caller_of}
 use Rattle.ftl0_server.specs.Server.{Server}
-use Rattle.ftl0_server.specs.Slots.{Slot, connected, free, leaving, place_of}
-use Rattle.ftl0_session.specs.Uploads.Session.{is_same_call}
+use Rattle.ftl0_server.specs.Slots.{Slot, connected, place_of}
 use Rattle.air_attempt.specs.Attempt.{Attempt, IsAttempt, IsEndOf}
 use Rattle.air_attempt.specs.Laws.{AreAttempts, Calls, IsBetween, IsNewestSession, IsSeatedIn, SitsBy}
 use Rattle.air_attempt.specs.Party.{AreOver, OnlyNewestUp, Party, newest_side}
 use Rattle.air_attempt.specs.Sides.{ServerSide}
-use Rattle.air_attempt.specs.Transfers.{connection_at, connection_of}
+use Rattle.air_attempt.specs.Transfers.{connection_of}
 use Rattle.air_world.specs.Sound.{ArePlaces, IsParty, IsSeated, IsSessionOf, IsSideAt, Sound}
 use Rattle.air_world.specs.World.{PartyAt, World}
-use Rattle.air_attempt.proofs.Offered.{all-at, all-by, place-of-is, place-of-not}
-use Rattle.ftl0_session.proofs.uploads.UploadRows.{same_call-decides}
+use Rattle.air_attempt.proofs.Offered.{all-at, all-by, old-connection, old-none, place-of-is, place-of-not}
 
 -- ---- the place of a caller
 
@@ -35,100 +32,36 @@ module _ (caller : CallSign) (slots : List Slot) where
 
 -- ---- the connection of a caller
 
-connection-slot : (caller : CallSign) (slot : Slot) (c : Connected) → connection_at caller slot ≡ Some c
-    → ((slot ≡ connected c) ⊎ (slot ≡ leaving c)) × (caller_of c ≡ caller)
-connection-slot caller free c is = absurd cc
-connection-slot caller (connected it) c is = by (is_same_call (caller_of it) caller) refl is
-  where
-    by : (b : Bool) → is_same_call (caller_of it) caller ≡ b → (if b then Some it else None) ≡ Some c
-        → ((connected it ≡ connected c) ⊎ (connected it ≡ leaving c)) × (caller_of c ≡ caller)
-    by true same is =
-        let it_is = same_Some it c is in (
-          inl (ap connected it_is),
-          subst (λ (c : Connected). caller_of c ≡ caller) it_is
-              ((same_call-decides (caller_of it) caller).0 same),
-        )
-    by false same is = absurd cc
-connection-slot caller (leaving it) c is = by (is_same_call (caller_of it) caller) refl is
-  where
-    by : (b : Bool) → is_same_call (caller_of it) caller ≡ b → (if b then Some it else None) ≡ Some c
-        → ((leaving it ≡ connected c) ⊎ (leaving it ≡ leaving c)) × (caller_of c ≡ caller)
-    by true same is =
-        let it_is = same_Some it c is in (
-          inr (ap leaving it_is),
-          subst (λ (c : Connected). caller_of c ≡ caller) it_is
-              ((same_call-decides (caller_of it) caller).0 same),
-        )
-    by false same is = absurd cc
+module _ (server : Server) (caller : CallSign) where
+  -- a caller without a place has no connection
+  pub no-connection : IsBetween server → place_of caller server.slots ≡ None → connection_of server caller ≡ None
+  no-connection between none =
+      old-none server between caller (λ place c at is. place-of-not caller server.slots none place c at is)
 
--- the connection of a caller is at a place
-pub connection-seat : (server : Server) (caller : CallSign) (c : Connected) → IsBetween server
-    → connection_of server caller ≡ Some c
-    → (place : ℕ) × IsSeatedIn server place c × (caller_of c ≡ caller)
-connection-seat server caller c between is = by (find has server.slots) refl is
-  where
-    has : Slot → Bool
-    has slot = is_some (connection_at caller slot)
+  -- the connection of a caller is at a place
+  pub connection-seat : (c : Connected) → IsBetween server → connection_of server caller ≡ Some c
+      → (place : ℕ) × IsSeatedIn server place c × (caller_of c ≡ caller)
+  connection-seat c between is = by (place_of caller server.slots) refl
+    where
+      by : (o : Option ℕ) → place_of caller server.slots ≡ o
+          → (place : ℕ) × IsSeatedIn server place c × (caller_of c ≡ caller)
+      by None none = absurd (let no : None ≡ Some c = sym (no-connection between none) ∙ is in cc)
+      by (Some place) found =
+          let seat = place-of-is caller server.slots place found in
+          let own = old-connection server between caller place seat.0 seat.1 seat.2 in
+          let same : seat.0 ≡ c = same_Some seat.0 c (sym own ∙ is) in
+          (place, seat.1 ∙ ap (λ (it : Connected). Some (connected it)) same, ap caller_of (sym same) ∙ seat.2)
 
-    seated : (place : ℕ) (slot : Slot) → slice_get server.slots place ≡ Some slot
-        → (slot ≡ connected c) ⊎ (slot ≡ leaving c) → IsSeatedIn server place c
-    seated place slot at (inl is) = at ∙ ap Some is
-    seated place slot at (inr is) = absurd (between.none_leaving place c (at ∙ ap Some is))
-
-    by : (o : Option Slot) → find has server.slots ≡ o → option_and_then (connection_at caller) o ≡ Some c
-        → (place : ℕ) × IsSeatedIn server place c × (caller_of c ≡ caller)
-    by None found is = absurd cc
-    by (Some slot) found is =
-        let there = connection-slot caller slot c is in
-        let place = position_or_len has server.slots in
-        (place, seated place slot (sym (find_at has server.slots) ∙ found) there.0, there.1)
-
--- a caller without a place has no connection
-pub no-connection : (server : Server) (caller : CallSign) → IsBetween server → place_of caller server.slots ≡ None
-    → connection_of server caller ≡ None
-no-connection server caller between none = by (connection_of server caller) refl
-  where
-    by : (o : Option Connected) → connection_of server caller ≡ o → connection_of server caller ≡ None
-    by None is = is
-    by (Some c) is =
-        let seat = connection-seat server caller c between is in
-        absurd (place-of-not caller server.slots none seat.0 c seat.1 seat.2)
-
--- where one of them has something, the first one that has is found
-first-some : {X Y : Type 0} (f : X → Option Y) (xs : List X) (i : ℕ) (x : X) → slice_get xs i ≡ Some x
-    → is_some (f x) ≡ true
-    → option_and_then f (find (λ x. is_some (f x)) xs) ≡ None → ⊥
-first-some f [] i x at some none = absurd cc
-first-some {X} {Y} f (y ∷ ys) i x at some none = by i at (f y) refl none (λ i at none. first-some f ys i x at some none)
-  where
-    by : (i : ℕ) → slice_get (y ∷ ys) i ≡ Some x → (o : Option Y) → f y ≡ o
-        → option_and_then f (if is_some o then Some y else find (λ x. is_some (f x)) ys) ≡ None
-        → ((i : ℕ) → slice_get ys i ≡ Some x → option_and_then f (find (λ x. is_some (f x)) ys) ≡ None → ⊥) → ⊥
-    by i at (Some z) is none later = absurd (let none_is : Some z ≡ None = sym is ∙ none in cc)
-    by zero at None is none later =
-        absurd (true≢false (sym some ∙ ap (λ (it : X). is_some (f it)) (sym (same_Some y x at))
-        ∙ ap (λ (o : Option Y). is_some o) is))
-    by (suc i) at None is none later = later i at none
-
--- a caller without a connection has no place
-pub connection-none : (server : Server) (caller : CallSign) → connection_of server caller ≡ None
-    → place_of caller server.slots ≡ None
-connection-none server caller none = by (place_of caller server.slots) refl
-  where
-    has : Slot → Bool
-    has slot = is_some (connection_at caller slot)
-
-    no-slot : (place : ℕ) (c : Connected) → slice_get server.slots place ≡ Some (connected c) → caller_of c ≡ caller → ⊥
-    no-slot place c at is =
-        let own = subst (λ call. is_same_call (caller_of c) call ≡ true) is
-        ((same_call-decides (caller_of c) (caller_of c)).1 refl) in
-        let passes : has (connected c) ≡ true = ap (λ (b : Bool). is_some (if b then Some c else None)) own in
-        first-some (connection_at caller) server.slots place (connected c) at passes none
-
-    by : (o : Option ℕ) → place_of caller server.slots ≡ o → place_of caller server.slots ≡ None
-    by None found = found
-    by (Some place) found =
-        let slot = place-of-is caller server.slots place found in absurd (no-slot place slot.0 slot.1 slot.2)
+  -- a caller without a connection has no place
+  pub connection-none : IsBetween server → connection_of server caller ≡ None → place_of caller server.slots ≡ None
+  connection-none between none = by (place_of caller server.slots) refl
+    where
+      by : (o : Option ℕ) → place_of caller server.slots ≡ o → place_of caller server.slots ≡ None
+      by None found = found
+      by (Some place) found =
+          let seat = place-of-is caller server.slots place found in
+          let own = old-connection server between caller place seat.0 seat.1 seat.2 in
+          absurd (let no : None ≡ Some seat.0 = sym none ∙ own in cc)
 
 -- ---- apart
 

@@ -324,7 +324,7 @@ module _ (laws : HearingLaws) (old : World) (sound : Sound old) (c : ℕ) (party
       by true calls_now before was None is all =
           passed-made (laws.heard.unheard old.server t.frame moment gives (between old sound) (inl calls_now) step) did.frames
       by false is_packet None was after is all =
-          passed-made (laws.heard.unheard old.server t.frame moment gives (between old sound) (inr (connection-none old.server t.frame.src was)) step) did.frames
+          passed-made (laws.heard.unheard old.server t.frame moment gives (between old sound) (inr (connection-none old.server t.frame.src (between old sound) was)) step) did.frames
       by false is_packet (Some seat) was None is all =
           let sits = seat-found seat was in
           let hears = laws.heard.heard old.server t.frame moment gives sits.0 seat (between old sound) is_packet sits.1 sits.2 step in
