@@ -19,6 +19,7 @@ use Rattle.air_files.specs.Facts.{NotesGrant, Receives, got}
 use Rattle.air_files.specs.Kept.{HoldsAck, IsTaskKept}
 use Rattle.air_files.specs.UploadDialogue.{GoesOnWith}
 use Rattle.air_attempt.proofs.Offered.{each-weaker}
+use Rattle.air_files.proofs.ReceivesAs.{receives-as}
 
 -- the client with these notes, this link, this DM to be sent and these attempts
 abbrev pub made : Party → Lists → Option Attempted → Option Refused → List Attempt → Party
@@ -96,24 +97,7 @@ module _ (store : Store) (files : List Asked) (base : Party) (lists now_lists : 
         some-so a.server
             (λ side is h number rest up state.
             let r = h number rest up state in
-            record {
-              task = r.task;
-              known = r.known;
-              file = r.file;
-              asks = r.asks;
-              entry = r.entry;
-              is_entry = r.is_entry;
-              held = r.held;
-              holds = r.holds;
-              caller_is = r.caller_is;
-              length_is = r.length_is;
-              few = r.few;
-              offset = r.offset;
-              offers = r.offers;
-              came = r.came;
-              within = r.within;
-              goes_on = c.receives side number rest is up state r;
-            })
+            receives-as r r.asks r.is_entry r.caller_is r.offers r.came r.within (c.receives side number rest is up state r))
             f.sessions.receives.0,
         each-weaker older (λ x if. some-so x.server
             (λ side is h number rest up state. receive x side number rest (h number rest up state)) if)
@@ -146,21 +130,4 @@ module _ (store : Store) (files : List Asked) (base : Party) (lists now_lists : 
 
       receive : (x : Attempt) (side : ServerSide) (number : ℕ) (rest : List ℕ) → Receives store old x side number rest
           → Receives store new x side number rest
-      receive x side number rest r = record {
-        task = r.task;
-        known = r.known;
-        file = r.file;
-        asks = r.asks;
-        entry = r.entry;
-        is_entry = r.is_entry;
-        held = r.held;
-        holds = r.holds;
-        caller_is = r.caller_is;
-        length_is = r.length_is;
-        few = r.few;
-        offset = r.offset;
-        offers = r.offers;
-        came = r.came;
-        within = r.within;
-        goes_on = r.goes_on;
-      }
+      receive x side number rest r = receives-as r r.asks r.is_entry r.caller_is r.offers r.came r.within r.goes_on

@@ -56,6 +56,7 @@ mod OtherLemmas
 mod OwnerLemmas
 mod QuietKeeps
 mod QuietLemmas
+mod ReceivesAs
 mod SessionAll
 mod SessionFirst
 mod SessionOne

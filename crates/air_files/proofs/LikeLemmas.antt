@@ -18,6 +18,7 @@ use Rattle.air_files.specs.Facts.{HasNumber, IsGrantKept, Receives}
 use Rattle.air_files.specs.Laws.{IsSameParty, LooksLike, LooksLikeSession}
 use Rattle.air_files.proofs.ApartLemmas.{HasClientFacts, HasSideFacts}
 use Rattle.air_files.proofs.JobEarlier.{reached-any}
+use Rattle.air_files.proofs.ReceivesAs.{receives-as}
 
 -- ---- a client, an attempt and a session with what the facts look at of others
 
@@ -114,24 +115,7 @@ like-receives : (store : Store) (party now : Party) (a b : Attempt) (side other 
     (rest : List ℕ)
     → Receives store party a side number rest
     → Receives store (like party now) (like_attempt a b) (like_side side other) number rest
-like-receives store party now a b side other number rest r = record {
-  task = r.task;
-  known = r.known;
-  file = r.file;
-  asks = r.asks;
-  entry = r.entry;
-  is_entry = r.is_entry;
-  held = r.held;
-  holds = r.holds;
-  caller_is = r.caller_is;
-  length_is = r.length_is;
-  few = r.few;
-  offset = r.offset;
-  offers = r.offers;
-  came = r.came;
-  within = r.within;
-  goes_on = r.goes_on;
-}
+like-receives store party now a b side other number rest r = receives-as r r.asks r.is_entry r.caller_is r.offers r.came r.within r.goes_on
 
 like-serves : (store : Store) (asked : Work) (side other : ServerSide) → Serves store asked side
     → Serves store asked (like_side side other)
