@@ -1,8 +1,7 @@
 -- One more entry of a session: what it says, what it answers, and what its row's commands leave.
 use Rattle.std.proofs.Common.{◌≡◌, ◌⊎◌, inl, inr, ℕ, suc, zero, List, [], ◌∷◌, ◌++◌, length, drop, take, refl, ap, sym}
-use Rattle.std.proofs.Common.{◌∙◌, subst, append-nil, Bool, Some}
+use Rattle.std.proofs.Common.{◌∙◌, subst, Bool, Some}
 use Rattle.std.specs.List.{AllByRecursion}
-use Rattle.std.proofs.lemmas.List.Concat.{flat_map-append}
 use Rattle.px_base.specs.CallSign.{CallSign, IsCall}
 use Rattle.ftl0_packets.specs.Layout.{Item, PacketValue}
 use Rattle.file_entries.proofs.Offered.{follows_law}
@@ -21,28 +20,22 @@ use Rattle.air_attempt.specs.Sides.{ServerSide, said_by_server}
 use Rattle.air_files.specs.Facts.{coming_by}
 use Rattle.air_files.specs.SoundStore.{IsSoundStore}
 use Rattle.air_files.specs.UploadDialogue.{answered_by, answered_in}
-use Rattle.air_attempt.proofs.Offered.{one-cases, one-left, one-right}
+use Rattle.air_attempt.proofs.Offered.{flat_map-one, one-cases, one-left, one-right}
 use Rattle.air_files.proofs.StoreLemmas.{sound-kept}
 
 -- ---- lists of entries
 
 pub said-more : (entries : List SessionEntry) (x : SessionEntry)
     → session.said_in (entries ++ x ∷ []) ≡ session.said_in entries ++ session.packets_said x
-said-more entries x =
-    flat_map-append session.packets_said entries (x ∷ [])
-    ∙ ap (λ (packets : List PacketValue). session.said_in entries ++ packets) (append-nil (session.packets_said x))
+said-more = flat_map-one session.packets_said
 
 pub answered-more : (entries : List SessionEntry) (x : SessionEntry)
     → answered_in (entries ++ x ∷ []) ≡ answered_in entries ++ answered_by x
-answered-more entries x =
-    flat_map-append answered_by entries (x ∷ [])
-    ∙ ap (λ (items : List Item). answered_in entries ++ items) (append-nil (answered_by x))
+answered-more = flat_map-one answered_by
 
 pub items-more : (entries : List SessionEntry) (x : SessionEntry)
     → session.items_in (entries ++ x ∷ []) ≡ session.items_in entries ++ session.items_of x
-items-more entries x =
-    flat_map-append session.items_of entries (x ∷ [])
-    ∙ ap (λ (items : List Item). session.items_in entries ++ items) (append-nil (session.items_of x))
+items-more = flat_map-one session.items_of
 
 -- packets without octets of DATA bring none, also behind some of those before
 quiet-behind : (k : ℕ) (packets : List PacketValue) → AllByRecursion (λ p. octets_of_data p ≡ []) packets
