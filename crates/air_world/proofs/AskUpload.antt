@@ -197,21 +197,24 @@ module _ (old : World) (c : ℕ) (party : Party) (it : Asked) (sound : Sound old
       → MayBeAsked old c party base (it ∷ []) (work.Upload (new_upload last 0 it.file))
   ask-file begin few good =
       record {
-        me = refl;
-        server = refl;
-        window = refl;
+        base_is =
+            record {
+              me = refl;
+              server = refl;
+              window = refl;
+              attempts = refl;
+              facts =
+                  begin.begun old.server.store old.files c party it (stands old sound c party is) few
+                  (sound.parties c party is).facts;
+              tasks = tasks-now;
+              works =
+                  each-weaker {P = (λ (a : Attempt). IsWork old.files party a.client.asked)} {Q =
+                  (λ a. IsWork files base a.client.asked)} party.attempts
+                  (λ a works. work-now a.client.asked works) (sound.parties c party is).works;
+              good = (good, tt);
+            };
         link = refl;
         stray = refl;
-        attempts = refl;
-        facts =
-            begin.begun old.server.store old.files c party it (stands old sound c party is) few
-            (sound.parties c party is).facts;
-        tasks = tasks-now;
-        works =
-            each-weaker {P = (λ (a : Attempt). IsWork old.files party a.client.asked)} {Q =
-            (λ a. IsWork files base a.client.asked)} party.attempts
-            (λ a works. work-now a.client.asked works) (sound.parties c party is).works;
-        good = (good, tt);
         begun = refl;
         go_with =
             record {

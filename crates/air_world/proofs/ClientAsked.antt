@@ -63,19 +63,19 @@ module _ (laws : ClientLaws) (old : World) (sound : Sound old) (c : ℕ) (party 
   base-goes =
       let it = goes-with old sound c party is in
       record {
-        window = subst IsWindow (sym may.window) it.window;
+        window = subst IsWindow (sym may.base_is.window) it.window;
         attempts_are =
-            subst (λ server. AreAttempts base.client.me server party.attempts) (sym may.server)
-            (subst (λ me. AreAttempts me party.client.server party.attempts) (sym may.me) it.attempts_are);
+            subst (λ server. AreAttempts base.client.me server party.attempts) (sym may.base_is.server)
+            (subst (λ me. AreAttempts me party.client.server party.attempts) (sym may.base_is.me) it.attempts_are);
         windows =
-            subst (λ w. AllByRecursion (λ (a : Attempt). a.window ≡ w) party.attempts) (sym may.window) it.windows;
+            subst (λ w. AllByRecursion (λ (a : Attempt). a.window ≡ w) party.attempts) (sym may.base_is.window) it.windows;
         link = subst (λ link. IsLinkOf (slice_get party.attempts 0) link) (sym may.link) it.link;
         may_step =
             record {
-              silent = still-silent party.client base.client may.window may.link may.stray it.may_step.silent;
+              silent = still-silent party.client base.client may.base_is.window may.link may.stray it.may_step.silent;
               fits =
                   subst (λ link. EndFits base.client.window link) (sym may.link)
-                  (subst (λ w. EndFits w party.client.attempt) (sym may.window) it.may_step.fits);
+                  (subst (λ w. EndFits w party.client.attempt) (sym may.base_is.window) it.may_step.fits);
             };
       }
 
@@ -98,14 +98,7 @@ module _ (laws : ClientLaws) (old : World) (sound : Sound old) (c : ℕ) (party 
 
   begins : Begins old c party base asked begun now
   begins = record {
-    me = may.me;
-    server = may.server;
-    window = may.window;
-    attempts = may.attempts;
-    facts = may.facts;
-    tasks = may.tasks;
-    works = may.works;
-    good = may.good;
+    base_is = may.base_is;
     begins = record { asked = may.begun; job = refl; entries = refl; unserved = refl };
     goes_on = may.goes_on;
     work = may.work;

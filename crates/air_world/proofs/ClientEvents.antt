@@ -267,7 +267,7 @@ module _ (laws : ClientLaws) (some_step : SomeStepLaw) (old new : World) (sound 
           (λ a work. work-more old.files (it ∷ []) party a.client.asked work) own.works)
           (tasks-lists (old.files ++ it ∷ []) c party (started_with party party.client.lists) refl refl refl refl
           (tasks-more old.files (it ∷ []) c party own.tasks))
-          (laws.stay.started old.server.store (old.files ++ it ∷ []) party longer) may.good)
+          (laws.stay.started old.server.store (old.files ++ it ∷ []) party longer) may.base_is.good)
           (party_cut begin-part zero) refl (append-nil party.uploads) refl
       begin-cut-made (suc count) =
           let own = sound.parties c party is in
@@ -275,10 +275,10 @@ module _ (laws : ClientLaws) (some_step : SomeStepLaw) (old new : World) (sound 
           made-alike laws.stay old c party (record (started_with tasked-party lists) { attempts = party.attempts })
           (it ∷ [])
           (started-made laws.stay old sound c party is party.attempts (still-itself party.attempts) own.attempts
-          (it ∷ []) tasked-party lists refl refl refl refl may.works
+          (it ∷ []) tasked-party lists refl refl refl refl may.base_is.works
           (tasks-lists (old.files ++ it ∷ []) c tasked-party
-          (started_with tasked-party lists) refl refl refl refl may.tasks)
-          (laws.stay.started old.server.store (old.files ++ it ∷ []) tasked-party may.facts) may.good)
+          (started_with tasked-party lists) refl refl refl refl may.base_is.tasks)
+          (laws.stay.started old.server.store (old.files ++ it ∷ []) tasked-party may.base_is.facts) may.base_is.good)
           (party_cut begin-part (suc count))
           (ap (λ (commands : List NotesCommand). (started_with party (after_all lists commands)).client)
           (take-none count))

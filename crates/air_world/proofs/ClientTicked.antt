@@ -20,8 +20,8 @@ use Rattle.air_attempt.specs.Laws.{GoesWith}
 use Rattle.air_attempt.specs.Party.{Party, with_newest}
 use Rattle.air_attempt.specs.Transfers.{ClientDid, after_client_tick, after_event, beginning, called_again, did_by}
 use Rattle.air_attempt.specs.Transfers.{has_call, job_gone_on}
-use Rattle.air_files.specs.Facts.{GoesOnWithTask, HasFacts}
-use Rattle.air_files.specs.Tasks.{AreTasks, IsWork}
+use Rattle.air_files.specs.Facts.{GoesOnWithTask}
+use Rattle.air_files.specs.Tasks.{IsWork}
 use Rattle.air_world.specs.Sound.{Sound}
 use Rattle.air_world.specs.World.{PartyAt, World}
 use Rattle.air_world.proofs.ClientBasics.{HasLink, goes-with, has-link, its-attempt}
@@ -31,6 +31,7 @@ use Rattle.air_world.proofs.ClientMade.{IsClientMade}
 use Rattle.air_world.proofs.ClientQuiet.{quiet-made, still-itself}
 use Rattle.air_world.proofs.JobWent.{ClientLaws, Went, client-made}
 use Rattle.air_world.proofs.SayLemmas.{may-say-at}
+use Rattle.air_world.proofs.Asked.{same-base}
 
 module _ (laws : ClientLaws) (old : World) (sound : Sound old) (c : ℕ) (party : Party) (is : PartyAt old c party)
     (noted : List NotesCommand) (frames : List FrameValue) (now : Client)
@@ -140,16 +141,7 @@ module _ (laws : ClientLaws) (old : World) (sound : Sound old) (c : ℕ) (party 
           let it = sound.parties c party is in
           let files = sym (append-nil old.files) in
           record {
-            me = refl;
-            server = refl;
-            window = refl;
-            attempts = refl;
-            facts = subst (λ files. HasFacts old.server.store files party) files it.facts;
-            tasks = subst (λ files. AreTasks files c party) files it.tasks;
-            works =
-                subst (λ files. AllByRecursion (λ (a : Attempt). IsWork files party a.client.asked) party.attempts)
-                files it.works;
-            good = tt;
+            base_is = same-base old c party sound is;
             begins =
                 record {
                   asked = (its-attempt old sound c party is link has).job.begun;
