@@ -4,6 +4,7 @@ use Rattle.std.specs.List.{AllByRecursion, concat}
 use Rattle.px_base.specs.CallSign.{CallSign}
 use Rattle.px_base.specs.Octets.{IsFront, IsOctets}
 use Rattle.ax25_frames.specs.FrameText.{FrameValue}
+use Rattle.ftl0_packets.proofs.OctetLemmas.{IsOctets-nil}
 use Rattle.ax25_link.specs.Air.{Transmission, sending_all}
 use Rattle.ax25_link.specs.declared.state.LinkState.TheVariants.{Calling}
 use Rattle.ax25_link.specs.Laws.{HasNoCall, IsUnused}
@@ -12,7 +13,6 @@ use Rattle.ax25_link.specs.Sending.{IsQuiet}
 use Rattle.ax25_link.specs.Stations.{SendsOwn}
 use Rattle.ax25_link.specs.Window.{Window}
 use Rattle.ax25_link.proofs.Offered.{prefix_law}
-use Rattle.ftl0_packets.proofs.OctetLemmas.{IsOctets-nil}
 use Rattle.ftl0_client.specs.Entries.{JobEntry}
 use Rattle.air_attempt.specs.Attempt.{AreFromTo, Attempt, IsAnswered, IsAnsweredBy, IsAttempt, IsRefusal, IsUnanswered}
 use Rattle.air_attempt.specs.Attempt.{client_station, server_station}

@@ -2,15 +2,15 @@
 use Rattle.std.proofs.Common.{◌≡◌, ℕ, List, [], ◌++◌, sym, ap, ap₂, ◌∙◌, subst, append-nil}
 use Rattle.std.specs.List.{AllByRecursion, concat}
 use Rattle.px_base.specs.Octets.{IsOctets}
+use Rattle.ftl0_packets.specs.Items.{texts}
+use Rattle.ftl0_packets.specs.Layout.{Fits, Item, PacketValue}
+use Rattle.ftl0_packets.specs.Reading.{packets_of, rest_of}
 use Rattle.ax25_link.specs.Calls.{Doing, DoesAll}
 use Rattle.ax25_link.specs.declared.state.Heard.{Heard}
 use Rattle.ax25_link.specs.declared.state.Heard.TheVariants.{Nothing, Opened, Reopened, Bytes, Closed}
 use Rattle.ax25_link.specs.declared.state.LinkState.{LinkState}
 use Rattle.ax25_link.specs.Ends.{LinkEnd}
 use Rattle.ax25_link.specs.Rows.{Outcome}
-use Rattle.ftl0_packets.specs.Items.{texts}
-use Rattle.ftl0_packets.specs.Layout.{Fits, Item, PacketValue}
-use Rattle.ftl0_packets.specs.Reading.{packets_of, rest_of}
 use Rattle.client_notes.specs.Notes.{Lists}
 use Rattle.ftl0_job.specs.JobState.{NotesGoWith}
 use Rattle.ftl0_job.specs.Table.{new_job}

@@ -9,6 +9,7 @@ use Rattle.ax25_link.specs.Air.{IsLawful, Transmission, delivering, fresh}
 use Rattle.ax25_link.specs.Ends.{LinkEnd}
 use Rattle.ax25_link.specs.LinkStep as coming
 use Rattle.ax25_link.specs.Window.{Window}
+use Rattle.ftl0_session.proofs.uploads.UploadRows.{same_call-decides}
 use Rattle.client_notes.specs.Command.{NotesCommand}
 use Rattle.client_notes.specs.Notes.{is_same_call}
 use Rattle.ftl0_job.specs.Table.{JobState}
@@ -32,7 +33,6 @@ use Rattle.air_attempt.proofs.ClientJob.{SaysInRange, gone_on}
 use Rattle.air_attempt.proofs.ClientLink.{StepOf}
 use Rattle.air_attempt.proofs.ClientTicks.{tick-begins, tick-moves}
 use Rattle.air_attempt.proofs.ListLemmas.{all-at}
-use Rattle.ftl0_session.proofs.uploads.UploadRows.{same_call-decides}
 
 -- the laws of a client that these lean on
 pub record Below : Type 0 where

@@ -5,6 +5,9 @@ use Rattle.std.specs.List.{concat}
 use Rattle.px_base.specs.CallSign.{CallSign}
 use Rattle.px_base.specs.Octets.{IsOctets}
 use Rattle.ax25_frames.specs.FrameText.{FrameValue}
+use Rattle.ftl0_packets.specs.Items.{texts}
+use Rattle.ftl0_packets.specs.Reading.{packets_of}
+use Rattle.ftl0_packets.proofs.OctetLemmas.{IsOctets-nil}
 use Rattle.ax25_link.specs.Air.{fresh}
 use Rattle.ax25_link.specs.declared.state.LinkState.{LinkState}
 use Rattle.ax25_link.specs.declared.state.LinkState.TheVariants.{Calling}
@@ -18,9 +21,6 @@ use Rattle.ftl0_client.specs.Attempt.Hearing.{ticking, with_end}
 use Rattle.ftl0_client.specs.Attempt.Laws.{OutcomeLaw}
 use Rattle.ftl0_client.specs.Entries.{JobEntry, TickingLaw, entries_ticked, items_in, lost, passed, queued, said_in}
 use Rattle.ftl0_client.specs.Entries.{took}
-use Rattle.ftl0_packets.specs.Items.{texts}
-use Rattle.ftl0_packets.specs.Reading.{packets_of}
-use Rattle.ftl0_packets.proofs.OctetLemmas.{IsOctets-nil}
 use Rattle.air_attempt.specs.Attempt.{Attempt, IsAnsweredBy, IsAttempt, IsOneCall, client_station, server_station}
 use Rattle.air_attempt.specs.Sides.{ClientSide, IsJob, ServerSide}
 use Rattle.air_attempt.specs.Transfers.{has_call}

@@ -4,6 +4,8 @@ use Rattle.std.proofs.Common.{◌≡◌, ◌⊎◌, ℕ, List, [], ◌∷◌, Bo
 use Rattle.std.proofs.Common.{subst}
 use Rattle.std.specs.Prelude.{if◌then◌else◌, ◌&&◌}
 use Rattle.std.proofs.lemmas.Bool.{cond_both}
+use Rattle.ftl0_packets.specs.Items.{kind_of_item, texts}
+use Rattle.ftl0_packets.specs.Layout.{Item}
 use Rattle.ax25_link.specs.Calls.{after_hang_up, after_push}
 use Rattle.ax25_link.specs.declared.state.Heard.{Heard}
 use Rattle.ax25_link.specs.declared.state.Heard.TheVariants.{Nothing, Opened, Reopened, Bytes, Closed}
@@ -12,8 +14,6 @@ use Rattle.ax25_link.specs.declared.state.LinkState.TheVariants.{Calling, Up, Do
 use Rattle.ax25_link.specs.declared.state.Why.{Why}
 use Rattle.ax25_link.specs.Ends.{LinkEnd, free_octets}
 use Rattle.ax25_link.specs.Timer.{is_up}
-use Rattle.ftl0_packets.specs.Items.{kind_of_item, texts}
-use Rattle.ftl0_packets.specs.Layout.{Item}
 use Rattle.packet_link.specs.Queuing.{fits}
 use Rattle.packet_link.proofs.Queuing.{filling-keeps}
 use Rattle.client_notes.specs.Laws.{after_all}

@@ -1,13 +1,11 @@
 -- What is so of each of a list, or of one of it: of those at hand, and of a changed list of them.
 use Rattle.std.proofs.Common.{◌≡◌, ◌⊎◌, ℕ, zero, suc, List, [], ◌∷◌, ◌++◌, map, refl, sym, subst, Option, None, Some}
-use Rattle.std.proofs.Common.{inl, inr}
+use Rattle.std.proofs.Common.{inl, inr, ap, ◌∙◌, append-nil}
 use Rattle.std.specs.Prelude.{IfSome, slice_get}
-use Rattle.std.specs.List.{AllByRecursion}
+use Rattle.std.specs.List.{AllByRecursion, flat_map}
 use Rattle.std.proofs.lemmas.Option.{same_Some}
-use Rattle.air_attempt.specs.Lists.{Has, OneIs}
-use Rattle.std.specs.List.{flat_map}
 use Rattle.std.proofs.lemmas.Grind.{flat_map-append}
-use Rattle.std.proofs.Common.{ap, ◌∙◌, append-nil}
+use Rattle.air_attempt.specs.Lists.{Has, OneIs}
 
 -- ---- each of a list
 

@@ -1,5 +1,6 @@
 -- Packets, their texts and their octets, one list behind another.
 use Rattle.std.proofs.Common.{◌≡◌, ℕ, ◌+◌, ◌*◌, ◌/◌, ◌%◌, ◌<◌, List, [], ◌∷◌, ◌++◌, length, ◌∙◌, ap, subst, arith, lit<}
+use Rattle.std.proofs.Common.{refl}
 use Rattle.std.specs.List.{AllByRecursion, concat}
 use Rattle.px_base.specs.Numbers.{le16_octets, le32_octets}
 use Rattle.px_base.specs.Octets.{IsFront, IsOctets}
@@ -11,7 +12,6 @@ use Rattle.ftl0_packets.specs.Reading.{packets_of, rest_of}
 use Rattle.ftl0_packets.proofs.OctetLemmas.{IsOctets-append, IsOctets-cons, IsOctets-nil}
 use Rattle.ftl0_packets.proofs.SplitLemmas.{octets_front, read-append}
 use Rattle.ax25_link.proofs.Offered.{concat-append_one}
-use Rattle.std.proofs.Common.{refl}
 
 -- ---- no octets
 

@@ -1,7 +1,7 @@
 -- Between events a server is as it was before, but for the connections that a step changed.
-use Rattle.std.proofs.Common.{◌≡◌, ◌≢◌, ◌⊎◌, inl, inr, ℕ, ◌<◌, List, [], length, Some, refl, sym}
-use Rattle.std.proofs.Common.{ap, subst, ◌∙◌}
+use Rattle.std.proofs.Common.{◌≡◌, ◌≢◌, ◌⊎◌, inl, inr, ℕ, ◌<◌, List, [], length, Some, refl, sym, ap, subst, ◌∙◌}
 use Rattle.std.specs.Prelude.{slice_get, slice_set}
+use Rattle.std.proofs.lemmas.List.{length-map, length-set}
 use Rattle.px_base.specs.CallSign.{CallSign}
 use Rattle.ax25_link.specs.declared.state.LinkState.TheVariants.{Up}
 use Rattle.ax25_link.specs.Window.{IsWindow, Window}
@@ -13,7 +13,6 @@ use Rattle.ftl0_server.specs.ServerStep.{ServerStep, Stepped}
 use Rattle.ftl0_server.specs.Slots.{Slot, all_freed, connected, leaving}
 use Rattle.air_attempt.specs.Laws.{IsBetween, IsKnown, IsSeatedIn}
 use Rattle.air_attempt.proofs.Places.{freed-none, freed-seat, get-set}
-use Rattle.std.proofs.lemmas.List.{length-map, length-set}
 
 -- ---- connections at places
 

@@ -3,6 +3,7 @@ use Rattle.std.proofs.Common.{◌≡◌, inl, ℕ, List, [], length, map, false,
 use Rattle.std.specs.Prelude.{slice_get}
 use Rattle.std.specs.Option.{option_map}
 use Rattle.std.proofs.lemmas.Option.{same_Some, slice_get-map}
+use Rattle.std.proofs.lemmas.List.{length-map}
 use Rattle.px_base.specs.CallSign.{CallSign}
 use Rattle.ax25_frames.specs.FrameText.{FrameValue}
 use Rattle.ax25_link.specs.Ends.{LinkEnd}
@@ -27,7 +28,6 @@ use Rattle.air_attempt.proofs.Drained.{DrainedAt, IsHeldAt, drained-at, drained-
 use Rattle.air_attempt.proofs.LinkKeeps.{drains-keep}
 use Rattle.air_attempt.proofs.Places.{held, mapped-some}
 use Rattle.air_attempt.proofs.ServerBetween.{Reseats, between-new, known-new, none-left, seat-before, steps-again}
-use Rattle.std.proofs.lemmas.List.{length-map}
 use Rattle.air_attempt.proofs.ServerHearing.{SlotEnds, drains-peer, left-connected, slot-ends}
 use Rattle.air_attempt.proofs.ServerPlaces.{ChangesAll, tick-places}
 use Rattle.air_attempt.proofs.SessionTicks.{tick-up, ticked_to}

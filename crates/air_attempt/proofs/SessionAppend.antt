@@ -6,6 +6,10 @@ use Rattle.std.proofs.lemmas.List.Concat.{flat_map-append}
 use Rattle.px_base.specs.CallSign.{CallSign}
 use Rattle.px_base.specs.Octets.{IsOctets}
 use Rattle.ax25_frames.specs.FrameText.{FrameValue}
+use Rattle.ftl0_packets.specs.Items.{texts}
+use Rattle.ftl0_packets.specs.Layout.{Fits, Item}
+use Rattle.ftl0_packets.specs.Reading.{packets_of, rest_of}
+use Rattle.ftl0_packets.proofs.SplitLemmas.{texts-append}
 use Rattle.ax25_link.specs.declared.state.Heard.{Heard}
 use Rattle.ax25_link.specs.declared.state.Heard.TheVariants.{Nothing, Opened, Reopened, Bytes, Closed}
 use Rattle.ax25_link.specs.declared.state.LinkState.TheVariants.{Up}
@@ -13,14 +17,10 @@ use Rattle.ax25_link.specs.Ends.{LinkEnd}
 use Rattle.ax25_link.specs.Rows.{after_frame, heard_of, is_call}
 use Rattle.ax25_link.specs.Sending.{Drains}
 use Rattle.ax25_link.specs.Window.{Window}
-use Rattle.ftl0_packets.specs.Items.{texts}
-use Rattle.ftl0_packets.specs.Layout.{Fits, Item}
-use Rattle.ftl0_packets.specs.Reading.{packets_of, rest_of}
-use Rattle.ftl0_packets.proofs.SplitLemmas.{texts-append}
+use Rattle.file_store.specs.Store.{Store}
 use Rattle.ftl0_session.specs.Lists.Lists.{CallerList}
 use Rattle.ftl0_session.specs.Run.{Session, session_over}
 use Rattle.ftl0_session.specs.Table.{State, command}
-use Rattle.file_store.specs.Store.{Store}
 use Rattle.ftl0_server.specs.Connection.Connected.{Connected, caller_of}
 use Rattle.ftl0_server.specs.Connection.Hearing.{Happened, hearing, rest_as, with_end}
 use Rattle.ftl0_server.specs.Entries as session

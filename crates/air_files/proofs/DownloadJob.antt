@@ -27,6 +27,7 @@ use Rattle.air_attempt.specs.Attempt.{Attempt}
 use Rattle.air_attempt.specs.Lists.{Has}
 use Rattle.air_attempt.specs.Party.{Asked, Party}
 use Rattle.air_attempt.specs.Sides.{JobReaches, ServerSide, said_by_client, said_by_server}
+use Rattle.air_attempt.proofs.Offered.{flat_map-one, one-cases, reaches-by, reaches-then, some-at}
 use Rattle.air_files.specs.Dialogue.{Says, Serves}
 use Rattle.air_files.specs.Facts.{AskedWithin, FetchesBy, FetchesIn}
 use Rattle.air_files.specs.Laws.{IsDownloadOf, TookFront, job_gone, with_job}
@@ -35,7 +36,6 @@ use Rattle.air_files.proofs.DownloadJobHeard.{IsNext, next-of}
 use Rattle.air_files.proofs.DownloadJobNotes.{Downloading, RowKept, packet-kept}
 use Rattle.air_files.proofs.DownloadJobRows.{download_at}
 use Rattle.air_files.proofs.DownloadJobSaid.{DoesDownload, does-download, none-due}
-use Rattle.air_attempt.proofs.Offered.{flat_map-one, one-cases, reaches-by, reaches-then, some-at}
 use Rattle.air_files.proofs.JobNotes.{NotesKept}
 use Rattle.air_files.proofs.JobOne.{OneLaw}
 use Rattle.air_files.proofs.JobReach.{row-of-work}

@@ -8,8 +8,9 @@ use Rattle.std.proofs.lemmas.Bool.Decides.{nat_tests}
 use Rattle.std.proofs.lemmas.List.{nil_from_length}
 use Rattle.px_base.specs.CallSign.{CallSign}
 use Rattle.px_base.specs.Octets.{IsFront}
+use Rattle.ftl0_packets.specs.Layout.{Item, PacketValue, data_end, data_part, dl_ack_cmd, dl_completed_resp}
+use Rattle.ftl0_packets.specs.Layout.{dl_error_resp, download_cmd, login_resp}
 use Rattle.pfh_items.specs.Faults.{fault_code}
-use Rattle.ftl0_packets.specs.Layout.{Item, PacketValue, data_end, data_part, dl_ack_cmd, dl_completed_resp, dl_error_resp, download_cmd, login_resp}
 use Rattle.file_store.specs.Store.{Store}
 use Rattle.ftl0_session.proofs.downloads.FileLemmas.{file-complete}
 use Rattle.ftl0_server.specs.Entries as session
@@ -35,6 +36,7 @@ use Rattle.air_attempt.specs.Lists.{Has}
 use Rattle.air_attempt.specs.Party.{Asked, Party}
 use Rattle.air_attempt.specs.Said.{octets_of_data, octets_of_item, octets_said, octets_taken}
 use Rattle.air_attempt.specs.Sides.{IsGreeting, ServerSide, said_by_client, said_by_server}
+use Rattle.air_attempt.proofs.Offered.{flat_map-one, one-left, one-right}
 use Rattle.air_files.specs.DownloadDialogue.{SaysDownload, ServesDownload}
 use Rattle.air_files.specs.Facts.{AreFirstIfAny, Fetches, FetchesIn, HasFacts, coming_by}
 use Rattle.air_files.specs.Laws.{job_gone, with_job}
@@ -44,7 +46,6 @@ use Rattle.air_files.proofs.DownloadJobHeard.{IsNext, asks-once, coming-octets, 
 use Rattle.air_files.proofs.DownloadJobHeard.{unasked-silent}
 use Rattle.air_files.proofs.DownloadJobRows.{DownloadCases, download-cases, download_at}
 use Rattle.air_files.proofs.DownloadJobSaid.{CameTo}
-use Rattle.air_attempt.proofs.Offered.{flat_map-one, one-left, one-right}
 use Rattle.air_files.proofs.GotKept.{first-before, last-pieces, noted-after, pieces-fronts, whole-pieces}
 use Rattle.air_files.proofs.JobNotes.{NotesKept}
 use Rattle.air_files.proofs.JobStep.{of_attempts}

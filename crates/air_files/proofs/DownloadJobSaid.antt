@@ -19,11 +19,11 @@ use Rattle.ftl0_client.specs.Entries.{JobEntry, after_losing, lost, packets_said
 use Rattle.air_attempt.specs.Lists.{OneIs}
 use Rattle.air_attempt.specs.Said.{IsTaken}
 use Rattle.air_attempt.specs.Sides.{JobReaches}
+use Rattle.air_attempt.proofs.Offered.{one-last, one-left}
 use Rattle.air_files.specs.DownloadDialogue.{Fetching, IsWord, asked, fetching_said, silent, told}
 use Rattle.air_files.proofs.DownloadJobRows.{DownloadCases, download-cases, download_at}
 use Rattle.air_files.proofs.JobReach.{Stays, of-reached}
 use Rattle.air_files.proofs.JobUploadCame.{said-one}
-use Rattle.air_attempt.proofs.Offered.{one-last, one-left}
 
 -- what a job that has said so much has taken: its word came behind DATA_END
 abbrev pub Told : List JobEntry → Fetching → Type 0

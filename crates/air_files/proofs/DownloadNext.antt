@@ -12,11 +12,11 @@ use Rattle.air_attempt.specs.Laws.{ClientTookFront, ServerTookFront}
 use Rattle.air_attempt.specs.Lists.{AreFirstOf, Has}
 use Rattle.air_attempt.specs.Said.{Took}
 use Rattle.air_attempt.specs.Sides.{IsGreeting, ServerSide, said_by_client, said_by_server}
+use Rattle.air_attempt.proofs.Offered.{flat_map-one, one-left}
 use Rattle.air_files.specs.DownloadDialogue.{Fetching, IsFetchingFile, IsWord, SaysDownload, Sending, asked, ended}
 use Rattle.air_files.specs.DownloadDialogue.{fetching_said, refused, sending_items, sending_said, sends, silent, told}
 use Rattle.air_files.specs.DownloadDialogue.{unasked, waits}
 use Rattle.air_files.specs.UploadDialogue.{answered_in}
-use Rattle.air_attempt.proofs.Offered.{flat_map-one, one-left}
 use Rattle.air_files.proofs.JobTook.{took-item}
 use Rattle.air_files.proofs.UploadNext.{answered-all}
 

@@ -19,6 +19,7 @@ use Rattle.air_attempt.specs.Laws.{ServerTookFront}
 use Rattle.air_attempt.specs.Lists.{AreFirstOf as AreFirstIn}
 use Rattle.air_attempt.specs.Party.{Party}
 use Rattle.air_attempt.specs.Sides.{ServerSide, said_by_client}
+use Rattle.air_attempt.proofs.Offered.{flat_map-one}
 use Rattle.air_files.specs.DownloadDialogue.{AreSent, AreSentFrom, IsSendingState, Sending, ended, refused}
 use Rattle.air_files.specs.DownloadDialogue.{sending_items, sending_said, sends, unasked, waits}
 use Rattle.air_files.specs.UploadDialogue.{answered_by, answered_in}
@@ -28,7 +29,6 @@ use Rattle.air_files.proofs.DownloadDue.{place_then, rest_due}
 use Rattle.air_files.proofs.UploadNext.{answered-all}
 use Rattle.air_files.proofs.DownloadServed.{IsDownloading, KeepsDownload, due-waiting, said-one}
 use Rattle.air_files.proofs.FetchesOn.{comes-silent}
-use Rattle.air_attempt.proofs.Offered.{flat_map-one}
 use Rattle.air_files.proofs.FileOctets.{due-sending, octets-entry}
 use Rattle.air_files.proofs.QuietKeeps.{gone_side}
 

@@ -1,6 +1,5 @@
 -- What a job that fetched a file reached and said.
-use Rattle.std.proofs.Common.{◌≡◌, ℕ, refl}
-use Rattle.std.proofs.Common.{Option, None, Some}
+use Rattle.std.proofs.Common.{◌≡◌, ℕ, refl, Option, None, Some}
 use Rattle.px_base.specs.CallSign.{CallSign}
 use Rattle.ax25_link.specs.declared.state.Why.{Why}
 use Rattle.ftl0_job.specs.declared.ending.Ending.{Ending}

@@ -21,6 +21,7 @@ use Rattle.air_attempt.specs.Lists.{Has}
 use Rattle.air_attempt.specs.Party.{Party}
 use Rattle.air_attempt.specs.Said.{octets_said}
 use Rattle.air_attempt.specs.Sides.{IsGreeting, ServerSide, said_by_client, said_by_server}
+use Rattle.air_attempt.proofs.Offered.{flat_map-one}
 use Rattle.air_files.specs.Dialogue.{IsDueNow}
 use Rattle.air_files.specs.DownloadDialogue.{AreSent, IsLast, IsWord, SaysDownload, Sending, ServesDownload, ended}
 use Rattle.air_files.specs.DownloadDialogue.{refused, sending_items, sending_said, sends, unasked, waits}
@@ -28,7 +29,6 @@ use Rattle.air_files.specs.SoundStore.{IsSoundStore}
 use Rattle.air_files.specs.UploadDialogue.{answered_by, answered_in}
 use Rattle.air_files.proofs.DownloadRows.{last_row, refusal, sending_row}
 use Rattle.air_files.proofs.FetchesOn.{ComesOn, comes-silent}
-use Rattle.air_attempt.proofs.Offered.{flat_map-one}
 use Rattle.air_files.proofs.FileOctets.{due-sending}
 use Rattle.air_files.proofs.QuietKeeps.{gone_side}
 

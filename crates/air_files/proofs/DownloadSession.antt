@@ -19,6 +19,7 @@ use Rattle.air_attempt.specs.Attempt.{Attempt}
 use Rattle.air_attempt.specs.Lists.{Has}
 use Rattle.air_attempt.specs.Party.{Asked, EachAttempt, Party}
 use Rattle.air_attempt.specs.Sides.{ServerSide, said_by_client}
+use Rattle.air_attempt.proofs.Offered.{each-append}
 use Rattle.air_files.specs.Dialogue.{Says, Serves}
 use Rattle.air_files.specs.DownloadDialogue.{AreSent, IsLast, IsSendingState, Sending, ServesDownload, ended, refused}
 use Rattle.air_files.specs.DownloadDialogue.{sending_said, sends, unasked, waits}
@@ -31,7 +32,6 @@ use Rattle.air_files.proofs.DownloadEntry.{keeps-entry}
 use Rattle.air_files.proofs.DownloadServed.{IsDownloading, KeepsDownload}
 use Rattle.air_files.proofs.FetchesOn.{fetching-on}
 use Rattle.air_files.proofs.GoneLemmas.{facts-over}
-use Rattle.air_attempt.proofs.Offered.{each-append}
 use Rattle.air_files.proofs.QuietKeeps.{StaysQuiet, gone_side, keeps-quiet}
 use Rattle.air_files.proofs.QuietLemmas.{IsNoUpload, IsQuiet}
 

@@ -4,23 +4,23 @@ use Rattle.std.proofs.Common.{◌∙◌, subst, Bool, Some}
 use Rattle.std.specs.List.{AllByRecursion}
 use Rattle.px_base.specs.CallSign.{CallSign, IsCall}
 use Rattle.ftl0_packets.specs.Layout.{Item, PacketValue}
-use Rattle.file_entries.proofs.Offered.{follows_law}
 use Rattle.file_entries.specs.Follows.{AreOf, BringsOctets, FollowsBy, IsOf, KeepsEntries}
+use Rattle.file_entries.proofs.Offered.{follows_law}
 use Rattle.file_store.specs.Command.{AreAllowed, Command, HasCall, HaveCalls, after, begin, drop_entry, grow, seal}
 use Rattle.file_store.specs.OnDisk.{after_first}
 use Rattle.file_store.specs.Store.{Store}
+use Rattle.ftl0_session.specs.Table.{State}
 use Rattle.ftl0_server.specs.Entries as session
 use Rattle.ftl0_server.specs.Entries.{SessionEntry}
-use Rattle.ftl0_session.specs.Table.{State}
 use Rattle.ftl0_client.specs.Entries as job
 use Rattle.air_attempt.specs.Attempt.{Attempt}
 use Rattle.air_attempt.specs.Lists.{Has, OneIs}
 use Rattle.air_attempt.specs.Said.{Answers, IsAnswer, octets_of_data, octets_said}
 use Rattle.air_attempt.specs.Sides.{ServerSide, said_by_server}
+use Rattle.air_attempt.proofs.Offered.{flat_map-one, one-cases, one-left, one-right}
 use Rattle.air_files.specs.Facts.{coming_by}
 use Rattle.air_files.specs.SoundStore.{IsSoundStore}
 use Rattle.air_files.specs.UploadDialogue.{answered_by, answered_in}
-use Rattle.air_attempt.proofs.Offered.{flat_map-one, one-cases, one-left, one-right}
 use Rattle.air_files.proofs.StoreLemmas.{sound-kept}
 
 -- ---- lists of entries

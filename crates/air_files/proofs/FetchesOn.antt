@@ -3,7 +3,7 @@ use Rattle.std.proofs.Common.{◌≡◌, ℕ, zero, suc, ◌+◌, ◌≤◌, Lis
 use Rattle.std.proofs.Common.{subst, Option, None, Some, arith, length-append, append-nil}
 use Rattle.std.specs.Prelude.{IfSome, Ok, slice_get}
 use Rattle.std.proofs.lemmas.Grind.{flat_map-append}
-use Rattle.std.proofs.lemmas.List.{drop-append-le}
+use Rattle.std.proofs.lemmas.List.{drop-append-le, length-map}
 use Rattle.ftl0_packets.specs.Layout.{Item, PacketValue}
 use Rattle.file_store.specs.Store.{Store}
 use Rattle.ftl0_job.specs.declared.ending.Ending.{Ending}
@@ -21,7 +21,6 @@ use Rattle.air_attempt.specs.Said.{octets_of_data, octets_of_item, octets_said, 
 use Rattle.air_attempt.specs.Sides.{ServerSide, said_by_server}
 use Rattle.air_files.specs.Facts.{AreFirstIfAny, Fetches, FetchesBy, FetchesIn, IsFetching, coming_by, got}
 use Rattle.air_files.specs.Laws.{with_attempt}
-use Rattle.std.proofs.lemmas.List.{length-map}
 
 -- ---- lists
 

@@ -7,6 +7,7 @@ use Rattle.std.proofs.lemmas.Bool.Decides.{eqb_tells, nat_tests}
 use Rattle.std.proofs.lemmas.List.{drop-drop, nil_from_length}
 use Rattle.px_base.specs.CallSign.{CallSign}
 use Rattle.px_base.specs.Octets.{IsFront, IsOctets}
+use Rattle.ftl0_packets.proofs.SplitLemmas.{octets_front}
 use Rattle.pfh_items.specs.Faults.{IsFaultless, fault_code}
 use Rattle.pfh_items.proofs.Offered.{no_fault, no_front}
 use Rattle.pfh_writer.proofs.StampedLemmas.{no_fault-code}
@@ -25,7 +26,6 @@ use Rattle.air_files.specs.SoundStore.{IsSoundStore}
 use Rattle.air_files.proofs.FileOctets.{octets-entry}
 use Rattle.air_files.proofs.JobNotes.{NotesKept, NumberIn}
 use Rattle.air_files.proofs.ShortOctets.{whole-fault}
-use Rattle.ftl0_packets.proofs.SplitLemmas.{octets_front}
 
 -- ---- pieces that are noted, one after another
 

@@ -29,11 +29,11 @@ use Rattle.air_attempt.specs.Attempt.{Attempt}
 use Rattle.air_attempt.specs.Lists.{AreFirstOf}
 use Rattle.air_attempt.specs.Party.{Asked, Party}
 use Rattle.air_attempt.specs.Sides.{ServerSide, said_by_client, said_by_server}
+use Rattle.air_attempt.proofs.Offered.{each-weaker, reaches-by, reaches-then}
 use Rattle.air_files.specs.Facts.{HasFacts}
 use Rattle.air_files.specs.Laws.{IsDirectoryOf, IsDownloadOf, IsUploadOf, JobKeeps, JobLaw, JobTookFront, Stands}
 use Rattle.air_files.specs.Laws.{TookFront, job_gone, started_with, with_job}
 use Rattle.air_files.specs.Tasks.{IsWork}
-use Rattle.air_attempt.proofs.Offered.{each-weaker, reaches-by, reaches-then}
 use Rattle.air_files.proofs.JobChange.{moved}
 use Rattle.air_files.proofs.JobEarlier.{earlier, outcome-stays}
 use Rattle.air_files.proofs.JobNotes.{NotesKept}

@@ -12,13 +12,12 @@ use Rattle.air_attempt.specs.Attempt.{Attempt}
 use Rattle.air_attempt.specs.Party.{Asked, IsFileOf, Party}
 use Rattle.air_attempt.specs.Said.{AsksUpload, octets_come, said_behind_server}
 use Rattle.air_attempt.specs.Sides.{ServerSide}
+use Rattle.air_attempt.proofs.Offered.{each-weaker}
 use Rattle.air_files.specs.Dialogue.{Says}
 use Rattle.air_files.specs.Facts.{AreFirstIfAny, AskedWithin, GoesOnWithTask, HasFacts, HasFetched, HasNumber}
-use Rattle.air_files.specs.Facts.{IsFetching, IsGrantKept, IsNumbered}
-use Rattle.air_files.specs.Facts.{NotesGrant, Receives, got}
+use Rattle.air_files.specs.Facts.{IsFetching, IsGrantKept, IsNumbered, NotesGrant, Receives, got}
 use Rattle.air_files.specs.Kept.{HoldsAck, IsTaskKept}
 use Rattle.air_files.specs.UploadDialogue.{GoesOnWith}
-use Rattle.air_attempt.proofs.Offered.{each-weaker}
 use Rattle.air_files.proofs.ReceivesAs.{receives-as}
 
 -- the client with these notes, this link, this DM to be sent and these attempts

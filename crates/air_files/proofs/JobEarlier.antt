@@ -1,8 +1,8 @@
 -- What holds of a client whose job went on by an entry holds of it as it was before, with the newer notes.
 use Rattle.std.proofs.Common.{◌≡◌, ℕ, ◌+◌, List, [], ◌∷◌, ◌++◌, length, drop, Option, None, Some, refl, sym, ◌∙◌, ap}
 use Rattle.std.proofs.Common.{subst, suc, zero}
-use Rattle.ax25_link.specs.declared.state.Why.{Why}
 use Rattle.ftl0_packets.specs.Layout.{PacketValue, data_end, data_part, download_cmd, ul_go_resp}
+use Rattle.ax25_link.specs.declared.state.Why.{Why}
 use Rattle.file_store.specs.Store.{Store}
 use Rattle.ftl0_server.specs.Entries as session
 use Rattle.client_notes.specs.Notes.{Lists}
@@ -18,6 +18,7 @@ use Rattle.air_attempt.specs.Attempt.{Attempt}
 use Rattle.air_attempt.specs.Lists.{Has}
 use Rattle.air_attempt.specs.Party.{Asked, Party}
 use Rattle.air_attempt.specs.Said.{IsTaken, octets_come}
+use Rattle.air_attempt.proofs.Offered.{due-none, one-left}
 use Rattle.air_files.specs.Facts.{HasFacts, HasNumber}
 use Rattle.air_files.specs.Laws.{job_gone, started_with}
 use Rattle.air_files.specs.UploadDialogue.{GoesOnWith}
@@ -25,7 +26,6 @@ use Rattle.air_files.proofs.JobChange.{change}
 use Rattle.air_files.proofs.JobStep.{of_attempts}
 use Rattle.air_files.proofs.JobTook.{whole}
 use Rattle.air_files.proofs.JobUploadCame.{said-one}
-use Rattle.air_attempt.proofs.Offered.{due-none, one-left}
 
 -- ---- fewer packets
 

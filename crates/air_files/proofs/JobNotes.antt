@@ -6,8 +6,8 @@ use Rattle.std.specs.Option.{option_map}
 use Rattle.std.proofs.lemmas.Bool.Decides.{eqb_tells, nat_tests}
 use Rattle.std.proofs.lemmas.List.{length-set}
 use Rattle.std.proofs.lemmas.Option.{same_Some}
-use Rattle.ax25_link.proofs.Offered.{slice_get-set_other}
 use Rattle.pfh_items.specs.Faults.{fault_code}
+use Rattle.ax25_link.proofs.Offered.{slice_get-set_other}
 use Rattle.file_store.specs.Store.{Store}
 use Rattle.client_notes.specs.Answers.{noted_as, noted_at, noted_by}
 use Rattle.client_notes.specs.Command.{changed_at, set_some, with_task}

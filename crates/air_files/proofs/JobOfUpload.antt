@@ -25,6 +25,7 @@ use Rattle.air_attempt.specs.Lists.{AreFirstOf, Has, OneIs}
 use Rattle.air_attempt.specs.Party.{Asked, Party}
 use Rattle.air_attempt.specs.Said.{IsTaken, octets_come, said_behind_server}
 use Rattle.air_attempt.specs.Sides.{IsGreeting, JobReaches, ServerSide, said_by_client, said_by_server}
+use Rattle.air_attempt.proofs.Offered.{one-cases, one-left, reaches-by, reaches-then, some-at}
 use Rattle.air_files.specs.Dialogue.{Says, Serves}
 use Rattle.air_files.specs.Facts.{FetchesBy, HasNumber, Receives}
 use Rattle.air_files.specs.Laws.{TookFront, job_gone, with_job}
@@ -32,7 +33,6 @@ use Rattle.air_files.specs.Tasks.{IsWork}
 use Rattle.air_files.specs.UploadDialogue.{GoesOnWith, SaysUpload, ServesUpload}
 use Rattle.air_files.proofs.JobNotes.{NotesKept, NumberIn}
 use Rattle.air_files.proofs.JobReach.{row-of-work}
-use Rattle.air_attempt.proofs.Offered.{one-cases, one-left, reaches-by, reaches-then, some-at}
 use Rattle.air_files.proofs.JobStep.{of_attempts}
 use Rattle.air_files.proofs.JobTook.{whole}
 use Rattle.air_files.proofs.JobUploadCases.{keeps-notes, notes-number, says-nothing}

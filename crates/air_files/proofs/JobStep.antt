@@ -14,11 +14,11 @@ use Rattle.air_attempt.specs.Attempt.{Attempt}
 use Rattle.air_attempt.specs.Party.{Asked, Party}
 use Rattle.air_attempt.specs.Said.{octets_come, said_behind_server}
 use Rattle.air_attempt.specs.Sides.{ServerSide}
+use Rattle.air_attempt.proofs.Offered.{each-weaker}
 use Rattle.air_files.specs.Dialogue.{Says}
 use Rattle.air_files.specs.Facts.{AskedWithin, HasFacts, HasFetched, HasNumber, IsFetching, NotesGrant, Receives}
 use Rattle.air_files.specs.Laws.{JobKeeps, job_gone, started_with, with_job}
 use Rattle.air_files.specs.UploadDialogue.{GoesOnWith}
-use Rattle.air_attempt.proofs.Offered.{each-weaker}
 use Rattle.air_files.proofs.JobChange.{change}
 use Rattle.air_files.proofs.JobNotes.{NotesKept, NumberIn}
 

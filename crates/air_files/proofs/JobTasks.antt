@@ -8,9 +8,9 @@ use Rattle.std.proofs.lemmas.Bool.{cases_eq}
 use Rattle.std.proofs.lemmas.List.{length-set}
 use Rattle.std.proofs.lemmas.List.Elements.{All-from_recursion, All-take, recursion_from_All}
 use Rattle.std.proofs.lemmas.Option.{same_Some, slice_get_within}
-use Rattle.ax25_link.proofs.Offered.{slice_get-set_other, slice_get-set_same}
 use Rattle.px_base.specs.CallSign.{CallSign}
 use Rattle.ftl0_packets.specs.Layout.{Item, PacketValue}
+use Rattle.ax25_link.proofs.Offered.{slice_get-set_other, slice_get-set_same}
 use Rattle.client_notes.specs.Command.{NotesCommand, acked, after, changed_at, forgot, got, numbered, refused, set_some}
 use Rattle.client_notes.specs.Command.{start, with_task}
 use Rattle.client_notes.specs.Laws.{after_all}
@@ -27,14 +27,13 @@ use Rattle.ftl0_job.specs.Upload.{Upload, upload_row}
 use Rattle.ftl0_client.specs.Entries as job
 use Rattle.ftl0_client.specs.Entries.{GoesBy, JobEntry, lost, passed, queued, took}
 use Rattle.air_attempt.specs.Party.{Asked, Party}
+use Rattle.air_attempt.proofs.Offered.{each-append}
 use Rattle.air_files.specs.Laws.{JobTasksLaw, started_with}
 use Rattle.air_files.specs.Tasks.{AreTasks}
 use Rattle.air_files.proofs.DownloadJobRows.{DownloadCases, download-cases}
 use Rattle.air_files.proofs.JobNotes.{SameTasks}
 use Rattle.air_files.proofs.JobUploadRows.{UploadCases, upload-cases}
-use Rattle.air_attempt.proofs.Offered.{each-append}
 use Rattle.air_files.proofs.ListJobSaid.{item-silent}
-use Rattle.std.proofs.Common.{subst, sym}
 
 -- the command begins no task
 abbrev pub IsNoStart : NotesCommand → Type 0

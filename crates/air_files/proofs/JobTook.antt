@@ -10,10 +10,10 @@ use Rattle.ftl0_client.specs.Entries.{JobEntry}
 use Rattle.air_attempt.specs.Lists.{AreFirstOf, Has, OneIs}
 use Rattle.air_attempt.specs.Said.{Answers, IsTaken}
 use Rattle.air_attempt.specs.Sides.{IsGreeting, ServerSide, said_by_server}
-use Rattle.air_files.specs.UploadDialogue.{AnsweredFirst, IsOfferFor, IsOfferedBy, IsWord, Receiving, ServesUpload}
-use Rattle.air_files.specs.UploadDialogue.{answered_in, data_items}
-use Rattle.air_files.specs.UploadDialogue.{ended, received_items, receives, receiving_said, refused, unasked}
 use Rattle.air_attempt.proofs.Offered.{one-last, one-left, one-right}
+use Rattle.air_files.specs.UploadDialogue.{AnsweredFirst, IsOfferFor, IsOfferedBy, IsWord, Receiving, ServesUpload}
+use Rattle.air_files.specs.UploadDialogue.{answered_in, data_items, ended, received_items, receives, receiving_said}
+use Rattle.air_files.specs.UploadDialogue.{refused, unasked}
 
 -- ---- lists
 

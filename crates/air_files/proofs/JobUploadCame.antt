@@ -1,7 +1,6 @@
 -- How far the job of an upload has come by what it said.
-use Rattle.std.proofs.Common.{◌≡◌, ◌≢◌, ℕ, ◌+◌, ◌≤◌, List, [], ◌∷◌, ◌++◌, Bool, true, false, length, take, drop}
-use Rattle.std.proofs.Common.{Option, None, Some, Ok, inl, inr, refl, sym, ap, subst, arith}
-use Rattle.std.proofs.Common.{suc, zero}
+use Rattle.std.proofs.Common.{◌≡◌, ◌≢◌, ℕ, ◌+◌, ◌≤◌, List, [], ◌∷◌, ◌++◌, Bool, true, false, length, take, drop, Option}
+use Rattle.std.proofs.Common.{None, Some, Ok, inl, inr, refl, sym, ap, subst, arith, suc, zero}
 use Rattle.std.specs.Prelude.{◌==◌, ◌&&◌, nat_le, nat_lt, if◌then◌else◌, ⊤}
 use Rattle.std.proofs.lemmas.Bool.Decides.{nat_tests}
 use Rattle.ftl0_packets.specs.Layout.{PacketValue, data_end, data_part, ul_go_resp, upload_cmd}
@@ -14,9 +13,9 @@ use Rattle.ftl0_job.specs.Table.{JobState}
 use Rattle.ftl0_client.specs.Entries.{JobEntry, packets_said, said_in}
 use Rattle.air_attempt.specs.Lists.{Has, OneIs}
 use Rattle.air_attempt.specs.Said.{IsTaken}
+use Rattle.air_attempt.proofs.Offered.{flat_map-one}
 use Rattle.air_files.specs.UploadDialogue.{GoesOnWith}
 use Rattle.air_files.proofs.JobUploadRows.{upload_at}
-use Rattle.air_attempt.proofs.Offered.{flat_map-one}
 
 -- ---- packets that go on with a file
 

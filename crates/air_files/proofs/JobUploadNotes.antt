@@ -21,13 +21,13 @@ use Rattle.air_attempt.specs.Lists.{Has, OneIs}
 use Rattle.air_attempt.specs.Party.{Asked, IsFileOf, Party}
 use Rattle.air_attempt.specs.Said.{Answers, Grants, IsTaken, Offers, SaysComplete}
 use Rattle.air_attempt.specs.Sides.{IsGreeting, ServerSide, said_by_client, said_by_server}
+use Rattle.air_attempt.proofs.Offered.{some-at}
 use Rattle.air_files.specs.Facts.{HasFacts, HasNumber, IsBegun, IsGrantKept, IsNumbered, IsOfferKept}
 use Rattle.air_files.specs.Kept.{IsFileAt, IsKept, IsTaskKept}
 use Rattle.air_files.specs.UploadDialogue.{ServesUpload}
 use Rattle.air_files.proofs.JobNotes.{NotesKept, kept-same, kept-task}
 use Rattle.air_files.proofs.JobStep.{of_attempts}
 use Rattle.air_files.proofs.JobTook.{offer-answers, whole}
-use Rattle.air_attempt.proofs.Offered.{some-at}
 use Rattle.air_files.proofs.JobUploadRows.{upload_at}
 
 -- ---- the first of some commands

@@ -1,6 +1,6 @@
 -- What a job that uploads a file has said, by how far it has come.
-use Rattle.std.proofs.Common.{◌≡◌, ℕ, ◌+◌, ◌-◌, List, [], ◌∷◌, ◌++◌, Bool, true, false, length, take, drop}
-use Rattle.std.proofs.Common.{min, Option, None, Some, Ok, Err, refl, sym, ◌∙◌, ap, subst, arith}
+use Rattle.std.proofs.Common.{◌≡◌, ℕ, ◌+◌, ◌-◌, List, [], ◌∷◌, ◌++◌, Bool, true, false, length, take, drop, min, Option}
+use Rattle.std.proofs.Common.{None, Some, Ok, Err, refl, sym, ◌∙◌, ap, subst, arith}
 use Rattle.std.specs.Prelude.{◌==◌, if◌then◌else◌}
 use Rattle.std.specs.Option.{option_map}
 use Rattle.std.proofs.lemmas.Bool.Decides.{nat_tests}
@@ -21,8 +21,8 @@ use Rattle.ftl0_job.specs.Upload.{Upload, new_upload, upload_row}
 use Rattle.ftl0_client.specs.Entries.{JobEntry, after_losing, lost, queued, took}
 use Rattle.air_attempt.specs.Said.{IsTaken}
 use Rattle.air_attempt.specs.Sides.{JobReaches}
-use Rattle.air_files.proofs.JobReach.{Stays, of-reached}
 use Rattle.air_attempt.proofs.Offered.{one-last, one-left}
+use Rattle.air_files.proofs.JobReach.{Stays, of-reached}
 use Rattle.air_files.proofs.JobUploadRows.{UploadCases, upload-cases, upload_at}
 use Rattle.air_files.proofs.JobUploadCame.{CameTo, DoesUpload, GoesTo, NeverFetched, SendsTo, goes-end, goes-more}
 use Rattle.air_files.proofs.JobUploadCame.{known-some, may-go, said-one, take-length}

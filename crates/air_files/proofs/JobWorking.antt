@@ -1,7 +1,7 @@
 -- What stands where a job goes on by one entry, and what is to be shown then.
 use Rattle.std.proofs.Common.{◌≡◌, ℕ, List, [], ◌∷◌, ◌++◌, map, Option, None, Some}
-use Rattle.ax25_link.specs.declared.state.Why.{Why}
 use Rattle.ftl0_packets.specs.Layout.{Item, PacketValue}
+use Rattle.ax25_link.specs.declared.state.Why.{Why}
 use Rattle.file_store.specs.Store.{Store}
 use Rattle.ftl0_server.specs.Entries as session
 use Rattle.client_notes.specs.Laws.{after_all}
@@ -21,6 +21,7 @@ use Rattle.air_attempt.specs.Lists.{Has, OneIs}
 use Rattle.air_attempt.specs.Party.{Asked, Party}
 use Rattle.air_attempt.specs.Said.{IsTaken}
 use Rattle.air_attempt.specs.Sides.{JobReaches, ServerSide, said_by_client, said_by_server}
+use Rattle.air_attempt.proofs.Offered.{one-left}
 use Rattle.air_files.specs.Facts.{HasFacts}
 use Rattle.air_files.specs.Laws.{Stands, TookFront, job_gone, with_job}
 use Rattle.air_files.specs.SoundStore.{IsSoundStore}
@@ -28,7 +29,6 @@ use Rattle.air_files.proofs.JobNotes.{NotesKept}
 use Rattle.air_files.proofs.JobStep.{JobKept, of_attempts}
 use Rattle.air_files.proofs.JobTook.{front-has, has-ok, last-item, map-ok, took-item, whole}
 use Rattle.air_files.proofs.JobUploadCame.{NeverFetched}
-use Rattle.air_attempt.proofs.Offered.{one-left}
 
 -- a client whose current attempt is this one, over this store, before its job goes on
 pub record Working (store : Store) (files : List Asked) (c : ℕ) (base : Party) (a : Attempt)

@@ -12,8 +12,8 @@ use Rattle.air_attempt.specs.Sides.{ClientSide, ServerSide}
 use Rattle.air_files.specs.Dialogue.{Says, Serves}
 use Rattle.air_files.specs.DownloadDialogue as download
 use Rattle.air_files.specs.DownloadDialogue.{Fetching, IsFetchingFile}
-use Rattle.air_files.specs.UploadDialogue.{AnsweredFirst, Receiving, ended, receives, refused, unasked}
-use Rattle.air_files.specs.UploadDialogue.{IsSendingFile, Sending, asked, silent, sends as sending}
+use Rattle.air_files.specs.UploadDialogue.{AnsweredFirst, IsSendingFile, Receiving, Sending, asked, ended, receives}
+use Rattle.air_files.specs.UploadDialogue.{refused, sends as sending, silent, unasked}
 use Rattle.air_files.specs.Facts.{HasNumber, IsGrantKept, Receives}
 use Rattle.air_files.specs.Laws.{IsSameParty, LooksLike, LooksLikeSession}
 use Rattle.air_files.proofs.ApartLemmas.{HasClientFacts, HasSideFacts}

@@ -20,13 +20,13 @@ use Rattle.ftl0_client.specs.Entries.{GoesBy, JobEntry, lost, passed, queued, to
 use Rattle.air_attempt.specs.Attempt.{Attempt}
 use Rattle.air_attempt.specs.Party.{Asked, Party}
 use Rattle.air_attempt.specs.Sides.{JobReaches, said_by_client}
+use Rattle.air_attempt.proofs.Offered.{reaches-by, reaches-then}
 use Rattle.air_files.specs.Dialogue.{Says}
 use Rattle.air_files.specs.Facts.{FetchesBy}
 use Rattle.air_files.specs.Laws.{IsDirectoryOf, job_gone, with_job}
 use Rattle.air_files.proofs.JobNotes.{NotesKept}
 use Rattle.air_files.proofs.JobOne.{OneLaw}
 use Rattle.air_files.proofs.JobReach.{row-of-work}
-use Rattle.air_attempt.proofs.Offered.{reaches-by, reaches-then}
 use Rattle.air_files.proofs.JobStep.{of_attempts}
 use Rattle.air_files.proofs.JobUploadNotes.{fronts-none}
 use Rattle.air_files.proofs.JobWorking.{OneKept, Working, never-fetched}

@@ -21,10 +21,10 @@ use Rattle.ftl0_job.specs.Short.{are_short_headers}
 use Rattle.ftl0_job.specs.Table.{JobState, item_row, job_after, new_job, row_of}
 use Rattle.ftl0_client.specs.Entries.{JobEntry, after_losing, lost, passed, said_in, took}
 use Rattle.air_attempt.specs.Sides.{JobReaches}
+use Rattle.air_attempt.proofs.Offered.{each-append}
 use Rattle.air_files.specs.Dialogue.{IsListSaid}
 use Rattle.air_files.proofs.JobReach.{Stays, of-reached}
 use Rattle.air_files.proofs.JobUploadCame.{NeverFetched, said-one}
-use Rattle.air_attempt.proofs.Offered.{each-append}
 
 -- the list of these tokens' selection, come so far
 abbrev pub directory_at : List ℕ → List ℕ → DirectoryPhase → Directory

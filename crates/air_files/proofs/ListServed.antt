@@ -13,8 +13,8 @@ use Rattle.ftl0_session.specs.Downloads.Table.{Due}
 use Rattle.ftl0_session.specs.Table.{DuePacket, State, command, listing, next_due}
 use Rattle.ftl0_session.proofs.downloads.DueLemmas.{joined-after, stored-after}
 use Rattle.air_attempt.specs.Lists.{AreFirstOf, Has}
-use Rattle.air_files.specs.Dialogue.{IsListSaid}
 use Rattle.air_attempt.proofs.Offered.{each-at}
+use Rattle.air_files.specs.Dialogue.{IsListSaid}
 use Rattle.air_files.proofs.ListRows.{IsListReply, IsListed, waits-command}
 
 -- ---- what its client said

@@ -19,11 +19,11 @@ use Rattle.air_attempt.specs.Attempt.{Attempt}
 use Rattle.air_attempt.specs.Laws.{ServerTookFront}
 use Rattle.air_attempt.specs.Party.{Asked, EachAttempt, Party}
 use Rattle.air_attempt.specs.Sides.{ServerSide, said_by_client}
+use Rattle.air_attempt.proofs.Offered.{each-append, each-weaker, flat_map-one}
 use Rattle.air_files.specs.Dialogue.{IsDueNow, IsListSaid, IsOfListing, Says, Serves, ServesList}
 use Rattle.air_files.specs.Laws.{IsDirectoryOf, IsOne, IsServed, SessionGoes, SessionKeeps, SessionLawOf, session_gone}
 use Rattle.air_files.specs.Laws.{with_attempt}
 use Rattle.air_files.proofs.FetchesOn.{ComesOn, fetching-on}
-use Rattle.air_attempt.proofs.Offered.{each-append, each-weaker, flat_map-one}
 use Rattle.air_files.proofs.GoneLemmas.{facts-over}
 use Rattle.air_files.proofs.ListRows.{IsListReply, IsListRow, IsListed, list-row}
 use Rattle.air_files.proofs.ListServed.{due-listed, front-last, list-packet, none-asked}

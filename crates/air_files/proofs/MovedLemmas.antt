@@ -20,12 +20,12 @@ use Rattle.air_attempt.specs.Attempt.{Attempt}
 use Rattle.air_attempt.specs.Party.{Asked, IsFileOf, Party, all_over, over, sessions_over}
 use Rattle.air_attempt.specs.Said.{AsksUpload, Grants}
 use Rattle.air_attempt.specs.Sides.{ServerSide}
+use Rattle.air_attempt.proofs.Offered.{one-map}
 use Rattle.air_files.specs.Facts.{AreFirstIfAny, Fetches, FetchesBy, FetchesIn, HasFacts, HasNumber, IsBegun}
 use Rattle.air_files.specs.Facts.{IsFetching, IsGrantKept, IsGranted, IsNumbered, coming_by, got}
 use Rattle.air_files.specs.Kept.{IsFileAt, WhereStands}
 use Rattle.air_files.proofs.ApartLemmas.{GrantFact, HasClientFacts, HasFactsApart, HasSideFacts, apart, together}
 use Rattle.air_files.proofs.GrowingLemmas.{StayOthers}
-use Rattle.air_attempt.proofs.Offered.{one-map}
 use Rattle.air_files.proofs.LikeLemmas.{like-client, like-side, number-like}
 use Rattle.air_files.proofs.StableLemmas.{keeps-complete, keeps-fetching_some, keeps-first_any, keeps-offer}
 use Rattle.air_files.proofs.StableLemmas.{keeps-serves, keeps-task_kept}

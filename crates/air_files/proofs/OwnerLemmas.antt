@@ -8,11 +8,11 @@ use Rattle.air_attempt.specs.Attempt.{Attempt}
 use Rattle.air_attempt.specs.Party.{Asked, IsFileOf, Party}
 use Rattle.air_attempt.specs.Said.{AsksUpload, Grants}
 use Rattle.air_attempt.specs.Sides.{ServerSide}
+use Rattle.air_attempt.proofs.Offered.{all-by, one-placed, some-from}
 use Rattle.air_files.specs.Facts.{HasFacts, HasNumber, IsGranted}
 use Rattle.air_files.specs.Laws.{GrantedAt, GrantsOnce}
 use Rattle.air_files.proofs.ApartLemmas.{GrantFact}
 use Rattle.air_files.proofs.LiftLemmas.{each-side, side-at}
-use Rattle.air_attempt.proofs.Offered.{all-by, one-placed, some-from}
 use Rattle.air_files.proofs.MovedLemmas.{OwnGrants, same-task}
 
 -- ---- places of a list

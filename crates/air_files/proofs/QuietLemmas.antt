@@ -16,11 +16,11 @@ use Rattle.air_attempt.specs.Lists.{Has, OneIs}
 use Rattle.air_attempt.specs.Party.{Asked, EachAttempt, Party}
 use Rattle.air_attempt.specs.Said.{Grants, IsAnswer, Offers, SaysComplete}
 use Rattle.air_attempt.specs.Sides.{ServerSide}
+use Rattle.air_attempt.proofs.Offered.{each-at, each-weaker, one-left, one-right}
 use Rattle.air_files.specs.Dialogue.{IsDueNow, Says, Serves}
 use Rattle.air_files.specs.Facts.{AskedWithin, GoesOnWithTask, HasFacts, HasFetched, HasNumber, HasSessionFacts}
 use Rattle.air_files.specs.Facts.{HasTaskFacts, IsFetching, IsGrantKept, IsGranted, IsOfferKept, NotesGrant, Receives}
 use Rattle.air_files.specs.Laws.{with_attempt}
-use Rattle.air_attempt.proofs.Offered.{each-at, each-weaker, one-left, one-right}
 
 -- ---- what was said of uploading
 

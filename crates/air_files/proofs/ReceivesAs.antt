@@ -3,8 +3,7 @@ use Rattle.std.specs.Prelude.{◌≡◌, ℕ, ◌+◌, ◌≤◌, List, ◌++◌
 use Rattle.file_store.specs.Store.{Store, entry_of}
 use Rattle.air_attempt.specs.Attempt.{Attempt}
 use Rattle.air_attempt.specs.Party.{Party}
-use Rattle.air_attempt.specs.Said.{AsksUpload, Offers, octets_come}
-use Rattle.air_attempt.specs.Said.{said_behind_server}
+use Rattle.air_attempt.specs.Said.{AsksUpload, Offers, octets_come, said_behind_server}
 use Rattle.air_attempt.specs.Sides.{ServerSide}
 use Rattle.air_files.specs.UploadDialogue.{GoesOnWith}
 use Rattle.air_files.specs.Facts.{Receives}

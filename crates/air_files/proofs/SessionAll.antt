@@ -6,12 +6,12 @@ use Rattle.std.specs.List.{AllByRecursion}
 use Rattle.std.specs.Option.{option_map}
 use Rattle.std.proofs.lemmas.Option.{same_Some}
 use Rattle.ftl0_packets.specs.Layout.{Fits, ul_go_resp, upload_cmd}
-use Rattle.file_entries.proofs.Offered.{follows_law}
 use Rattle.file_entries.specs.Follows.{FollowsBy}
-use Rattle.file_store.proofs.Offered.{after_all-append}
+use Rattle.file_entries.proofs.Offered.{follows_law}
 use Rattle.file_store.specs.Command.{Command, after_all}
 use Rattle.file_store.specs.OnDisk.{after_first}
 use Rattle.file_store.specs.Store.{Store}
+use Rattle.file_store.proofs.Offered.{after_all-append}
 use Rattle.ftl0_session.specs.Run.{Session}
 use Rattle.ftl0_server.specs.Entries as session
 use Rattle.ftl0_server.specs.Entries.{SessionEntry}
@@ -21,6 +21,7 @@ use Rattle.air_attempt.specs.Attempt.{Attempt}
 use Rattle.air_attempt.specs.Party.{Asked, Party, all_over, over, sessions_over}
 use Rattle.air_attempt.specs.Said.{AsksUpload, Grants, IsAnswer}
 use Rattle.air_attempt.specs.Sides.{ServerSide}
+use Rattle.air_attempt.proofs.Offered.{each-append, one-left}
 use Rattle.air_files.specs.Facts.{HasFacts, HasNumber}
 use Rattle.air_files.specs.Laws.{IsDirectoryOf, IsDownloadOf, IsOne, IsServed, IsUploadOf, LeftIn, LookLike}
 use Rattle.air_files.specs.Laws.{LooksServed, SessionGoes, SessionKeeps, SessionLaw, SessionLawOf, session_gone}
@@ -28,7 +29,6 @@ use Rattle.air_files.specs.Laws.{with_attempt}
 use Rattle.air_files.proofs.ApartLemmas.{GrantFact}
 use Rattle.air_files.proofs.GoneLemmas.{alike-itself, facts-over, facts-same}
 use Rattle.air_files.proofs.LikeLemmas.{number-like}
-use Rattle.air_attempt.proofs.Offered.{each-append, one-left}
 use Rattle.air_files.proofs.MovedLemmas.{GrantsBegun, facts-left, same-task}
 use Rattle.air_files.proofs.SessionFirst.{attempt_mid, first-goes, front-first, party_mid, served-mid, side_mid}
 

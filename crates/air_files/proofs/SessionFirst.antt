@@ -9,21 +9,21 @@ use Rattle.std.proofs.lemmas.Option.{same_Some}
 use Rattle.px_base.specs.CallSign.{CallSign}
 use Rattle.ftl0_packets.specs.Layout.{Item, PacketValue}
 use Rattle.file_store.specs.Command.{after_all}
-use Rattle.client_notes.specs.Notes.{Task}
 use Rattle.ftl0_session.specs.Run.{Session}
 use Rattle.ftl0_server.specs.Entries as session
 use Rattle.ftl0_server.specs.Entries.{SessionEntry, after_row}
+use Rattle.client_notes.specs.Notes.{Task}
 use Rattle.air_attempt.specs.Attempt.{Attempt}
 use Rattle.air_attempt.specs.Laws.{ClientTookFront, ServerTookFront}
 use Rattle.air_attempt.specs.Party.{Asked, Party}
 use Rattle.air_attempt.specs.Said.{Grants}
 use Rattle.air_attempt.specs.Sides.{ServerSide, said_by_server}
+use Rattle.air_attempt.proofs.Offered.{each-append, has-at}
 use Rattle.air_files.specs.Laws.{GrantedAt, GrantsOnce, IsServed, SessionKeeps, Stands, session_gone, with_attempt}
 use Rattle.air_files.specs.Tasks.{IsTaskFor, IsWork}
 use Rattle.air_files.proofs.ApartLemmas.{GrantFact}
 use Rattle.air_files.proofs.EntryLemmas.{said-gone, with_entry}
 use Rattle.air_files.proofs.LiftLemmas.{side-at}
-use Rattle.air_attempt.proofs.Offered.{each-append, has-at}
 
 -- ---- the first entry
 

@@ -3,11 +3,11 @@ use Rattle.std.proofs.Common.{◌≡◌, ◌⊎◌, inl, inr, ℕ, ◌≤◌, Li
 use Rattle.std.specs.Prelude.{IfSome, Ok}
 use Rattle.std.specs.List.{AllByRecursion}
 use Rattle.ftl0_packets.specs.Layout.{Fits, Item, PacketValue, ul_ack_resp, ul_error_resp, ul_go_resp, upload_cmd}
-use Rattle.file_store.proofs.Offered.{after_first-all}
 use Rattle.file_store.specs.Command.{after_all}
 use Rattle.file_store.specs.Info.{IsCompleteIn}
 use Rattle.file_store.specs.OnDisk.{after_first}
 use Rattle.file_store.specs.Store.{Store, entry_of}
+use Rattle.file_store.proofs.Offered.{after_first-all}
 use Rattle.ftl0_session.specs.Run.{Session}
 use Rattle.ftl0_session.specs.Table.{Row, State}
 use Rattle.ftl0_server.specs.Entries as session
@@ -17,6 +17,7 @@ use Rattle.air_attempt.specs.Lists.{Has}
 use Rattle.air_attempt.specs.Party.{Asked, EachAttempt, EachSide, IsFileOf, Party, over}
 use Rattle.air_attempt.specs.Said.{Acknowledges, IsAnswer, octets_of_data}
 use Rattle.air_attempt.specs.Sides.{ServerSide, said_by_server}
+use Rattle.air_attempt.proofs.Offered.{some-at}
 use Rattle.air_files.specs.Dialogue.{Serves}
 use Rattle.air_files.specs.Facts.{HasNumber, IsGrantKept, IsOfferKept}
 use Rattle.air_files.specs.Kept.{IsFileAt}
@@ -25,7 +26,6 @@ use Rattle.air_files.proofs.ApartLemmas.{DueFact, HasSideFacts, ReceiveFact, apa
 use Rattle.air_files.proofs.EntryLemmas.{AreRowCommands, answers-cases, row-follows, row-keeps, row-sound, says-cases}
 use Rattle.air_files.proofs.EntryLemmas.{with_entry}
 use Rattle.air_files.proofs.GrowingLemmas.{StayOthers}
-use Rattle.air_attempt.proofs.Offered.{some-at}
 use Rattle.air_files.proofs.LikeLemmas.{like-side}
 use Rattle.air_files.proofs.MovedLemmas.{GrantsBegun, MovesTo, OwnGrants, facts-left, moves-to, side-moved}
 use Rattle.air_files.proofs.OwnerLemmas.{next-none, own-next}

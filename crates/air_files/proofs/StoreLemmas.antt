@@ -1,5 +1,6 @@
 -- A sound store stays sound by commands that bring octets; and what it has of an entry that is dropped.
 use Rattle.std.proofs.Common.{◌≡◌, ℕ, ◌+◌, ◌≤◌, not, List, [], ◌∷◌, filter, refl, sym, subst, arith, None, Some, ◌==◌}
+use Rattle.std.proofs.Common.{Bool, true, false, cond}
 use Rattle.std.specs.Prelude.{find, IsTrue}
 use Rattle.std.specs.List.{AllByRecursion}
 use Rattle.std.proofs.lemmas.Bool.Decides.{nat_tests}
@@ -11,7 +12,6 @@ use Rattle.file_store.specs.IsStore.{AreEntries, IsStore}
 use Rattle.file_store.specs.Store.{Entry, Store, entry_of, octets_of, partial}
 use Rattle.file_store.proofs.Offered.{has_number}
 use Rattle.air_files.specs.SoundStore.{IsSoundStore}
-use Rattle.std.proofs.Common.{Bool, true, false, cond}
 
 -- what is found is such as all are
 pub found-such : {X : Type 0} (P : X → Type 0) (test : X → Bool) (xs : List X) (x : X) → find test xs ≡ Some x

@@ -25,8 +25,8 @@ use Rattle.air_attempt.specs.Sides.{IsGreeting, ServerSide, said_by_client, said
 use Rattle.air_files.specs.Dialogue.{IsDueNow, Serves}
 use Rattle.air_files.specs.Laws.{IsServed}
 use Rattle.air_files.specs.Facts.{IsBegun, IsGrantKept, Receives}
-use Rattle.air_files.specs.UploadDialogue.{GoesOnWith, IsOfferFor, ServesUpload, answered_in, receives, receiving_said}
-use Rattle.air_files.specs.UploadDialogue.{received_items, refused, unasked}
+use Rattle.air_files.specs.UploadDialogue.{GoesOnWith, IsOfferFor, ServesUpload, answered_in, received_items, receives}
+use Rattle.air_files.specs.UploadDialogue.{receiving_said, refused, unasked}
 use Rattle.air_files.proofs.EntryLemmas.{answered-more, answers-now, items-more, said-more, with_entry}
 use Rattle.air_files.proofs.GrowingLemmas.{begun-first, begun-there}
 use Rattle.air_files.proofs.OwnerLemmas.{next-none, own-next}

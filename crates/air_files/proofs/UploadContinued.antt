@@ -5,9 +5,9 @@ use Rattle.std.proofs.lemmas.Option.{same_Some}
 use Rattle.px_base.specs.CallSign.{CallSign}
 use Rattle.px_base.specs.Octets.{IsFront}
 use Rattle.ftl0_packets.specs.Layout.{ul_go_resp}
-use Rattle.file_store.proofs.Offered.{found-fits}
 use Rattle.file_store.specs.IsStore.{FitsLength}
 use Rattle.file_store.specs.Store.{Entry, Holding, Store, entry_of, octets_of, partial}
+use Rattle.file_store.proofs.Offered.{found-fits}
 use Rattle.ftl0_session.specs.Laws.{UploadsLaw}
 use Rattle.ftl0_session.specs.Run.{Session}
 use Rattle.ftl0_session.specs.Table.{Row, by_upload, command, receiving, session_row}

@@ -10,10 +10,10 @@ use Rattle.std.proofs.lemmas.Option.{same_Some}
 use Rattle.px_base.specs.Octets.{IsFront, IsOctets}
 use Rattle.ftl0_packets.specs.Layout.{Item, data_part, ul_go_resp, upload_cmd}
 use Rattle.file_entries.specs.Follows.{AreOf, BringsOctets}
-use Rattle.file_store.proofs.Offered.{grows-after}
 use Rattle.file_store.specs.Command.{after_all, grows, unfilled_block, whole_grows}
 use Rattle.file_store.specs.OnDisk.{after_first}
 use Rattle.file_store.specs.Store.{Entry, Store, entry_of, partial}
+use Rattle.file_store.proofs.Offered.{grows-after}
 use Rattle.ftl0_session.specs.Laws.{UploadsLaw}
 use Rattle.ftl0_session.specs.Run.{Session}
 use Rattle.ftl0_session.specs.Table.{Row, by_upload, receiving, session_row}

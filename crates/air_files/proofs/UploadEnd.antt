@@ -11,11 +11,11 @@ use Rattle.ftl0_packets.specs.Layout.{Item, PacketValue, data_end, ul_ack_resp, 
 use Rattle.pfh_items.specs.Faults.{fault_code}
 use Rattle.pfh_items.specs.Stamp.{stamped}
 use Rattle.file_entries.specs.Follows.{AreOf, BringsOctets}
-use Rattle.file_store.proofs.Offered.{found-number}
 use Rattle.file_store.specs.Command.{after_all}
 use Rattle.file_store.specs.Info.{IsCompleteIn, is_complete}
 use Rattle.file_store.specs.OnDisk.{after_first}
 use Rattle.file_store.specs.Store.{Entry, Holding, Store, complete, entry_of, partial}
+use Rattle.file_store.proofs.Offered.{found-number}
 use Rattle.ftl0_session.specs.Laws.{Acknowledges, AcknowledgedLaw, UploadsLaw}
 use Rattle.ftl0_session.specs.Run.{Session}
 use Rattle.ftl0_session.specs.Table.{Row, by_upload, command, receiving, session_row}

@@ -17,13 +17,13 @@ use Rattle.air_attempt.specs.Attempt.{Attempt}
 use Rattle.air_attempt.specs.Party.{Asked, IsFileOf, Party, upload_of}
 use Rattle.air_attempt.specs.Said.{AsksUpload, Offers, octets_come, octets_of_item, octets_taken, said_behind_server}
 use Rattle.air_attempt.specs.Sides.{ServerSide, said_by_client}
+use Rattle.air_attempt.proofs.Offered.{each-at, has-at}
 use Rattle.air_files.specs.Facts.{Receives}
 use Rattle.air_files.specs.Laws.{IsServed}
 use Rattle.air_files.specs.UploadDialogue.{GoesOnWith, IsReceivingState, receives}
 use Rattle.air_files.specs.Uploads.{IsGoodFile}
 use Rattle.air_files.proofs.ApartLemmas.{ReceiveFact}
 use Rattle.air_files.proofs.EntryLemmas.{items-more, with_entry}
-use Rattle.air_attempt.proofs.Offered.{each-at, has-at}
 use Rattle.air_files.proofs.SideLemmas.{newest-side}
 use Rattle.air_files.proofs.UploadNext.{SaidNext}
 use Rattle.air_files.proofs.UploadServed.{Stage, asks-upload, file-of-upload, serves-upload}

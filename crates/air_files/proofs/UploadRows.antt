@@ -1,11 +1,11 @@
 -- The rows of an upload's packets.
 use Rattle.std.proofs.Common.{◌≡◌, ◌⊎◌, inl, inr, ℕ, ◌+◌, ◌≤◌, ◌<◌, ◌==◌, Bool, true, false, not, List, ◌++◌, length}
 use Rattle.std.proofs.Common.{refl, ap, sym, ◌∙◌, subst, arith, length-append, Option, None, Some}
-use Rattle.std.proofs.lemmas.Bool.Decides.{Decides-eqb, nat_tests}
 use Rattle.std.specs.Prelude.{Ok, nat_le, if◌then◌else◌, IsTrue}
+use Rattle.std.proofs.lemmas.Bool.Decides.{Decides-eqb, nat_tests}
 use Rattle.px_base.specs.CallSign.{CallSign}
-use Rattle.pfh_items.specs.Faults.{fault_code}
 use Rattle.ftl0_packets.specs.Layout.{data_end, data_part, upload_cmd}
+use Rattle.pfh_items.specs.Faults.{fault_code}
 use Rattle.file_store.specs.Command.{can_begin, has_room, passes}
 use Rattle.file_store.specs.Info.{IsCompleteIn, is_complete}
 use Rattle.file_store.specs.Store.{Entry, Holding, Store, complete, entry_of, octets_at, octets_of, partial}

@@ -3,15 +3,15 @@ use Rattle.std.proofs.Common.{◌≡◌, ℕ, List, ◌++◌, Bool, refl, sym, a
 use Rattle.ftl0_client.specs.Client.{Client}
 use Rattle.air_attempt.specs.Attempt.{Attempt}
 use Rattle.air_attempt.specs.Party.{Asked, Party, newest}
+use Rattle.air_attempt.proofs.Offered.{each-weaker}
 use Rattle.air_files.specs.Laws.{StayLaw}
 use Rattle.air_files.specs.Tasks.{IsWork}
+use Rattle.air_files.proofs.Offered.{alike-itself, tasks-lists}
 use Rattle.air_world.specs.World.{World}
 use Rattle.air_world.proofs.ClientMade.{IsClientMade}
 use Rattle.air_world.proofs.ClientsStay.{stay-refl}
-use Rattle.air_files.proofs.Offered.{alike-itself, tasks-lists}
 use Rattle.air_world.proofs.Rebuild.{stands-at, stands-by, work-by}
 use Rattle.air_world.proofs.Likes.{same-party}
-use Rattle.air_attempt.proofs.Offered.{each-weaker}
 
 -- a client by its parts
 party-is : (one other : Party) → other.client ≡ one.client → other.uploads ≡ one.uploads → other.attempts ≡ one.attempts

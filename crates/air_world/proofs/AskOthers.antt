@@ -12,16 +12,15 @@ use Rattle.ftl0_job.specs.JobState.{GoWith, IsNotBegun}
 use Rattle.ftl0_job.specs.Upload.{new_upload}
 use Rattle.ftl0_job.specs.declared.work.Work.{Work}
 use Rattle.ftl0_job.specs.declared.work.Work.TheVariants as work
-use Rattle.air_attempt.specs.Party.{Party}
 use Rattle.air_schedule.specs.Schedule.{AreTokens, IsFileNumber}
+use Rattle.air_attempt.specs.Party.{Party}
 use Rattle.air_files.specs.Facts.{AreFirstIfAny, HasNumber, got}
 use Rattle.air_files.specs.SoundStore.{IsSoundStore}
 use Rattle.air_files.specs.Tasks.{IsWork}
 use Rattle.air_files.proofs.Offered.{complete-entry}
 use Rattle.air_world.specs.Sound.{IsParty, Sound}
 use Rattle.air_world.specs.World.{PartyAt, World}
-use Rattle.air_world.proofs.Asked.{MayBeAsked}
-use Rattle.air_world.proofs.Asked.{same-base}
+use Rattle.air_world.proofs.Asked.{MayBeAsked, same-base}
 
 -- what a work goes on with is a task of the client that has its number
 abbrev pub GoesOnWell : Party → Work → Type 0

@@ -1,7 +1,7 @@
 -- A new file may be asked of a client: it has its task then.
 use Rattle.std.proofs.Common.{◌≡◌, ◌⊎◌, ⊎_elim, ℕ, zero, suc, ◌+◌, ◌-◌, ◌==◌, ◌<◌, ◌≤◌, false, List, [], ◌∷◌, ◌++◌}
-use Rattle.std.proofs.Common.{length, refl, sym, ap}
-use Rattle.std.proofs.Common.{◌∙◌, subst, arith, Option, None, Some, inl, inr, length-append}
+use Rattle.std.proofs.Common.{length, refl, sym, ap, ◌∙◌, subst, arith, Option, None, Some, inl, inr, length-append}
+use Rattle.sha2.specs.Sha256.{sha256}
 use Rattle.std.specs.Option.{option_and_then, option_map}
 use Rattle.std.specs.Prelude.{slice_get}
 use Rattle.std.proofs.lemmas.Bool.Decides.{eqb_tells}
@@ -11,12 +11,12 @@ use Rattle.client_notes.specs.Laws.{after_all}
 use Rattle.client_notes.specs.Limits.{most_tasks}
 use Rattle.client_notes.specs.Notes.{Task, task_count, task_of}
 use Rattle.client_notes.proofs.Offered.{task-at}
-use Rattle.sha2.specs.Sha256.{sha256}
 use Rattle.ftl0_job.specs.Upload.{Upload, new_upload}
 use Rattle.ftl0_job.specs.declared.work.Work.{Work}
 use Rattle.ftl0_job.specs.declared.work.Work.TheVariants as work
 use Rattle.air_attempt.specs.Attempt.{Attempt}
 use Rattle.air_attempt.specs.Party.{Asked, IsFileOf, Party, upload_of}
+use Rattle.air_attempt.proofs.Offered.{each-weaker}
 use Rattle.air_files.specs.Laws.{BeginLaw}
 use Rattle.air_files.specs.Tasks.{AreTasks, IsTaskFor, IsWork}
 use Rattle.air_files.specs.Uploads.{IsGoodFile}
@@ -27,7 +27,6 @@ use Rattle.air_world.specs.World.{PartyAt, World}
 use Rattle.air_world.proofs.Asked.{MayBeAsked}
 use Rattle.air_world.proofs.GoodFile.{good-upload}
 use Rattle.air_world.proofs.Served.{stands}
-use Rattle.air_attempt.proofs.Offered.{each-weaker}
 
 -- ---- one more at the end of a list
 

@@ -1,5 +1,5 @@
 -- What is known of a client of which something is asked.
-use Rattle.std.proofs.Common.{◌≡◌, ℕ, ◌≤◌, List, ◌++◌}
+use Rattle.std.proofs.Common.{◌≡◌, ℕ, ◌≤◌, List, ◌++◌, [], refl, sym, subst, append-nil}
 use Rattle.std.specs.List.{AllByRecursion}
 use Rattle.ftl0_job.specs.declared.work.Work.{Work}
 use Rattle.ftl0_job.specs.declared.work.Work.TheVariants as work
@@ -12,7 +12,6 @@ use Rattle.air_files.specs.Facts.{HasFacts, HasNumber}
 use Rattle.air_files.specs.Tasks.{AreTasks, IsWork}
 use Rattle.air_files.specs.Uploads.{IsGoodFile}
 use Rattle.air_world.specs.World.{PartyAt, World}
-use Rattle.std.proofs.Common.{[], refl, sym, subst, append-nil}
 use Rattle.air_world.specs.Sound.{IsParty, Sound}
 
 -- What is known of a client that begins an attempt, where these files were asked, and of its base, which has its task

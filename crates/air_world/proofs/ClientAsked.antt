@@ -5,7 +5,6 @@ use Rattle.std.specs.List.{AllByRecursion}
 use Rattle.ax25_frames.specs.FrameText.{FrameValue}
 use Rattle.ax25_link.specs.Sending.{Sending, next_sending}
 use Rattle.ax25_link.specs.Window.{IsWindow, Window}
-use Rattle.client_laws.specs.Steps.{StepsQuietly, called_for, sabm_of}
 use Rattle.client_notes.specs.Command.{NotesCommand}
 use Rattle.ftl0_job.specs.declared.work.Work.{Work}
 use Rattle.ftl0_job.specs.Table.{new_job}
@@ -14,6 +13,7 @@ use Rattle.ftl0_client.specs.Client.{Client, Refused, asks, IsSilent, sends_by, 
 use Rattle.ftl0_client.specs.Client.{with_attempt}
 use Rattle.ftl0_client.specs.ClientStep.{ClientStep}
 use Rattle.ftl0_client.specs.Laws.{EndFits}
+use Rattle.client_laws.specs.Steps.{StepsQuietly, called_for, sabm_of}
 use Rattle.air_attempt.specs.Attempt.{Attempt}
 use Rattle.air_attempt.specs.Laws.{AreAttempts, GoesWith}
 use Rattle.air_attempt.specs.Party.{Asked, IsLinkOf, Party}

@@ -12,13 +12,13 @@ use Rattle.air_attempt.specs.Attempt.{Attempt, IsAttempt}
 use Rattle.air_attempt.specs.Laws.{AreAttempts, GoesWith}
 use Rattle.air_attempt.specs.Party.{IsLinkOf, Party, newest}
 use Rattle.air_attempt.specs.Sides.{ClientSide, IsJob}
+use Rattle.air_attempt.proofs.Offered.{all-at}
 use Rattle.air_files.specs.Laws.{IsWorking}
 use Rattle.air_files.specs.Tasks.{StandsBy}
 use Rattle.air_world.specs.Sound.{IsParty, Sound}
 use Rattle.air_world.specs.World.{PartyAt, World}
 use Rattle.air_world.proofs.Served.{stands}
 use Rattle.air_world.proofs.HeardMade.{first-of}
-use Rattle.air_attempt.proofs.Offered.{all-at}
 
 -- ---- links
 

@@ -6,17 +6,17 @@ use Rattle.air_attempt.specs.Attempt.{Attempt}
 use Rattle.air_attempt.specs.Laws.{GoesWith}
 use Rattle.air_attempt.specs.Party.{Asked, EachAttempt, Party}
 use Rattle.air_attempt.specs.Sides.{ServerSide}
+use Rattle.air_attempt.proofs.Offered.{each-weaker}
 use Rattle.air_files.specs.Facts.{GoesOnWithTask, HasFacts}
 use Rattle.air_files.specs.Laws.{IsBeginning}
 use Rattle.air_files.specs.Tasks.{IsWork}
+use Rattle.air_files.proofs.Offered.{tasks-lists}
 use Rattle.air_world.specs.World.{World}
 use Rattle.air_world.proofs.ClientBasics.{stands-job}
 use Rattle.air_world.proofs.ClientMade.{IsClientMade}
 use Rattle.air_world.proofs.SessionsStay.{sessions_of}
 use Rattle.air_world.proofs.JobWent.{ClientLaws}
-use Rattle.air_files.proofs.Offered.{tasks-lists}
 use Rattle.air_world.proofs.Rebuild.{work-by}
-use Rattle.air_attempt.proofs.Offered.{each-weaker}
 use Rattle.air_world.proofs.Asked.{IsBase}
 
 -- What is known of a client that begins this attempt, and of its base: that the attempt begins, with a work of these.

@@ -19,9 +19,11 @@ use Rattle.air_attempt.specs.Attempt.{Attempt}
 use Rattle.air_attempt.specs.Laws.{AreAttempts}
 use Rattle.air_attempt.specs.Party.{Asked, Party, to_client_delivered}
 use Rattle.air_attempt.specs.Transfers.{ClientDid, after_event}
+use Rattle.air_attempt.proofs.Offered.{each-weaker}
 use Rattle.air_files.specs.Facts.{HasFacts}
 use Rattle.air_files.specs.Laws.{started_with}
 use Rattle.air_files.specs.Tasks.{AreTasks, IsWork}
+use Rattle.air_files.proofs.Offered.{tasks-lists}
 use Rattle.air_world.specs.Cuts.{broken, ClientDoes, ClientIsCut, party_cut}
 use Rattle.air_world.specs.Events.{ClientPart, asking, asking_file, part_with, with_current}
 use Rattle.air_world.specs.Sound.{Sound}
@@ -39,8 +41,6 @@ use Rattle.air_world.proofs.Served.{stands}
 use Rattle.air_world.proofs.ClientQuiet.{IsStill, quiet-made, started-made, still-delivered, still-itself}
 use Rattle.air_world.proofs.ClientTicked.{ticked-client}
 use Rattle.air_world.proofs.JobWent.{ClientLaws}
-use Rattle.air_files.proofs.Offered.{tasks-lists}
-use Rattle.air_attempt.proofs.Offered.{each-weaker}
 
 module _ (laws : ClientLaws) (some_step : SomeStepLaw) (old new : World) (sound : Sound old) where
   asked-sound : (c : ℕ) (was now : Party) (asked : List Asked) (part : ClientPart) → PartyAt old c was

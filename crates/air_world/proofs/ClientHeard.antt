@@ -4,8 +4,8 @@ use Rattle.std.proofs.Common.{◌∙◌}
 use Rattle.std.specs.Prelude.{slice_get, if◌then◌else◌}
 use Rattle.ax25_frames.specs.FrameText.{FrameValue}
 use Rattle.ax25_link.specs.Air.{IsLawful, Transmission}
-use Rattle.client_laws.specs.Steps.{StepsBy, StepsQuietly, answers_to}
 use Rattle.ax25_link.specs.LinkStep.{frame as coming_frame}
+use Rattle.ftl0_session.proofs.uploads.UploadRows.{same_call-decides}
 use Rattle.client_notes.specs.Command.{NotesCommand}
 use Rattle.client_notes.specs.Notes.{Lists, is_same_call}
 use Rattle.client_notes.specs.Several as notes
@@ -16,24 +16,24 @@ use Rattle.ftl0_client.specs.Client.{Client, attempt_for, hears}
 use Rattle.ftl0_client.specs.ClientStep.{ClientStep}
 use Rattle.ftl0_client.specs.Entries as job
 use Rattle.ftl0_client.specs.Entries.{JobEntry}
+use Rattle.client_laws.specs.Steps.{StepsBy, StepsQuietly, answers_to}
 use Rattle.air_attempt.specs.Attempt.{Attempt, IsAttempt, IsFromTo}
 use Rattle.air_attempt.specs.Laws.{DeliversToClient, GoesWith}
 use Rattle.air_attempt.specs.Party.{Party, client_sends, newest, to_client_delivered, with_newest}
 use Rattle.air_attempt.specs.Transfers.{ClientDid, after_event, did_by, job_gone_on}
+use Rattle.air_attempt.proofs.Offered.{all-at}
 use Rattle.air_files.specs.Facts.{HasFacts}
 use Rattle.air_files.specs.Laws.{started_with}
 use Rattle.air_files.specs.Tasks.{AreTasks}
+use Rattle.air_files.proofs.Offered.{tasks-lists}
 use Rattle.air_world.specs.Sound.{Sound}
 use Rattle.air_world.specs.World.{PartyAt, World}
 use Rattle.air_world.proofs.ClientBasics.{HasLink, goes-with, has-link}
 use Rattle.air_world.proofs.ClientMade.{IsClientMade}
 use Rattle.air_world.proofs.ClientQuiet.{quiet-made, still-answered}
 use Rattle.air_world.proofs.JobWent.{ClientLaws, Went, client-made, facts-during, tasks-during}
-use Rattle.air_files.proofs.Offered.{tasks-lists}
 use Rattle.air_world.proofs.Rebuild.{stands-at}
 use Rattle.air_world.proofs.SayLemmas.{may-say-at}
-use Rattle.air_attempt.proofs.Offered.{all-at}
-use Rattle.ftl0_session.proofs.uploads.UploadRows.{same_call-decides}
 
 -- where nothing is noted the notes stay
 pub nothing-noted : (count : ℕ) (lists : Lists) (noted : List NotesCommand) → noted ≡ []

@@ -10,20 +10,20 @@ use Rattle.air_attempt.specs.Attempt.{Attempt}
 use Rattle.air_attempt.specs.Laws.{AreAttempts, GoesWith}
 use Rattle.air_attempt.specs.Party.{Asked, EachAttempt, Party, client_sends, newest, to_client_delivered, with_newest}
 use Rattle.air_attempt.specs.Sides.{ServerSide}
+use Rattle.air_attempt.proofs.Offered.{each-weaker}
 use Rattle.air_files.specs.Facts.{HasFacts}
 use Rattle.air_files.specs.Laws.{LookLike, LooksLike, StayLaw, started_with}
 use Rattle.air_files.specs.Tasks.{AreTasks, IsWork}
 use Rattle.air_files.specs.Uploads.{IsGoodFile}
+use Rattle.air_files.proofs.Offered.{alike-itself, served-itself, tasks-lists}
 use Rattle.air_world.specs.Sound.{IsParty, Sound}
 use Rattle.air_world.specs.World.{PartyAt, World}
 use Rattle.air_world.proofs.ClientBasics.{goes-with}
 use Rattle.air_world.proofs.ClientMade.{IsClientMade}
 use Rattle.air_world.proofs.SessionsStay.{sessions_of}
 use Rattle.air_world.proofs.ClientsStay.{ClientsStay, stay-each, stay-newest, stay-refl, stay-windows}
-use Rattle.air_files.proofs.Offered.{alike-itself, served-itself, tasks-lists}
 use Rattle.air_world.proofs.Rebuild.{stands-at, stands-by, work-by}
 use Rattle.air_world.proofs.Likes.{same-party}
-use Rattle.air_attempt.proofs.Offered.{each-weaker}
 
 -- attempts whose sides are as they were, and so their sessions
 pub record IsStill (olds news : List Attempt) : Type 0 where

@@ -5,7 +5,6 @@ use Rattle.std.specs.Prelude.{if◌then◌else◌}
 use Rattle.std.specs.List.{AllByRecursion}
 use Rattle.ax25_frames.specs.FrameText.{FrameValue}
 use Rattle.ax25_link.specs.LinkStep.{tick as coming_tick}
-use Rattle.client_laws.specs.Steps.{StepsBy, StepsQuietly, sabm_of}
 use Rattle.client_notes.specs.Command.{NotesCommand}
 use Rattle.ftl0_client.specs.Attempt.Attempted.{Attempted}
 use Rattle.ftl0_client.specs.Attempt.Hearing.{ticking, with_end}
@@ -15,6 +14,7 @@ use Rattle.ftl0_client.specs.Client.{Client, ticks}
 use Rattle.ftl0_client.specs.ClientStep.{ClientStep}
 use Rattle.ftl0_client.specs.Entries as job
 use Rattle.ftl0_client.specs.Entries.{JobEntry}
+use Rattle.client_laws.specs.Steps.{StepsBy, StepsQuietly, sabm_of}
 use Rattle.air_attempt.specs.Attempt.{Attempt}
 use Rattle.air_attempt.specs.Laws.{GoesWith}
 use Rattle.air_attempt.specs.Party.{Party, with_newest}

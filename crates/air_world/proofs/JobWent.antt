@@ -4,13 +4,12 @@ use Rattle.std.proofs.Common.{append-nil, le_refl, take_all}
 use Rattle.std.specs.Prelude.{map, Ok}
 use Rattle.std.specs.List.{AllByRecursion}
 use Rattle.std.proofs.lemmas.Option.{same_Some}
+use Rattle.ftl0_packets.specs.Items.{kind_of_item}
 use Rattle.ax25_link.specs.Ends.{LinkEnd}
-use Rattle.client_laws.specs.Steps.{StepLaw}
 use Rattle.client_notes.specs.Laws.{after_all}
 use Rattle.client_notes.specs.Notes.{Lists}
 use Rattle.client_notes.specs.Several as notes
 use Rattle.client_notes.proofs.Offered.{after_all-append}
-use Rattle.ftl0_packets.specs.Items.{kind_of_item}
 use Rattle.ftl0_job.specs.declared.work.Work.{Work}
 use Rattle.ftl0_job.specs.Promises.{JobStands}
 use Rattle.ftl0_job.specs.Table.{JobState, job_after}
@@ -21,23 +20,24 @@ use Rattle.ftl0_client.specs.Attempt.Taking.{Happened}
 use Rattle.ftl0_client.specs.Client.{Client, heard_by}
 use Rattle.ftl0_client.specs.Entries as job
 use Rattle.ftl0_client.specs.Entries.{HearingLaw, JobEntry, TickingLaw}
+use Rattle.client_laws.specs.Steps.{StepLaw}
 use Rattle.air_attempt.specs.Attempt.{Attempt, IsAnsweredBy, IsAttempt}
 use Rattle.air_attempt.specs.Laws.{ClientLaw, FrontLaw, GoesWith, LeftLaw}
 use Rattle.air_attempt.specs.Party.{EachAttempt, Party, newest}
 use Rattle.air_attempt.specs.Lists.{AreFirstOf}
 use Rattle.air_attempt.specs.Sides.{ClientSide, ServerSide, said_by_server}
+use Rattle.air_attempt.proofs.Offered.{each-weaker}
 use Rattle.air_files.specs.Facts.{HasFacts}
 use Rattle.air_files.specs.Laws.{BeginLaw, IsWorking, JobGoes, JobKeeps, JobLaw, JobTasksLaw, JobTookFront, LooksServed}
 use Rattle.air_files.specs.Laws.{StayLaw, job_gone, started_with, with_job}
 use Rattle.air_files.specs.Tasks.{AreTasks, IsWork, StandsBy}
+use Rattle.air_files.proofs.Offered.{alike-itself, served-itself, tasks-lists}
 use Rattle.air_world.specs.Sound.{IsParty, Sound}
 use Rattle.air_world.specs.World.{PartyAt, World}
 use Rattle.air_world.proofs.ClientBasics.{HasLink, has-link, its-attempt, stands-job, working}
 use Rattle.air_world.proofs.ClientMade.{IsClientMade}
 use Rattle.air_world.proofs.SessionsStay.{SessionsStay, sessions_of}
-use Rattle.air_files.proofs.Offered.{alike-itself, served-itself, tasks-lists}
 use Rattle.air_world.proofs.ServerTicked.{its-session}
-use Rattle.air_attempt.proofs.Offered.{each-weaker}
 use Rattle.air_world.proofs.Rebuild.{work-by}
 
 -- the laws that the client's events are proved by

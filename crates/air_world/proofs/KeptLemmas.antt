@@ -13,6 +13,7 @@ use Rattle.ftl0_client.specs.Client as client
 use Rattle.ftl0_client.specs.Laws.{SomeStepLaw}
 use Rattle.air_attempt.specs.Attempt.{Attempt}
 use Rattle.air_attempt.specs.Party.{Party, to_client_delivered}
+use Rattle.air_files.proofs.Offered.{alike-itself}
 use Rattle.air_world.specs.Cuts.{Changes, ClientDoes, ClientEvent, WorldStep, broken}
 use Rattle.air_world.specs.Events.{ClientPart, asking, asking_file, next_upload, part_with, with_current}
 use Rattle.air_world.specs.Lawful.{IsAllowed, MayCome}
@@ -20,11 +21,10 @@ use Rattle.air_world.specs.Schedule.{Event, ask_download, ask_list, ask_resume, 
 use Rattle.air_world.specs.Schedule.{cut_server, tick_client, tick_server, to_client, to_server}
 use Rattle.air_world.specs.Laws.{SoundLaw}
 use Rattle.air_world.specs.Sound.{Sound}
-use Rattle.air_world.proofs.FirstLemmas.{first-sound}
 use Rattle.air_world.specs.World.{PartyAt, World, counted, with_party}
+use Rattle.air_world.proofs.FirstLemmas.{first-sound}
 use Rattle.air_world.proofs.ClientsStay.{stay-refl}
 use Rattle.air_world.proofs.Granted.{granted-like}
-use Rattle.air_files.proofs.Offered.{alike-itself}
 use Rattle.air_world.proofs.Rebuild.{IsMade, StayParties, rebuilt}
 use Rattle.air_world.proofs.Seats.{between, calls}
 use Rattle.air_world.proofs.AskOthers.{ask-download, ask-list}

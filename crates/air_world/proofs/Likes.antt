@@ -14,8 +14,8 @@ use Rattle.air_attempt.specs.Party.{Party, newest_side, with_answered, with_newe
 use Rattle.air_attempt.specs.Said.{Grants}
 use Rattle.air_attempt.specs.Sides.{ClientSide, ServerSide, SessionReaches}
 use Rattle.air_files.specs.Laws.{IsSameParty, LookLike, LooksLike, LooksLikeSession, LooksServed}
-use Rattle.air_world.proofs.ClientsStay.{ClientsStay, stay-newest}
 use Rattle.air_files.proofs.Offered.{alike-itself, served-itself}
+use Rattle.air_world.proofs.ClientsStay.{ClientsStay, stay-newest}
 
 pub newest-like : (change : Attempt → Attempt) (attempts : List Attempt) → ((a : Attempt) → LooksLike a (change a))
     → LookLike attempts (with_newest change attempts)

@@ -13,13 +13,13 @@ use Rattle.air_attempt.specs.Attempt.{Attempt}
 use Rattle.air_attempt.specs.Party.{IsFileOf, Party}
 use Rattle.air_attempt.specs.Said.{AsksUpload, Grants}
 use Rattle.air_attempt.specs.Sides.{ServerSide}
+use Rattle.air_attempt.proofs.Offered.{one-placed}
 use Rattle.air_files.specs.Facts.{HasNumber, IsGranted, IsNumbered}
 use Rattle.air_files.specs.Tasks.{IsTaskFor}
 use Rattle.air_files.proofs.Offered.{acked-task, later-number, task-file}
 use Rattle.air_world.specs.Parts.{AreAcknowledged, AreNumbered}
 use Rattle.air_world.specs.Sound.{AreGrantedOnce, IsParty, Sound}
 use Rattle.air_world.specs.World.{PartyAt, World}
-use Rattle.air_attempt.proofs.Offered.{one-placed}
 
 -- a session of this attempt of the client, which is one to send this task's file for the first time, gave the number
 pub record IsTaskGrant (party : Party) (task number : ℕ) : Type 0 where

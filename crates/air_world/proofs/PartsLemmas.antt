@@ -18,10 +18,10 @@ use Rattle.air_attempt.specs.Lists.{Has}
 use Rattle.air_attempt.specs.Party.{IsLinkOf, Party, newest}
 use Rattle.air_attempt.specs.Said.{Grants, Offers}
 use Rattle.air_attempt.specs.Sides.{ServerSide}
+use Rattle.air_attempt.proofs.Offered.{each-at, each-weaker, has-at, one-placed, some-from}
 use Rattle.air_files.specs.Facts.{HasFetched, HasNumber, IsGrantKept, IsOfferKept, got}
 use Rattle.air_files.specs.Tasks.{IsWork}
 use Rattle.air_files.proofs.Offered.{each-side, side-at}
-use Rattle.air_attempt.proofs.Offered.{each-at, each-weaker, has-at, one-placed, some-from}
 use Rattle.air_world.specs.Headline.{HasWhole, HeadlineIn}
 use Rattle.air_world.specs.Offered.{Offered}
 use Rattle.air_world.specs.Parts.{AreGranted, AreInState, AreNumbered, DoNumbersFit, DoOctetsFit, EachParty, HasParts}

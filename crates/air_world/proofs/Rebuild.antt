@@ -5,24 +5,24 @@ use Rattle.std.specs.List.{AllByRecursion}
 use Rattle.std.proofs.lemmas.Option.{same_Some}
 use Rattle.px_base.specs.CallSign.{IsCall}
 use Rattle.ftl0_session.specs.Downloads.Needs.{AreComplete}
+use Rattle.ftl0_job.specs.declared.work.Work.{Work}
+use Rattle.ftl0_job.specs.declared.work.Work.TheVariants as work
 use Rattle.ftl0_client.specs.Client.{Client}
 use Rattle.ftl0_client.specs.Laws as client
+use Rattle.ftl0_client.specs.Attempt.Laws.{AttemptStands}
 use Rattle.air_attempt.specs.Attempt.{Attempt}
 use Rattle.air_attempt.specs.Laws.{AreAttempts, Calls, IsBetween}
 use Rattle.air_attempt.specs.Party.{Asked, EachAttempt, IsFileOf, IsLinkOf, Party, newest}
-use Rattle.ftl0_job.specs.declared.work.Work.{Work}
-use Rattle.ftl0_job.specs.declared.work.Work.TheVariants as work
-use Rattle.ftl0_client.specs.Attempt.Laws.{AttemptStands}
+use Rattle.air_attempt.proofs.Offered.{all-at, all-by, each-weaker}
 use Rattle.air_files.specs.Uploads.{IsGoodFile}
 use Rattle.air_files.specs.Facts.{HasFacts}
 use Rattle.air_files.specs.SoundStore.{IsSoundStore}
 use Rattle.air_files.specs.Tasks.{AreTasks, IsWork, StandsBy}
+use Rattle.air_files.proofs.Offered.{tasks-lists}
 use Rattle.air_world.specs.Sound.{AreGrantedOnce, AreStationsOf, IsParty, Sound}
 use Rattle.air_world.specs.World.{PartyAt, World}
 use Rattle.air_world.proofs.ClientsStay.{ClientsStay, stay-each, stay-link, stay-newest}
 use Rattle.air_world.proofs.Seats.{AreSeatsKnown, together}
-use Rattle.air_attempt.proofs.Offered.{all-at, all-by, each-weaker}
-use Rattle.air_files.proofs.Offered.{tasks-lists}
 
 -- the client, with its uploads, is as it was, and so are its sides of attempts
 pub record StaysParty (old new : Party) : Type 0 where

@@ -20,12 +20,12 @@ use Rattle.air_attempt.specs.Lists.{OneIs}
 use Rattle.air_attempt.specs.Party.{Asked, IsFileOf, Party, newest, upload_of}
 use Rattle.air_attempt.specs.Said.{IsAnswer}
 use Rattle.air_attempt.specs.Sides.{ServerSide}
+use Rattle.air_attempt.proofs.Offered.{all-at}
 use Rattle.air_files.specs.Facts.{GoesOnWithTask, IsGranted}
 use Rattle.air_files.specs.Tasks.{IsWork, StandsBy}
 use Rattle.air_files.specs.Uploads.{IsGoodFile}
 use Rattle.air_world.specs.Sound.{IsParty, Sound}
 use Rattle.air_world.specs.World.{PartyAt, World}
-use Rattle.air_attempt.proofs.Offered.{all-at}
 
 -- ---- a number that was granted
 

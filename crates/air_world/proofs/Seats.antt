@@ -1,6 +1,6 @@
 -- The server's places and the attempts of its callers, taken apart by caller and put together again.
-use Rattle.std.proofs.Common.{◌≡◌, ℕ, zero, suc, List, [], ◌∷◌, Bool, true, false, Option, None, Some, refl, sym}
-use Rattle.std.proofs.Common.{ap, subst, ◌∙◌, true≢false}
+use Rattle.std.proofs.Common.{◌≡◌, ℕ, zero, suc, List, [], ◌∷◌, Bool, true, false, Option, None, Some, refl, sym, ap}
+use Rattle.std.proofs.Common.{subst, ◌∙◌, true≢false}
 use Rattle.std.specs.Prelude.{slice_get, IfSome, MatchOption}
 use Rattle.std.specs.Option.{option_or}
 use Rattle.std.specs.List.{AllByRecursion}
@@ -14,9 +14,9 @@ use Rattle.air_attempt.specs.Laws.{AreAttempts, Calls, IsBetween, IsNewestSessio
 use Rattle.air_attempt.specs.Party.{AreOver, OnlyNewestUp, Party, newest_side}
 use Rattle.air_attempt.specs.Sides.{ServerSide}
 use Rattle.air_attempt.specs.Transfers.{connection_of}
+use Rattle.air_attempt.proofs.Offered.{all-at, all-by, old-connection, old-none, place-of-is, place-of-not}
 use Rattle.air_world.specs.Sound.{ArePlaces, IsParty, IsSeated, IsSessionOf, IsSideAt, Sound}
 use Rattle.air_world.specs.World.{PartyAt, World}
-use Rattle.air_attempt.proofs.Offered.{all-at, all-by, old-connection, old-none, place-of-is, place-of-not}
 
 -- ---- the place of a caller
 

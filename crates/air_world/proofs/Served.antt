@@ -15,6 +15,7 @@ use Rattle.air_attempt.specs.Attempt.{Attempt, IsAnswered, IsAttempt, IsEndOf}
 use Rattle.air_attempt.specs.Laws.{Calls, CurrentLaw, FrontLaw, HeardFrontLaw, IsSeatedIn, IsServedBy}
 use Rattle.air_attempt.specs.Party.{AreOver, OnlyNewestUp, Party}
 use Rattle.air_attempt.specs.Sides.{ServerSide}
+use Rattle.air_attempt.proofs.Offered.{all-at}
 use Rattle.air_files.specs.Laws.{GrantedAt, GrantsOnce, IsServed, SessionGoes, SessionKeeps, SessionLaw, Stands}
 use Rattle.air_files.specs.Laws.{session_gone, with_attempt}
 use Rattle.air_world.specs.Sound as sound
@@ -23,7 +24,6 @@ use Rattle.air_world.specs.World.{PartyAt, World}
 use Rattle.air_world.proofs.Marked.{IsComing, delivers, from-client, marked}
 use Rattle.air_world.proofs.Seats.{between, calls}
 use Rattle.air_world.proofs.ServerTicked.{its-session}
-use Rattle.air_attempt.proofs.Offered.{all-at}
 
 -- what stands of each client beside its facts
 pub stands : (world : World) → Sound world → (c : ℕ) (party : Party) → PartyAt world c party

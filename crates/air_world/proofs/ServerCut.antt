@@ -10,23 +10,23 @@ use Rattle.file_store.specs.Store.{Store}
 use Rattle.ftl0_server.specs.Connection.Connected.{Connected}
 use Rattle.ftl0_server.specs.Server.{all_free, new_server}
 use Rattle.ftl0_server.specs.Slots.{Slot, connected, free, leaving}
+use Rattle.ftl0_client.specs.Client.{Client}
 use Rattle.air_attempt.specs.Attempt.{Attempt}
 use Rattle.air_attempt.specs.Laws.{AreAttempts, Calls, IsBetween, LeftLaw}
 use Rattle.air_attempt.specs.Party.{AreOver, OnlyNewestUp, Party, all_over, over, sessions_over}
 use Rattle.air_attempt.specs.Sides.{ServerSide}
+use Rattle.air_attempt.proofs.Offered.{all-at, are-over}
 use Rattle.air_files.specs.Facts.{HasFacts}
-use Rattle.ftl0_client.specs.Client.{Client}
 use Rattle.air_files.specs.Laws.{LookLike, LooksServed, StayLaw}
-use Rattle.air_world.proofs.Likes.{same-party}
-use Rattle.air_world.proofs.Seats.{between, calls}
 use Rattle.air_files.specs.SoundStore.{IsSoundStore}
 use Rattle.air_world.specs.Sound.{Sound}
 use Rattle.air_world.specs.World.{PartyAt, World, counted}
+use Rattle.air_world.proofs.Likes.{same-party}
+use Rattle.air_world.proofs.Seats.{between, calls}
 use Rattle.air_world.proofs.ClientsStay.{ClientsStay, over-stays, stay-trans, stay-windows}
 use Rattle.air_world.proofs.Granted.{granted-like}
 use Rattle.air_world.proofs.Rebuild.{IsMade, StayParties, StaysParty, rebuilt}
 use Rattle.air_world.proofs.WorldLists.{map-at}
-use Rattle.air_attempt.proofs.Offered.{all-at, are-over}
 
 -- ---- a server without sessions
 

@@ -1,6 +1,6 @@
 -- A frame that the server hears: what it makes of the client whose frame it is.
-use Rattle.std.proofs.Common.{◌≡◌, ◌⊎◌, ℕ, zero, suc, ◌≤◌, ◌<◌, ◌^◌, List, [], ◌∷◌, Bool, true, false, Option}
-use Rattle.std.proofs.Common.{None, Some, refl, sym, ap, subst, ◌∙◌, inl, inr, true≢false}
+use Rattle.std.proofs.Common.{◌≡◌, ◌⊎◌, ℕ, zero, suc, ◌≤◌, ◌<◌, ◌^◌, List, [], ◌∷◌, Bool, true, false, Option, None}
+use Rattle.std.proofs.Common.{Some, refl, sym, ap, subst, ◌∙◌, inl, inr, true≢false}
 use Rattle.std.specs.Prelude.{slice_get}
 use Rattle.std.specs.List.{AllByRecursion}
 use Rattle.std.specs.Option.{option_map_or}
@@ -21,22 +21,24 @@ use Rattle.ftl0_server.specs.Entries.{SessionEntry}
 use Rattle.ftl0_server.specs.ServerStep.{ServerStep, Stepped}
 use Rattle.ftl0_server.specs.Slots.{place_of}
 use Rattle.air_attempt.specs.Attempt.{Attempt, IsAnsweredBy, IsAttempt, IsUnanswered}
-use Rattle.air_attempt.specs.Laws.{AreAttempts, Calls, IsSeatedIn, IsServedBy, SaysFit, SessionHears, StaysServer, did_in, heard_in}
+use Rattle.air_attempt.specs.Laws.{AreAttempts, Calls, IsSeatedIn, IsServedBy, SaysFit, SessionHears, StaysServer}
+use Rattle.air_attempt.specs.Laws.{did_in, heard_in}
 use Rattle.air_attempt.specs.Party.{Party, all_over, server_sends, to_server_delivered, with_answered, with_newest}
 use Rattle.air_attempt.specs.Said.{Grants}
 use Rattle.air_attempt.specs.Sides.{ServerSide}
-use Rattle.air_files.proofs.Offered.{alike-itself, over-alike, served-itself}
-use Rattle.air_attempt.specs.Transfers.{ServerDid, after_hearing, begun, connection_of, gone_on, has_session, heard_by, opened, served}
+use Rattle.air_attempt.specs.Transfers.{ServerDid, after_hearing, begun, connection_of, gone_on, has_session, heard_by}
+use Rattle.air_attempt.specs.Transfers.{opened, served}
+use Rattle.air_attempt.proofs.Offered.{place-of-is}
 use Rattle.air_files.specs.Facts.{HasFacts}
 use Rattle.air_files.specs.Laws.{GrantedAt, IsGreeted, LookLike, SessionKeeps, session_gone, with_attempt}
 use Rattle.air_files.specs.SoundStore.{IsSoundStore}
+use Rattle.air_files.proofs.Offered.{alike-itself, over-alike, served-itself}
 use Rattle.air_world.specs.Sound.{Sound}
 use Rattle.air_world.specs.World.{World}
 use Rattle.air_world.proofs.ClientsStay.{ClientsStay, newest-stays, stay-refl, stay-trans}
 use Rattle.air_world.proofs.Likes.{grants-like, like-at, same-party}
 use Rattle.air_world.proofs.Marked.{IsComing, delivers, from-client, marked}
 use Rattle.air_world.proofs.Seats.{between, calls, connection-none, connection-seat, finds-slot}
-use Rattle.air_attempt.proofs.Offered.{place-of-is}
 use Rattle.air_world.proofs.Served.{before-session, by-session, keeps, now-session}
 use Rattle.air_world.proofs.ServerTicked.{its-state}
 use Rattle.air_world.proofs.HeardMade.{HearingLaws, OwnMade, first-of, lost-second}

@@ -17,19 +17,19 @@ use Rattle.air_attempt.specs.Laws.{AreAttempts, Calls, IsBetween, IsKnown, Serve
 use Rattle.air_attempt.specs.Party.{Party, newest_side}
 use Rattle.air_attempt.specs.Sides.{ServerSide, SessionReaches}
 use Rattle.air_attempt.specs.Transfers.{ServerDid, after_tick, connection_of, did_to, gone_on, served, ticked_by}
+use Rattle.air_attempt.proofs.Offered.{place-of-is}
 use Rattle.air_files.specs.Facts.{HasFacts}
 use Rattle.air_files.specs.Laws.{LookLike, LooksServed, StayLaw}
 use Rattle.air_files.specs.SoundStore.{IsSoundStore}
+use Rattle.air_files.proofs.Offered.{alike-itself}
 use Rattle.air_world.specs.Sound.{Sound}
 use Rattle.air_world.specs.Step.{party_ticked}
 use Rattle.air_world.specs.World.{PartyAt, World, counted}
 use Rattle.air_world.proofs.ClientsStay.{tick-stays}
 use Rattle.air_world.proofs.Likes.{answered-like, reaches-one, same-party}
-use Rattle.air_files.proofs.Offered.{alike-itself}
 use Rattle.air_world.proofs.Rebuild.{IsMade, StayParties, StaysParty, rebuilt}
 use Rattle.air_world.proofs.Granted.{granted-like}
 use Rattle.air_world.proofs.Seats.{AreSeatsKnown, between, calls, connection-seat, finds-slot}
-use Rattle.air_attempt.proofs.Offered.{place-of-is}
 use Rattle.air_world.proofs.WorldLists.{at-map, map-at}
 
 -- the session of an answered attempt

@@ -3,11 +3,13 @@ use Rattle.std.proofs.Common.{◌≡◌, ◌≢◌, ◌⊎◌, ℕ, ◌≤◌, �
 use Rattle.std.proofs.Common.{subst, ◌∙◌, inl, inr, arith}
 use Rattle.std.specs.Prelude.{map, slice_get, if◌then◌else◌, IfSome}
 use Rattle.std.proofs.lemmas.Bool.{cases_eq}
-use Rattle.std.proofs.lemmas.List.{length-map}
+use Rattle.std.proofs.lemmas.List.{length-map, length-set}
 use Rattle.std.proofs.lemmas.Option.{same_Some}
 use Rattle.ax25_link.specs.Air.{Transmission}
+use Rattle.ax25_link.proofs.Offered.{slice_get-set_other}
 use Rattle.node.specs.Events.{hears as frame_comes}
 use Rattle.ftl0_session.specs.Uploads.Session.{is_same_call}
+use Rattle.ftl0_session.proofs.uploads.UploadRows.{same_call-decides}
 use Rattle.ftl0_server.specs.Connection.Connected.{caller_of}
 use Rattle.ftl0_server.specs.ServerStep.{ServerStep, Stepped}
 use Rattle.air_attempt.specs.Attempt.{Attempt}
@@ -16,6 +18,7 @@ use Rattle.air_attempt.specs.Party.{Party, to_server_delivered}
 use Rattle.air_attempt.specs.Said.{Grants}
 use Rattle.air_attempt.specs.Sides.{ServerSide}
 use Rattle.air_attempt.specs.Transfers.{ServerDid, after_hearing}
+use Rattle.air_attempt.proofs.Offered.{all-at}
 use Rattle.air_files.specs.Facts.{HasFacts, IsGrantKept}
 use Rattle.air_files.specs.Laws.{GrantedAt}
 use Rattle.air_world.specs.Events.{with_current}
@@ -25,16 +28,12 @@ use Rattle.air_world.specs.Step.{party_heard}
 use Rattle.air_world.specs.World.{PartyAt, World, counted}
 use Rattle.air_world.proofs.ClientsStay.{hearing-stays, newest-stays, stay-refl, stay-trans}
 use Rattle.air_world.proofs.Marked.{IsComing, delivered, from-client, marked}
-use Rattle.std.proofs.lemmas.List.{length-set}
 use Rattle.air_world.proofs.Rebuild.{IsMade, StayParties, StaysParty, rebuilt}
 use Rattle.air_world.proofs.Seats.{AreSeatsKnown, between, calls}
 use Rattle.air_world.proofs.Served.{granted-at, stands}
 use Rattle.air_world.proofs.ServerHeard.{calls-then, did, fits, own-made, stays}
 use Rattle.air_world.proofs.HeardMade.{HearingLaws, OwnMade}
 use Rattle.air_world.proofs.WorldLists.{at-map, at-set, map-at, other-call, set-at}
-use Rattle.air_attempt.proofs.Offered.{all-at}
-use Rattle.ax25_link.proofs.Offered.{slice_get-set_other}
-use Rattle.ftl0_session.proofs.uploads.UploadRows.{same_call-decides}
 
 module _ (laws : HearingLaws) (old : World) (sound_old : Sound old) (c : ℕ) (party : Party) (place : ℕ)
     (t : Transmission) (coming : IsComing old c party place t)
