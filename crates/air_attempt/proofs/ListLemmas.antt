@@ -1,7 +1,7 @@
 -- What is so of each of a list, or of one of it: of those at hand, and of a changed list of them.
 use Rattle.std.proofs.Common.{◌≡◌, ◌⊎◌, ℕ, zero, suc, List, [], ◌∷◌, ◌++◌, map, refl, sym, subst, Option, None, Some}
-use Rattle.std.proofs.Common.{inl, inr, ap, ◌∙◌, append-nil}
-use Rattle.std.specs.Prelude.{IfSome, slice_get}
+use Rattle.std.proofs.Common.{inl, inr, ap, ◌∙◌, append-nil, arith}
+use Rattle.std.specs.Prelude.{IfSome, slice_get, slice_set}
 use Rattle.std.specs.List.{AllByRecursion, flat_map}
 use Rattle.std.proofs.lemmas.Option.{same_Some}
 use Rattle.std.proofs.lemmas.Grind.{flat_map-append}
@@ -114,6 +114,20 @@ pub all-by : {X : Type 0} (P : X → Type 0) (xs : List X)
     → ((place : ℕ) (x : X) → slice_get xs place ≡ Some x → P x) → AllByRecursion P xs
 all-by P [] holds = tt
 all-by P (x ∷ xs) holds = (holds zero x refl, all-by P xs (λ place y there. holds (suc place) y there))
+
+-- the element at a place is the one that was put there, or the one that was there
+pub set-at : {X : Type 0} (xs : List X) (i j : ℕ) (x y : X) → slice_get (slice_set xs i x) j ≡ Some y
+    → ((j ≡ i) × (y ≡ x)) ⊎ ((j ≡ i → ⊥) × (slice_get xs j ≡ Some y))
+set-at [] i j x y at = absurd cc
+set-at (z ∷ zs) zero zero x y at = inl (refl, sym (same_Some x y at))
+set-at (z ∷ zs) zero (suc j) x y at = inr (λ same. absurd (omega (arith, same)), at)
+set-at (z ∷ zs) (suc i) zero x y at = inr (λ same. absurd (omega (arith, same)), at)
+set-at (z ∷ zs) (suc i) (suc j) x y at = by (set-at zs i j x y at)
+  where
+    by : ((j ≡ i) × (y ≡ x)) ⊎ ((j ≡ i → ⊥) × (slice_get zs j ≡ Some y))
+        → ((suc j ≡ suc i) × (y ≡ x)) ⊎ ((suc j ≡ suc i → ⊥) × (slice_get zs j ≡ Some y))
+    by (inl same) = inl (ap suc same.0, same.1)
+    by (inr other) = inr (λ same. other.0 (omega (arith, same)), other.1)
 
 -- where the one that is so stands
 pub one-placed : {X : Type 0} (P : X → Type 0) (xs : List X) → OneIs P xs

@@ -12,7 +12,8 @@ use Rattle.ftl0_server.specs.Server.{Server}
 use Rattle.ftl0_server.specs.ServerStep.{ServerStep, Stepped}
 use Rattle.ftl0_server.specs.Slots.{Slot, all_freed, connected, leaving}
 use Rattle.air_attempt.specs.Laws.{IsBetween, IsKnown, IsSeatedIn}
-use Rattle.air_attempt.proofs.Places.{freed-none, freed-seat, get-set}
+use Rattle.air_attempt.proofs.Places.{freed-none, freed-seat}
+use Rattle.air_attempt.proofs.ListLemmas.{set-at}
 
 -- ---- connections at places
 
@@ -114,8 +115,11 @@ module _ (old new : Server) (between : IsBetween old) (caller : CallSign) (place
   pub seat-is : (other : ℕ) (c : Connected) → IsSeatedIn new other c
       → ((other ≡ place) × (now ≡ connected c)) ⊎ ((other ≢ place) × IsSeatedIn old other c)
   seat-is other c there =
-      get-set old.slots place other now (connected c) within
-      (seat-before old (slice_set old.slots place now) new slots_are other c there)
+      elim (set-at old.slots place other now (connected c)
+      (seat-before old (slice_set old.slots place now) new slots_are other c there)) [
+        | inl it ↦ inl (it.0, sym it.1)
+        | inr was ↦ inr was
+      ]
 
   pub place-reseats : Reseats old new (IsAtPlace caller place)
   place-reseats = record {

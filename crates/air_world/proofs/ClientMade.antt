@@ -14,7 +14,7 @@ use Rattle.air_attempt.specs.Attempt.{Attempt}
 use Rattle.air_attempt.specs.Laws.{GoesWith, SitsBy}
 use Rattle.air_attempt.specs.Party.{Asked, EachAttempt, Party, newest}
 use Rattle.air_attempt.specs.Sides.{ServerSide}
-use Rattle.air_attempt.proofs.Offered.{all-at, all-by, each-append, each-weaker}
+use Rattle.air_attempt.proofs.Offered.{all-at, all-by, each-append, each-weaker, set-at}
 use Rattle.air_files.specs.Facts.{HasFacts}
 use Rattle.air_files.specs.Laws.{BeginLaw}
 use Rattle.air_files.specs.Tasks.{AreTasks, IsWork, StandsBy}
@@ -24,7 +24,7 @@ use Rattle.air_world.specs.Sound.{AreGrantedOnce, AreStationsOf, GrantedAt, IsPa
 use Rattle.air_world.specs.World.{PartyAt, World, counted, with_party}
 use Rattle.air_world.proofs.Seats.{AreSeatsKnown, between, calls, together}
 use Rattle.air_world.proofs.Served.{stands}
-use Rattle.air_world.proofs.WorldLists.{at-map, at-set, map-at, set-at}
+use Rattle.air_world.proofs.WorldLists.{at-map, at-set, map-at}
 use Rattle.air_world.proofs.SessionsStay.{SessionsStay, sessions_of, sits-stays}
 
 -- ---- more uploads

@@ -6,7 +6,7 @@ use Rattle.ax25_link.specs.Air.{IsLawful, Transmission}
 use Rattle.air_attempt.specs.Attempt.{Attempt, IsAttempt, IsFromTo}
 use Rattle.air_attempt.specs.Laws.{Calls, DeliversToServer, LeftLaw}
 use Rattle.air_attempt.specs.Party.{Party, newest, to_server_delivered, with_newest}
-use Rattle.air_attempt.proofs.Offered.{all-at}
+use Rattle.air_attempt.proofs.Offered.{all-at, set-at}
 use Rattle.air_files.proofs.Offered.{alike-itself, served-itself}
 use Rattle.air_world.specs.Events.{with_current}
 use Rattle.air_world.specs.Sound.{Sound}
@@ -15,7 +15,6 @@ use Rattle.air_world.proofs.ClientsStay.{newest-stays, stay-refl}
 use Rattle.air_world.proofs.Likes.{newest-like}
 use Rattle.air_world.proofs.Seats.{calls}
 use Rattle.air_world.proofs.ServerCut.{AreMarked, IsMarked}
-use Rattle.air_world.proofs.WorldLists.{set-at}
 
 -- nothing is delivered
 pub none-marked : (old : World) → Sound old → AreMarked old old

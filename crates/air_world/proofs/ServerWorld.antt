@@ -18,7 +18,7 @@ use Rattle.air_attempt.specs.Party.{Party, to_server_delivered}
 use Rattle.air_attempt.specs.Said.{Grants}
 use Rattle.air_attempt.specs.Sides.{ServerSide}
 use Rattle.air_attempt.specs.Transfers.{ServerDid, after_hearing}
-use Rattle.air_attempt.proofs.Offered.{all-at}
+use Rattle.air_attempt.proofs.Offered.{all-at, set-at}
 use Rattle.air_files.specs.Facts.{HasFacts, IsGrantKept}
 use Rattle.air_files.specs.Laws.{GrantedAt}
 use Rattle.air_world.specs.Events.{with_current}
@@ -33,7 +33,7 @@ use Rattle.air_world.proofs.Seats.{AreSeatsKnown, between, calls}
 use Rattle.air_world.proofs.Served.{granted-at, stands}
 use Rattle.air_world.proofs.ServerHeard.{calls-then, did, fits, own-made, stays}
 use Rattle.air_world.proofs.HeardMade.{HearingLaws, OwnMade}
-use Rattle.air_world.proofs.WorldLists.{at-map, at-set, map-at, other-call, set-at}
+use Rattle.air_world.proofs.WorldLists.{at-map, at-set, map-at, other-call}
 
 module _ (laws : HearingLaws) (old : World) (sound_old : Sound old) (c : ℕ) (party : Party) (place : ℕ)
     (t : Transmission) (coming : IsComing old c party place t)

@@ -1,6 +1,5 @@
 -- Lists of clients and of attempts.
-use Rattle.std.proofs.Common.{◌≡◌, ◌⊎◌, ℕ, zero, suc, List, [], ◌∷◌, Bool, true, false, Some, refl, sym, ap, inl, inr}
-use Rattle.std.proofs.Common.{arith}
+use Rattle.std.proofs.Common.{◌≡◌, ℕ, zero, suc, List, [], ◌∷◌, Bool, true, false, Some, refl, sym, ap}
 use Rattle.std.specs.Prelude.{slice_get, slice_set, map}
 use Rattle.std.proofs.lemmas.Option.{same_Some}
 use Rattle.px_base.specs.CallSign.{CallSign}
@@ -26,20 +25,6 @@ pub at-map : {X Y : Type 0} (f : X → Y) (xs : List X) (i : ℕ) (x : X) → sl
 at-map f [] i x at = absurd cc
 at-map f (y ∷ ys) zero x at = ap (λ z. Some (f z)) (same_Some y x at)
 at-map f (y ∷ ys) (suc i) x at = at-map f ys i x at
-
--- the element at a place is the one that was put there, or the one that was there
-pub set-at : {X : Type 0} (xs : List X) (i j : ℕ) (x y : X) → slice_get (slice_set xs i x) j ≡ Some y
-    → ((j ≡ i) × (y ≡ x)) ⊎ ((j ≡ i → ⊥) × (slice_get xs j ≡ Some y))
-set-at [] i j x y at = absurd cc
-set-at (z ∷ zs) zero zero x y at = inl (refl, sym (same_Some x y at))
-set-at (z ∷ zs) zero (suc j) x y at = inr (λ same. absurd (omega (arith, same)), at)
-set-at (z ∷ zs) (suc i) zero x y at = inr (λ same. absurd (omega (arith, same)), at)
-set-at (z ∷ zs) (suc i) (suc j) x y at = by (set-at zs i j x y at)
-  where
-    by : ((j ≡ i) × (y ≡ x)) ⊎ ((j ≡ i → ⊥) × (slice_get zs j ≡ Some y))
-        → ((suc j ≡ suc i) × (y ≡ x)) ⊎ ((suc j ≡ suc i → ⊥) × (slice_get zs j ≡ Some y))
-    by (inl same) = inl (ap suc same.0, same.1)
-    by (inr other) = inr (λ same. other.0 (omega (arith, same)), other.1)
 
 pub at-set : {X : Type 0} (xs : List X) (i : ℕ) (x old : X) → slice_get xs i ≡ Some old
     → slice_get (slice_set xs i x) i ≡ Some x
