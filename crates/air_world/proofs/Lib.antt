@@ -3,6 +3,7 @@ mod AskOthers
 mod AskResume
 mod AskUpload
 mod Asked
+mod BelowLemmas
 mod ClientAsked
 mod ClientBasics
 mod ClientBegun

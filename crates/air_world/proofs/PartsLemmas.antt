@@ -15,7 +15,7 @@ use Rattle.ftl0_client.specs.declared.outcome.Outcome.TheVariants as outcome
 use Rattle.ftl0_client.specs.Outcomes.{outcome_as, outcome_by, outcome_of_job}
 use Rattle.air_attempt.specs.Attempt.{Attempt, IsAnswered, IsAnsweredBy, IsAttempt}
 use Rattle.air_attempt.specs.Lists.{Has}
-use Rattle.air_attempt.specs.Party.{IsLinkOf, Party, newest}
+use Rattle.air_attempt.specs.Party.{EachSide, IsLinkOf, Party, newest}
 use Rattle.air_attempt.specs.Said.{Grants, Offers}
 use Rattle.air_attempt.specs.Sides.{ServerSide}
 use Rattle.air_attempt.proofs.Offered.{each-at, each-weaker, has-at, one-placed, some-from}
@@ -54,10 +54,12 @@ numbers-fit world sound c party there =
       server_quiet = answered.quiet;
     })
 
-octets-fit : (world : World) → Sound world → EachParty world (λ party. OfCurrent party DoOctetsFit)
-octets-fit world sound c party there =
-    of-current DoOctetsFit world c party (sound.parties c party there)
-    (λ a side it answered. (answered.linked.one_octets, answered.linked.other_octets))
+octets-fit : (world : World) → Sound world → EachParty world (λ party. EachSide party DoOctetsFit)
+octets-fit world sound c party there = each-side party (λ a side has serves.
+    let it = each-at (IsAttempt party.client.me party.client.server) party.attempts a
+    (sound.parties c party there).attempts has in
+    let linked = (subst (IsAnsweredBy a) serves it.answered).linked in
+    (linked.one_octets, linked.other_octets))
 
 in-state : (world : World) → Sound world → AreNumbered world → AreInState world
 in-state world sound numbered = record {

@@ -1,5 +1,5 @@
 -- Laws of worlds, over every lawful schedule.
-use Rattle.std.specs.Prelude.{◌≡◌, ◌≢◌, ℕ, List, ◌∷◌, true, Some}
+use Rattle.std.specs.Prelude.{◌≡◌, ◌≢◌, ℕ, ◌≤◌, List, [], ◌∷◌, length, false, true, Some, ⊤}
 use Rattle.std.specs.List.{AllByRecursion}
 use Rattle.file_store.specs.Command.{after, drop_entry}
 use Rattle.file_store.specs.OnDisk.{after_first}
@@ -7,7 +7,7 @@ use Rattle.file_store.specs.Store.{Entry, entry_of, partial}
 use Rattle.ftl0_session.specs.Table.{receiving}
 use Rattle.node.specs.Events.{NodeEvent}
 use Rattle.client_notes.specs.Several as notes
-use Rattle.air_world.specs.Cuts.{IsRun, WorldStep, client_commands, server_commands}
+use Rattle.air_world.specs.Cuts.{Happens, IsRun, WorldStep, client_commands, server_commands}
 use Rattle.air_world.specs.Events.{ClientPart, ClientTakes, ServerTakes}
 use Rattle.air_world.specs.Headline.{HeadlineIn}
 use Rattle.air_world.specs.Lawful.{IsAllowed}
@@ -77,6 +77,32 @@ NoCutsLaw =
 abbrev pub ExistenceLaw : Type 0
 ExistenceLaw =
     (world : World) (event : Event) → Sound world → IsAllowed world event → (next : World) × WorldStep world event next
+
+-- Each of these events may come in its turn, whatever the one before it made of the world.
+abbrev pub MayPlay : World → List Event → Type 0
+MayPlay world [] = ⊤
+MayPlay world (event ∷ events) =
+    IsAllowed world event × ((next : World) → WorldStep world event next → MayPlay next events)
+
+-- A schedule whose events may come, each in its turn, has its worlds.
+abbrev pub RunLaw : Type 0
+RunLaw =
+    (schedule : Schedule) → IsSchedule schedule → MayPlay (first_world schedule) schedule.events
+    → (worlds : List World) × IsRun schedule worlds
+
+-- At an event that is to be cut each number of the event's commands may stand, and the cut is made then.
+pub record CutsLaw : Type 0 where
+  pub server :
+      (world : World) (event : Event) (coming : NodeEvent) (delivered : World) (count : ℕ)
+      → ServerTakes world event coming delivered → world.is_cut ≡ true → count ≤ length (server_commands world coming)
+      → (next : World) × Happens world event next × (next.is_cut ≡ false)
+      × (next.server.store ≡ after_first count world.server.store (server_commands world coming))
+  pub client :
+      (world : World) (event : Event) (c : ℕ) (part : ClientPart) (count : ℕ)
+      → ClientTakes world event c part → part.party.is_cut ≡ true → count ≤ length (client_commands part)
+      → (next : World) × Happens world event next
+      × ((party : Party) × PartyAt next c party × (party.is_cut ≡ false)
+      × (party.client.lists ≡ notes.after_first count part.party.client.lists (client_commands part)))
 
 -- no session that is up receives the file of this number
 abbrev pub NoneReceives : World → ℕ → Type 0

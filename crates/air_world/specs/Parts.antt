@@ -61,7 +61,8 @@ pub record DoNumbersFit (a : Attempt) (side : ServerSide) : Type 0 where
   pub client_quiet : IsQuiet a.window a.client.attempted.end
   pub server_quiet : IsQuiet a.window side.connected.end
 
--- Their octets do: what each accepted are the first pieces that the other one sent.
+-- The octets of two ends do, also of an older attempt's: what each accepted are the first pieces that the other one
+-- sent.
 abbrev pub DoOctetsFit : Attempt → ServerSide → Type 0
 DoOctetsFit a side =
     OctetsFit a.client.attempted.end side.connected.end × OctetsFit side.connected.end a.client.attempted.end
@@ -150,7 +151,7 @@ pub record HasParts (world : World) : Type 0 where
   pub numbered : AreNumbered world
   pub acknowledged : AreAcknowledged world
   pub numbers : EachParty world (λ party. OfCurrent party DoNumbersFit)
-  pub octets : EachParty world (λ party. OfCurrent party DoOctetsFit)
+  pub octets : EachParty world (λ party. EachSide party DoOctetsFit)
   pub states : AreInState world
   pub granted : AreGranted world
   pub complete : AreToldComplete world

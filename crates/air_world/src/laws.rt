@@ -1,7 +1,7 @@
 //! Laws of the world, each the contract of a function that does nothing.
 
-ghost use Rattle.air_world.specs.Laws.{ExistenceLaw, NoCutsLaw, PartsLaw, PrefixesLaw, RemovalLaw, ScheduleLaw};
-ghost use Rattle.air_world.specs.Laws.{SoundLaw};
+ghost use Rattle.air_world.specs.Laws.{CutsLaw, ExistenceLaw, NoCutsLaw, PartsLaw, PrefixesLaw, RemovalLaw, RunLaw};
+ghost use Rattle.air_world.specs.Laws.{ScheduleLaw, SoundLaw};
 
 use air_attempt::laws as attempts;
 use air_files::laws as files;
@@ -110,3 +110,16 @@ pub fn no_cuts_law()
 {
     schedule_law();
 }
+
+/// A schedule whose events may come, each in its turn, has its worlds.
+pub fn run_law()
+    ensures { RunLaw }
+{
+    sound_law();
+    existence_law();
+}
+
+/// At an event that is to be cut each number of the event's commands may stand.
+pub fn cuts_law()
+    ensures { CutsLaw }
+{}

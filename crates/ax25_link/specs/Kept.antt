@@ -124,10 +124,12 @@ Writes link frame octets = Tells link (λ w end. canonical (frame w end)) octets
 abbrev pub Reads : Kept → (Window → LinkEnd → FrameValue) → List ℕ → Type 0
 Reads link frame octets = (w : Window) (end : LinkEnd) → StandsFor w link end → FrameText (frame w end) octets
 
--- Whatever end the link stood for, it stands for the end of this outcome now, and what is told is the outcome's.
+-- Whatever end the link stood for, it stands for the end of this outcome now, and what is told is the outcome's. Its
+-- stations stay.
 pub record Takes (before now : Kept) (row : Window → LinkEnd → Outcome) (answer : Heard) : Type 0 where
   pub after : Steps before now (λ w end. (row w end).after)
   pub heard : Tells before (λ w end. (row w end).heard) answer
+  pub stations : SameStations before now
 
 -- what an S frame does while up, by whether it says that the peer is busy, and whether it rejects
 abbrev pub any_supervisory_row : Bool → Bool → Window → LinkEnd → FrameValue → ℕ → Outcome

@@ -23,7 +23,6 @@ impl Link {
     pub(crate) fn take_calling(&mut self, frame: &Frame<'_>) -> Heard
         ensures row { let f = value_of frame.now in
             Takes self.old self.new (λ w end. calling_row end f f.kind.control) result }
-        ensures stations { SameStations self.old self.new }
     {
         match frame.kind {
             Kind::Ua => {
@@ -43,7 +42,6 @@ impl Link {
     pub(crate) fn take_ending(&mut self, frame: &Frame<'_>) -> Heard
         ensures row { let f = value_of frame.now in
             Takes self.old self.new (λ w end. ending_row end f f.kind.control) result }
-        ensures stations { SameStations self.old self.new }
     {
         match frame.kind {
             Kind::Ua => self.close(Why::Disc),
@@ -56,7 +54,6 @@ impl Link {
     /// In state Down (2.4.3.4).
     pub(crate) fn take_down(&mut self, frame: &Frame<'_>) -> Heard
         ensures row { Takes self.old self.new (λ w end. down_row end (value_of frame.now)) result }
-        ensures stations { SameStations self.old self.new }
     {
         if matches!(frame.kind, Kind::Sabm) || frame.command && frame.poll {
             self.reply = Some(Reply::Refuse { poll: frame.poll });
@@ -71,7 +68,6 @@ impl Link {
         requires frame { IsFromPeer self.old (value_of frame.now) }
         ensures row { let f = value_of frame.now in
             Takes self.old self.new (λ w end. up_row w end f f.kind.control) result }
-        ensures stations { SameStations self.old self.new }
     {
         match frame.kind {
             Kind::I { ns, nr, .. } => self.take_information(frame, ns, nr),
@@ -94,7 +90,6 @@ impl Link {
         requires kind { (value_of frame.now).kind.control ≡ Control.I ns nr }
         ensures row { let f = value_of frame.now in
             Takes self.old self.new (λ w end. up_row w end f (Control.I ns nr)) result }
-        ensures stations { SameStations self.old self.new }
     {
         match self.apply(nr) {
             Acknowledgement::Bad => self.reject(frame, 2 * ns + 32 * nr),
@@ -119,7 +114,6 @@ impl Link {
             ≡ control_octet (value_of frame.now).kind.control frame.now.poll }
         ensures row { Takes self.old self.new
             (λ w end. any_supervisory_row is_busy is_reject w end (value_of frame.now) nr) result }
-        ensures stations { SameStations self.old self.new }
     {
         match self.apply(nr) {
             Acknowledgement::Bad => self.reject(frame, control),
@@ -168,7 +162,6 @@ impl Link {
     /// An I frame whose N(R) was applied: it is accepted where its number is the next one (2.4.4.2, 2.4.4.3).
     fn take_numbered(&mut self, frame: &Frame<'_>, ns: u8) -> Heard
         ensures row { Takes self.old self.new (λ w end. information_row w end (value_of frame.now) ns) result }
-        ensures stations { SameStations self.old self.new }
     {
         let poll = frame.poll;
         if ns == self.taken {
@@ -191,7 +184,6 @@ impl Link {
     fn answer_poll(&mut self, frame: &Frame<'_>, is_busy: bool) -> Heard
         ensures row { Takes self.old self.new
             (λ w end. supervisory_row (with_busy is_busy end) (value_of frame.now)) result }
-        ensures stations { SameStations self.old self.new }
     {
         self.peer_busy = is_busy;
         if frame.command && frame.poll {
@@ -204,7 +196,6 @@ impl Link {
     fn take_sabm(&mut self, frame: &Frame<'_>) -> Heard
         requires { self.old.state ≡ LinkState.Up }
         ensures row { Takes self.old self.new (λ w end. called_again end (value_of frame.now)) result }
-        ensures stations { SameStations self.old self.new }
     {
         if self.called {
             return Heard::Nothing;
@@ -231,7 +222,6 @@ impl Link {
     /// DISC in state Up or Ending: UA, and down (2.4.3.3).
     fn take_disc(&mut self, poll: bool) -> Heard
         ensures row { Takes self.old self.new (λ w end. closing_with end (accept poll) Why.Disc) result }
-        ensures stations { SameStations self.old self.new }
     {
         self.enter(LinkState::Down);
         self.reply = Some(Reply::Accept { poll });
@@ -244,7 +234,6 @@ impl Link {
         requires octet { control + 16 * bit frame.now.poll
             ≡ control_octet (value_of frame.now).kind.control frame.now.poll }
         ensures row { Takes self.old self.new (λ w end. refusing w end (value_of frame.now)) result }
-        ensures stations { SameStations self.old self.new }
     {
         let octets = reject_octets(
             control + 16 * u8::from(frame.poll),
@@ -263,7 +252,6 @@ impl Link {
     /// The link is down.
     fn close(&mut self, why: Why) -> Heard
         ensures row { Takes self.old self.new (λ w end. closing end why) result }
-        ensures stations { SameStations self.old self.new }
     {
         self.enter(LinkState::Down);
         Heard::Closed(why)

@@ -1,3 +1,4 @@
 mod EntryLemmas
 mod StepLemmas
+mod StopLemmas
 mod UpLemmas

@@ -1,7 +1,9 @@
-//! Laws of a client's steps, over the definitions of `ftl0_client`: what is sent, and what becomes of the job.
+//! Laws of a client's steps, over the definitions of `ftl0_client`: what is sent, what becomes of the job, and
+//! which commands of the notes are begun.
 #![tactic(auto)]
 
 ghost use Rattle.client_laws.specs.Steps.{StepLaw};
+ghost use Rattle.client_laws.specs.Stops.{FrontOfEventLaw};
 ghost use Rattle.ftl0_client.specs.Entries.{HearingLaw, TickingLaw};
 
 /// A step of a client by its attempt: the frames are what the end of its link sends until nothing is to be sent, and
@@ -19,4 +21,10 @@ pub fn ticking_law()
 /// before it, and then those that are queued (FTL0 1990).
 pub fn hearing_law()
     ensures { HearingLaw }
+{}
+
+/// The commands of the notes that an event begins that stops at a packet, where the disk fails or memory is wanting,
+/// are the first of those that it has where nothing stops it.
+pub fn front_of_event_law()
+    ensures { FrontOfEventLaw }
 {}

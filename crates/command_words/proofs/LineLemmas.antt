@@ -1,6 +1,6 @@
 -- What the clauses of `clap` say of the words from COMMAND on.
 use Rattle.std.proofs.Common.{◌≡◌, true, List, [], ◌∷◌, length, map, drop, Option, None, Some, refl, sym, ap, ◌∙◌, string_bytes, codes, option_copied, option_map, Bor, Result, Err}
-use Rattle.std.specs.Prelude.{slice_get}
+use Rattle.std.specs.Prelude.{IsErrOf, slice_get}
 use Rattle.std.specs.List.{AllByRecursion}
 use Rattle.std.specs.declared.string.String.{String}
 use Rattle.clap.specs.Walk.{first_of, rows_of}
@@ -10,7 +10,9 @@ use Rattle.clap.specs.Takes.{takes}
 use Rattle.clap.specs.Faults.{fault_of, is_simple_and_free}
 use Rattle.clap.specs.declared.parser.matches.ArgMatches.{ArgMatches}
 use Rattle.clap.proofs.WalkLemmas.{first_value-rows}
+use Rattle.command_words.specs.Refusals.{IsRefusedFor}
 use Rattle.command_words.specs.declared.request.Refusal.{Refusal}
+use Rattle.command_words.specs.declared.request.Refusal.TheVariants.{NotBuilt, Usage}
 use Rattle.command_words.specs.Clients.{client_options}
 use Rattle.command_words.specs.Grammar.{Line}
 use Rattle.command_words.specs.Lines.{body_app, IsFound, IsLine, are_apart, client_app, client_places, command_of, fetch_app, fetch_places, make_app, serve_app, session_app}
@@ -102,3 +104,7 @@ value_got value first got found same = sym found ∙ sym same ∙ sym (copied-ma
 -- a refusal that is handed on is the same one
 pub handed_on : {T U : Type 0} {refusal cause : Refusal} → ◌≡◌ {A = Result T Refusal} (Err refusal) (Err cause) → ◌≡◌ {A = Result U Refusal} (Err refusal) (Err cause)
 handed_on {refusal = refusal} {cause = cause} e = let same : refusal ≡ cause = cc in ap (λ (r : Refusal). Err r) same
+
+-- words are refused for this, where usage is answered only then, and never that the command isn't built
+pub refused_for : {T P : Type 0} {result : Result T Refusal} → (IsErrOf result Usage → P) → (IsErrOf result NotBuilt → ⊥) → IsRefusedFor result P
+refused_for usage built = record { usage = usage; built = built }

@@ -8,4 +8,5 @@ pub mod Laws
 pub mod Lines
 pub mod Making
 pub mod Numbers
+pub mod Refusals
 pub mod Words

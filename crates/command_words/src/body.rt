@@ -1,7 +1,8 @@
 //! The words of `pfh-body`.
 
-ghost use Rattle.std.specs.Prelude.{◌∷◌, ℕ, List, IfOk, IsErrOf, codes, drop, map, string_bytes};
+ghost use Rattle.std.specs.Prelude.{◌∷◌, ℕ, List, IfOk, codes, drop, map, string_bytes};
 ghost use Rattle.command_words.specs.Asked.{AsksFor};
+ghost use Rattle.command_words.specs.Refusals.{IsRefusedFor};
 ghost use Rattle.command_words.specs.Words.{IsBody};
 
 use crate::air::read_air;
@@ -26,9 +27,8 @@ pub(crate) fn body_request<'a>(
 ) -> Result<Request<'a>, Refusal>
     ensures asks { IfOk result (λ request. (disk : List ℕ) →
         AsksFor (disk ∷ air.now ∷ codes "pfh-body" ∷ drop 1 (map string_bytes line.now)) request) }
-    ensures usage { IsErrOf result Refusal.Usage → (disk name kept : List ℕ) →
-        IsBody (disk ∷ air.now ∷ codes "pfh-body" ∷ drop 1 (map string_bytes line.now)) name kept → ⊥ }
-    ensures built { IsErrOf result Refusal.NotBuilt → ⊥ }
+    ensures refused { IsRefusedFor result ((disk name kept : List ℕ) →
+        IsBody (disk ∷ air.now ∷ codes "pfh-body" ∷ drop 1 (map string_bytes line.now)) name kept → ⊥) }
 {
     if read_air(air).is_none() {
         return Err(Refusal::Usage);

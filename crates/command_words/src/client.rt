@@ -1,9 +1,10 @@
 //! The words of a client's commands: `send`, `fetch` and `list`.
 
-ghost use Rattle.std.specs.Prelude.{◌≡◌, ◌∷◌, ℕ, List, IfOk, IsErrOf, codes, drop, map, string_bytes};
+ghost use Rattle.std.specs.Prelude.{◌∷◌, ℕ, List, IfOk, codes, drop, map, string_bytes};
 ghost use Rattle.command_words.specs.Asked.{AsksBehind, AsksFor};
 ghost use Rattle.command_words.specs.Clients.{ClientTerms, FetchText, HexText, ListText, SendText};
 ghost use Rattle.command_words.specs.Commands.{AsksBy, client_word};
+ghost use Rattle.command_words.specs.Refusals.{IsRefusedFor};
 
 use crate::client_line::{read_client_texts, read_fetch_texts};
 use crate::command::ClientCommand;
@@ -102,9 +103,8 @@ pub(crate) fn client_request<'a>(
 ) -> Result<Request<'a>, Refusal>
     ensures asks { IfOk result
         (AsksFor (disk.now ∷ air.now ∷ client_word command ∷ drop 1 (map string_bytes line.now))) }
-    ensures usage { IsErrOf result Refusal.Usage →
-        AsksBy command (disk.now ∷ air.now ∷ client_word command ∷ drop 1 (map string_bytes line.now)) → ⊥ }
-    ensures built { IsErrOf result Refusal.NotBuilt → ⊥ }
+    ensures refused { IsRefusedFor result
+        (AsksBy command (disk.now ∷ air.now ∷ client_word command ∷ drop 1 (map string_bytes line.now)) → ⊥) }
 {
     if !is_station(disk, air) {
         return Err(Refusal::Usage);
@@ -119,9 +119,8 @@ pub(crate) fn client_request<'a>(
 /// Reads the line from `send` on. Takes memory.
 fn send_request<'a>(alloc: Global, line: &'a [String]) -> Result<Request<'a>, Refusal>
     ensures asks { IfOk result (AsksBehind (codes "send") (drop 1 (map string_bytes line.now))) }
-    ensures usage { IsErrOf result Refusal.Usage → (terms : ClientTerms) (name : List ℕ) →
-        SendText terms name (drop 1 (map string_bytes line.now)) → ⊥ }
-    ensures built { IsErrOf result Refusal.NotBuilt → ⊥ }
+    ensures refused { IsRefusedFor result ((terms : ClientTerms) (name : List ℕ) →
+        SendText terms name (drop 1 (map string_bytes line.now)) → ⊥) }
 {
     let texts = read_client_texts(alloc, "send", line)?;
     let Some(terms) = read_terms(texts.server, texts.me, texts.k, texts.polls) else {
@@ -142,9 +141,8 @@ fn send_request<'a>(alloc: Global, line: &'a [String]) -> Result<Request<'a>, Re
 /// Reads the line from `fetch` on. Takes memory.
 fn fetch_request<'a>(alloc: Global, line: &'a [String]) -> Result<Request<'a>, Refusal>
     ensures asks { IfOk result (AsksBehind (codes "fetch") (drop 1 (map string_bytes line.now))) }
-    ensures usage { IsErrOf result Refusal.Usage → (terms : ClientTerms) (number : ℕ) (name : List ℕ) →
-        FetchText terms number name (drop 1 (map string_bytes line.now)) → ⊥ }
-    ensures built { IsErrOf result Refusal.NotBuilt → ⊥ }
+    ensures refused { IsRefusedFor result ((terms : ClientTerms) (number : ℕ) (name : List ℕ) →
+        FetchText terms number name (drop 1 (map string_bytes line.now)) → ⊥) }
 {
     let texts = read_fetch_texts(alloc, line)?;
     let Some(terms) = read_terms(texts.server, texts.me, texts.k, texts.polls) else {
@@ -166,9 +164,8 @@ fn fetch_request<'a>(alloc: Global, line: &'a [String]) -> Result<Request<'a>, R
 /// Reads the line from `list` on. Takes memory.
 fn list_request<'a>(alloc: Global, line: &'a [String]) -> Result<Request<'a>, Refusal>
     ensures asks { IfOk result (AsksBehind (codes "list") (drop 1 (map string_bytes line.now))) }
-    ensures usage { IsErrOf result Refusal.Usage → (terms : ClientTerms) (tokens : List ℕ) →
-        ListText terms tokens (drop 1 (map string_bytes line.now)) → ⊥ }
-    ensures built { IsErrOf result Refusal.NotBuilt → ⊥ }
+    ensures refused { IsRefusedFor result ((terms : ClientTerms) (tokens : List ℕ) →
+        ListText terms tokens (drop 1 (map string_bytes line.now)) → ⊥) }
 {
     let texts = read_client_texts(alloc, "list", line)?;
     let Some(terms) = read_terms(texts.server, texts.me, texts.k, texts.polls) else {

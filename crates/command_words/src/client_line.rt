@@ -1,10 +1,11 @@
 //! The words from a client's command on, read with `clap`.
 
-ghost use Rattle.std.specs.Prelude.{◌≡◌, [], ◌∷◌, IfOk, IsErrOf, drop, map, option_copied, string_bytes};
+ghost use Rattle.std.specs.Prelude.{◌≡◌, [], ◌∷◌, IfOk, drop, map, option_copied, string_bytes};
 ghost use Rattle.clap.specs.Words.{app_of};
 ghost use Rattle.command_words.specs.Clients.{client_options};
 ghost use Rattle.command_words.specs.Grammar.{Line};
 ghost use Rattle.command_words.specs.Lines.{ClientLine, client_app, fetch_app};
+ghost use Rattle.command_words.specs.Refusals.{IsRefusedFor};
 
 use crate::line::{line_command, place, read_line, with_options};
 use crate::request::Refusal;
@@ -51,8 +52,7 @@ pub(crate) fn read_client_texts<'a>(
 ) -> Result<ClientTexts<'a>, Refusal>
     ensures texts { IfOk result (λ texts. ClientLine 3 (drop 1 (map string_bytes line.now))
         (texts.server.now ∷ texts.me.now ∷ texts.subject.now ∷ []) (option_copied texts.k) (option_copied texts.polls)) }
-    ensures usage { IsErrOf result Refusal.Usage → Line client_options (drop 1 (map string_bytes line.now)) 3 → ⊥ }
-    ensures built { IsErrOf result Refusal.NotBuilt → ⊥ }
+    ensures refused { IsRefusedFor result (Line client_options (drop 1 (map string_bytes line.now)) 3 → ⊥) }
 {
     let matches = read_line(client_command(alloc, command)?, line)?;
     let Some(server) = matches.get_str("server") else {
@@ -81,8 +81,7 @@ pub(crate) fn read_fetch_texts<'a>(
     ensures texts { IfOk result (λ texts. ClientLine 4 (drop 1 (map string_bytes line.now))
         (texts.server.now ∷ texts.me.now ∷ texts.number.now ∷ texts.name.now ∷ [])
         (option_copied texts.k) (option_copied texts.polls)) }
-    ensures usage { IsErrOf result Refusal.Usage → Line client_options (drop 1 (map string_bytes line.now)) 4 → ⊥ }
-    ensures built { IsErrOf result Refusal.NotBuilt → ⊥ }
+    ensures refused { IsRefusedFor result (Line client_options (drop 1 (map string_bytes line.now)) 4 → ⊥) }
 {
     let matches = read_line(fetch_command(alloc)?, line)?;
     let Some(server) = matches.get_str("server") else {

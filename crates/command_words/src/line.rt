@@ -1,12 +1,13 @@
 //! The words from COMMAND on, read with `clap`.
 
-ghost use Rattle.std.specs.Prelude.{◌≡◌, List, [], ◌∷◌, false, IfOk, IsErrOf, codes, drop, map, option_copied, string_bytes};
+ghost use Rattle.std.specs.Prelude.{◌≡◌, List, [], ◌∷◌, false, IfOk, codes, drop, map, option_copied, string_bytes};
 ghost use Rattle.clap.specs.Words.{app_of, kind_of, rule_of, with_rule};
 ghost use Rattle.command_words.specs.Grammar.{Line};
 ghost use Rattle.command_words.specs.Lines.{BodyLine, FindsLine, MakeLine, RefusesLine, ServeLine, SessionLine};
 ghost use Rattle.command_words.specs.Lines.{body_app, command_of, make_app, option_of, options_added, place_of};
 ghost use Rattle.command_words.specs.Lines.{serve_app, session_app};
 ghost use Rattle.command_words.specs.Making.{make_options};
+ghost use Rattle.command_words.specs.Refusals.{IsRefusedFor};
 ghost use Rattle.command_words.specs.Words.{NameText, serve_options, session_options};
 
 use crate::body::BodyRequest;
@@ -71,9 +72,7 @@ pub(crate) fn read_session<'a>(
 ) -> Result<SessionTexts<'a>, Refusal>
     ensures texts { IfOk result (λ texts. SessionLine (drop 1 (map string_bytes line.now)) texts.caller.now
         (option_copied texts.moment) (option_copied texts.blocks) (option_copied texts.polls)) }
-    ensures usage { IsErrOf result Refusal.Usage →
-        Line session_options (drop 1 (map string_bytes line.now)) 1 → ⊥ }
-    ensures built { IsErrOf result Refusal.NotBuilt → ⊥ }
+    ensures refused { IsRefusedFor result (Line session_options (drop 1 (map string_bytes line.now)) 1 → ⊥) }
 {
     let matches = read_line(session_command(alloc)?, line)?;
     let Some(caller) = matches.get_str("caller") else {
@@ -91,8 +90,7 @@ pub(crate) fn read_session<'a>(
 pub(crate) fn read_serve<'a>(alloc: Global, line: &'a [String]) -> Result<ServeTexts<'a>, Refusal>
     ensures texts { IfOk result (λ texts. ServeLine (drop 1 (map string_bytes line.now)) texts.me.now
         (option_copied texts.k) (option_copied texts.blocks) (option_copied texts.polls)) }
-    ensures usage { IsErrOf result Refusal.Usage → Line serve_options (drop 1 (map string_bytes line.now)) 1 → ⊥ }
-    ensures built { IsErrOf result Refusal.NotBuilt → ⊥ }
+    ensures refused { IsRefusedFor result (Line serve_options (drop 1 (map string_bytes line.now)) 1 → ⊥) }
 {
     let matches = read_line(serve_command(alloc)?, line)?;
     let Some(me) = matches.get_str("me") else {
@@ -113,8 +111,7 @@ pub(crate) fn read_name<'a>(
     line: &'a [String],
 ) -> Result<&'a str, Refusal>
     ensures name { IfOk result (λ name. NameText name.now (drop 1 (map string_bytes line.now))) }
-    ensures usage { IsErrOf result Refusal.Usage → Line [] (drop 1 (map string_bytes line.now)) 1 → ⊥ }
-    ensures built { IsErrOf result Refusal.NotBuilt → ⊥ }
+    ensures refused { IsRefusedFor result (Line [] (drop 1 (map string_bytes line.now)) 1 → ⊥) }
 {
     let matches = read_line(line_command(alloc, command, "name")?, line)?;
     match matches.get_str("name") {
@@ -126,8 +123,7 @@ pub(crate) fn read_name<'a>(
 /// Reads the words from `pfh-make` on. Takes memory.
 pub(crate) fn read_make<'a>(alloc: Global, line: &'a [String]) -> Result<MakeTexts<'a>, Refusal>
     ensures texts { IfOk result (λ texts. MakeLine texts (drop 1 (map string_bytes line.now))) }
-    ensures usage { IsErrOf result Refusal.Usage → Line make_options (drop 1 (map string_bytes line.now)) 2 → ⊥ }
-    ensures built { IsErrOf result Refusal.NotBuilt → ⊥ }
+    ensures refused { IsRefusedFor result (Line make_options (drop 1 (map string_bytes line.now)) 2 → ⊥) }
 {
     let matches = read_line(make_command(alloc)?, line)?;
     let Some(body) = matches.get_str("body") else {
@@ -152,8 +148,7 @@ pub(crate) fn read_make<'a>(alloc: Global, line: &'a [String]) -> Result<MakeTex
 /// Reads the words from `pfh-body` on. Takes memory.
 pub(crate) fn read_body<'a>(alloc: Global, line: &'a [String]) -> Result<BodyRequest<'a>, Refusal>
     ensures texts { IfOk result (λ asked. BodyLine asked (drop 1 (map string_bytes line.now))) }
-    ensures usage { IsErrOf result Refusal.Usage → Line [] (drop 1 (map string_bytes line.now)) 2 → ⊥ }
-    ensures built { IsErrOf result Refusal.NotBuilt → ⊥ }
+    ensures refused { IsRefusedFor result (Line [] (drop 1 (map string_bytes line.now)) 2 → ⊥) }
 {
     let matches = read_line(body_command(alloc)?, line)?;
     let Some(name) = matches.get_str("name") else {
@@ -259,9 +254,7 @@ pub(crate) fn read_line<'a>(
     line: &'a [String],
 ) -> Result<ArgMatches<'a>, Refusal>
     ensures found { IfOk result (FindsLine (app_of command.entry) (drop 1 (map string_bytes line.now))) }
-    ensures usage { IsErrOf result Refusal.Usage →
-        RefusesLine (app_of command.entry) (drop 1 (map string_bytes line.now)) }
-    ensures built { IsErrOf result Refusal.NotBuilt → ⊥ }
+    ensures refused { IsRefusedFor result (RefusesLine (app_of command.entry) (drop 1 (map string_bytes line.now))) }
 {
     match command.try_get_matches_from(line) {
         Ok(matches) => Ok(matches),

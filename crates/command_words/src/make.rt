@@ -1,10 +1,11 @@
 //! The words of `pfh-make`.
 
-ghost use Rattle.std.specs.Prelude.{◌≡◌, ◌∷◌, [], ℕ, List, IfNone, IfOk, IfSome, IsErrOf, codes, drop, map, option_copied, string_bytes, unwrap_or};
+ghost use Rattle.std.specs.Prelude.{◌≡◌, ◌∷◌, [], ℕ, List, IfNone, IfOk, IfSome, codes, drop, map, option_copied, string_bytes, unwrap_or};
 ghost use Rattle.header_tool.specs.Made.{MakeValue, make_value};
 ghost use Rattle.command_words.specs.Asked.{AsksFor};
 ghost use Rattle.command_words.specs.Lines.{options_read};
 ghost use Rattle.command_words.specs.Making.{MakeSays};
+ghost use Rattle.command_words.specs.Refusals.{IsRefusedFor};
 ghost use Rattle.command_words.specs.Words.{IsMake};
 
 use crate::air::read_air;
@@ -37,9 +38,8 @@ pub(crate) fn make_request<'a>(
 ) -> Result<Request<'a>, Refusal>
     ensures asks { IfOk result (λ request. (disk : List ℕ) →
         AsksFor (disk ∷ air.now ∷ codes "pfh-make" ∷ drop 1 (map string_bytes line.now)) request) }
-    ensures usage { IsErrOf result Refusal.Usage → (disk body kept : List ℕ) (spec : MakeValue) →
-        IsMake (disk ∷ air.now ∷ codes "pfh-make" ∷ drop 1 (map string_bytes line.now)) body kept spec → ⊥ }
-    ensures built { IsErrOf result Refusal.NotBuilt → ⊥ }
+    ensures refused { IsRefusedFor result ((disk body kept : List ℕ) (spec : MakeValue) →
+        IsMake (disk ∷ air.now ∷ codes "pfh-make" ∷ drop 1 (map string_bytes line.now)) body kept spec → ⊥) }
 {
     if read_air(air).is_none() {
         return Err(Refusal::Usage);

@@ -6,6 +6,7 @@ ghost use Rattle.command_words.specs.Asked.{AsksFor};
 ghost use Rattle.command_words.specs.Commands.{word_of};
 ghost use Rattle.command_words.specs.declared.request.Refusal.TheVariants.{OutOfMemory as refused_memory};
 ghost use Rattle.command_words.specs.Laws.{AsksSession};
+ghost use Rattle.command_words.specs.Refusals.{IsRefusedFor};
 ghost use Rattle.command_words.specs.Words.{IsNamed, IsUnbuilt, IsUsage, NamesBuilt, SessionText};
 
 use crate::air::{names_air, read_air};
@@ -145,9 +146,8 @@ fn session_request<'a>(
 ) -> Result<Request<'a>, Refusal>
     ensures asks { IfOk result
         (AsksFor (disk.now ∷ air.now ∷ codes "session" ∷ drop 1 (map string_bytes line.now))) }
-    ensures usage { IsErrOf result Refusal.Usage →
-        AsksSession (disk.now ∷ air.now ∷ codes "session" ∷ drop 1 (map string_bytes line.now)) → ⊥ }
-    ensures built { IsErrOf result Refusal.NotBuilt → ⊥ }
+    ensures refused { IsRefusedFor result
+        (AsksSession (disk.now ∷ air.now ∷ codes "session" ∷ drop 1 (map string_bytes line.now)) → ⊥) }
 {
     if !names_air(air) {
         return Err(Refusal::Usage);
@@ -166,9 +166,8 @@ fn session_request<'a>(
 fn read_texts(alloc: Global, line: &[String]) -> Result<SessionAsked, Refusal>
     ensures text { IfOk result (λ asked. SessionText (drop 1 (map string_bytes line.now)) asked.caller asked.moment
         asked.blocks asked.polls) }
-    ensures usage { IsErrOf result Refusal.Usage → (caller : CallSign) (moment : Option ℕ) (blocks polls : ℕ) →
-        SessionText (drop 1 (map string_bytes line.now)) caller moment blocks polls → ⊥ }
-    ensures built { IsErrOf result Refusal.NotBuilt → ⊥ }
+    ensures refused { IsRefusedFor result ((caller : CallSign) (moment : Option ℕ) (blocks polls : ℕ) →
+        SessionText (drop 1 (map string_bytes line.now)) caller moment blocks polls → ⊥) }
 {
     let texts = line::read_session(alloc, line)?;
     let Ok(caller) = Call::read(texts.caller) else {
@@ -200,9 +199,8 @@ fn name_request<'a>(
 ) -> Result<Request<'a>, Refusal>
     ensures asks { IfOk result (λ request. (disk : List ℕ) →
         AsksFor (disk ∷ air.now ∷ word_of command ∷ drop 1 (map string_bytes line.now)) request) }
-    ensures usage { IsErrOf result Refusal.Usage → (disk name : List ℕ) →
-        IsNamed (word_of command) (disk ∷ air.now ∷ word_of command ∷ drop 1 (map string_bytes line.now)) name → ⊥ }
-    ensures built { IsErrOf result Refusal.NotBuilt → ⊥ }
+    ensures refused { IsRefusedFor result ((disk name : List ℕ) →
+        IsNamed (word_of command) (disk ∷ air.now ∷ word_of command ∷ drop 1 (map string_bytes line.now)) name → ⊥) }
 {
     if read_air(air).is_none() {
         return Err(Refusal::Usage);

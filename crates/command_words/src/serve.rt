@@ -1,9 +1,10 @@
 //! The words of `serve`.
 
-ghost use Rattle.std.specs.Prelude.{◌≡◌, ◌∷◌, ℕ, IfOk, IsErrOf, codes, drop, map, string_bytes};
+ghost use Rattle.std.specs.Prelude.{◌∷◌, ℕ, IfOk, codes, drop, map, string_bytes};
 ghost use Rattle.px_base.specs.CallSign.{CallSign};
 ghost use Rattle.command_words.specs.Asked.{AsksFor};
 ghost use Rattle.command_words.specs.Laws.{AsksServe};
+ghost use Rattle.command_words.specs.Refusals.{IsRefusedFor};
 ghost use Rattle.command_words.specs.Words.{ServeText};
 
 use crate::air::names_air;
@@ -43,9 +44,8 @@ pub(crate) fn serve_request<'a>(
 ) -> Result<Request<'a>, Refusal>
     ensures asks { IfOk result
         (AsksFor (disk.now ∷ air.now ∷ codes "serve" ∷ drop 1 (map string_bytes line.now))) }
-    ensures usage { IsErrOf result Refusal.Usage →
-        AsksServe (disk.now ∷ air.now ∷ codes "serve" ∷ drop 1 (map string_bytes line.now)) → ⊥ }
-    ensures built { IsErrOf result Refusal.NotBuilt → ⊥ }
+    ensures refused { IsRefusedFor result
+        (AsksServe (disk.now ∷ air.now ∷ codes "serve" ∷ drop 1 (map string_bytes line.now)) → ⊥) }
 {
     match read_disk(disk) {
         DiskWord::Named => {}
@@ -62,9 +62,8 @@ pub(crate) fn serve_request<'a>(
 fn read_texts(alloc: Global, line: &[String]) -> Result<ServeRequest, Refusal>
     ensures text { IfOk result (λ asked.
         ServeText (drop 1 (map string_bytes line.now)) asked.me asked.k asked.blocks asked.polls) }
-    ensures usage { IsErrOf result Refusal.Usage → (me : CallSign) (k blocks polls : ℕ) →
-        ServeText (drop 1 (map string_bytes line.now)) me k blocks polls → ⊥ }
-    ensures built { IsErrOf result Refusal.NotBuilt → ⊥ }
+    ensures refused { IsRefusedFor result ((me : CallSign) (k blocks polls : ℕ) →
+        ServeText (drop 1 (map string_bytes line.now)) me k blocks polls → ⊥) }
 {
     let texts = line::read_serve(alloc, line)?;
     let Ok(me) = Call::read(texts.me) else {

@@ -5,7 +5,7 @@ use Rattle.std.proofs.lemmas.List.{take_more}
 use Rattle.std.proofs.lemmas.List.Elements.{All-tail}
 use Rattle.disk_model.specs.Crash.{IsCrash, IsFilled, Tears}
 use Rattle.disk_model.specs.Surface.{AllLeaveOpen, Closes, IsImage, IsInRange, IsOpen, Surface, count_of, with_range, place_of, surface_after, surface_after_call}
-use Rattle.disk_model.proofs.Surfaces.{surface_after-push}
+use Rattle.disk_model.proofs.Surfaces.{images_of_other_content, surface_after-push}
 use Rattle.disk_model.specs.declared.disk_call.DiskCall.{DiskCall}
 use Rattle.disk_model.specs.declared.disk_call.DiskCall.TheVariants as call
 
@@ -98,3 +98,14 @@ pub crash_of : {T E : Type 0} (surface : Surface) (pick : ℕ) (result : Result 
 crash_of surface pick (Ok done) image left filled not_synced not_written =
     record { left = left; synced = λ is. absurd (not_synced is); written = λ is. absurd (not_written is); filled = filled }
 crash_of surface pick (Err fault) image left filled not_synced not_written = tt
+
+-- and what a read gives makes no difference to it
+pub crash_standing : {T E : Type 0} (surface : Surface) (content : List ℕ) (pick : ℕ) (result : Result T E) (image : List ℕ) → OnOk result (IsCrash surface pick image)
+    → (pick % 4 ≡ 1 → ⊥) → OnOk result (IsCrash (record surface { content = content }) pick image)
+crash_standing surface content pick (Ok done) image is not_written = record {
+  left = images_of_other_content surface content image is.left;
+  synced = is.synced;
+  written = λ written. absurd (not_written written);
+  filled = λ filled. let here = is.filled filled in record { size = here.size; each = here.each };
+}
+crash_standing surface content pick (Err fault) image is not_written = tt

@@ -3,4 +3,5 @@ mod Crashes
 mod Ranges
 mod Steps
 mod Surfaces
+mod Walks
 pub mod Writes

@@ -1,17 +1,18 @@
 -- What stands in the ranges that are open.
-use Rattle.std.proofs.Common.{Bool, true, false, ◌≡◌, ◌⊎◌, inl, inr, ⊎_elim, ℕ, ◌+◌, ◌-◌, ◌^◌, ◌<◌, ◌≤◌, min, List, [], ◌∷◌, ◌++◌, length, get_or, take, drop, refl, sym, ◌∙◌, ap, subst, arith, rules, fold}
+use Rattle.std.proofs.Common.{Bool, true, false, ◌≡◌, ◌⊎◌, inl, inr, ⊎_elim, ℕ, ◌+◌, ◌-◌, ◌^◌, ◌<◌, ◌≤◌, min, List, [], ◌∷◌, ◌++◌, length, get_or, take, drop, refl, sym, ◌∙◌, ap, subst, arith, fold}
 use Rattle.std.proofs.lemmas.Bool.{cases_Bool}
-use Rattle.std.proofs.lemmas.List.{places, ext_get_or, get_or-drop, get_or-take, length-append, length-drop, length-take, take-append-le, take-append-drop, take_all, append-nil, drop-append-le}
+use Rattle.std.proofs.lemmas.List.{places, ext_get_or, get_or-drop, get_or-take, length-append, length-drop, length-take, take-append-le, take-append-drop, take_all}
 use Rattle.std.proofs.Math.Nat.{le_refl}
 use Rattle.std.proofs.Math.Seq.{drop-append_seam}
 use Rattle.std.proofs.lemmas.List.Elements.{All-tail, All-append}
 use Rattle.px_base.specs.Octets.{IsOctets}
-use Rattle.disk_model.specs.Open.{DifferInRanges, IsClosed, SameBut, StandsSince, inside_of, open_ranges}
+use Rattle.disk_model.specs.Crash.{IsCrash}
+use Rattle.disk_model.specs.Open.{DifferInRanges, IsClosed, SameBut, StandsSince, inside_of, open_ranges, standing}
 use Rattle.disk_model.specs.Surface.{AllLeaveOpen, Closes, IsImage, IsInRange, IsOpen, Surface, count_of, left_by, overlay, place_of, quiet_surface, surface_after, surface_after_call, with_ranges, write_over}
 use Rattle.disk_model.specs.declared.disk_call.DiskCall.{DiskCall}
 use Rattle.disk_model.specs.declared.disk_call.DiskCall.TheVariants as call
 use Rattle.disk_model.proofs.Crashes.{NextCall, inside_or_not, synced_kept}
-use Rattle.disk_model.proofs.Surfaces.{surface_after-push}
+use Rattle.disk_model.proofs.Surfaces.{images_of_this_content, surface_after-push}
 use Rattle.disk_model.proofs.Writes.{get_or-write_over_outside, length-write_over}
 
 pub open_or_not : (ranges : List (ℕ × ℕ)) (place : ℕ) → IsOpen ranges place ⊎ (IsOpen ranges place → ⊥)
@@ -37,13 +38,6 @@ writes_same surface other (done ∷ calls) same open_calls =
 pub open_ranges_is : (first : List ℕ) (calls : List DiskCall) → AllLeaveOpen calls → (surface_after first calls).writes ≡ open_ranges calls
 open_ranges_is first calls = writes_same (quiet_surface first) (quiet_surface []) calls refl
 
-inside_of-call : (surface : Surface) (done : DiskCall) (octets : List ℕ) → (Closes done → ⊥) → inside_of (surface_after_call surface done).writes octets ≡ inside_of surface.writes octets ++ take (count_of done) (drop (place_of done) octets)
-inside_of-call surface (call.Write at written) octets leaves = refl
-inside_of-call surface (call.TornWrite at count) octets leaves = refl
-inside_of-call surface call.Sync octets leaves = absurd (leaves tt)
-inside_of-call surface call.FailedSync octets leaves = sym (append-nil (inside_of surface.writes octets))
-inside_of-call surface (call.PowerCut inside behind) octets leaves = absurd (leaves tt)
-
 open_of-call : (surface : Surface) (done : DiskCall) (place : ℕ) → (Closes done → ⊥) → IsOpen (surface_after_call surface done).writes place → IsInRange (place_of done) (count_of done) place ⊎ IsOpen surface.writes place
 open_of-call surface (call.Write at written) place leaves reached = reached
 open_of-call surface (call.TornWrite at count) place leaves reached = reached
@@ -52,10 +46,6 @@ open_of-call surface call.FailedSync place leaves reached = inr reached
 open_of-call surface (call.PowerCut inside behind) place leaves reached = absurd (leaves tt)
 
 -- one call more
-pub inside_next : (calls : List DiskCall) (i : ℕ) (done : DiskCall) (octets : List ℕ) → NextCall [] calls i done → inside_of (open_ranges (take (i + 1) calls)) octets ≡ inside_of (open_ranges (take i calls)) octets ++ take (count_of done) (drop (place_of done) octets)
-inside_next calls i done octets next =
-    ap (λ (s : Surface). inside_of s.writes octets) next.after ∙ inside_of-call (surface_after [] (take i calls)) done octets next.no_sync
-
 pub open_next : (calls : List DiskCall) (i : ℕ) (done : DiskCall) (place : ℕ) → NextCall [] calls i done → IsOpen (open_ranges (take (i + 1) calls)) place → IsInRange (place_of done) (count_of done) place ⊎ IsOpen (open_ranges (take i calls)) place
 open_next calls i done place next reached =
     open_of-call (surface_after [] (take i calls)) done place next.no_sync (subst (λ (s : Surface). IsOpen s.writes place) next.after reached)
@@ -151,38 +141,56 @@ left_is surface image is =
           | inr shut ↦ inr (sym (get_or-take (length surface.synced) image place 0 within ∙ is.kept place within shut))
         ]))
 
--- calls that close nothing leave closed what was
-pub closed_longer : (first : List ℕ) (calls : List DiskCall) (synced : List ℕ) (closed : ℕ) (done : DiskCall) → IsClosed first calls synced closed → (Closes done → ⊥) → IsClosed first (calls ++ done ∷ []) synced closed
-closed_longer first calls synced closed done is leaves = record {
-  within = grind (arith, places, is.within);
-  since =
-      ap (surface_after synced) longer
-      ∙ surface_after-push synced (drop closed calls) done
-      ∙ ap (λ (s : Surface). surface_after_call s done) is.since
+-- a write that leaves its range open, kept as one that did no more
+pub alone_open : (done : DiskCall) → (Closes done → ⊥) → AllLeaveOpen (done ∷ [])
+alone_open done leaves = λ k d below. let e : get_or (done ∷ []) k d ≡ done = grind (arith, places) in subst (λ (x : DiskCall). Closes x → ⊥) (sym e) leaves
+
+-- This one makes of what stands on a disk what that one makes, but for what a read gives.
+abbrev SameRange : DiskCall → DiskCall → Type 0
+SameRange kept done =
+    (surface : Surface) (content : List ℕ) →
+    record (surface_after_call surface kept) { content = (surface_after_call (record surface { content = content }) done).content }
+    ≡ surface_after_call (record surface { content = content }) done
+
+-- one call more, of which a write is kept
+closes_more : (first : List ℕ) (calls : List DiskCall) (synced : List ℕ) (since : List DiskCall) (done kept : DiskCall) → (Closes kept → ⊥) → SameRange kept done → IsClosed first calls synced since → IsClosed first (calls ++ done ∷ []) synced (since ++ kept ∷ [])
+closes_more first calls synced since done kept leaves same is = record {
+  stands =
+      ap (λ (s : Surface). record s { content = (surface_after first (calls ++ done ∷ [])).content }) (surface_after-push synced since kept)
+      ∙ ap (λ (s : Surface). record (surface_after_call (surface_after synced since) kept) { content = s.content }) (surface_after-push first calls done)
+      ∙ subst (λ (s : Surface). record (surface_after_call (surface_after synced since) kept) { content = (surface_after_call s done).content } ≡ surface_after_call s done) is.stands (same (surface_after synced since) (surface_after first calls).content)
       ∙ sym (surface_after-push first calls done);
-  open_calls = subst AllLeaveOpen (sym longer) (All-append (λ (d : DiskCall). Closes d → ⊥) (drop closed calls) (done ∷ []) is.open_calls alone);
+  open_calls = All-append (λ (d : DiskCall). Closes d → ⊥) since (kept ∷ []) is.open_calls (alone_open kept leaves);
 }
-  where
-    longer : drop closed (calls ++ done ∷ []) ≡ drop closed calls ++ done ∷ []
-    longer = drop-append-le closed calls (done ∷ []) is.within
 
-    alone : AllLeaveOpen (done ∷ [])
-    alone = λ k d below. let e : get_or (done ∷ []) k d ≡ done = grind (arith, places) in subst (λ (x : DiskCall). Closes x → ⊥) (sym e) leaves
+-- the record of a write, whether it passed or failed
+pub closes_write : (first : List ℕ) (calls now : List DiskCall) (synced : List ℕ) (since since_now : List DiskCall) (at : ℕ) (octets : List ℕ)
+    → now ≡ calls ++ call.Write at octets ∷ [] → since_now ≡ since ++ call.TornWrite at (length octets) ∷ [] → IsClosed first calls synced since → IsClosed first now synced since_now
+closes_write first calls now synced since since_now at octets pushed kept is =
+    subst (λ (l : List DiskCall). IsClosed first l synced since_now) (sym pushed)
+    (subst (IsClosed first (calls ++ call.Write at octets ∷ []) synced) (sym kept)
+    (closes_more first calls synced since (call.Write at octets) (call.TornWrite at (length octets)) (λ none. none) (λ surface content. refl) is))
 
-pub pushed_closes : (first : List ℕ) (calls now : List DiskCall) (synced : List ℕ) (closed : ℕ) (done : DiskCall) → now ≡ calls ++ done ∷ [] → (Closes done → ⊥) → IsClosed first calls synced closed → IsClosed first now synced closed
-pushed_closes first calls now synced closed done pushed leaves is =
-    subst (λ (l : List DiskCall). IsClosed first l synced closed) (sym pushed) (closed_longer first calls synced closed done is leaves)
+pub closes_torn_write : (first : List ℕ) (calls now : List DiskCall) (synced : List ℕ) (since since_now : List DiskCall) (at count : ℕ)
+    → now ≡ calls ++ call.TornWrite at count ∷ [] → since_now ≡ since ++ call.TornWrite at count ∷ [] → IsClosed first calls synced since → IsClosed first now synced since_now
+closes_torn_write first calls now synced since since_now at count pushed kept is =
+    subst (λ (l : List DiskCall). IsClosed first l synced since_now) (sym pushed)
+    (subst (IsClosed first (calls ++ call.TornWrite at count ∷ []) synced) (sym kept)
+    (closes_more first calls synced since (call.TornWrite at count) (call.TornWrite at count) (λ none. none) (λ surface content. refl) is))
 
--- and one that closes
-pub closed_now : (first : List ℕ) (calls : List DiskCall) (synced : List ℕ) → surface_after first calls ≡ quiet_surface synced → IsClosed first calls synced (length calls)
-closed_now first calls synced is = record {
-  within = omega arith;
-  since = ap (surface_after synced) nothing ∙ sym is;
-  open_calls = subst AllLeaveOpen (sym nothing) (λ k d below. absurd (omega (arith, below)));
+-- a sync that failed changes nothing
+pub closes_failed_sync : (first : List ℕ) (calls now : List DiskCall) (synced : List ℕ) (since : List DiskCall) → now ≡ calls ++ call.FailedSync ∷ [] → IsClosed first calls synced since → IsClosed first now synced since
+closes_failed_sync first calls now synced since pushed is = record {
+  stands = subst (λ (s : Surface). record (surface_after synced since) { content = s.content } ≡ s) (sym (ap (surface_after first) pushed ∙ surface_after-push first calls call.FailedSync)) is.stands;
+  open_calls = is.open_calls;
 }
-  where
-    nothing : drop (length calls) calls ≡ []
-    nothing = search (rules, places)
+
+-- a call after which nothing is open
+pub closes_now : (first : List ℕ) (calls : List DiskCall) (synced : List ℕ) (since : List DiskCall) → since ≡ [] → surface_after first calls ≡ quiet_surface synced → IsClosed first calls synced since
+closes_now first calls synced since none is = subst (IsClosed first calls synced) (sym none) (record {
+  stands = ap (λ (s : Surface). record (quiet_surface synced) { content = s.content }) is ∙ sym is;
+  open_calls = λ k d below. absurd (omega (arith, below));
+})
 
 -- what was synced, and what may be left, are the same but in the open ranges
 pub synced_same_but : (synced : List ℕ) (calls : List DiskCall) (image : List ℕ) → AllLeaveOpen calls → IsImage (surface_after synced calls) image → SameBut (length synced) (open_ranges calls) synced image
@@ -206,20 +214,30 @@ synced_no_longer synced calls image open_calls is =
     let size = ap length (synced_kept (quiet_surface synced) calls open_calls) in
     omega (arith, size, is.no_shorter)
 
--- what is recorded of an image, by the calls since the last sync
-pub left_since : (synced : List ℕ) (calls : List DiskCall) (image : List ℕ) → AllLeaveOpen calls → IsImage (surface_after synced calls) image
-    → left_by (surface_after synced calls) (inside_of (open_ranges calls) (take (length synced) image)) (drop (length synced) image) ≡ image
-left_since synced calls image open_calls is =
-    ap (λ (l : List (ℕ × ℕ)). left_by (surface_after synced calls) (inside_of l (take (length synced) image)) (drop (length synced) image)) (sym (open_ranges_is synced calls open_calls))
-    ∙ ap (λ (l : List ℕ). left_by (surface_after synced calls) (inside_of (surface_after synced calls).writes (take (length l) image)) (drop (length l) image)) (sym (synced_kept (quiet_surface synced) calls open_calls))
-    ∙ left_is (surface_after synced calls) image is
-
 pub quiet_image : (octets : List ℕ) → IsOctets octets → IsImage (quiet_surface octets) octets
 quiet_image octets small = record { octets = small; no_shorter = omega arith; no_longer = omega arith; kept = λ place below shut. refl }
+
+-- a crash leaves these octets, and they are what is left where those in the open ranges and those behind are recorded
+pub record CutLeft (first : List ℕ) (calls : List DiskCall) (pick : ℕ) (left : List ℕ) : Type 0 where
+  pub crash : IsCrash (surface_after first calls) pick left
+  pub left_is :
+      left_by (surface_after first calls) (inside_of (surface_after first calls).writes (take (length (surface_after first calls).synced) left)) (drop (length (surface_after first calls).synced) left)
+      ≡ left
 
 -- what stands after a power cut
 pub cut_surface : (first : List ℕ) (calls now : List DiskCall) (inside behind : List ℕ) → now ≡ calls ++ call.PowerCut inside behind ∷ [] → surface_after first now ≡ quiet_surface (left_by (surface_after first calls) inside behind)
 cut_surface first calls now inside behind pushed = ap (surface_after first) pushed ∙ surface_after-push first calls (call.PowerCut inside behind)
+
+-- what is left of a disk is what its record says
+pub cut_left : (first : List ℕ) (calls : List DiskCall) (synced : List ℕ) (since : List DiskCall) (present : List ℕ) (pick : ℕ) (left : List ℕ) → IsClosed first calls synced since → present ≡ (surface_after first calls).content
+    → IsCrash (standing synced since present) pick left → CutLeft first calls pick left
+cut_left first calls synced since present pick left closes content crash = record {
+  crash = here;
+  left_is = left_is (surface_after first calls) left here.left;
+}
+  where
+    here : IsCrash (surface_after first calls) pick left
+    here = subst (λ (s : Surface). IsCrash s pick left) (ap (standing synced since) content ∙ closes.stands) crash
 
 -- what is left, and what a read gave, differ in the open ranges alone
 pub left_differs : (synced : List ℕ) (calls : List DiskCall) (present left : List ℕ) → StandsSince synced calls present → IsImage (surface_after synced calls) left → DifferInRanges (length synced) calls present left
@@ -240,11 +258,10 @@ synced_differs synced calls present stands = record {
 }
 
 -- the record of a disk that isn't lost
-pub stands_since : (first : List ℕ) (calls : List DiskCall) (synced : List ℕ) (closed : ℕ) (present : List ℕ) → IsClosed first calls synced closed
-    → present ≡ (surface_after first calls).content → IsImage (surface_after first calls) present → (surface_after first calls).most ≤ 2 ^ 63 → StandsSince synced (drop closed calls) present
-stands_since first calls synced closed present closes content image most = record {
+pub stands_since : (first : List ℕ) (calls : List DiskCall) (synced : List ℕ) (since : List DiskCall) (present : List ℕ) → IsClosed first calls synced since
+    → IsImage (surface_after first calls) present → (surface_after first calls).most ≤ 2 ^ 63 → StandsSince synced since present
+stands_since first calls synced since present closes image most = record {
   open_calls = closes.open_calls;
-  most = subst (λ (s : Surface). s.most ≤ 2 ^ 63) (sym closes.since) most;
-  content = content ∙ ap (λ (s : Surface). s.content) (sym closes.since);
-  image = subst (λ (s : Surface). IsImage s present) (sym closes.since) image;
+  most = subst (λ (s : Surface). s.most ≤ 2 ^ 63) (sym closes.stands) most;
+  image = images_of_this_content (surface_after synced since) (surface_after first calls).content present (subst (λ (s : Surface). IsImage s present) (sym closes.stands) image);
 }

@@ -6,6 +6,7 @@ use Rattle.disk_model.specs.Calls.{DiskState, IsReading, IsSyncing, IsTearing, I
 use Rattle.disk_model.specs.Calls.{images_since_of, moment_of}
 use Rattle.disk_model.specs.Cuts.{Arming, CutState, Failed, LastsSo, Passes, Unarmed}
 use Rattle.disk_model.specs.Memory.{state}
+use Rattle.disk_model.specs.declared.disk.Disk.{Ghosts}
 use Rattle.disk_model.specs.declared.fuse_disk.FuseDisk.{FuseDisk}
 use Rattle.disk_model.specs.declared.fuse_disk.FuseStage.{FuseStage}
 use Rattle.disk_model.specs.declared.fuse_disk.FuseStage.TheVariants as stage
@@ -95,6 +96,20 @@ cut_of state =
 -- what lasts through its calls
 abbrev pub lasts : FuseDisk → FuseDisk → Type 0
 lasts old new = LastsSo (cut_of (fuse old)) (cut_of (fuse new))
+
+-- these, as of any disk
+abbrev pub ghosts : Ghosts FuseDisk
+ghosts =
+    record {
+      content = content;
+      images = images;
+      moment = moment;
+      images_since = images_since;
+      read_faults = read_faults;
+      write_faults = write_faults;
+      is_down = is_down;
+      lasts = lasts;
+    }
 
 -- The fuse has failed a call.
 abbrev pub HasBlown : FuseStage → Type 0

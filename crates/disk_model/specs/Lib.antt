@@ -11,4 +11,6 @@ pub mod Memory
 pub mod MemoryLaws
 pub mod Moments
 pub mod Open
+pub mod Promised
 pub mod Surface
+pub mod Told

@@ -1,13 +1,14 @@
 -- What contracts see of a disk in memory.
 use Rattle.std.specs.Prelude.{◌≡◌, ℕ, List, Option, Some, true}
 use Rattle.disk_model.specs.Calls.{DiskState, content_of, images_of, images_since_of, moment_of}
+use Rattle.disk_model.specs.declared.disk.Disk.{Ghosts}
 use Rattle.disk_model.specs.declared.memory_disk.MemoryDisk.{MemoryDisk}
 
 abbrev pub state : MemoryDisk → DiskState
 state disk =
     record {
-      first = disk.history.first;
-      calls = disk.history.calls.items;
+      first = disk.history.past.first;
+      calls = disk.history.past.calls;
       down = disk.history.down;
       counter = disk.counter;
       read_faults = disk.read_faults;
@@ -39,3 +40,17 @@ is_down disk = (state disk).down ≡ true
 -- It keeps nothing special through its calls.
 abbrev pub lasts : MemoryDisk → MemoryDisk → Type 0
 lasts old new = Unit {0}
+
+-- these, as of any disk
+abbrev pub ghosts : Ghosts MemoryDisk
+ghosts =
+    record {
+      content = content;
+      images = images;
+      moment = moment;
+      images_since = images_since;
+      read_faults = read_faults;
+      write_faults = write_faults;
+      is_down = is_down;
+      lasts = lasts;
+    }

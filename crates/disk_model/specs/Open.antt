@@ -1,6 +1,6 @@
 -- The ranges that calls leave open, and the octets that stand there.
 use Rattle.std.specs.Prelude.{◌≡◌, ℕ, ◌<◌, ◌≤◌, ◌^◌, List, [], ◌∷◌, ◌++◌, length, take, drop, slice_index}
-use Rattle.disk_model.specs.Surface.{AllLeaveOpen, IsImage, IsOpen, surface_after}
+use Rattle.disk_model.specs.Surface.{AllLeaveOpen, IsImage, IsOpen, Surface, surface_after}
 use Rattle.disk_model.specs.declared.disk_call.DiskCall.{DiskCall}
 
 -- the ranges that calls leave open, the latest first
@@ -29,15 +29,17 @@ pub record LeaveOpen (synced : List ℕ) (calls : List DiskCall) : Type 0 where
   pub open_calls : AllLeaveOpen calls
   pub most : (surface_after synced calls).most ≤ 2 ^ 63
 
+-- what stands on a disk where these octets were synced, these writes came since then, and a read gives the present ones
+abbrev pub standing : List ℕ → List DiskCall → List ℕ → Surface
+standing synced calls present = record (surface_after synced calls) { content = present }
+
 -- These octets were synced before the calls, none of which closed anything; and a read gives the present ones.
 pub record StandsSince (synced : List ℕ) (calls : List DiskCall) (present : List ℕ) : Type 0 where
   pub open_calls : AllLeaveOpen calls
   pub most : (surface_after synced calls).most ≤ 2 ^ 63
-  pub content : present ≡ (surface_after synced calls).content
   pub image : IsImage (surface_after synced calls) present
 
--- After so many of the calls nothing was open, and these octets stood on the disk; none closed anything since.
-pub record IsClosed (first : List ℕ) (calls : List DiskCall) (synced : List ℕ) (closed : ℕ) : Type 0 where
-  pub within : closed ≤ length calls
-  pub since : surface_after synced (drop closed calls) ≡ surface_after first calls
-  pub open_calls : AllLeaveOpen (drop closed calls)
+-- The calls leave what these octets, where nothing is open, and these writes leave, but for what a read gives.
+pub record IsClosed (first : List ℕ) (calls : List DiskCall) (synced : List ℕ) (since : List DiskCall) : Type 0 where
+  pub stands : standing synced since (surface_after first calls).content ≡ surface_after first calls
+  pub open_calls : AllLeaveOpen since

@@ -1,15 +1,14 @@
 //! What a crash leaves, as a number picks it.
 
-ghost use Rattle.std.specs.Prelude.{◌≡◌, ◌+◌, ◌/◌, ◌%◌, ◌≤◌, ◌^◌, ℕ, Some, length, IfOk, OnErr, OnOk};
+ghost use Rattle.std.specs.Prelude.{◌≡◌, ◌+◌, ◌/◌, ◌%◌, ◌≤◌, ◌^◌, ℕ, Some, length, OnErr, OnOk};
 ghost use Rattle.disk_model.specs.Crash.{IsCrash, IsFilled, Tears};
 ghost use Rattle.px_base.specs.Octets.{IsOctets};
-ghost use Rattle.disk_model.specs.Open.{LeaveOpen, StandsSince};
-ghost use Rattle.disk_model.specs.Surface.{IsImage, count_of, left_by, place_of, surface_after};
+ghost use Rattle.disk_model.specs.Open.{LeaveOpen, StandsSince, standing};
+ghost use Rattle.disk_model.specs.Surface.{IsImage, count_of, place_of, surface_after};
 
-use crate::disk_call::DiskCall;
-use crate::open_ranges::{copy_open, octets_inside};
-use px_base::{FileBytes, OutOfMemory};
-use std::alloc::Global;
+use crate::open_ranges::copy_open;
+use crate::open_write::OpenWrite;
+use px_base::OutOfMemory;
 
 /// What becomes of the octets that may be any octet: each is this one, or is drawn.
 #[derive(Clone, Copy)]
@@ -71,7 +70,7 @@ impl Pick {
 }
 
 /// How many octets there have been at most, where these were synced before these calls.
-fn greatest_length(synced: &[u8], calls: &[DiskCall]) -> u64
+fn greatest_length(synced: &[u8], calls: &[OpenWrite]) -> u64
     requires { LeaveOpen synced.now calls.now }
     ensures most { result ≡ (surface_after synced.now calls.now).most }
     ensures least { length synced.now ≤ result }
@@ -83,42 +82,38 @@ fn greatest_length(synced: &[u8], calls: &[DiskCall]) -> u64
     most
 }
 
-/// Turns the octets that were synced before these calls, and the present ones, into what a crash leaves, as this number
-/// picks it; and gives what is left in the ranges of these calls, and behind what was synced. It costs these octets.
-/// Where there is no memory, the present ones stay.
+/// Turns the octets that were synced before these writes, and the present ones, into what a crash leaves, as this
+/// number picks it. It costs the octets in the ranges of these writes, and those behind what was synced. Where there is
+/// no memory, the present ones stay.
 pub(crate) fn lose_power(
-    alloc: Global,
     synced: &mut Vec<u8>,
     present: &mut Vec<u8>,
-    calls: &[DiskCall],
+    calls: &[OpenWrite],
+    written: &[u8],
     pick: u64,
-) -> Result<(FileBytes, FileBytes), OutOfMemory>
+) -> Result<(), OutOfMemory>
     requires { StandsSince synced.old.items calls.now present.old.items }
-    ensures crash { OnOk result (IsCrash (surface_after synced.old.items calls.now) pick synced.new.items) }
-    ensures left { IfOk result
-        (λ left. synced.new.items ≡ left_by (surface_after synced.old.items calls.now) left.0 left.1) }
+    ensures crash { OnOk result
+        (IsCrash (standing synced.old.items calls.now present.old.items) pick synced.new.items) }
     ensures present { OnOk result (present.new.items ≡ synced.new.items) }
     ensures err { OnErr result (present.new.items ≡ present.old.items) }
 {
     let shared = synced.len();
-    crash(synced, present.as_slice(), calls, pick)?;
-    let left = synced.as_slice();
-    let inside = octets_inside(alloc, &left[..shared], calls)?;
-    let behind = FileBytes::copy_of(alloc, &left[shared..])?;
-    copy_open(present, left, shared, calls)?;
-    Ok((FileBytes::from_vec(inside), behind))
+    crash(synced, present.as_slice(), calls, written, pick)?;
+    copy_open(present, synced.as_slice(), shared, calls)
 }
 
-/// Turns the octets that were synced before these calls into what a crash leaves, as this number picks it, where a read
-/// gives the present ones. It changes nothing where there is no memory.
+/// Turns the octets that were synced before these writes into what a crash leaves, as this number picks it, where a
+/// read gives the present ones. It changes nothing where there is no memory.
 fn crash(
     synced: &mut Vec<u8>,
     present: &[u8],
-    calls: &[DiskCall],
+    calls: &[OpenWrite],
+    written: &[u8],
     pick: u64,
 ) -> Result<(), OutOfMemory>
     requires { StandsSince synced.old.items calls.now present.now }
-    ensures ok { OnOk result (IsCrash (surface_after synced.old.items calls.now) pick synced.new.items) }
+    ensures ok { OnOk result (IsCrash (standing synced.old.items calls.now present.now) pick synced.new.items) }
     ensures err { OnErr result (synced.new.items ≡ synced.old.items) }
 {
     if pick % 4 == 0 {
@@ -128,11 +123,16 @@ fn crash(
         let shared = synced.len();
         return copy_open(synced, present, shared, calls);
     }
-    tear_all(synced, calls, Pick::new(pick))
+    tear_all(synced, calls, written, Pick::new(pick))
 }
 
-/// Turns the octets that were synced before these calls into what a crash leaves of their writes.
-fn tear_all(image: &mut Vec<u8>, calls: &[DiskCall], pick: Pick) -> Result<(), OutOfMemory>
+/// Turns the octets that were synced before these writes into what a crash leaves of them, of which those were written.
+fn tear_all(
+    image: &mut Vec<u8>,
+    calls: &[OpenWrite],
+    written: &[u8],
+    pick: Pick,
+) -> Result<(), OutOfMemory>
     requires { LeaveOpen image.old.items calls.now }
     ensures image { OnOk result (IsImage (surface_after image.old.items calls.now) image.new.items) }
     ensures filled { (octet : ℕ) → pick.octet ≡ Some octet
@@ -144,13 +144,13 @@ fn tear_all(image: &mut Vec<u8>, calls: &[DiskCall], pick: Pick) -> Result<(), O
     let length = pick.length(least, greatest_length(image.as_slice(), calls));
     image.resize(length as usize, pick.octet(0, 0))?;
     for call in calls {
-        tear(image, call, &mut pick);
+        tear(image, call, written, &mut pick);
     }
     Ok(())
 }
 
 /// Puts other octets in the range of a write, as picked for each; those past the end are left out.
-fn tear(image: &mut [u8], call: &DiskCall, pick: &mut Pick)
+fn tear(image: &mut [u8], call: &OpenWrite, written: &[u8], pick: &mut Pick)
     ensures tears { Tears (place_of call.now) (count_of call.now) pick.old.octet image.old image.new }
     ensures same { pick.new.octet ≡ pick.old.octet }
     ensures octets { IsOctets image.new }
@@ -158,7 +158,7 @@ fn tear(image: &mut [u8], call: &DiskCall, pick: &mut Pick)
     let length = image.len() as u64;
     for place in call.place().min(length)..call.end().min(length) {
         let old = image[place as usize];
-        let new = call.octet(place).unwrap_or(old);
+        let new = call.octet(written, place).unwrap_or(old);
         image[place as usize] = pick.octet(old, new);
     }
 }

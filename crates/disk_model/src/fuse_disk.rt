@@ -1,11 +1,8 @@
 //! A disk that stops after so many calls, as where power is lost or the device is gone.
 
-ghost use Rattle.std.specs.Prelude.{◌≡◌, ◌⊎◌, ◌↔◌, ◌+◌, ◌<◌, ◌≤◌, ◌^◌, length, IfOk, IfSome, IsErr, IsTrue, OnErr};
-ghost use Rattle.std.specs.Prelude.{OnOk};
-ghost use Rattle.px_base.specs.Outside.{HasCause, Rose};
-ghost use Rattle.disk_model.specs.Disk.{AreAmong, FillsRoom, Follows, HasContent, IsTold, LeavesOpen, Only, Torn};
-ghost use Rattle.disk_model.specs.Disk.{Writes};
-ghost use Rattle.disk_model.specs.Moments.{OnlyFails, OnlyReads, SinceNow, TakesOneMoment, TimePasses};
+ghost use Rattle.std.specs.Prelude.{◌≡◌, ◌↔◌, ◌+◌, ◌≤◌, length, IfSome, IsTrue, OnErr};
+ghost use Rattle.px_base.specs.Outside.{Rose};
+ghost use Rattle.disk_model.specs.Promised.{PromisesLen, PromisesRead, PromisesSync, PromisesWrite};
 
 use crate::limits::ends_within;
 use crate::memory_disk::MemoryDisk;
@@ -143,13 +140,7 @@ impl Disk for FuseDisk {
 
     /// The number of octets. It fails where the disk does, and where the fuse has blown.
     fn len(&mut self) -> Result<u64, DiskFault>
-        ensures len { IfOk result (λ n. IfSome (it.content self.old) (λ octets. n ≡ length octets)) }
-        ensures most { IfOk result (λ n. n ≤ 2 ^ 63) }
-        ensures only_reads { OnlyReads
-            it.content it.images it.moment it.images_since it.write_faults self.old self.new }
-        ensures read_faults { HasCause (it.read_faults self.old) (it.read_faults self.new) result }
-        ensures down { it.is_down self.new ↔ it.is_down self.old }
-        ensures lasts { it.lasts self.old self.new }
+        ensures promises { PromisesLen it.ghosts self.old self.new result }
         ensures reading { IsFuseReading (fuse self.old) (fuse self.new) result }
     {
         if self.has_blown() {
@@ -161,13 +152,7 @@ impl Disk for FuseDisk {
     /// Fills the room from this place on. It fails where the disk does, and where the fuse has blown.
     fn read(&mut self, at: u64, room: &mut [u8]) -> Result<(), DiskFault>
         requires { IfSome (it.content self.old) (λ octets. at + length room.old ≤ length octets) }
-        ensures room { OnOk result
-            (IfSome (it.content self.old) (λ octets. FillsRoom octets at (length room.old) room.new)) }
-        ensures only_reads { OnlyReads
-            it.content it.images it.moment it.images_since it.write_faults self.old self.new }
-        ensures read_faults { HasCause (it.read_faults self.old) (it.read_faults self.new) result }
-        ensures down { it.is_down self.new ↔ it.is_down self.old }
-        ensures lasts { it.lasts self.old self.new }
+        ensures promises { PromisesRead it.ghosts at room.old room.new self.old self.new result }
         ensures reading { IsFuseReading (fuse self.old) (fuse self.new) result }
         ensures failed { OnErr result (room.new ≡ room.old) }
     {
@@ -180,25 +165,7 @@ impl Disk for FuseDisk {
     /// Writes octets. It fails where the disk does, and by the fuse; the first write that fails by the fuse leaves its
     /// range open, unless it would end past 2^63, and the disk is down from then on.
     fn write_at(&mut self, at: u64, bytes: &[u8]) -> Result<(), DiskFault>
-        ensures written { OnOk result (HasContent (it.content self.old) (it.content self.new) (Writes at bytes.now)) }
-        ensures told { IsTold (it.content self.old) → IsTold (it.content self.new) }
-        ensures untold { IsTold (it.content self.new) → IsTold (it.content self.old) }
-        ensures torn { Follows (Torn at (length bytes.now)) (it.images self.old) (it.images self.new) }
-        ensures open { LeavesOpen it.is_down it.images at (length bytes.now) self.old self.new }
-        ensures kept { AreAmong (it.images self.old) (it.images self.new) }
-        ensures far { 2 ^ 63 < at + length bytes.now
-            → OnlyFails it.content it.images it.moment it.images_since self.old self.new result }
-        ensures down { it.is_down self.old
-            → OnlyFails it.content it.images it.moment it.images_since self.old self.new result }
-        ensures stays_down { it.is_down self.old → it.is_down self.new }
-        ensures goes_down { it.is_down self.new
-            → it.is_down self.old ⊎ (IsErr result × (at + length bytes.now ≤ 2 ^ 63)) }
-        ensures moment { TakesOneMoment (it.content self.old) (it.moment self.old) (it.moment self.new) result }
-        ensures past { TimePasses it.moment it.images it.images_since self.old self.new }
-        ensures since_now { SinceNow it.moment it.images it.images_since self.old self.new }
-        ensures read_faults { it.read_faults self.new ≡ it.read_faults self.old }
-        ensures write_faults { HasCause (it.write_faults self.old) (it.write_faults self.new) result }
-        ensures lasts { it.lasts self.old self.new }
+        ensures promises { PromisesWrite it.ghosts at bytes.now self.old self.new result }
         ensures writing { IsFuseWriting (fuse self.old) (fuse self.new) at bytes.now result }
     {
         match self.stage {
@@ -214,19 +181,7 @@ impl Disk for FuseDisk {
 
     /// Syncs what was written. It fails where the disk does, and by the fuse.
     fn sync(&mut self) -> Result<(), DiskFault>
-        ensures durable { OnOk result (IfSome (it.content self.old) (Only (it.images self.new))) }
-        ensures content { it.content self.new ≡ it.content self.old }
-        ensures images { AreAmong (it.images self.new) (it.images self.old) }
-        ensures kept { OnErr result (AreAmong (it.images self.old) (it.images self.new)) }
-        ensures down { it.is_down self.old
-            → OnlyFails it.content it.images it.moment it.images_since self.old self.new result }
-        ensures stays_down { it.is_down self.new ↔ it.is_down self.old }
-        ensures moment { TakesOneMoment (it.content self.old) (it.moment self.old) (it.moment self.new) result }
-        ensures past { TimePasses it.moment it.images it.images_since self.old self.new }
-        ensures since_now { SinceNow it.moment it.images it.images_since self.old self.new }
-        ensures read_faults { it.read_faults self.new ≡ it.read_faults self.old }
-        ensures write_faults { HasCause (it.write_faults self.old) (it.write_faults self.new) result }
-        ensures lasts { it.lasts self.old self.new }
+        ensures promises { PromisesSync it.ghosts self.old self.new result }
         ensures syncing { IsFuseSyncing (fuse self.old) (fuse self.new) result }
     {
         match self.stage {

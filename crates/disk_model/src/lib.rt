@@ -13,7 +13,9 @@ mod limits;
 mod log_disk;
 mod memory_disk;
 mod open_ranges;
+mod open_write;
 mod overwriting;
+mod past;
 
 pub use cut_disk::CutDisk;
 pub use disk::{Disk, DiskFault};

@@ -1,12 +1,11 @@
 //! A disk in memory: what it had at first, and a record of its calls.
 
-ghost use Rattle.std.specs.Prelude.{◌≡◌, ◌⊎◌, ◌↔◌, ◌+◌, ◌/◌, ◌%◌, ◌<◌, ◌≤◌, ◌^◌, [], false, true, IsOk, length, Some};
-ghost use Rattle.std.specs.Prelude.{IfOk, IfSome, IsErr, OnErr, OnOk};
+ghost use Rattle.std.specs.Prelude.{◌≡◌, ◌+◌, ◌/◌, ◌%◌, ◌≤◌, ◌^◌, [], false, true, IsOk, length, Some};
+ghost use Rattle.std.specs.Prelude.{IfOk, IfSome, OnErr, OnOk};
 ghost use Rattle.px_base.specs.Counter.{HasCauses};
 ghost use Rattle.px_base.specs.Outside.{HasCause};
-ghost use Rattle.disk_model.specs.Disk.{AreAmong, FillsRoom, Follows, HasContent, IsQuiet, IsTold, LeavesOpen, Only};
-ghost use Rattle.disk_model.specs.Disk.{Torn, Writes};
-ghost use Rattle.disk_model.specs.Moments.{OnlyFails, OnlyReads, SinceNow, TakesOneMoment, TimePasses};
+ghost use Rattle.disk_model.specs.Disk.{IsQuiet};
+ghost use Rattle.disk_model.specs.Promised.{PromisesLen, PromisesRead, PromisesSync, PromisesWrite};
 ghost use Rattle.disk_model.specs.Calls.{IsPowerCut, IsReading, IsSyncing, IsTearing, IsWriting, content_of};
 ghost use Rattle.disk_model.specs.Calls.{images_of, new_state, surface, with_starved_fault, with_write_fault};
 ghost use Rattle.disk_model.specs.Crash.{IsFilled};
@@ -187,13 +186,7 @@ impl Disk for MemoryDisk {
 
     /// The number of octets; a call that is listed fails.
     fn len(&mut self) -> Result<u64, DiskFault>
-        ensures len { IfOk result (λ n. IfSome (it.content self.old) (λ octets. n ≡ length octets)) }
-        ensures most { IfOk result (λ n. n ≤ 2 ^ 63) }
-        ensures only_reads { OnlyReads
-            it.content it.images it.moment it.images_since it.write_faults self.old self.new }
-        ensures read_faults { HasCause (it.read_faults self.old) (it.read_faults self.new) result }
-        ensures down { it.is_down self.new ↔ it.is_down self.old }
-        ensures lasts { it.lasts self.old self.new }
+        ensures promises { PromisesLen it.ghosts self.old self.new result }
         ensures reading { IsReading (state self.old) (state self.new) result }
     {
         self.count_reading()?;
@@ -203,13 +196,7 @@ impl Disk for MemoryDisk {
     /// Fills the room from this place on; a call that is listed fails, and leaves the room as it is.
     fn read(&mut self, at: u64, room: &mut [u8]) -> Result<(), DiskFault>
         requires { IfSome (it.content self.old) (λ octets. at + length room.old ≤ length octets) }
-        ensures room { OnOk result
-            (IfSome (it.content self.old) (λ octets. FillsRoom octets at (length room.old) room.new)) }
-        ensures only_reads { OnlyReads
-            it.content it.images it.moment it.images_since it.write_faults self.old self.new }
-        ensures read_faults { HasCause (it.read_faults self.old) (it.read_faults self.new) result }
-        ensures down { it.is_down self.new ↔ it.is_down self.old }
-        ensures lasts { it.lasts self.old self.new }
+        ensures promises { PromisesRead it.ghosts at room.old room.new self.old self.new result }
         ensures reading { IsReading (state self.old) (state self.new) result }
         ensures failed { OnErr result (room.new ≡ room.old) }
     {
@@ -223,25 +210,7 @@ impl Disk for MemoryDisk {
     /// so does one that finds no memory, and the disk is down from then on. One that would end past 2^63, or comes
     /// when the disk is down, fails and changes nothing. It costs the octets written.
     fn write_at(&mut self, at: u64, bytes: &[u8]) -> Result<(), DiskFault>
-        ensures written { OnOk result (HasContent (it.content self.old) (it.content self.new) (Writes at bytes.now)) }
-        ensures told { IsTold (it.content self.old) → IsTold (it.content self.new) }
-        ensures untold { IsTold (it.content self.new) → IsTold (it.content self.old) }
-        ensures torn { Follows (Torn at (length bytes.now)) (it.images self.old) (it.images self.new) }
-        ensures open { LeavesOpen it.is_down it.images at (length bytes.now) self.old self.new }
-        ensures kept { AreAmong (it.images self.old) (it.images self.new) }
-        ensures far { 2 ^ 63 < at + length bytes.now
-            → OnlyFails it.content it.images it.moment it.images_since self.old self.new result }
-        ensures down { it.is_down self.old
-            → OnlyFails it.content it.images it.moment it.images_since self.old self.new result }
-        ensures stays_down { it.is_down self.old → it.is_down self.new }
-        ensures goes_down { it.is_down self.new
-            → it.is_down self.old ⊎ (IsErr result × (at + length bytes.now ≤ 2 ^ 63)) }
-        ensures moment { TakesOneMoment (it.content self.old) (it.moment self.old) (it.moment self.new) result }
-        ensures past { TimePasses it.moment it.images it.images_since self.old self.new }
-        ensures since_now { SinceNow it.moment it.images it.images_since self.old self.new }
-        ensures read_faults { it.read_faults self.new ≡ it.read_faults self.old }
-        ensures write_faults { HasCause (it.write_faults self.old) (it.write_faults self.new) result }
-        ensures lasts { it.lasts self.old self.new }
+        ensures promises { PromisesWrite it.ghosts at bytes.now self.old self.new result }
         ensures writing { IsWriting (state self.old) (state self.new) at bytes.now result }
     {
         self.record_write(at, bytes)
@@ -250,19 +219,7 @@ impl Disk for MemoryDisk {
     /// Syncs what was written; a call that is listed, finds no memory or comes when the disk is down, fails and changes
     /// nothing. It costs the octets written since the last one.
     fn sync(&mut self) -> Result<(), DiskFault>
-        ensures durable { OnOk result (IfSome (it.content self.old) (Only (it.images self.new))) }
-        ensures content { it.content self.new ≡ it.content self.old }
-        ensures images { AreAmong (it.images self.new) (it.images self.old) }
-        ensures kept { OnErr result (AreAmong (it.images self.old) (it.images self.new)) }
-        ensures down { it.is_down self.old
-            → OnlyFails it.content it.images it.moment it.images_since self.old self.new result }
-        ensures stays_down { it.is_down self.new ↔ it.is_down self.old }
-        ensures moment { TakesOneMoment (it.content self.old) (it.moment self.old) (it.moment self.new) result }
-        ensures past { TimePasses it.moment it.images it.images_since self.old self.new }
-        ensures since_now { SinceNow it.moment it.images it.images_since self.old self.new }
-        ensures read_faults { it.read_faults self.new ≡ it.read_faults self.old }
-        ensures write_faults { HasCause (it.write_faults self.old) (it.write_faults self.new) result }
-        ensures lasts { it.lasts self.old self.new }
+        ensures promises { PromisesSync it.ghosts self.old self.new result }
         ensures syncing { IsSyncing (state self.old) (state self.new) result }
     {
         self.record_sync()

@@ -1,33 +1,15 @@
 //! What stands in the ranges that calls left open.
 
-ghost use Rattle.std.specs.Prelude.{◌≡◌, ◌<◌, ◌≤◌, ◌^◌, ℕ, length, take, drop, slice_index, IfOk, OnOk, OnErr};
-ghost use Rattle.disk_model.specs.Open.{DifferInRanges, inside_of, open_ranges};
-ghost use Rattle.disk_model.specs.Surface.{AllLeaveOpen, IsInRange, count_of, place_of};
+ghost use Rattle.std.specs.Prelude.{◌≡◌, ◌<◌, ◌≤◌, ◌^◌, ℕ, length, take, drop, slice_index, OnOk, OnErr};
+ghost use Rattle.disk_model.specs.Open.{DifferInRanges};
+ghost use Rattle.disk_model.specs.Surface.{IsInRange, count_of, place_of};
 
-use crate::disk_call::DiskCall;
+use crate::open_write::OpenWrite;
 use crate::overwriting::replace;
 use px_base::OutOfMemory;
-use std::alloc::Global;
-
-/// The octets in the ranges that these calls left open, range by range, as far as there are octets. Takes memory.
-pub(crate) fn octets_inside(
-    alloc: Global,
-    octets: &[u8],
-    calls: &[DiskCall],
-) -> Result<Vec<u8>, OutOfMemory>
-    requires open_calls { AllLeaveOpen calls.now }
-    requires most { length octets.now ≤ 2 ^ 63 }
-    ensures { IfOk result (λ inside. inside.items ≡ inside_of (open_ranges calls.now) octets.now) }
-{
-    let mut inside = Vec::new(alloc);
-    for call in calls {
-        inside.extend_from_slice(part_of(octets, call))?;
-    }
-    Ok(inside)
-}
 
 /// The octets in the range of a call, as far as there are octets.
-fn part_of<'a>(octets: &'a [u8], call: &DiskCall) -> &'a [u8]
+fn part_of<'a>(octets: &'a [u8], call: &OpenWrite) -> &'a [u8]
     requires { length octets.now ≤ 2 ^ 63 }
     ensures { result.now ≡ take (count_of call.now) (drop (place_of call.now) octets.now) }
 {
@@ -41,39 +23,46 @@ pub(crate) fn copy_open(
     copy: &mut Vec<u8>,
     others: &[u8],
     shared: usize,
-    calls: &[DiskCall],
+    calls: &[OpenWrite],
 ) -> Result<(), OutOfMemory>
     requires within { shared ≤ length copy.old.items }
     requires others { DifferInRanges shared calls.now copy.old.items others.now }
     ensures ok { OnOk result (copy.new.items ≡ others.now) }
     ensures err { OnErr result (copy.new.items ≡ copy.old.items) }
 {
-    copy.resize(others.len(), 0)?;
+    copy.reserve(others.len().saturating_sub(copy.len()))?;
+    copy.truncate(shared);
+    copy.extend_from_slice(&others[shared..]).unwrap();
     copy_within(copy.as_mut_slice(), others, shared, calls);
     Ok(())
 }
 
-/// The same of as many octets.
-fn copy_within(octets: &mut [u8], others: &[u8], shared: usize, calls: &[DiskCall])
+/// The same of as many octets, of which those behind this length are the same.
+fn copy_within(octets: &mut [u8], others: &[u8], shared: usize, calls: &[OpenWrite])
     requires size { length octets.old ≡ length others.now }
     requires others { DifferInRanges shared calls.now octets.old others.now }
+    requires behind { (place : ℕ) → shared ≤ place → slice_index octets.old place ≡ slice_index others.now place }
     ensures { octets.new ≡ others.now }
 {
-    replace(octets, shared, &others[shared..]);
     for call in calls {
-        copy_range(octets, others, call);
+        copy_range(octets, others, shared, call);
     }
 }
 
-/// Copies the octets in the range of a call.
-fn copy_range(octets: &mut [u8], others: &[u8], call: &DiskCall)
+/// Copies the octets in the range of a call, where those behind this length are the same. It costs nothing where all of
+/// them are.
+fn copy_range(octets: &mut [u8], others: &[u8], shared: usize, call: &OpenWrite)
     requires size { length octets.old ≡ length others.now }
     requires most { length others.now ≤ 2 ^ 63 }
+    requires behind { (place : ℕ) → shared ≤ place → slice_index octets.old place ≡ slice_index others.now place }
     ensures inside { (place : ℕ) → IsInRange (place_of call.now) (count_of call.now) place → place < length others.now
         → slice_index octets.new place ≡ slice_index others.now place }
     ensures outside { (place : ℕ) → (IsInRange (place_of call.now) (count_of call.now) place → ⊥)
         → slice_index octets.new place ≡ slice_index octets.old place }
 {
+    if call.place() >= shared as u64 {
+        return;
+    }
     let start = call.place().min(others.len() as u64) as usize;
     replace(octets, start, part_of(others, call));
 }

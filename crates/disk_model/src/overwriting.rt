@@ -19,6 +19,10 @@ pub fn overwrite(octets: &mut Vec<u8>, at: u64, bytes: &[u8]) -> Result<(), OutO
         return Err(OutOfMemory);
     }
     let at = at as usize;
+    if at == octets.len() {
+        octets.extend_from_slice(bytes)?;
+        return Ok(());
+    }
     extend_to(octets, at + bytes.len())?;
     replace(octets.as_mut_slice(), at, bytes);
     Ok(())

@@ -170,8 +170,7 @@ impl StoredFile {
         ensures ok { OnOk result (self.new ≡ brought self.old bytes.now) }
         ensures err { OnErr result (self.new ≡ self.old) }
     {
-        self.octets.extend_from_slice(bytes)?;
-        Ok(())
+        put(&mut self.octets, self.length, bytes)
     }
 
     /// The first octets that wait become held.
@@ -192,7 +191,7 @@ impl StoredFile {
         ensures ok { OnOk result (self.new ≡ file_holding self.old (grown bytes.now)) }
         ensures err { OnErr result (self.new ≡ self.old) }
     {
-        self.octets.extend_from_slice(bytes)?;
+        put(&mut self.octets, self.length, bytes)?;
         self.held = self.octets.len();
         Ok(())
     }
@@ -208,4 +207,17 @@ impl StoredFile {
         stamp_file(self.octets.as_mut_slice(), self.number, self.caller, moment);
         self.sealed = Some(moment);
     }
+}
+
+/// Puts these behind the octets of a file of this length, or changes nothing where there is no memory. The first ones
+/// make room for the whole file, so that none is moved later. Takes memory.
+fn put(file: &mut Vec<u8>, file_length: u32, bytes: &[u8]) -> Result<(), OutOfMemory>
+    ensures ok { OnOk result (file.new.items ≡ file.old.items ++ bytes.now) }
+    ensures err { OnErr result (file.new.items ≡ file.old.items) }
+{
+    if file.is_empty() {
+        file.reserve_exact(file_length as usize)?;
+    }
+    file.extend_from_slice(bytes)?;
+    Ok(())
 }

@@ -1,9 +1,14 @@
 -- The header of a store.
-use Rattle.std.specs.Prelude.{◌≡◌, ◌≢◌, ℕ, List, take, slice_index, true, false, Option, IfSome, Result, IsErrOf}
+use Rattle.std.specs.Prelude.{◌≡◌, ◌≢◌, ℕ, ◌≤◌, List, take, slice_index, true, false, Option, IfSome, Result, IsErrOf}
 use Rattle.px_base.specs.Numbers.{le32}
 use Rattle.file_journal.specs.declared.faults.RecoverFault.{RecoverFault}
 use Rattle.file_journal.specs.declared.faults.RecoverFault.TheVariants as fault
 use Rattle.file_journal.specs.Journal.{is_block_number}
+
+-- a store has so many blocks
+pub record AreBlocks (blocks : ℕ) : Type 0 where
+  pub some : 1 ≤ blocks
+  pub most : blocks ≤ 65536
 
 -- the octets begin with a header of this magic and block number
 pub record HasHeader (magic : List ℕ) (blocks : ℕ) (octets : List ℕ) : Type 0 where

@@ -1,9 +1,15 @@
 -- What a journal answers of the record at its place.
-use Rattle.std.specs.Prelude.{◌≡◌, ◌↔◌, ℕ, List, [], Option, None, IfOk, IfSome, Result, Ok, IsErrOf}
+use Rattle.std.specs.Prelude.{◌≡◌, ◌↔◌, ℕ, ◌≤◌, ◌^◌, List, length, [], Option, None, IfOk, IfSome, Result, Ok, IsErrOf}
+use Rattle.disk_model.specs.declared.disk.Disk.{Ghosts}
 use Rattle.file_journal.specs.Position.{Position, left_to_read}
 use Rattle.file_journal.specs.Records.{HasRecord, broken, reading_at, record_of, whole, with_record}
 use Rattle.file_journal.specs.declared.faults.RecoverFault.{RecoverFault}
 use Rattle.file_journal.specs.declared.faults.RecoverFault.TheVariants as fault
+
+-- the disk has so many octets, where they are told, and 2 ^ 63 at most
+pub record HasLength {D : Type 0} (g : Ghosts D) (disk : D) (end : ℕ) : Type 0 where
+  pub told : IfSome (g.content disk) (λ octets. end ≡ length octets)
+  pub most : end ≤ 2 ^ 63
 
 -- What is left is this record and then what is left afterwards; `None` comes exactly where no record is left before the
 -- first gate that isn't open, and `Damaged` exactly where none is left before damage.

@@ -4,7 +4,7 @@ ghost use Rattle.std.specs.Prelude.{◌≡◌};
 ghost use Rattle.file_journal.specs.Refusals.{fault_of_read, fault_of_recovery};
 ghost use Rattle.file_journal.specs.declared.faults.JournalFault.TheVariants.{Disk as append_disk};
 ghost use Rattle.file_journal.specs.declared.faults.RecoverFault.TheVariants.{Disk};
-ghost use Rattle.file_journal.specs.declared.faults.ReadFault.TheVariants.{OutOfMemory as NoMemory};
+ghost use Rattle.file_journal.specs.declared.faults.ReadFault.TheVariants.{Disk as ReadDisk, OutOfMemory as NoMemory};
 
 use disk_model::DiskFault;
 use px_base::OutOfMemory;
@@ -56,6 +56,14 @@ pub enum ReadFault {
     /// There was no memory for what a record makes of the ledger.
     #[error("out of memory")]
     OutOfMemory,
+}
+
+impl From<DiskFault> for ReadFault {
+    ghost from_gives = { λ _ fault. fault ≡ ReadDisk };
+
+    fn from(_fault: DiskFault) -> ReadFault {
+        ReadFault::Disk
+    }
 }
 
 impl From<OutOfMemory> for ReadFault {

@@ -3,7 +3,7 @@
 ghost use Rattle.std.specs.Prelude.{◌≡◌, ◌<◌, ◌≤◌, length, IfSome};
 ghost use Rattle.file_journal.specs.Calls.{Becomes, IsQuietNow, Makes};
 ghost use Rattle.file_journal.specs.Formatting.{IsFinishing, IsMakingEven, IsMakingGates, MakesEven, MakesGates};
-ghost use Rattle.file_journal.specs.Header.{HasSelector};
+ghost use Rattle.file_journal.specs.Header.{AreBlocks, HasSelector};
 ghost use Rattle.file_journal.specs.Journal.{after_finishing, after_recovery, header_text};
 ghost use Rattle.file_journal.specs.Recovery.{IsRecovering};
 
@@ -29,8 +29,7 @@ pub(crate) fn format_new<D: Disk>(
 ) -> Result<(), DiskFault>
     requires quiet { IsQuietNow D.Disk disk.old }
     requires short { IfSome (D.content disk.old) (λ octets. length octets ≤ 16) }
-    requires some { 1 ≤ blocks }
-    requires most { blocks ≤ 65536 }
+    requires blocks { AreBlocks blocks }
     ensures { Makes D.Disk result disk.old disk.new (Becomes (after_recovery magic blocks)) (IsRecovering magic blocks) }
 {
     // A crash before this is synced leaves at most 16 octets, whatever they are: the formatting begins anew.

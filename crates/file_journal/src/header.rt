@@ -1,8 +1,8 @@
 //! The header of a store.
 
-ghost use Rattle.std.specs.Prelude.{◌≡◌, ◌<◌, ◌≤◌, List, ℕ, length, slice_index, IfOk, IfSome, IsErrOf};
+ghost use Rattle.std.specs.Prelude.{◌≡◌, ◌<◌, List, ℕ, length, slice_index, IfOk, IfSome, IsErrOf};
 ghost use Rattle.file_journal.specs.Calls.{Reads};
-ghost use Rattle.file_journal.specs.Header.{HasBadNumber, HasHeader, HasSelector, IsForeignBy};
+ghost use Rattle.file_journal.specs.Header.{AreBlocks, HasBadNumber, HasHeader, HasSelector, IsForeignBy};
 ghost use Rattle.file_journal.specs.Recovery.{Refuses};
 
 use crate::RecoverFault;
@@ -23,8 +23,7 @@ pub(crate) fn read_header<D: Disk>(disk: &mut D, magic: [u8; 8]) -> Result<Heade
     requires { IfSome (D.content disk.old) (λ octets. 16 < length octets) }
     ensures header { IfOk result (λ header. IfSome (D.content disk.old) (HasHeader magic header.blocks)) }
     ensures selector { IfOk result (λ header. HasSelector (D.content disk.old) header.selector) }
-    ensures some { IfOk result (λ header. 1 ≤ header.blocks) }
-    ensures most { IfOk result (λ header. header.blocks ≤ 65536) }
+    ensures blocks { IfOk result (λ header. AreBlocks header.blocks) }
     ensures refuses { Refuses magic (D.content disk.old) result }
     ensures reads { Reads D.Disk (IsErrOf result RecoverFault.Disk) disk.old disk.new }
 {
@@ -37,8 +36,7 @@ pub(crate) fn read_header<D: Disk>(disk: &mut D, magic: [u8; 8]) -> Result<Heade
 fn parse_header(octets: &[u8; 16], magic: [u8; 8]) -> Result<Header, RecoverFault>
     ensures header { IfOk result (λ header. HasHeader magic header.blocks octets.now) }
     ensures selector { IfOk result (λ header. header.selector ≡ slice_index octets.now 15) }
-    ensures some { IfOk result (λ header. 1 ≤ header.blocks) }
-    ensures most { IfOk result (λ header. header.blocks ≤ 65536) }
+    ensures blocks { IfOk result (λ header. AreBlocks header.blocks) }
     ensures not_a_store { IsForeignBy magic octets.now result }
     ensures damaged { (at : ℕ) → IsErrOf result (RecoverFault.Damaged at) → (at ≡ 8) × HasBadNumber magic octets.now }
     ensures disk { ¬ IsErrOf result RecoverFault.Disk }

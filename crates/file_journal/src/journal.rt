@@ -3,14 +3,15 @@
 ghost use Rattle.std.specs.Prelude.{◌≡◌, ◌↔◌, ℕ, ◌+◌, ◌^◌, ◌<◌, ◌≤◌, List, length, true, false, IfOk, IfSome, IsErr, IsErrOf, None, OnErr, OnOk, OnSome};
 ghost use Rattle.file_journal.specs.Appending.{Appends, LeavesAppending, LeavesBeforeOrAfter, TakesFour};
 ghost use Rattle.file_journal.specs.Calls.{IsQuietNow, Leaves, Puts, Reads, Runs, TakesStep};
-ghost use Rattle.file_journal.specs.Next.{AnswersNext};
+ghost use Rattle.file_journal.specs.Header.{AreBlocks};
+ghost use Rattle.file_journal.specs.Next.{AnswersNext, HasLength};
 ghost use Rattle.file_journal.specs.Position.{StandsOn};
 ghost use Rattle.file_journal.specs.Records.{IsRecord, record_of};
 ghost use Rattle.file_journal.specs.Recovery.{IsRecovered, IsRecovering, LeavesSinceSync, Refuses};
 
 use crate::format::{FIRST_GATE, finish_format, format_new};
 use crate::header::read_header;
-use crate::record::{encode_record, put_record, read_record};
+use crate::record::{RecordRoom, RecordText, encode_record, put_record, read_record};
 use crate::{JournalFault, RecoverFault};
 use arrayvec::ArrayVec;
 use disk_model::{Disk, DiskFault};
@@ -27,6 +28,8 @@ pub struct Journal {
     ended: bool,
     /// Whether a write or a sync failed.
     failed: bool,
+    /// The octets of the record that was put last.
+    text: RecordText,
 }
 
 impl Model for Journal {
@@ -56,8 +59,7 @@ impl Journal {
         magic: [u8; 8],
         blocks: u32,
     ) -> Result<Journal, RecoverFault>
-        requires some { 1 ≤ blocks }
-        requires most { blocks ≤ 65536 }
+        requires blocks { AreBlocks blocks }
         ensures recovered { IfOk result (IsRecovered D.Disk magic blocks disk.old disk.new) }
 
         // But for a fault of the disk, each refusal comes exactly where the content stands for it, and leaves it so.
@@ -87,8 +89,7 @@ impl Journal {
     ) -> Result<Journal, RecoverFault>
         requires len { IfSome (D.content disk.old) (λ octets. len ≡ length octets) }
         requires quiet { IsQuietNow D.Disk disk.old }
-        requires some { 1 ≤ blocks }
-        requires most { blocks ≤ 65536 }
+        requires blocks { AreBlocks blocks }
         ensures recovered { IfOk result (IsRecovered D.Disk magic blocks disk.old disk.new) }
         ensures refuses { Refuses magic (D.content disk.old) result }
         ensures untouched { OnErr result
@@ -107,8 +108,7 @@ impl Journal {
 
     /// At the first gate, with nothing read yet.
     fn at_first_gate(magic: [u8; 8], blocks: u32) -> Journal
-        requires some { 1 ≤ blocks }
-        requires most { blocks ≤ 65536 }
+        requires blocks { AreBlocks blocks }
         ensures { result ≡ record { magic = magic; blocks = blocks; place = 16; ended = false; failed = false } }
     {
         Journal {
@@ -117,6 +117,7 @@ impl Journal {
             place: FIRST_GATE,
             ended: false,
             failed: false,
+            text: RecordText::new(),
         }
     }
 
@@ -146,13 +147,49 @@ impl Journal {
         ensures room { result ≡ Ok None → room.new ≡ room.old }
         ensures reads { Reads D.Disk (IsErrOf result RecoverFault.Disk) disk.old disk.new }
     {
-        match read_record(disk, self.place, room)? {
+        let _ = &self.magic;
+        let end = disk.len()?;
+        let mut found = RecordRoom::new();
+        match self.find_next(disk, end, &mut found) {
+            Ok(None) => Ok(None),
+            Ok(Some(kind)) => {
+                room.clear();
+                room.try_extend_from_slice(found.content()).unwrap();
+                Ok(Some(kind))
+            }
+            Err(fault) => Err(fault),
+        }
+    }
+
+    /// Reads the next record of a disk of so many octets, as [`next`](Journal::next) does, whatever the room holds then
+    /// where there is none.
+    pub(crate) fn find_next<D: Disk>(
+        &mut self,
+        disk: &mut D,
+        end: u64,
+        room: &mut RecordRoom,
+    ) -> Result<Option<u8>, RecoverFault>
+        requires end { HasLength D.Disk disk.old end }
+        requires stands_on { StandsOn D.Disk self.old disk.old }
+        requires healthy { self.old.failed ≡ false }
+        ensures stands_on { StandsOn D.Disk self.new disk.new }
+        ensures journal { self.new ≡ record self.old { place = self.new.place; ended = self.new.ended } }
+        ensures next { AnswersNext self.old self.new room.new (D.content disk.old) result }
+        ensures ended { result ≡ Ok None → self.new ≡ record self.old { ended = true } }
+        ensures moves { IfOk result (λ next.
+            OnSome next (self.new.place ≡ self.old.place + 4 + length room.new)) }
+        ensures fits { self.new.place + 1 ≤ 2 ^ 63 }
+        ensures is_store { (found : List ℕ) → ¬ IsErrOf result (RecoverFault.NotAStore found) }
+        ensures err { OnErr result (self.new ≡ self.old) }
+        ensures reads { Reads D.Disk (IsErrOf result RecoverFault.Disk) disk.old disk.new }
+    {
+        match read_record(disk, end, self.place, room)? {
             None => {
                 self.ended = true;
                 Ok(None)
             }
             Some(kind) => {
-                self.place += 4 + room.len() as u64;
+                self.place += 4 + room.content().len() as u64;
                 Ok(Some(kind))
             }
         }
@@ -222,10 +259,10 @@ impl Journal {
         ensures since { LeavesAppending D.Disk self.old (record_of kind content.now) disk.old disk.new }
         ensures calls { TakesFour D.Disk disk.old disk.new result }
     {
-        let text = encode_record(kind, content);
-        match put_record(disk, self.place, text.as_slice()) {
+        encode_record(kind, content, &mut self.text);
+        match put_record(disk, self.place, self.text.as_slice()) {
             Ok(()) => {
-                self.place += text.len() as u64;
+                self.place += self.text.len() as u64;
                 Ok(())
             }
             Err(fault) => {

@@ -1,6 +1,7 @@
 //! A state that is kept in a journal.
 
-ghost use Rattle.std.specs.Prelude.{◌≡◌, ◌≤◌, false, IfOk, OnErr, OnOk};
+ghost use Rattle.std.specs.Prelude.{◌≡◌, false, IfOk, OnErr, OnOk};
+ghost use Rattle.file_journal.specs.Header.{AreBlocks};
 ghost use Rattle.file_journal.specs.Kept.{AnswersPut, StandsAt, kept_at};
 ghost use Rattle.file_journal.specs.Restoring.{AnswersRecovery, IsRestored};
 
@@ -27,8 +28,7 @@ impl<L: Ledger> Kept<L> {
     /// `NotAStore` and `Damaged` leave the content as it was. After `Disk` and `OutOfMemory` the disk is to be
     /// recovered again.
     pub fn recover<D: Disk>(alloc: Global, disk: &mut D, blocks: u32) -> Result<Kept<L>, StoreFault>
-        requires some { 1 ≤ blocks }
-        requires most { blocks ≤ 65536 }
+        requires blocks { AreBlocks blocks }
         ensures restored { IfOk result (λ kept.
             IsRestored D.Disk L.form blocks disk.old (kept_at L.state kept disk.new)) }
         ensures by_records { IfOk result (λ kept. L.by_records kept.ledger) }

@@ -3,12 +3,14 @@
 ghost use Rattle.std.specs.Prelude.{◌≡◌, ◌+◌, ◌^◌, ◌<◌, ◌≤◌, ℕ, List, length, true, false, Option, None, Some, IfSome, IsErrOf, OnErr, OnOk};
 ghost use Rattle.file_journal.specs.Calls.{Reads};
 ghost use Rattle.file_journal.specs.Form.{Form};
+ghost use Rattle.file_journal.specs.Header.{AreBlocks};
 ghost use Rattle.file_journal.specs.Ledger.{AnswersAll, AppliesNext, AppliesSome};
+ghost use Rattle.file_journal.specs.Next.{HasLength};
 ghost use Rattle.file_journal.specs.Position.{StandsOn};
 ghost use Rattle.file_journal.specs.Records.{Record, record_of};
 
+use crate::record::RecordRoom;
 use crate::{Journal, ReadFault, RecoverFault};
-use arrayvec::ArrayVec;
 use disk_model::Disk;
 use px_base::OutOfMemory;
 use std::alloc::Global;
@@ -36,8 +38,7 @@ pub trait Ledger: Drop {
 
     /// The ledger of a store of so many blocks, 1 to 65,536, before the first record. Takes no memory yet.
     fn fresh(alloc: Global, blocks: u32) -> Self
-        requires some { 1 ≤ blocks }
-        requires most { blocks ≤ 65536 }
+        requires blocks { AreBlocks blocks }
         ensures state { state result ≡ form.fresh blocks }
         ensures by_records { by_records result };
 
@@ -72,7 +73,7 @@ fn reading_fault(fault: RecoverFault) -> ReadFault
 
 impl Journal {
     /// Reads all records that are left, and applies each to the ledger, in order. No append failed before. It reads
-    /// each record once. The ledger may take memory.
+    /// each record once, and asks for the disk's length once before. The ledger may take memory.
     ///
     /// `Damaged`: what is left comes to damage at this place: a record that the state before it doesn't allow, or,
     /// where each before it is allowed, an open gate that no whole record with a gate behind it follows. After it and
@@ -98,16 +99,22 @@ impl Journal {
             → IfSome (D.content disk.old) (AppliesSome L.form.step self.old (L.state ledger.old) (L.state ledger.new)) }
         ensures reads { Reads D.Disk (IsErrOf result ReadFault.Disk) disk.old disk.new }
     {
-        while self.apply_next(disk, ledger)? {}
+        let end = disk.len()?;
+        let mut room = RecordRoom::new();
+        while self.apply_next(disk, end, ledger, &mut room)? {}
         Ok(())
     }
 
-    /// Reads the next record that is left, and applies it: whether there was one.
+    /// Reads the next record that is left of a disk of so many octets, into this room, and applies it: whether there
+    /// was one.
     fn apply_next<D: Disk, L: Ledger>(
         &mut self,
         disk: &mut D,
+        end: u64,
         ledger: &mut L,
+        room: &mut RecordRoom,
     ) -> Result<bool, ReadFault>
+        requires end { HasLength D.Disk disk.old end }
         requires stands_on { StandsOn D.Disk self.old disk.old }
         requires healthy { self.old.failed ≡ false }
         requires by_records { L.by_records ledger.old }
@@ -124,11 +131,10 @@ impl Journal {
         ensures reads { Reads D.Disk (IsErrOf result ReadFault.Disk) disk.old disk.new }
     {
         let gate = self.place();
-        let mut room = ArrayVec::new();
-        match self.next(disk, &mut room) {
+        match self.find_next(disk, end, room) {
             Ok(None) => Ok(false),
             Ok(Some(kind)) => {
-                if !ledger.apply(kind, room.as_slice())? {
+                if !ledger.apply(kind, room.content())? {
                     return Err(ReadFault::Damaged { at: gate });
                 }
                 Ok(true)

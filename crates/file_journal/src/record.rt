@@ -1,18 +1,18 @@
 //! One record: its text, putting it, and reading it.
 
-ghost use Rattle.std.specs.Prelude.{◌≡◌, ◌+◌, ◌^◌, ◌<◌, ◌≤◌, ℕ, List, [], ◌∷◌, ◌++◌, length, slice_index, take, drop, true, false, IfOk, IfSome, OnOk, OnErr, IsErrOf, None};
+ghost use Rattle.std.specs.Prelude.{◌≡◌, ◌+◌, ◌^◌, ◌<◌, ◌≤◌, ℕ, List, [], ◌∷◌, ◌++◌, length, slice_index, take, drop, true, false, IfOk, IfSome, OnOk, IsErrOf, None};
 ghost use Rattle.file_journal.specs.Appending.{IsPutting, OpensGate};
 ghost use Rattle.file_journal.specs.Calls.{Makes, Reads};
 ghost use Rattle.file_journal.specs.Finding.{IsFound};
-ghost use Rattle.file_journal.specs.Next.{FindsRecord, RefusesAt};
+ghost use Rattle.file_journal.specs.Next.{FindsRecord, HasLength, RefusesAt};
 ghost use Rattle.file_journal.specs.Records.{reading_at, record_of, record_text, whole};
 
 use crate::RecoverFault;
 use crate::write::write_synced;
-use arrayvec::ArrayVec;
 use byteorder::{ByteOrder, LittleEndian};
 use disk_model::{Disk, DiskFault};
-use px_base::le16;
+use px_base::{OctetBuffer, le16};
+use std::marker::Model;
 
 /// An open gate.
 const OPEN: u8 = 1;
@@ -27,21 +27,20 @@ const MAX_CONTENT: usize = 600;
 const MOST_READ: usize = 605;
 
 /// A record's octets behind its gate, and the next gate.
-pub(crate) type RecordText = ArrayVec<u8, 604>;
+pub(crate) type RecordText = OctetBuffer<604>;
 
-/// The octets of a record behind its gate, and a closed gate.
-pub(crate) fn encode_record(kind: u8, content: &[u8]) -> RecordText
+/// Replaces a text by the octets of a record behind its gate, and a closed gate.
+pub(crate) fn encode_record(kind: u8, content: &[u8], text: &mut RecordText)
     requires { length content.now ≤ 600 }
-    ensures { result.items ≡ record_text (record_of kind content.now) ++ 0 ∷ [] }
+    ensures { text.new ≡ record_text (record_of kind content.now) ++ 0 ∷ [] }
 {
-    let mut octets = ArrayVec::new();
     let mut len = [0; 2];
     LittleEndian::write_u16(&mut len, content.len() as u16);
-    octets.push(kind);
-    octets.try_extend_from_slice(&len).unwrap();
-    octets.try_extend_from_slice(content).unwrap();
-    octets.push(CLOSED);
-    octets
+    text.clear();
+    text.put(&[kind]);
+    text.put(&len);
+    text.put(content);
+    text.put(&[CLOSED]);
 }
 
 /// Puts octets behind the closed gate at this place, syncs them, and then opens the gate and syncs it.
@@ -97,36 +96,72 @@ fn found_in(octets: &[u8]) -> Found
     }
 }
 
+/// Where records are read. Contracts see it as the content of the last one.
+#[derive(Drop)]
+pub(crate) struct RecordRoom {
+    /// What was read last, from a gate on.
+    octets: [u8; MOST_READ],
+    /// The length of the content in octets.
+    len: usize,
+}
+
+impl Model for RecordRoom {
+    ghost use Rattle.std.specs.Prelude.{List, ℕ, ◌≤◌, take, drop};
+
+    ghost Value = { List ℕ };
+
+    ghost view = { λ a. take a.len (drop 4 a.octets) };
+
+    ghost invariant = { λ a. a.len ≤ 600 };
+}
+
+impl RecordRoom {
+    /// No octets.
+    pub(crate) fn new() -> RecordRoom
+        ensures { result ≡ [] }
+    {
+        RecordRoom {
+            octets: [0; MOST_READ],
+            len: 0,
+        }
+    }
+
+    /// The content.
+    pub(crate) fn content(&self) -> &[u8]
+        ensures octets { result.now ≡ self.now }
+        ensures most { length result.now ≤ 600 }
+    {
+        &self.octets[4..4 + self.len]
+    }
+}
+
 /// Reads the record behind the gate at this place: its kind, with its content in `room`; `None` exactly where the gate
-/// isn't open. Only a record replaces what is in `room`. It asks for the length once, and reads once.
+/// isn't open. The disk has so many octets. It reads once, into the room.
 pub(crate) fn read_record<D: Disk>(
     disk: &mut D,
+    end: u64,
     place: u64,
-    room: &mut ArrayVec<u8, 600>,
+    room: &mut RecordRoom,
 ) -> Result<Option<u8>, RecoverFault>
+    requires end { HasLength D.Disk disk.old end }
     requires far { place < 2 ^ 63 }
-    ensures found { IfOk result (FindsRecord place room.new.items (D.content disk.old)) }
-    ensures fits { IfOk result (λ next. IfSome next (λ kind. place + 4 + length room.new.items < 2 ^ 63)) }
+    ensures found { IfOk result (FindsRecord place room.new (D.content disk.old)) }
+    ensures fits { IfOk result (λ next. IfSome next (λ kind. place + 4 + length room.new < 2 ^ 63)) }
     ensures none { result ≡ Ok None → IfSome (D.content disk.old) (λ octets. reading_at place octets ≡ whole []) }
     ensures refuses { RefusesAt place (D.content disk.old) result }
-    ensures err { OnErr result (room.new ≡ room.old) }
-    ensures room { result ≡ Ok None → room.new ≡ room.old }
     ensures reads { Reads D.Disk (IsErrOf result RecoverFault.Disk) disk.old disk.new }
 {
-    let end = disk.len()?;
     if place >= end {
         return Err(RecoverFault::Damaged { at: place });
     }
-    let mut octets = [0; MOST_READ];
     let count = (end - place).min(MOST_READ as u64) as usize;
-    let front = &mut octets[..count];
+    let front = &mut room.octets[..count];
     disk.read(place, front)?;
     match found_in(front) {
         Found::Closed => Ok(None),
         Found::Damaged => Err(RecoverFault::Damaged { at: place }),
         Found::Record { kind, len } => {
-            room.clear();
-            room.try_extend_from_slice(&front[4..4 + len]).unwrap();
+            room.len = len;
             Ok(Some(kind))
         }
     }

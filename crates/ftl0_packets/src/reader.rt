@@ -9,7 +9,7 @@ ghost use Rattle.ftl0_packets.specs.Values.{item_of};
 
 use crate::text::{HEADER_LEN, MOST_OCTETS, header_text_len, read_text, text_len};
 use crate::{Malformed, Packet};
-use arrayvec::ArrayVec;
+use px_base::OctetBuffer;
 use std::marker::Model;
 
 /// Whether a packet is whole now.
@@ -26,7 +26,7 @@ pub enum PacketFed {
 #[derive(Debug, Drop)]
 pub struct PacketReader {
     /// The octets of a whole packet, or of a part from its front.
-    text: ArrayVec<u8, MOST_OCTETS>,
+    text: OctetBuffer<MOST_OCTETS>,
     /// How many octets the packet has that begins so. An octet that isn't there yet counts as 0.
     end: usize,
 }
@@ -37,9 +37,9 @@ impl Model for PacketReader {
 
     ghost Value = { List ℕ };
 
-    ghost view = { λ a. a.text.items };
+    ghost view = { λ a. a.text };
 
-    ghost invariant = { λ a. IsBuffer a.text.items a.end };
+    ghost invariant = { λ a. IsBuffer a.text a.end };
 }
 
 impl PacketReader {
@@ -50,9 +50,19 @@ impl PacketReader {
         ensures left { rest_of (under_way result) ≡ [] }
     {
         PacketReader {
-            text: ArrayVec::new(),
+            text: OctetBuffer::new(),
             end: HEADER_LEN,
         }
+    }
+
+    /// Lets the packet under way go, and is as before the first packet. Takes no memory.
+    pub fn clear(&mut self)
+        ensures octets { self.new ≡ [] }
+        ensures none { packets_of (under_way self.new) ≡ [] }
+        ensures left { rest_of (under_way self.new) ≡ [] }
+    {
+        self.text.clear();
+        self.end = HEADER_LEN;
     }
 
     /// Takes octets up to the end of the packet under way, and says how many, and whether the packet is whole now. The
@@ -141,7 +151,7 @@ impl PacketReader {
         self.begin_next();
         self.end = end_of(self.text.as_slice(), self.end, bytes);
         let taken = (self.end - self.text.len()).min(bytes.len());
-        self.text.try_extend_from_slice(&bytes[..taken]).unwrap();
+        self.text.put(&bytes[..taken]);
         taken
     }
 }

@@ -7,4 +7,4 @@ mod HearsLemmas
 mod Invariants
 mod OctetsLemmas
 pub mod QueuingLemmas
-mod TakingLemmas
+pub mod TakingLemmas

@@ -165,7 +165,7 @@ impl PacketLink {
         ensures octets { octets_in self.new ≡ [] }
         ensures link { self.new.link ≡ self.old.link }
     {
-        self.reader = PacketReader::new();
+        self.reader.clear();
     }
 
     /// Counts a tick while nothing is pending ([`Link::tick`]): why the link is down, where the peer doesn't answer any

@@ -1,5 +1,5 @@
 -- What a checker stands for: the octets that it was fed.
-use Rattle.std.specs.Prelude.{◌≡◌, ℕ, ◌<◌, ◌==◌, List, [], ◌∷◌, ◌++◌, length, if◌then◌else◌}
+use Rattle.std.specs.Prelude.{◌≡◌, ℕ, ◌+◌, ◌<◌, ◌==◌, List, [], ◌∷◌, ◌++◌, length, if◌then◌else◌, take}
 use Rattle.px_base.specs.Numbers.{sum16}
 use Rattle.px_base.specs.Octets.{IsOctets}
 use Rattle.pfh_items.specs.Faults.{BeginsHeader}
@@ -67,6 +67,11 @@ pub record HasFed (checker : CheckerValue) (fed : List ℕ) : Type 0 where
 -- New was fed these octets more than old.
 abbrev pub Extends : CheckerValue → CheckerValue → List ℕ → Type 0
 Extends old new more = (fed : List ℕ) → HasFed old fed → HasFed new (fed ++ more)
+
+-- So many octets were taken from the front of these: new was fed them more than old.
+pub record Takes (old new : CheckerValue) (octets : List ℕ) (count : ℕ) : Type 0 where
+  pub fed : Extends old new (take count octets)
+  pub len : fed_len new ≡ fed_len old + count
 
 -- how far a checker has come after an octet of AA 55, or one in their place
 abbrev pub stage_after : Stage → ℕ → Stage

@@ -4,7 +4,7 @@ ghost use Rattle.std.specs.Prelude.{◌≡◌, ◌+◌, ◌≤◌, ◌<◌, ℕ,
 ghost use Rattle.pfh_items.specs.Faults.{IsFound, fault_code, first_fault};
 ghost use Rattle.pfh_items.specs.Walk.{items_from};
 ghost use Rattle.pfh_reader.specs.Check.{HasFault, HasSums};
-ghost use Rattle.pfh_reader.specs.Feed.{Extends, HasFed, IsCutItem, KeepsClaims, TakesEnd, TakesItems, fed_len, stage_after};
+ghost use Rattle.pfh_reader.specs.Feed.{HasFed, IsCutItem, KeepsClaims, Takes, TakesEnd, TakesItems, fed_len, stage_after};
 ghost use Rattle.pfh_reader.specs.declared.checker.Stage.TheVariants as stages;
 
 use crate::HeaderFault;
@@ -90,8 +90,7 @@ impl Checker {
         requires most { fed_len self.old + length octets.now ≤ 4194304 }
         ensures taken { 0 < result }
         ensures within { result ≤ length octets.now }
-        ensures fed { Extends self.old self.new (take result octets.now) }
-        ensures len { fed_len self.new ≡ fed_len self.old + result }
+        ensures takes { Takes self.old self.new octets.now result }
     {
         match self.stage {
             Stage::Nothing | Stage::Begun => self.take_of_start(octets),
@@ -107,8 +106,7 @@ impl Checker {
         requires some { 0 < length octets.now }
         requires most { fed_len self.old + length octets.now ≤ 4194304 }
         ensures taken { result ≡ 1 }
-        ensures fed { Extends self.old self.new (take result octets.now) }
-        ensures len { fed_len self.new ≡ fed_len self.old + result }
+        ensures takes { Takes self.old self.new octets.now result }
     {
         let (first, _) = octets.split_at(1);
         self.measures.add_header(first);
@@ -121,8 +119,7 @@ impl Checker {
         requires stage { self.old.stage ≡ stages.NoHeader }
         requires most { fed_len self.old + length octets.now ≤ 4194304 }
         ensures taken { result ≡ length octets.now }
-        ensures fed { Extends self.old self.new (take result octets.now) }
-        ensures len { fed_len self.new ≡ fed_len self.old + result }
+        ensures takes { Takes self.old self.new octets.now result }
     {
         self.measures.add_header(octets);
         octets.len()
@@ -133,8 +130,7 @@ impl Checker {
         requires stage { self.old.stage ≡ stages.Body }
         requires most { fed_len self.old + length octets.now ≤ 4194304 }
         ensures taken { result ≡ length octets.now }
-        ensures fed { Extends self.old self.new (take result octets.now) }
-        ensures len { fed_len self.new ≡ fed_len self.old + result }
+        ensures takes { Takes self.old self.new octets.now result }
     {
         self.measures.add_body(octets);
         octets.len()
@@ -147,8 +143,7 @@ impl Checker {
         requires most { fed_len self.old + length octets.now ≤ 4194304 }
         ensures taken { 0 < result }
         ensures within { result ≤ length octets.now }
-        ensures fed { Extends self.old self.new (take result octets.now) }
-        ensures len { fed_len self.new ≡ fed_len self.old + result }
+        ensures takes { Takes self.old self.new octets.now result }
     {
         if self.held.is_empty() {
             self.take_whole_items(octets)
@@ -165,8 +160,7 @@ impl Checker {
         requires most { fed_len self.old + length octets.now ≤ 4194304 }
         ensures taken { 0 < result }
         ensures within { result ≤ length octets.now }
-        ensures fed { Extends self.old self.new (take result octets.now) }
-        ensures len { fed_len self.new ≡ fed_len self.old + result }
+        ensures takes { Takes self.old self.new octets.now result }
     {
         match take_items(&mut self.claims, octets) {
             Stop::EndItem { at } => {
@@ -190,8 +184,7 @@ impl Checker {
         requires some { 0 < length octets.now }
         requires most { fed_len self.old + length octets.now ≤ 4194304 }
         ensures taken { result ≡ 1 }
-        ensures fed { Extends self.old self.new (take result octets.now) }
-        ensures len { fed_len self.new ≡ fed_len self.old + result }
+        ensures takes { Takes self.old self.new octets.now result }
     {
         let (first, _) = octets.split_at(1);
         if take_octet(&mut self.held, &mut self.claims, octets[0]) {

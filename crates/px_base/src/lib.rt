@@ -17,6 +17,7 @@ mod memory_clock;
 mod memory_out;
 mod memory_shelf;
 mod numbers;
+mod octet_buffer;
 mod out;
 mod shelf;
 
@@ -34,5 +35,6 @@ pub use memory_clock::MemoryClock;
 pub use memory_out::MemoryOut;
 pub use memory_shelf::MemoryShelf;
 pub use numbers::{le16, le32};
+pub use octet_buffer::OctetBuffer;
 pub use out::{Out, OutDown};
 pub use shelf::{Shelf, ShelfDown, ShelfRefusal};

@@ -1,7 +1,9 @@
 pub mod Clocks
+pub mod Counts
 pub mod Descriptors
 pub mod Disk
 pub mod Files
+pub mod Moves
 pub mod Scripts
 pub mod Shelf
 pub mod StreamCalls

@@ -1,5 +1,5 @@
 -- What a stream or a connection in memory answers by its script.
-use Rattle.std.specs.Prelude.{ℕ, min, List, [], ◌∷◌, take, Result, Ok, Err}
+use Rattle.std.specs.Prelude.{◌≡◌, ℕ, drop, min, List, [], ◌∷◌, take, Result, Ok, Err}
 use Rattle.px_base.specs.CallRecords.{CallRecordState}
 use Rattle.real_outside.specs.declared.script.MemoryAnswer.{MemoryAnswer}
 use Rattle.real_outside.specs.declared.script.MemoryAnswer.TheVariants as answer
@@ -35,3 +35,9 @@ write_answer all (answer.Fails error) = Err error
 write_answer all (answer.Gives octets) = Ok all
 write_answer all (answer.Takes count) = Ok (min count all)
 write_answer all answer.Done = Ok all
+
+-- A call goes by the script: this is what it gives for the next answer, which is taken from those to come.
+pub record Follows {T : Type 0} (coming coming_now : List MemoryAnswer) (answer_of : MemoryAnswer → T) (given : T)
+    : Type 0 where
+  pub answer : given ≡ answer_of (next_answer coming)
+  pub taken : coming_now ≡ drop 1 coming

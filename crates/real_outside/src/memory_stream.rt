@@ -1,9 +1,10 @@
 //! A stream in memory: a script of answers, and a record of the calls.
 
-ghost use Rattle.std.specs.Prelude.{◌≡◌, ◌≤◌, ◌∷◌, [], None, drop, length, IfOk};
+ghost use Rattle.std.specs.Prelude.{◌≡◌, ◌≤◌, ◌∷◌, [], None, length, IfOk};
 ghost use Rattle.px_base.specs.Outside.{Grows};
 ghost use Rattle.px_base.specs.CallRecords.{no_calls, told};
-ghost use Rattle.real_outside.specs.Scripts.{done_answer, next_answer, read_answer, write_answer};
+ghost use Rattle.real_outside.specs.Moves.{Moves};
+ghost use Rattle.real_outside.specs.Scripts.{Follows, done_answer, read_answer, write_answer};
 ghost use Rattle.real_outside.specs.StreamCalls.{octets_read};
 
 use crate::script::{MemoryAnswer, Script};
@@ -58,12 +59,11 @@ impl InputStream for MemoryStream {
 
     /// Gives octets by the script.
     fn read(&mut self, room: &mut [u8]) -> Result<usize, SystemError>
-        ensures count { IfOk result (λ count. count ≤ length room.new) }
         ensures room { length room.new ≡ length room.old }
-        ensures calls { Grows (told self.old.made) (told self.new.made)
-            (StreamCall.Read (length room.old) (octets_read result room.new) ∷ []) }
-        ensures answer { octets_read result room.new ≡ read_answer (length room.old) (next_answer self.old.coming) }
-        ensures coming { self.new.coming ≡ drop 1 self.old.coming }
+        ensures moves { Moves (told self.old.made) (told self.new.made)
+            (StreamCall.Read (length room.old) (octets_read result room.new)) (length room.new) result }
+        ensures script { Follows self.old.coming self.new.coming (read_answer (length room.old))
+            (octets_read result room.new) }
     {
         let answer = self.script.give(room);
         self.made.add(read_call(self.alloc, room, answer));
@@ -78,10 +78,9 @@ impl OutputStream for MemoryStream {
 
     /// Takes octets by the script.
     fn write(&mut self, bytes: &[u8]) -> Result<usize, SystemError>
-        ensures count { IfOk result (λ count. count ≤ length bytes.now) }
-        ensures calls { Grows (told self.old.made) (told self.new.made) (StreamCall.Write bytes.now result ∷ []) }
-        ensures answer { result ≡ write_answer (length bytes.now) (next_answer self.old.coming) }
-        ensures coming { self.new.coming ≡ drop 1 self.old.coming }
+        ensures moves { Moves (told self.old.made) (told self.new.made) (StreamCall.Write bytes.now result)
+            (length bytes.now) result }
+        ensures script { Follows self.old.coming self.new.coming (write_answer (length bytes.now)) result }
     {
         let answer = self.script.take(bytes);
         self.made.add(write_call(self.alloc, bytes, answer));
@@ -91,8 +90,7 @@ impl OutputStream for MemoryStream {
     /// Answers by the script.
     fn flush(&mut self) -> Result<(), SystemError>
         ensures calls { Grows (told self.old.made) (told self.new.made) (StreamCall.Flush result ∷ []) }
-        ensures answer { result ≡ done_answer (next_answer self.old.coming) }
-        ensures coming { self.new.coming ≡ drop 1 self.old.coming }
+        ensures script { Follows self.old.coming self.new.coming done_answer result }
     {
         let answer = self.script.done();
         self.made.add(Ok(StreamCall::Flush { answer }));

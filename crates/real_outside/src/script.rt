@@ -1,7 +1,7 @@
 //! The answers of a stream or a connection in memory.
 
 ghost use Rattle.std.specs.Prelude.{◌≡◌, ◌≤◌, drop, take, length, IfOk};
-ghost use Rattle.real_outside.specs.Scripts.{done_answer, next_answer, read_answer, write_answer};
+ghost use Rattle.real_outside.specs.Scripts.{Follows, done_answer, next_answer, read_answer, write_answer};
 ghost use Rattle.real_outside.specs.StreamCalls.{octets_read};
 
 use crate::system_error::SystemError;
@@ -59,8 +59,7 @@ impl Script {
 
     /// Takes the next answer of a call that is done or fails.
     pub fn done(&mut self) -> Result<(), SystemError>
-        ensures answer { result ≡ done_answer (next_answer self.old) }
-        ensures coming { self.new ≡ drop 1 self.old }
+        ensures script { Follows self.old self.new done_answer result }
     {
         match self.next() {
             MemoryAnswer::Fails(error) => Err(error),
@@ -72,8 +71,8 @@ impl Script {
     pub fn give(&mut self, room: &mut [u8]) -> Result<usize, SystemError>
         ensures count { IfOk result (λ count. count ≤ length room.new) }
         ensures room { length room.new ≡ length room.old }
-        ensures answer { octets_read result room.new ≡ read_answer (length room.old) (next_answer self.old) }
-        ensures coming { self.new ≡ drop 1 self.old }
+        ensures script { Follows self.old self.new (read_answer (length room.old))
+            (octets_read result room.new) }
     {
         match self.next() {
             MemoryAnswer::Fails(error) => Err(error),
@@ -85,8 +84,7 @@ impl Script {
     /// Takes the next answer of a write of these octets.
     pub fn take(&mut self, bytes: &[u8]) -> Result<usize, SystemError>
         ensures count { IfOk result (λ count. count ≤ length bytes.now) }
-        ensures answer { result ≡ write_answer (length bytes.now) (next_answer self.old) }
-        ensures coming { self.new ≡ drop 1 self.old }
+        ensures script { Follows self.old self.new (write_answer (length bytes.now)) result }
     {
         match self.next() {
             MemoryAnswer::Fails(error) => Err(error),

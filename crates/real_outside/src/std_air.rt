@@ -2,9 +2,9 @@
 
 ghost use Rattle.std.specs.Prelude.{◌≡◌, ◌==◌, None, IfOk, IsErr, OnErr, OnOk, if◌then◌else◌, is_ok};
 ghost use Rattle.std.specs.Io.KnownBytes.{Appends};
-ghost use Rattle.px_base.specs.Outside.{HasCause, counted_after};
 ghost use Rattle.px_base.specs.Polling.{IsPolled, turn_of};
 ghost use Rattle.px_base.specs.CallRecords.{Asks};
+ghost use Rattle.real_outside.specs.Counts.{CountsFirst};
 ghost use Rattle.real_outside.specs.StreamCalls.{HearsOnce, WritesAll};
 ghost use Rattle.real_outside.specs.Streams.{HearsFrom};
 
@@ -86,10 +86,9 @@ impl<R: InputStream, W: OutputStream> Air for StdAir<R, W> {
     /// Hears the next octets of the stream, by one read. It fails where that does, and then takes none.
     fn poll(&mut self, room: &mut [u8; 512]) -> Result<Polled, AirDown>
         ensures count { IfOk result IsPolled }
-        ensures read_faults { HasCause self.old.read_faults self.new.read_faults result }
-        ensures write_faults { self.new.write_faults ≡ self.old.write_faults }
+        ensures faults { CountsFirst self.old.read_faults self.new.read_faults self.old.write_faults
+            self.new.write_faults result }
         ensures hears { HearsFrom (R.remaining self.old.input) (R.remaining self.new.input) (turn_of result room.new) }
-        ensures counted { self.new.read_faults ≡ counted_after result self.old.read_faults }
         ensures output { self.new.output ≡ self.old.output }
         ensures asks { Asks (R.calls self.old.input) (R.calls self.new.input) (HearsOnce (turn_of result room.new)) }
     {
@@ -99,10 +98,9 @@ impl<R: InputStream, W: OutputStream> Air for StdAir<R, W> {
 
     /// Writes all of these octets, and flushes the stream behind them. It fails where either does.
     fn put(&mut self, bytes: &[u8]) -> Result<(), AirDown>
-        ensures write_faults { HasCause self.old.write_faults self.new.write_faults result }
-        ensures read_faults { self.new.read_faults ≡ self.old.read_faults }
+        ensures faults { CountsFirst self.old.write_faults self.new.write_faults self.old.read_faults
+            self.new.read_faults result }
         ensures says { OnOk result (Appends (W.contents self.old.output) (W.contents self.new.output) bytes.now) }
-        ensures counted { self.new.write_faults ≡ counted_after result self.old.write_faults }
         ensures input { self.new.input ≡ self.old.input }
         ensures asks { Asks (W.calls self.old.output) (W.calls self.new.output) (WritesAll bytes.now (is_ok result)) }
     {

@@ -2,8 +2,8 @@
 
 ghost use Rattle.std.specs.Prelude.{◌≡◌, None, OnOk, is_ok};
 ghost use Rattle.std.specs.Io.KnownBytes.{Appends};
-ghost use Rattle.px_base.specs.Outside.{HasCause, counted_after};
 ghost use Rattle.px_base.specs.CallRecords.{Asks};
+ghost use Rattle.real_outside.specs.Counts.{Counts};
 ghost use Rattle.real_outside.specs.StreamCalls.{WritesAll};
 
 use crate::stream::OutputStream;
@@ -63,9 +63,8 @@ impl<W: OutputStream> Out for StdOut<W> {
 
     /// Writes all of these octets, and flushes the stream behind them. It fails where either does.
     fn put(&mut self, bytes: &[u8]) -> Result<(), OutDown>
-        ensures faults { HasCause self.old.faults self.new.faults result }
+        ensures faults { Counts self.old.faults self.new.faults result }
         ensures shows { OnOk result (Appends (W.contents self.old.output) (W.contents self.new.output) bytes.now) }
-        ensures counted { self.new.faults ≡ counted_after result self.old.faults }
         ensures asks { Asks (W.calls self.old.output) (W.calls self.new.output) (WritesAll bytes.now (is_ok result)) }
     {
         let written = write_all(&mut self.output, bytes);

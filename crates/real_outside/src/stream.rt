@@ -1,8 +1,9 @@
 //! What an air and an output over streams call: a stream of octets that come, and one of octets that go.
 
-ghost use Rattle.std.specs.Prelude.{◌≡◌, ◌≤◌, ◌∷◌, [], List, Option, None, length, ℕ, IfOk};
+ghost use Rattle.std.specs.Prelude.{◌≡◌, ◌∷◌, [], List, Option, length, ℕ};
 ghost use Rattle.std.specs.Io.KnownBytes.{Keeps, ReadConsumes, WriteAppends};
 ghost use Rattle.px_base.specs.Outside.{Grows};
+ghost use Rattle.real_outside.specs.Moves.{Moves};
 ghost use Rattle.real_outside.specs.StreamCalls.{octets_read};
 ghost use Rattle.real_outside.specs.declared.stream.StreamCall.{StreamCall};
 
@@ -42,10 +43,9 @@ pub trait InputStream {
     /// Puts the next octets into the front of the room, and says how many: at most as many as the room has, and none
     /// where the stream has ended.
     fn read(&mut self, room: &mut [u8]) -> Result<usize, SystemError>
-        ensures count { IfOk result (λ count. count ≤ length room.new) }
         ensures room { length room.new ≡ length room.old }
-        ensures calls { Grows (calls self.old) (calls self.new)
-            (StreamCall.Read (length room.old) (octets_read result room.new) ∷ []) }
+        ensures moves { Moves (calls self.old) (calls self.new)
+            (StreamCall.Read (length room.old) (octets_read result room.new)) (length room.new) result }
         ensures remaining { ReadConsumes (remaining self.old) (remaining self.new) result room.new };
 }
 
@@ -62,8 +62,8 @@ pub trait OutputStream {
 
     /// Takes the first of these octets, and says how many.
     fn write(&mut self, bytes: &[u8]) -> Result<usize, SystemError>
-        ensures count { IfOk result (λ count. count ≤ length bytes.now) }
-        ensures calls { Grows (calls self.old) (calls self.new) (StreamCall.Write bytes.now result ∷ []) }
+        ensures moves { Moves (calls self.old) (calls self.new) (StreamCall.Write bytes.now result)
+            (length bytes.now) result }
         ensures contents { WriteAppends (contents self.old) (contents self.new) result bytes.now };
 
     /// Hands on all that was taken.

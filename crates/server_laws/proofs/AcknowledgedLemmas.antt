@@ -210,7 +210,7 @@ whole store number moment rest others (Some entry) is good allowed =
     (entry, holds.0, record { under_way = (is, holds.1); all = grind (arith, common_steps); good = grind (arith, common_steps) })
 
 -- the commands behind the first are allowed behind them
-allowed_then : (first others : List Command) (start : Store) → AreAllowed start (first ++ others) → AreAllowed (after_all start first) others
+pub allowed_then : (first others : List Command) (start : Store) → AreAllowed start (first ++ others) → AreAllowed (after_all start first) others
 allowed_then [] others start allowed = allowed
 allowed_then (one ∷ first) others start allowed = allowed_then first others (after start one) allowed.1
 

@@ -1,6 +1,8 @@
 mod AcknowledgedLemmas
+mod FrontLemmas
 mod HearingLemmas
 mod MissesLemmas
 pub mod Offered
+mod ReceivesLemmas
 mod RowLemmas
 mod StepLemmas

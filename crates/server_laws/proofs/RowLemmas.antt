@@ -44,7 +44,7 @@ module _ (caller : CallSign) (n : ℕ) where
       let alike : e.caller ≡ old.caller = cc in alike ∙ own old refl
 
   -- octets that are held too leave the caller
-  own-grow : (store : Store) (octets : List ℕ) → IsOwnEntry caller store n → IsOwnEntry caller (after store (grow n octets)) n
+  pub own-grow : (store : Store) (octets : List ℕ) → IsOwnEntry caller store n → IsOwnEntry caller (after store (grow n octets)) n
   own-grow store octets own e found =
       own-from (entry_of store n) e own (sym (ap (λ (o : Option Entry). option_map (λ (e : Entry). e.caller) o) found) ∙ same-caller n (grown octets) store.entries)
 

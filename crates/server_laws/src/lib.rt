@@ -5,9 +5,9 @@
 ghost use Rattle.ftl0_server.specs.Entries.{HearingLaw};
 ghost use Rattle.node.specs.Lent.{seen};
 ghost use Rattle.server_laws.specs.Acknowledged.{ServerAcknowledgesLaw, SessionAcknowledgesLaw};
-ghost use Rattle.server_laws.specs.Misses.{MissesLaw};
+ghost use Rattle.server_laws.specs.Misses.{FrontOfEventLaw, MissesLaw};
 ghost use Rattle.server_laws.specs.Places.{StepLaw};
-ghost use Rattle.server_laws.specs.Rows.{CallerLaw, DueReadsLaw, ReadsLaw};
+ghost use Rattle.server_laws.specs.Rows.{CallerLaw, DueReadsLaw, ReadsLaw, ReceivesLaw};
 
 use disk_model::Disk;
 use ftl0_server::connection::laws::taking_law;
@@ -51,6 +51,12 @@ pub fn caller_law()
     ensures { CallerLaw }
 {}
 
+/// A file that is received stays the caller's: behind each packet's row, over the store after the row's commands, once
+/// what is due was queued, and so behind a whole frame.
+pub fn receives_law()
+    ensures { ReceivesLaw }
+{}
+
 /// A row where a read of the disk fails is the row where none does, or tells of it by code 3 and does nothing else. So
 /// it is of what is sent next, with code 3 in its place.
 pub fn reads_law()
@@ -65,3 +71,9 @@ pub fn misses_law()
 {
     reads_law();
 }
+
+/// The commands that an event begins in which a write or a sync fails are the first of those that it does where none
+/// does: so what such an event leaves of a store is the store after the first of the event's commands.
+pub fn front_of_event_law()
+    ensures { FrontOfEventLaw }
+{}

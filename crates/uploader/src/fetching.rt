@@ -9,7 +9,7 @@ ghost use Rattle.uploader.specs.Causes.{HasCauses};
 ghost use Rattle.uploader.specs.Fetching.{FetchEnds, file_asked};
 ghost use Rattle.uploader.specs.OnDisk.{RefusesNotes};
 
-use crate::recovering::recover_client;
+use crate::recovering::{let_go, recover_client};
 use crate::turns::carry_out;
 use crate::{ClientTerms, SendStop};
 use disk_model::Disk;
@@ -58,8 +58,15 @@ pub fn fetch<D: Disk, A: Air, S: Shelf, C: Clock>(
     let job = Job::download(terms.server, number);
     let (client, came) = carry_out(alloc, client, job, disk, air, clock, terms.polls);
     match came {
-        Ok(_fetched) => keep_file(shelf, name, client.notes().got_octets(terms.server, number)),
-        Err(stop) => Err(stop),
+        Ok(_fetched) => {
+            let kept = keep_file(shelf, name, client.notes().got_octets(terms.server, number));
+            let_go(client);
+            kept
+        }
+        Err(stop) => {
+            let_go(client);
+            Err(stop)
+        }
     }
 }
 

@@ -11,7 +11,7 @@ ghost use Rattle.uploader.specs.Listing.{ListEnds, files_asked};
 ghost use Rattle.uploader.specs.OnDisk.{RefusesNotes};
 
 use crate::line::{SHORT_LEN, line_of_header};
-use crate::recovering::recover_client;
+use crate::recovering::{let_go, recover_client};
 use crate::turns::carry_out;
 use crate::{ClientTerms, SendStop};
 use disk_model::Disk;
@@ -54,13 +54,21 @@ pub fn list<D: Disk, A: Air, O: Out, C: Clock>(
 {
     let client = recover_client(alloc, disk, terms)?;
     let Ok(tokens) = FileBytes::copy_of(alloc, tokens) else {
+        let_go(client);
         return Err(SendStop::OutOfMemory);
     };
     let job = Job::list(alloc, tokens);
     let (client, came) = carry_out(alloc, client, job, disk, air, clock, terms.polls);
     match came {
-        Ok(_listed) => show_listing(client.listing(), out),
-        Err(stop) => Err(stop),
+        Ok(_listed) => {
+            let shown = show_listing(client.listing(), out);
+            let_go(client);
+            shown
+        }
+        Err(stop) => {
+            let_go(client);
+            Err(stop)
+        }
     }
 }
 

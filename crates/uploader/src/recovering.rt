@@ -25,3 +25,6 @@ pub(crate) fn recover_client<D: Disk>(
         Err(fault) => Err(SendStop::from(fault)),
     }
 }
+
+/// Lets a client go. It stands here once, since what is let go in many places is proved at each of them.
+pub(crate) fn let_go(_client: Client) {}

@@ -15,7 +15,7 @@ ghost use Rattle.uploader.specs.Ready.{IsUpload, UploadsJob};
 ghost use Rattle.uploader.specs.Stops.{stop_of_start};
 
 use crate::loading::load_file;
-use crate::recovering::recover_client;
+use crate::recovering::{let_go, recover_client};
 use crate::sum::sum_of_file;
 use crate::turns::carry_out;
 use crate::{ClientTerms, FileSum, SendStop, Sent};
@@ -66,16 +66,26 @@ pub fn send<D: Disk, A: Air, S: Shelf, C: Clock>(
     let sum = sum_of_file(file.as_slice());
     let mut client = recover_client(alloc, disk, terms)?;
     match client.start_task(disk, name, sum.length, sum.digest) {
-        Ok(Begun::Already { number }) => Ok(Sent { number }),
+        Ok(Begun::Already { number }) => {
+            let_go(client);
+            Ok(Sent { number })
+        }
         Ok(Begun::Fresh { task }) => {
             let job = Job::upload(task, 0, file);
-            upload(alloc, client, job, disk, air, clock, terms.polls).1
+            let (client, sent) = upload(alloc, client, job, disk, air, clock, terms.polls);
+            let_go(client);
+            sent
         }
         Ok(Begun::Going { task, number }) => {
             let job = Job::upload(task, number, file);
-            upload(alloc, client, job, disk, air, clock, terms.polls).1
+            let (client, sent) = upload(alloc, client, job, disk, air, clock, terms.polls);
+            let_go(client);
+            sent
         }
-        Err(refusal) => Err(stop_of_refusal(refusal, sum)),
+        Err(refusal) => {
+            let_go(client);
+            Err(stop_of_refusal(refusal, sum))
+        }
     }
 }
 

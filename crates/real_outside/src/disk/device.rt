@@ -1,9 +1,10 @@
 //! The device that a real disk stands on.
 
-ghost use Rattle.std.specs.Prelude.{◌≡◌, ◌≤◌, ◌∷◌, [], List, Option, length, IfOk};
+ghost use Rattle.std.specs.Prelude.{◌≡◌, ◌∷◌, [], List, Option, length};
 ghost use Rattle.px_base.specs.Outside.{Grows};
 ghost use Rattle.real_outside.specs.declared.disk.device.DeviceCall.{DeviceCall};
 ghost use Rattle.real_outside.specs.Files.{octets_read};
+ghost use Rattle.real_outside.specs.Moves.{Moves};
 
 use crate::system_error::SystemError;
 use px_base::FileBytes;
@@ -68,14 +69,13 @@ pub trait Device {
     /// Puts the first octets from this place on into the front of the room, and says how many: at most as many as the
     /// room has, and none where the device ends at that place or before it.
     fn read(&mut self, at: u64, room: &mut [u8]) -> Result<usize, DeviceDown>
-        ensures count { IfOk result (λ count. count ≤ length room.old) }
-        ensures calls { Grows (calls self.old) (calls self.new)
-            (DeviceCall.Read at (length room.old) (octets_read result room.new) ∷ []) };
+        ensures moves { Moves (calls self.old) (calls self.new)
+            (DeviceCall.Read at (length room.old) (octets_read result room.new)) (length room.old) result };
 
     /// Writes the first of these octets at this place, and says how many.
     fn write(&mut self, at: u64, bytes: &[u8]) -> Result<usize, DeviceDown>
-        ensures count { IfOk result (λ count. count ≤ length bytes.now) }
-        ensures calls { Grows (calls self.old) (calls self.new) (DeviceCall.Write at bytes.now result ∷ []) };
+        ensures moves { Moves (calls self.old) (calls self.new) (DeviceCall.Write at bytes.now result)
+            (length bytes.now) result };
 
     /// Keeps all that was written, and the length, through a loss of power.
     fn sync(&mut self) -> Result<(), DeviceDown>

@@ -1,7 +1,7 @@
 //! A disk over a device. It tells nothing of its content; it counts its faults.
 
 ghost use Rattle.std.specs.Prelude.{◌≡◌, ◌⊎◌, ◌↔◌, ◌+◌, ◌≤◌, ◌^◌, true, false, length, IfOk, IsErr, IsTrue};
-ghost use Rattle.px_base.specs.Outside.{HasCause, counted_after};
+ghost use Rattle.real_outside.specs.Counts.{CountsFirst};
 ghost use Rattle.real_outside.specs.Disk.Devices.{AsksLength, AsksUnless, AsksUnlessBroken, FillsFrom, PutsAt, RefusesRange, SyncsOnce};
 ghost use Rattle.real_outside.specs.Disk.Untold.{no_content, no_images, no_moment, no_past};
 
@@ -76,9 +76,8 @@ impl<V: Device> Disk for DeviceDisk<V> {
     /// The length of the device; one above 2^63 is a fault.
     fn len(&mut self) -> Result<u64, DiskFault>
         ensures most { IfOk result (λ n. n ≤ 2 ^ 63) }
-        ensures read_faults { HasCause self.old.read_faults self.new.read_faults result }
-        ensures write_faults { self.new.write_faults ≡ self.old.write_faults }
-        ensures counted { self.new.read_faults ≡ counted_after result self.old.read_faults }
+        ensures faults { CountsFirst self.old.read_faults self.new.read_faults self.old.write_faults
+            self.new.write_faults result }
         ensures asks { AsksUnlessBroken V.calls self.old self.new result (AsksLength result) }
         ensures broken { self.new.broken ≡ self.old.broken }
     {
@@ -89,9 +88,8 @@ impl<V: Device> Disk for DeviceDisk<V> {
     /// Fills the room with the octets of the device from this place on. Where a read of the device gives none before
     /// the room is full, as at its end, it is a fault; a range that would end past 2^63 is one that reaches no device.
     fn read(&mut self, at: u64, room: &mut [u8]) -> Result<(), DiskFault>
-        ensures read_faults { HasCause self.old.read_faults self.new.read_faults result }
-        ensures write_faults { self.new.write_faults ≡ self.old.write_faults }
-        ensures counted { self.new.read_faults ≡ counted_after result self.old.read_faults }
+        ensures faults { CountsFirst self.old.read_faults self.new.read_faults self.old.write_faults
+            self.new.write_faults result }
         ensures asks { AsksUnless V.calls (RefusesRange self.old.broken at (length room.old))
             self.old.device self.new.device result (FillsFrom at room.new result) }
         ensures broken { self.new.broken ≡ self.old.broken }
@@ -103,9 +101,8 @@ impl<V: Device> Disk for DeviceDisk<V> {
     /// Writes octets in place. Where a write of the device fails, or writes none of those left, it is a fault, and the
     /// disk is broken; a range that would end past 2^63 is one that reaches no device, and breaks nothing.
     fn write_at(&mut self, at: u64, bytes: &[u8]) -> Result<(), DiskFault>
-        ensures read_faults { self.new.read_faults ≡ self.old.read_faults }
-        ensures write_faults { HasCause self.old.write_faults self.new.write_faults result }
-        ensures counted { self.new.write_faults ≡ counted_after result self.old.write_faults }
+        ensures faults { CountsFirst self.old.write_faults self.new.write_faults self.old.read_faults
+            self.new.read_faults result }
         ensures asks { AsksUnless V.calls (RefusesRange self.old.broken at (length bytes.now))
             self.old.device self.new.device result (PutsAt at bytes.now result) }
         ensures broken { IsTrue self.new.broken
@@ -117,9 +114,8 @@ impl<V: Device> Disk for DeviceDisk<V> {
 
     /// Syncs the device once. Where that fails, the disk is broken.
     fn sync(&mut self) -> Result<(), DiskFault>
-        ensures read_faults { self.new.read_faults ≡ self.old.read_faults }
-        ensures write_faults { HasCause self.old.write_faults self.new.write_faults result }
-        ensures counted { self.new.write_faults ≡ counted_after result self.old.write_faults }
+        ensures faults { CountsFirst self.old.write_faults self.new.write_faults self.old.read_faults
+            self.new.read_faults result }
         ensures asks { AsksUnlessBroken V.calls self.old self.new result (SyncsOnce result) }
         ensures broken { IsTrue self.new.broken ↔ IsErr result }
     {

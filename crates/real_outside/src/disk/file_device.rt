@@ -1,9 +1,11 @@
 //! A file as a device: which calls of the files each call of the device makes.
 
-ghost use Rattle.std.specs.Prelude.{◌≡◌, ◌≤◌, ◌||◌, None, length, false, IfErr, IfOk, IfSome, is_ok};
+ghost use Rattle.std.specs.Prelude.{◌≡◌, ◌||◌, None, length, false, IfErr, IfOk, IfSome, is_ok};
 ghost use Rattle.px_base.specs.CallRecords.{Asks};
 ghost use Rattle.real_outside.specs.Disk.FileDevices.{AfterOpening, AsksLength, KeepsFile, Reads, SyncsFile, SyncsWithEntry, TakesFile, Writes, system_answer_of};
-ghost use Rattle.real_outside.specs.Files.{folder_of};
+ghost use Rattle.real_outside.specs.Files.{folder_of, octets_read};
+ghost use Rattle.real_outside.specs.Moves.{Moves};
+ghost use Rattle.real_outside.specs.declared.disk.device.DeviceCall.{DeviceCall};
 
 use super::device::{Device, DeviceDown};
 use crate::files::{FileSystem, folder_of as folder_of_path, open_locked, write_once};
@@ -82,7 +84,8 @@ impl<'a, S: FileSystem> Device for FileDevice<'a, S> {
 
     /// Reads the file once, from this place on.
     fn read(&mut self, at: u64, room: &mut [u8]) -> Result<usize, DeviceDown>
-        ensures count { IfOk result (λ count. count ≤ length room.old) }
+        ensures moves { Moves None None (DeviceCall.Read at (length room.old) (octets_read result room.new))
+            (length room.old) result }
         ensures keeps { KeepsFile self.old self.new }
         ensures entry { self.new.has_entry ≡ self.old.has_entry }
         ensures reads { Asks (S.calls self.old.files) (S.calls self.new.files)
@@ -96,7 +99,7 @@ impl<'a, S: FileSystem> Device for FileDevice<'a, S> {
 
     /// Writes to the file once, at this place, unless that is at the limit on the sizes of files or behind it.
     fn write(&mut self, at: u64, bytes: &[u8]) -> Result<usize, DeviceDown>
-        ensures count { IfOk result (λ count. count ≤ length bytes.now) }
+        ensures moves { Moves None None (DeviceCall.Write at bytes.now result) (length bytes.now) result }
         ensures keeps { KeepsFile self.old self.new }
         ensures entry { self.new.has_entry ≡ self.old.has_entry }
         ensures writes { Asks (S.calls self.old.files) (S.calls self.new.files)

@@ -5,6 +5,7 @@ ghost use Rattle.px_base.specs.CallRecords.{told};
 ghost use Rattle.px_base.specs.Counter.{IsListed, counter_after_call};
 ghost use Rattle.px_base.specs.Outside.{Grows};
 ghost use Rattle.real_outside.specs.Files.{octets_read};
+ghost use Rattle.real_outside.specs.Moves.{Moves};
 ghost use Rattle.real_outside.specs.Disk.MemoryDevices.{IsDeviceRead, IsDeviceWrite, IsPlain, new_device_state};
 
 use super::device::{Device, DeviceCall, DeviceDown};
@@ -139,9 +140,8 @@ impl Device for MemoryDevice {
 
     /// Puts the next octets into the front of the room, as many as one call moves; a call that is listed fails.
     fn read(&mut self, at: u64, room: &mut [u8]) -> Result<usize, DeviceDown>
-        ensures count { IfOk result (λ count. count ≤ length room.old) }
-        ensures calls { Grows (told self.old.made) (told self.new.made)
-            (DeviceCall.Read at (length room.old) (octets_read result room.new) ∷ []) }
+        ensures moves { Moves (told self.old.made) (told self.new.made)
+            (DeviceCall.Read at (length room.old) (octets_read result room.new)) (length room.old) result }
         ensures reads { IsDeviceRead self.old self.new at room.new result }
     {
         let answer = self.get(at, room);
@@ -153,8 +153,8 @@ impl Device for MemoryDevice {
     /// Writes the first of these octets, as many as one call moves, over what is there, and past the end; a gap before
     /// them is zeros. A call that is listed, or finds no memory, fails.
     fn write(&mut self, at: u64, bytes: &[u8]) -> Result<usize, DeviceDown>
-        ensures count { IfOk result (λ count. count ≤ length bytes.now) }
-        ensures calls { Grows (told self.old.made) (told self.new.made) (DeviceCall.Write at bytes.now result ∷ []) }
+        ensures moves { Moves (told self.old.made) (told self.new.made) (DeviceCall.Write at bytes.now result)
+            (length bytes.now) result }
         ensures writes { IsDeviceWrite self.old self.new at bytes.now result }
     {
         let answer = self.put(at, bytes);

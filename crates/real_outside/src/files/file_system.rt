@@ -1,8 +1,9 @@
 //! The files of the system, as they are asked for.
 
-ghost use Rattle.std.specs.Prelude.{◌≡◌, ◌≤◌, ◌∷◌, [], ℕ, List, Option, IfOk, length};
+ghost use Rattle.std.specs.Prelude.{◌∷◌, [], ℕ, List, Option, length};
 ghost use Rattle.px_base.specs.Outside.{Grows};
 ghost use Rattle.real_outside.specs.Files.{file_answer, octets_read, path_answer, refusal};
+ghost use Rattle.real_outside.specs.Moves.{Moves};
 ghost use Rattle.real_outside.specs.declared.files.file_call.FileCall.{FileCall};
 
 use super::file_call::Found;
@@ -44,15 +45,14 @@ pub trait FileSystem {
     /// Puts the first octets of a file from this place on into the front of the room, and says how many: at most as
     /// many as the room has, and none where the file ends at that place or before it.
     fn read_at(&mut self, file: &Self::File, at: u64, room: &mut [u8]) -> Result<usize, SystemError>
-        ensures count { IfOk result (λ count. count ≤ length room.old) }
-        ensures calls { Grows (calls self.old) (calls self.new)
-            (FileCall.Read (number file.now) at (length room.old) (octets_read result room.new) ∷ []) };
+        ensures moves { Moves (calls self.old) (calls self.new)
+            (FileCall.Read (number file.now) at (length room.old) (octets_read result room.new)) (length room.old)
+            result };
 
     /// Writes the first of these octets to a file at this place, and says how many.
     fn write_at(&mut self, file: &Self::File, at: u64, bytes: &[u8]) -> Result<usize, SystemError>
-        ensures count { IfOk result (λ count. count ≤ length bytes.now) }
-        ensures calls { Grows (calls self.old) (calls self.new)
-            (FileCall.Write (number file.now) at bytes.now result ∷ []) };
+        ensures moves { Moves (calls self.old) (calls self.new) (FileCall.Write (number file.now) at bytes.now result)
+            (length bytes.now) result };
 
     /// Takes all octets of a file away.
     fn cut(&mut self, file: &Self::File) -> Result<(), SystemError>

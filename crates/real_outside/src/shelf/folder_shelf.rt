@@ -1,9 +1,9 @@
 //! A shelf over files: what its calls ask of them.
 
 ghost use Rattle.std.specs.Prelude.{◌≡◌, ◌↔◌, IsOk, None};
-ghost use Rattle.px_base.specs.Outside.{HasCause, counted_after};
 ghost use Rattle.px_base.specs.Shelves.{HasLoadCause, IsWithin};
 ghost use Rattle.px_base.specs.CallRecords.{Asks};
+ghost use Rattle.real_outside.specs.Counts.{Counts};
 ghost use Rattle.real_outside.specs.Shelf.Folder.{AnswersOpened, counted_after_load};
 ghost use Rattle.real_outside.specs.Shelf.Keeping.{Keeps, KeepsAs};
 ghost use Rattle.real_outside.specs.declared.system_error.SystemError.{SystemError};
@@ -93,8 +93,7 @@ impl<S: FileSystem> Shelf for FolderShelf<S> {
     /// before: one that another holds, as a store that is in use, is a fault. What is no regular file, as a pipe or
     /// `/dev/stdout`, is written to in place.
     fn keep(&mut self, name: &str, bytes: &[u8]) -> Result<(), ShelfDown>
-        ensures faults { HasCause self.old.faults self.new.faults result }
-        ensures counted { self.new.faults ≡ counted_after result self.old.faults }
+        ensures faults { Counts self.old.faults self.new.faults result }
         ensures keeps { Asks (S.calls self.old.files) (S.calls self.new.files) (KeepsAs name.now bytes.now result) }
     {
         let kept = keep_at(&mut self.files, self.alloc, name, bytes);

@@ -1,7 +1,8 @@
 //! The connection that an air stands on.
 
-ghost use Rattle.std.specs.Prelude.{◌≡◌, ◌≤◌, ◌∷◌, [], List, Option, length, IfOk};
+ghost use Rattle.std.specs.Prelude.{◌∷◌, [], List, Option, length};
 ghost use Rattle.px_base.specs.Outside.{Grows};
+ghost use Rattle.real_outside.specs.Moves.{Moves};
 ghost use Rattle.real_outside.specs.StreamCalls.{octets_read};
 ghost use Rattle.real_outside.specs.declared.tcp.connection.ConnectionCall.{ConnectionCall};
 
@@ -64,14 +65,13 @@ pub trait Connection {
     /// where the modem has closed the connection. The kinds `WouldBlock`, `TimedOut` and `Interrupted` of an error say
     /// that none came yet.
     fn read(&mut self, room: &mut [u8]) -> Result<usize, SystemError>
-        ensures count { IfOk result (λ count. count ≤ length room.old) }
-        ensures calls { Grows (calls self.old) (calls self.new)
-            (ConnectionCall.Read (length room.old) (octets_read result room.new) ∷ []) };
+        ensures moves { Moves (calls self.old) (calls self.new)
+            (ConnectionCall.Read (length room.old) (octets_read result room.new)) (length room.old) result };
 
     /// Takes the first of these octets to send, and says how many.
     fn write(&mut self, bytes: &[u8]) -> Result<usize, SystemError>
-        ensures count { IfOk result (λ count. count ≤ length bytes.now) }
-        ensures calls { Grows (calls self.old) (calls self.new) (ConnectionCall.Write bytes.now result ∷ []) };
+        ensures moves { Moves (calls self.old) (calls self.new) (ConnectionCall.Write bytes.now result)
+            (length bytes.now) result };
 
     /// Sends all that was taken.
     fn flush(&mut self) -> Result<(), SystemError>

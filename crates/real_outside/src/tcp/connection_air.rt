@@ -1,9 +1,9 @@
 //! An air over a connection. It tells nothing of what it hears and says; it counts its faults.
 
 ghost use Rattle.std.specs.Prelude.{◌≡◌, IfOk, is_ok};
-ghost use Rattle.px_base.specs.Outside.{HasCause, counted_after};
 ghost use Rattle.px_base.specs.Polling.{IsPolled, turn_of};
 ghost use Rattle.px_base.specs.CallRecords.{Asks};
+ghost use Rattle.real_outside.specs.Counts.{CountsFirst};
 ghost use Rattle.real_outside.specs.Tcp.Connections.{IsShut, Polls, Puts};
 
 use crate::tcp::connection::Connection;
@@ -87,9 +87,8 @@ impl<C: Connection> Air for ConnectionAir<C> {
     /// be made, and where reading fails otherwise.
     fn poll(&mut self, room: &mut [u8; 512]) -> Result<Polled, AirDown>
         ensures count { IfOk result IsPolled }
-        ensures read_faults { HasCause self.old.read_faults self.new.read_faults result }
-        ensures write_faults { self.new.write_faults ≡ self.old.write_faults }
-        ensures counted { self.new.read_faults ≡ counted_after result self.old.read_faults }
+        ensures faults { CountsFirst self.old.read_faults self.new.read_faults self.old.write_faults
+            self.new.write_faults result }
         ensures asks { Asks (C.calls self.old.connection) (C.calls self.new.connection)
             (Polls self.old.stage (turn_of result room.new) self.new.stage) }
         ensures shut { IsShut self.old.stage → self.new.connection ≡ self.old.connection }
@@ -101,9 +100,8 @@ impl<C: Connection> Air for ConnectionAir<C> {
     /// Writes all of these octets to the connection, which it makes where there is none yet, and flushes it. It fails
     /// where the connection can't be made, and where a write or flushing fails, or a write takes no octet.
     fn put(&mut self, bytes: &[u8]) -> Result<(), AirDown>
-        ensures write_faults { HasCause self.old.write_faults self.new.write_faults result }
-        ensures read_faults { self.new.read_faults ≡ self.old.read_faults }
-        ensures counted { self.new.write_faults ≡ counted_after result self.old.write_faults }
+        ensures faults { CountsFirst self.old.write_faults self.new.write_faults self.old.read_faults
+            self.new.read_faults result }
         ensures asks { Asks (C.calls self.old.connection) (C.calls self.new.connection)
             (Puts self.old.stage bytes.now (is_ok result) self.new.stage) }
         ensures broken { self.old.stage ≡ Stage.Broken → self.new.connection ≡ self.old.connection }

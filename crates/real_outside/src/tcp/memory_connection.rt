@@ -1,9 +1,10 @@
 //! A connection in memory: a script of answers, and a record of the calls.
 
-ghost use Rattle.std.specs.Prelude.{◌≡◌, ◌≤◌, ◌∷◌, [], drop, length, IfOk};
+ghost use Rattle.std.specs.Prelude.{◌≡◌, ◌≤◌, ◌∷◌, [], length, IfOk};
 ghost use Rattle.px_base.specs.Outside.{Grows};
 ghost use Rattle.px_base.specs.CallRecords.{no_calls, told};
-ghost use Rattle.real_outside.specs.Scripts.{done_answer, next_answer, read_answer, write_answer};
+ghost use Rattle.real_outside.specs.Moves.{Moves};
+ghost use Rattle.real_outside.specs.Scripts.{Follows, done_answer, read_answer, write_answer};
 ghost use Rattle.real_outside.specs.StreamCalls.{octets_read};
 
 use crate::tcp::connection::{Connection, ConnectionCall};
@@ -56,8 +57,7 @@ impl Connection for MemoryConnection {
     /// Answers by the script.
     fn connect(&mut self) -> Result<(), SystemError>
         ensures calls { Grows (told self.old.made) (told self.new.made) (ConnectionCall.Connect result ∷ []) }
-        ensures answer { result ≡ done_answer (next_answer self.old.coming) }
-        ensures coming { self.new.coming ≡ drop 1 self.old.coming }
+        ensures script { Follows self.old.coming self.new.coming done_answer result }
     {
         let answer = self.script.done();
         self.made.add(Ok(ConnectionCall::Connect { answer }));
@@ -67,8 +67,7 @@ impl Connection for MemoryConnection {
     /// Answers by the script.
     fn set_no_delay(&mut self) -> Result<(), SystemError>
         ensures calls { Grows (told self.old.made) (told self.new.made) (ConnectionCall.NoDelay result ∷ []) }
-        ensures answer { result ≡ done_answer (next_answer self.old.coming) }
-        ensures coming { self.new.coming ≡ drop 1 self.old.coming }
+        ensures script { Follows self.old.coming self.new.coming done_answer result }
     {
         let answer = self.script.done();
         self.made.add(Ok(ConnectionCall::NoDelay { answer }));
@@ -79,8 +78,7 @@ impl Connection for MemoryConnection {
     fn set_read_limit(&mut self, milliseconds: u64) -> Result<(), SystemError>
         ensures calls { Grows (told self.old.made) (told self.new.made)
             (ConnectionCall.ReadLimit milliseconds result ∷ []) }
-        ensures answer { result ≡ done_answer (next_answer self.old.coming) }
-        ensures coming { self.new.coming ≡ drop 1 self.old.coming }
+        ensures script { Follows self.old.coming self.new.coming done_answer result }
     {
         let answer = self.script.done();
         self.made.add(Ok(ConnectionCall::ReadLimit {
@@ -92,11 +90,10 @@ impl Connection for MemoryConnection {
 
     /// Gives octets by the script.
     fn read(&mut self, room: &mut [u8]) -> Result<usize, SystemError>
-        ensures count { IfOk result (λ count. count ≤ length room.old) }
-        ensures calls { Grows (told self.old.made) (told self.new.made)
-            (ConnectionCall.Read (length room.old) (octets_read result room.new) ∷ []) }
-        ensures answer { octets_read result room.new ≡ read_answer (length room.old) (next_answer self.old.coming) }
-        ensures coming { self.new.coming ≡ drop 1 self.old.coming }
+        ensures moves { Moves (told self.old.made) (told self.new.made)
+            (ConnectionCall.Read (length room.old) (octets_read result room.new)) (length room.old) result }
+        ensures script { Follows self.old.coming self.new.coming (read_answer (length room.old))
+            (octets_read result room.new) }
     {
         let answer = self.script.give(room);
         self.made.add(read_call(self.alloc, room, answer));
@@ -105,10 +102,9 @@ impl Connection for MemoryConnection {
 
     /// Takes octets by the script.
     fn write(&mut self, bytes: &[u8]) -> Result<usize, SystemError>
-        ensures count { IfOk result (λ count. count ≤ length bytes.now) }
-        ensures calls { Grows (told self.old.made) (told self.new.made) (ConnectionCall.Write bytes.now result ∷ []) }
-        ensures answer { result ≡ write_answer (length bytes.now) (next_answer self.old.coming) }
-        ensures coming { self.new.coming ≡ drop 1 self.old.coming }
+        ensures moves { Moves (told self.old.made) (told self.new.made) (ConnectionCall.Write bytes.now result)
+            (length bytes.now) result }
+        ensures script { Follows self.old.coming self.new.coming (write_answer (length bytes.now)) result }
     {
         let answer = self.script.take(bytes);
         self.made.add(write_call(self.alloc, bytes, answer));
@@ -118,8 +114,7 @@ impl Connection for MemoryConnection {
     /// Answers by the script.
     fn flush(&mut self) -> Result<(), SystemError>
         ensures calls { Grows (told self.old.made) (told self.new.made) (ConnectionCall.Flush result ∷ []) }
-        ensures answer { result ≡ done_answer (next_answer self.old.coming) }
-        ensures coming { self.new.coming ≡ drop 1 self.old.coming }
+        ensures script { Follows self.old.coming self.new.coming done_answer result }
     {
         let answer = self.script.done();
         self.made.add(Ok(ConnectionCall::Flush { answer }));

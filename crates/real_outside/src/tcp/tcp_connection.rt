@@ -1,10 +1,13 @@
 //! A real TCP connection to a modem, and the air over it.
 
-ghost use Rattle.std.specs.Prelude.{◌≡◌, ◌≤◌, ◌*◌, None, length, option_copied, IfOk, IfSome, IsErr, IsOk, IsSome};
+ghost use Rattle.std.specs.Prelude.{◌≡◌, ◌*◌, None, length, option_copied, IfSome, IsErr, IsOk, IsSome};
 ghost use Rattle.std.specs.Duration.{as_nanos};
 ghost use Rattle.std.specs.Io.KnownBytes.{Keeps, ReadConsumes, WriteAppends};
 ghost use Rattle.std.specs.declared.io.ErrorKind.TheVariants as reason;
+ghost use Rattle.real_outside.specs.Moves.{Moves};
+ghost use Rattle.real_outside.specs.StreamCalls.{octets_read};
 ghost use Rattle.real_outside.specs.Tcp.Connections.{told_of};
+ghost use Rattle.real_outside.specs.declared.tcp.connection.ConnectionCall.{ConnectionCall};
 
 use crate::system_error::noted;
 use crate::tcp::connection::Connection;
@@ -108,7 +111,8 @@ impl<'a, R: Net<Stream = S>, S: Read + Write + OpenStream + Drop> Connection
     /// Reads the stream once.
     fn read(&mut self, room: &mut [u8]) -> Result<usize, SystemError>
         ensures unmade { self.old.stream ≡ None → IsErr result }
-        ensures count { IfOk result (λ count. count ≤ length room.old) }
+        ensures moves { Moves None None (ConnectionCall.Read (length room.old) (octets_read result room.new))
+            (length room.old) result }
         ensures octets { ReadConsumes (told_of S.remaining self.old.stream) (told_of S.remaining self.new.stream)
             result room.new }
     {
@@ -122,7 +126,7 @@ impl<'a, R: Net<Stream = S>, S: Read + Write + OpenStream + Drop> Connection
     /// Writes to the stream once.
     fn write(&mut self, bytes: &[u8]) -> Result<usize, SystemError>
         ensures unmade { self.old.stream ≡ None → IsErr result }
-        ensures count { IfOk result (λ count. count ≤ length bytes.now) }
+        ensures moves { Moves None None (ConnectionCall.Write bytes.now result) (length bytes.now) result }
         ensures octets { WriteAppends (told_of S.contents self.old.stream) (told_of S.contents self.new.stream)
             result bytes.now }
     {

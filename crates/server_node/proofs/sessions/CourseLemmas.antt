@@ -122,9 +122,8 @@ pub filled : (a : ServerState) (caller : CallSign) (store : StoreState) (state :
     → record a { caller = caller; store = store; state = state } ≡ record a { state = state }
 filled a caller store state h k = grind (arith, common_steps)
 
-pub server-filled : (a : Inside) (store : StoreState) (session : SessionState) → store ≡ a.store → session.uploads ≡ a.session.uploads → IsDueIn (store_in store) session.downloads → IsServer a
-    → IsServer (record a { session = session; store = store })
-server-filled a store session h k due is = record { held = rw (h, k) is.held; only = rw (h, k) is.only; due = due; complete = rw h is.complete; waiting = is.waiting }
+pub server-filled : (a now : Inside) → now.store ≡ a.store → now.session.uploads ≡ a.session.uploads → IsDueIn (store_in now.store) now.session.downloads → now.lists ≡ a.lists → now.reader ≡ a.reader → IsServer a → IsServer now
+server-filled a now h k due l r is = record { held = rw (h, k) is.held; only = rw (h, k) is.only; due = due; complete = rw (h, l) is.complete; waiting = rw r is.waiting }
 
 -- ---- a stop at the one packet that was taken
 

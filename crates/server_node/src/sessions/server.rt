@@ -27,6 +27,8 @@ pub(crate) struct SessionServer {
     replies: Replies,
     /// Whether it takes no further packet, and nothing is due.
     halted: bool,
+    /// What was due last. It is kept, so that none has to be made where nothing is due.
+    due: ArrayVec<u8, 256>,
 }
 
 impl Model for SessionServer {
@@ -58,6 +60,7 @@ impl SessionServer {
             lists,
             replies,
             halted: false,
+            due: ArrayVec::new(),
         }
     }
 
@@ -70,6 +73,7 @@ impl SessionServer {
             lists: _,
             replies: _,
             halted: _,
+            due: _,
         } = self;
         session.end(&mut store);
     }
@@ -111,11 +115,10 @@ impl<D: Disk> Party<D> for SessionServer {
         if self.halted {
             return false;
         }
-        let mut packet = ArrayVec::new();
-        if !self.session.fill(disk, &mut self.store, &mut packet) {
+        if !self.session.fill(disk, &mut self.store, &mut self.due) {
             return false;
         }
-        put_in(&packet, text);
+        put_in(&self.due, text);
         true
     }
 

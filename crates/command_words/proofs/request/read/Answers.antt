@@ -25,8 +25,8 @@ session_words c =
 pub returns-in-Some-Session : goal.returns-in-Some-Session
 returns-in-Some-Session c = record {
   asks = subst (λ (ws : List Text). IfOk c.session_request.result (AsksFor ws)) (sym (session_words c)) c.session_request.ensures.asks;
-  usage = λ usage. session_usage (session_words c) (c.session_request.ensures.usage usage);
-  unbuilt = λ unbuilt. absurd (c.session_request.ensures.built unbuilt);
+  usage = λ usage. session_usage (session_words c) (c.session_request.ensures.refused.usage usage);
+  unbuilt = λ unbuilt. absurd (c.session_request.ensures.refused.built unbuilt);
   memory = λ _. (_, _, _, _, session_words c, (0, lit< tt, refl));
 }
 
@@ -42,8 +42,8 @@ serve_words c =
 pub returns-in-Some-Serve : goal.returns-in-Some-Serve
 returns-in-Some-Serve c = record {
   asks = subst (λ (ws : List Text). IfOk c.serve_request.result (AsksFor ws)) (sym (serve_words c)) c.serve_request.ensures.asks;
-  usage = λ usage. serve_usage (serve_words c) (c.serve_request.ensures.usage usage);
-  unbuilt = λ unbuilt. absurd (c.serve_request.ensures.built unbuilt);
+  usage = λ usage. serve_usage (serve_words c) (c.serve_request.ensures.refused.usage usage);
+  unbuilt = λ unbuilt. absurd (c.serve_request.ensures.refused.built unbuilt);
   memory = λ _. (_, _, _, _, serve_words c, (1, lit< tt, refl));
 }
 
@@ -65,8 +65,8 @@ client_built client.List = (4, lit< tt, refl)
 pub returns-in-Some-Client : goal.returns-in-Some-Client
 returns-in-Some-Client c = record {
   asks = subst (λ (ws : List Text). IfOk c.client_request.result (AsksFor ws)) (sym (client_words c)) c.client_request.ensures.asks;
-  usage = λ usage. client_usage c.in-Some-Client.asked (client_words c) (c.client_request.ensures.usage usage);
-  unbuilt = λ unbuilt. absurd (c.client_request.ensures.built unbuilt);
+  usage = λ usage. client_usage c.in-Some-Client.asked (client_words c) (c.client_request.ensures.refused.usage usage);
+  unbuilt = λ unbuilt. absurd (c.client_request.ensures.refused.built unbuilt);
   memory = λ _. (_, _, _, _, client_words c, client_built c.in-Some-Client.asked);
 }
 
@@ -88,8 +88,8 @@ pub returns-in-Some-Named : goal.returns-in-Some-Named
 returns-in-Some-Named c = record {
   asks = subst (λ (ws : List Text). IfOk c.name_request.result (AsksFor ws)) (sym (name_words c))
       (IfOk-weaker c.name_request.result _ _ (λ request asks. asks (string_bytes c.disk-item.result)) c.name_request.ensures.asks);
-  usage = λ usage. name_usage c.in-Some-Named.named (name_words c) (c.name_request.ensures.usage usage (string_bytes c.disk-item.result));
-  unbuilt = λ unbuilt. absurd (c.name_request.ensures.built unbuilt);
+  usage = λ usage. name_usage c.in-Some-Named.named (name_words c) (c.name_request.ensures.refused.usage usage (string_bytes c.disk-item.result));
+  unbuilt = λ unbuilt. absurd (c.name_request.ensures.refused.built unbuilt);
   memory = λ _. (_, _, _, _, name_words c, name_built c.in-Some-Named.named);
 }
 
@@ -105,8 +105,8 @@ pub returns-in-Some-PfhMake : goal.returns-in-Some-PfhMake
 returns-in-Some-PfhMake c = record {
   asks = subst (λ (ws : List Text). IfOk c.make_request.result (AsksFor ws)) (sym (make_words c))
       (IfOk-weaker c.make_request.result _ _ (λ request asks. asks (string_bytes c.disk-item.result)) c.make_request.ensures.asks);
-  usage = λ usage. make_usage (make_words c) (c.make_request.ensures.usage usage (string_bytes c.disk-item.result));
-  unbuilt = λ unbuilt. absurd (c.make_request.ensures.built unbuilt);
+  usage = λ usage. make_usage (make_words c) (c.make_request.ensures.refused.usage usage (string_bytes c.disk-item.result));
+  unbuilt = λ unbuilt. absurd (c.make_request.ensures.refused.built unbuilt);
   memory = λ _. (_, _, _, _, make_words c, (8, lit< tt, refl));
 }
 
@@ -122,8 +122,8 @@ pub returns-in-Some-PfhBody : goal.returns-in-Some-PfhBody
 returns-in-Some-PfhBody c = record {
   asks = subst (λ (ws : List Text). IfOk c.body_request.result (AsksFor ws)) (sym (body_words c))
       (IfOk-weaker c.body_request.result _ _ (λ request asks. asks (string_bytes c.disk-item.result)) c.body_request.ensures.asks);
-  usage = λ usage. body_usage (body_words c) (c.body_request.ensures.usage usage (string_bytes c.disk-item.result));
-  unbuilt = λ unbuilt. absurd (c.body_request.ensures.built unbuilt);
+  usage = λ usage. body_usage (body_words c) (c.body_request.ensures.refused.usage usage (string_bytes c.disk-item.result));
+  unbuilt = λ unbuilt. absurd (c.body_request.ensures.refused.built unbuilt);
   memory = λ _. (_, _, _, _, body_words c, (9, lit< tt, refl));
 }
 

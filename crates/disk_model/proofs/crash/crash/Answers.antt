@@ -1,7 +1,7 @@
 use Rattle.std.proofs.Common.{◌≡◌, List, ℕ, length, get_or, sym, ap, subst, arith}
 use Rattle.disk_model.specs.Open.{DifferInRanges}
 use Rattle.disk_model.specs.Surface.{quiet_surface, surface_after}
-use Rattle.disk_model.proofs.Crashes.{crash_of, synced_kept}
+use Rattle.disk_model.proofs.Crashes.{crash_of, crash_standing, synced_kept}
 use Rattle.disk_model.proofs.Ranges.{synced_differs}
 use Rattle.disk_model.proofs.crash.crash.Goals as goal
 
@@ -30,4 +30,7 @@ copy_open-requires-clause-others c =
 
 pub returns-clause-ok : goal.returns-clause-ok
 returns-clause-ok c =
-    crash_of (surface_after c.args.synced.now.items c.args.calls.now) c.args.pick c.tear_all.result _ c.tear_all.ensures.image (λ is. c.tear_all.ensures.filled _ (c.new.ensures is)) c.if-pick-eq0.false c.if-pick-eq1.false
+    let surface = surface_after c.args.synced.now.items c.args.calls.now in
+    crash_standing surface c.args.present.now c.args.pick c.tear_all.result _
+    (crash_of surface c.args.pick c.tear_all.result _ c.tear_all.ensures.image (λ is. c.tear_all.ensures.filled _ (c.new.ensures is)) c.if-pick-eq0.false c.if-pick-eq1.false)
+    c.if-pick-eq1.false

@@ -47,4 +47,4 @@ returns g c =
     recovering_short c.args.magic c.args.blocks before short image (omega (arith, left.no_longer, size, short)))
     (λ before middle image told told_mid put making.
     let short = at_told _ before told c.requires.short in
-    recovering_gates c.args.magic c.args.blocks before short image eight c.requires.some c.requires.most (subst (λ (l : List ℕ). IsMakingGates l image) (header before middle short put) making))
+    recovering_gates c.args.magic c.args.blocks before short image eight c.requires.blocks.some c.requires.blocks.most (subst (λ (l : List ℕ). IsMakingGates l image) (header before middle short put) making))

@@ -1,7 +1,7 @@
-use Rattle.std.proofs.Common.{rules, ◌≡◌, List, ℕ, take, ◌∙◌, arith, ap, drop, subst, sym}
+use Rattle.std.proofs.Common.{rules, ◌≡◌, ◌+◌, ◌<◌, ◌++◌, List, ℕ, length, take, ◌∙◌, arith, ap, drop, subst, sym}
 use Rattle.std.proofs.lemmas.Grind.{common_steps}
 use Rattle.file_journal.specs.Records.{HasRecord, record_of}
-use Rattle.std.proofs.lemmas.List.{length-take-le}
+use Rattle.std.proofs.lemmas.List.{length-take-le, places, same_lists}
 use Rattle.file_journal.proofs.NextLemmas.{refuses_at}
 use Rattle.file_journal.proofs.ReadingLemmas.{found-closed, found-damaged, found-record, read_past}
 use Rattle.file_journal.proofs.ToldLemmas.{at_told, if_told}
@@ -17,11 +17,15 @@ returns-in-Closed-clause-none g c is = grind (arith, common_steps, length-take-l
 pub returns-in-Damaged-clause-refuses : goal.returns-in-Damaged-clause-refuses
 returns-in-Damaged-clause-refuses g c = grind (arith, common_steps, length-take-le, refuses_at, found-damaged)
 
+-- the content is within what was read
+content_front : (len : ℕ) (front rest : List ℕ) → 4 + len < length front → take len (drop 4 (front ++ rest)) ≡ take len (drop 4 front)
+content_front len front rest whole = same_lists _ _ (search (rules, places)) (λ k d below. grind (arith, places))
+
 pub returns-in-Record-clause-found : goal.returns-in-Record-clause-found
 returns-in-Record-clause-found g c =
-    let put : c.try_extend_from_slice.new.self.items ≡ take c.in-Record.len (drop 4 c.read.new.room) = search rules in
+    let content = content_front c.in-Record.len c.read.new.room _ c.in-Record.ensures.whole in
     if_told (g.D.Disk.content c.args.disk.now) _ (λ octets told.
-    let end = at_told _ octets told c.in_ok-end.ensures.len in
+    let end = at_told _ octets told c.requires.end.told in
     let size = ap (λ (n : ℕ). take n (drop c.args.place octets)) (length-take-le c.min-count.result _ (omega (arith, c.min-count.ensures))) in
-    let front = at_told _ octets (c.in_ok-end.ensures.only_reads.same_content ∙ told) c.in_ok-read.ensures.room ∙ size in
-    subst (λ (content : List ℕ). HasRecord c.args.place (record_of c.in-Record.kind content) octets) (sym put) (found-record c.args.place c.min-count.result octets c.read.new.room (omega (arith, end, c.if-place-end.false)) (omega (arith, c.min-count.ensures, end)) front c.in-Record.kind c.in-Record.len c.in-Record.ensures))
+    let front = at_told _ octets told c.in_ok-read.ensures.room ∙ size in
+    subst (λ (octets_in : List ℕ). HasRecord c.args.place (record_of c.in-Record.kind octets_in) octets) (sym content) (found-record c.args.place c.min-count.result octets c.read.new.room (omega (arith, end, c.if-place-end.false)) (omega (arith, c.min-count.ensures, end)) front c.in-Record.kind c.in-Record.len c.in-Record.ensures))

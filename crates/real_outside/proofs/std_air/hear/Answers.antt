@@ -9,10 +9,10 @@ returns-clause-asks g c =
     let room = c.read.new.room in
     let given = octets_read c.read.result room in (
       call.Read 512 given ∷ [],
-      rw c.told-room at c.read.ensures.calls,
+      rw c.told-room at c.read.ensures.moves.told,
       (
         given,
-        turn_is c.read.result c.poll_answer.result room c.read.ensures.count c.poll_answer.ensures.ok c.poll_answer.ensures.err,
+        turn_is c.read.result c.poll_answer.result room c.read.ensures.moves.count c.poll_answer.ensures.ok c.poll_answer.ensures.err,
         refl,
       ),
     )

@@ -27,8 +27,8 @@ returns-in_default-clause-ends g c =
       refl,
     )
 
-pub returns : goal.returns
-returns g c =
+pub returns-in-Err : goal.returns-in-Err
+returns-in-Err g c =
     let see = seen g.D.Disk g.A.Air g.C.Clock.given in
     let ready = c.in_ok-client.ensures.recovers in
     let why = c.in-Err.stop in
@@ -51,14 +51,14 @@ returns-in-Ok-came g c =
     let ready = c.in_ok-client.ensures.recovers in
     let h = just-asked see g.met.D.Disk.lasts_same (lent c.args.disk.now c.args.air.now c.args.clock.now) (lent c.carry_out-client.new.disk c.carry_out-client.new.air c.carry_out-client.new.clock) c.recover_client.new.disk c.args.terms.now
     c.in_ok-client.client c.carry_out-client.result.0 c.list-job.result (directory_of c.args.tokens.now) c.carry_out-client.result.1 (c.list-job.ensures ∙ ap (λ (t : List ℕ). directory_of t) c.in-Ok.ensures) ready (c.carry_out-client.ensures.carried _ ready.is) in
-    let late = late-by c.show_listing.result _ _ stop.Out refl c.show_listing.ensures.shows in
-    let shows = subst (λ (l : List ℕ). ShowsBy g.O.Out.shown c.args.out.now c.show_listing.new.out l (Ok c.in-Ok-came._listed) c.show_listing.result) c.listing.ensures c.show_listing.ensures.shows in
+    let late = late-by c.show_listing-shown.result _ _ stop.Out refl c.show_listing-shown.ensures.shows in
+    let shows = subst (λ (l : List ℕ). ShowsBy g.O.Out.shown c.args.out.now c.show_listing-shown.new.out l (Ok c.in-Ok-came._listed) c.show_listing-shown.result) c.listing.ensures c.show_listing-shown.ensures.shows in
     record {
-      notes = recovered_exactly is_late (λ found. refl) (λ at. refl) (g.D.Disk.content c.args.disk.now) c.in_ok-client.client.notes.lists c.show_listing.result ready.recovers.recovered.content late;
-      ends = inr (list-ends see g.O.Out.shown g.met.D.Disk.lasts_on (lent c.args.disk.now c.args.air.now c.args.clock.now) (lent c.carry_out-client.new.disk c.carry_out-client.new.air c.carry_out-client.new.clock) (files_asked c.args.terms.now c.args.tokens.now) c.carry_out-client.result.1 h c.args.out.now c.show_listing.new.out c.show_listing.result
-          (subst (λ (r : Result Outcome SendStop). ShowsBy g.O.Out.shown c.args.out.now c.show_listing.new.out (listing_in c.carry_out-client.result.0.attempt) r c.show_listing.result) (sym c.in-Ok-came.is) shows));
-      out = c.show_listing.ensures.out;
-      causes = causes-late see (lent c.args.disk.now c.args.air.now c.args.clock.now) (lent c.carry_out-client.new.disk c.carry_out-client.new.air c.carry_out-client.new.clock) c.in-Ok-came._listed c.show_listing.result late
+      notes = recovered_exactly is_late (λ found. refl) (λ at. refl) (g.D.Disk.content c.args.disk.now) c.in_ok-client.client.notes.lists c.show_listing-shown.result ready.recovers.recovered.content late;
+      ends = inr (list-ends see g.O.Out.shown g.met.D.Disk.lasts_on (lent c.args.disk.now c.args.air.now c.args.clock.now) (lent c.carry_out-client.new.disk c.carry_out-client.new.air c.carry_out-client.new.clock) (files_asked c.args.terms.now c.args.tokens.now) c.carry_out-client.result.1 h c.args.out.now c.show_listing-shown.new.out c.show_listing-shown.result
+          (subst (λ (r : Result Outcome SendStop). ShowsBy g.O.Out.shown c.args.out.now c.show_listing-shown.new.out (listing_in c.carry_out-client.result.0.attempt) r c.show_listing-shown.result) (sym c.in-Ok-came.is) shows));
+      out = c.show_listing-shown.ensures.out;
+      causes = causes-late see (lent c.args.disk.now c.args.air.now c.args.clock.now) (lent c.carry_out-client.new.disk c.carry_out-client.new.air c.carry_out-client.new.clock) c.in-Ok-came._listed c.show_listing-shown.result late
           (subst (λ (r : Result Outcome SendStop). HasCauses see (lent c.args.disk.now c.args.air.now c.args.clock.now) (lent c.carry_out-client.new.disk c.carry_out-client.new.air c.carry_out-client.new.clock) r) c.in-Ok-came.is
           (causes see g.met.D.Disk.lasts_on (lent c.args.disk.now c.args.air.now c.args.clock.now) (lent c.carry_out-client.new.disk c.carry_out-client.new.air c.carry_out-client.new.clock) c.args.terms.now [] (directory_of c.args.tokens.now) c.carry_out-client.result.1 h));
     }

@@ -59,12 +59,12 @@ returns-in-Ok-Fresh g c =
     c.sum_of_file-sum.result (c.sum_of_file-sum.ensures ∙ ap sum_of c.as_slice.ensures) (Ok c.in-Ok-Fresh.field-0) (Ok (begun.Fresh c.in-Ok-Fresh.task)) (ap Ok c.in-Ok-Fresh.field-0-is) (record { answers = h.answers; untouched = h.untouched; does = h.does }) in
     let all = upload-all see g.met.D.Disk.lasts_same g.met.D.Disk.lasts_on (lent c.args.disk.now c.args.air.now c.args.clock.now) c.args.terms.now c.args.name.now c.in_ok-file.file (g.S.Shelf.held c.args.shelf.now) (g.S.Shelf.faults c.args.shelf.now)
     (g.S.Shelf.faults c.load_file.new.shelf) c.in_ok-file.ensures.loads c.in_ok-file.ensures.sendable (c.in_ok-file.ensures.cause.same (ok-never _ stop.Shelf)) c.start_task.new.disk
-    (lent c.upload.new.disk c.upload.new.air c.upload.new.clock) (Ok (begun.Fresh c.in-Ok-Fresh.task)) s c.in-Ok-Fresh.task 0 _ (does-first g.D.Disk g.met.D.Disk.lasts_same c.args.terms.now c.args.name.now c.in_ok-file.file c.args.disk.now c.start_task.new.disk c.in-Ok-Fresh.task s) (fresh-task-for g.D.Disk g.met.D.Disk.lasts_same c.args.terms.now c.args.name.now c.in_ok-file.file c.args.disk.now c.start_task.new.disk c.in-Ok-Fresh.task s)
-    c.upload.result.0 c.upload-job.result (made-upload _ c.in-Ok-Fresh.task 0 _ 0 c.in_ok-file.file c.upload-job.ensures c.in-Ok-Fresh.task-is refl) c.upload.result.1 (c.upload.ensures.uploaded _ (asked-is g.D.Disk g.met.D.Disk.lasts_same c.args.terms.now c.args.name.now c.in_ok-file.file c.args.disk.now c.start_task.new.disk (Ok (begun.Fresh c.in-Ok-Fresh.task)) s)) in
+    (lent c.upload-client.new.disk c.upload-client.new.air c.upload-client.new.clock) (Ok (begun.Fresh c.in-Ok-Fresh.task)) s c.in-Ok-Fresh.task 0 _ (does-first g.D.Disk g.met.D.Disk.lasts_same c.args.terms.now c.args.name.now c.in_ok-file.file c.args.disk.now c.start_task.new.disk c.in-Ok-Fresh.task s) (fresh-task-for g.D.Disk g.met.D.Disk.lasts_same c.args.terms.now c.args.name.now c.in_ok-file.file c.args.disk.now c.start_task.new.disk c.in-Ok-Fresh.task s)
+    c.upload-client.result.0 c.upload-job.result (made-upload _ c.in-Ok-Fresh.task 0 _ 0 c.in_ok-file.file c.upload-job.ensures c.in-Ok-Fresh.task-is refl) c.upload-client.result.1 (c.upload-client.ensures.uploaded _ (asked-is g.D.Disk g.met.D.Disk.lasts_same c.args.terms.now c.args.name.now c.in_ok-file.file c.args.disk.now c.start_task.new.disk (Ok (begun.Fresh c.in-Ok-Fresh.task)) s)) in
     record { file = all.file_is; notes = all.notes; ends = all.ends; held = c.in_ok-file.ensures.held; shelf = all.shelf; causes = all.causes_are }
 
-pub upload-requires-clause-may : goal.upload-requires-clause-may
-upload-requires-clause-may g c =
+pub upload-client-requires-clause-may : goal.upload-client-requires-clause-may
+upload-client-requires-clause-may g c =
     let h = c.in-Ok-Fresh.ensures in
     let s = started g.D.Disk c.args.terms.now c.args.name.now c.in_ok-file.file c.args.disk.now c.recover_client.new.disk c.start_task.new.disk c.in_ok-client.client c.start_task.new.self c.in_ok-client.ensures.recovers h.same h.starts
     c.sum_of_file-sum.result (c.sum_of_file-sum.ensures ∙ ap sum_of c.as_slice.ensures) (Ok c.in-Ok-Fresh.field-0) (Ok c.in-Ok-Fresh.field-0) (refl) (record { answers = h.answers; untouched = h.untouched; does = h.does }) in
@@ -78,12 +78,12 @@ returns-in-Ok-Going g c =
     c.sum_of_file-sum.result (c.sum_of_file-sum.ensures ∙ ap sum_of c.as_slice.ensures) (Ok c.in-Ok-Going.field-0) (Ok (begun.Going c.in-Ok-Going.task c.in-Ok-Going.number)) (ap Ok c.in-Ok-Going.field-0-is) (record { answers = h.answers; untouched = h.untouched; does = h.does }) in
     let all = upload-all see g.met.D.Disk.lasts_same g.met.D.Disk.lasts_on (lent c.args.disk.now c.args.air.now c.args.clock.now) c.args.terms.now c.args.name.now c.in_ok-file.file (g.S.Shelf.held c.args.shelf.now) (g.S.Shelf.faults c.args.shelf.now)
     (g.S.Shelf.faults c.load_file.new.shelf) c.in_ok-file.ensures.loads c.in_ok-file.ensures.sendable (c.in_ok-file.ensures.cause.same (ok-never _ stop.Shelf)) c.start_task.new.disk
-    (lent c.upload-in-Ok-Going.new.disk c.upload-in-Ok-Going.new.air c.upload-in-Ok-Going.new.clock) (Ok (begun.Going c.in-Ok-Going.task c.in-Ok-Going.number)) s c.in-Ok-Going.task c.in-Ok-Going.number _ (does-going g.D.Disk g.met.D.Disk.lasts_same c.args.terms.now c.args.name.now c.in_ok-file.file c.args.disk.now c.start_task.new.disk c.in-Ok-Going.task c.in-Ok-Going.number s) (going-task-for g.D.Disk g.met.D.Disk.lasts_same c.args.terms.now c.args.name.now c.in_ok-file.file c.args.disk.now c.start_task.new.disk c.in-Ok-Going.task c.in-Ok-Going.number s)
-    c.upload-in-Ok-Going.result.0 c.upload-job-in-Ok-Going.result (made-upload _ c.in-Ok-Going.task c.in-Ok-Going.number _ _ c.in_ok-file.file c.upload-job-in-Ok-Going.ensures c.in-Ok-Going.task-is c.in-Ok-Going.number-is) c.upload-in-Ok-Going.result.1 (c.upload-in-Ok-Going.ensures.uploaded _ (asked-is g.D.Disk g.met.D.Disk.lasts_same c.args.terms.now c.args.name.now c.in_ok-file.file c.args.disk.now c.start_task.new.disk (Ok (begun.Going c.in-Ok-Going.task c.in-Ok-Going.number)) s)) in
+    (lent c.upload-client-in-Ok-Going.new.disk c.upload-client-in-Ok-Going.new.air c.upload-client-in-Ok-Going.new.clock) (Ok (begun.Going c.in-Ok-Going.task c.in-Ok-Going.number)) s c.in-Ok-Going.task c.in-Ok-Going.number _ (does-going g.D.Disk g.met.D.Disk.lasts_same c.args.terms.now c.args.name.now c.in_ok-file.file c.args.disk.now c.start_task.new.disk c.in-Ok-Going.task c.in-Ok-Going.number s) (going-task-for g.D.Disk g.met.D.Disk.lasts_same c.args.terms.now c.args.name.now c.in_ok-file.file c.args.disk.now c.start_task.new.disk c.in-Ok-Going.task c.in-Ok-Going.number s)
+    c.upload-client-in-Ok-Going.result.0 c.upload-job-in-Ok-Going.result (made-upload _ c.in-Ok-Going.task c.in-Ok-Going.number _ _ c.in_ok-file.file c.upload-job-in-Ok-Going.ensures c.in-Ok-Going.task-is c.in-Ok-Going.number-is) c.upload-client-in-Ok-Going.result.1 (c.upload-client-in-Ok-Going.ensures.uploaded _ (asked-is g.D.Disk g.met.D.Disk.lasts_same c.args.terms.now c.args.name.now c.in_ok-file.file c.args.disk.now c.start_task.new.disk (Ok (begun.Going c.in-Ok-Going.task c.in-Ok-Going.number)) s)) in
     record { file = all.file_is; notes = all.notes; ends = all.ends; held = c.in_ok-file.ensures.held; shelf = all.shelf; causes = all.causes_are }
 
-pub upload-requires-in-Ok-Going-clause-may : goal.upload-requires-in-Ok-Going-clause-may
-upload-requires-in-Ok-Going-clause-may g c =
+pub upload-client-requires-in-Ok-Going-clause-may : goal.upload-client-requires-in-Ok-Going-clause-may
+upload-client-requires-in-Ok-Going-clause-may g c =
     let h = c.in-Ok-Going.ensures in
     let s = started g.D.Disk c.args.terms.now c.args.name.now c.in_ok-file.file c.args.disk.now c.recover_client.new.disk c.start_task.new.disk c.in_ok-client.client c.start_task.new.self c.in_ok-client.ensures.recovers h.same h.starts
     c.sum_of_file-sum.result (c.sum_of_file-sum.ensures ∙ ap sum_of c.as_slice.ensures) (Ok c.in-Ok-Going.field-0) (Ok c.in-Ok-Going.field-0) (refl) (record { answers = h.answers; untouched = h.untouched; does = h.does }) in

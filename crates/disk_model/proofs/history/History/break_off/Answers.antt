@@ -1,9 +1,10 @@
-use Rattle.std.proofs.Common.{arith}
+use Rattle.std.proofs.Common.{List, ℕ, sym, subst, arith}
 use Rattle.std.proofs.lemmas.Grind.{common_steps}
-use Rattle.disk_model.specs.declared.disk_call.DiskCall.TheVariants as call
-use Rattle.disk_model.proofs.Ranges.{pushed_closes}
+use Rattle.disk_model.specs.Open.{IsClosed}
+use Rattle.disk_model.proofs.Ranges.{closes_torn_write}
 use Rattle.disk_model.proofs.history.History.break_off.Goals as goal
 
 pub invariant_of-self-clause-closes : goal.invariant_of-self-clause-closes
 invariant_of-self-clause-closes c = λ kept.
-    pushed_closes _ _ _ _ _ (call.TornWrite c.args.at c.args.count) (grind (arith, common_steps)) (λ none. none) (c.args.self.now.closes kept)
+    subst (λ (f : List ℕ). IsClosed f c.then-self.result.calls c.args.self.now.synced.items c.push.new.self.items) (sym c.then-self.ensures.0)
+    (closes_torn_write _ _ _ _ _ _ c.args.at c.args.count c.then-self.ensures.1 (grind (arith, common_steps)) (c.args.self.now.closes kept))

@@ -1,20 +1,12 @@
-use Rattle.std.proofs.Common.{◌≡◌, ℕ, ◌+◌, length, sym, ◌∙◌, ap, subst, arith}
-use Rattle.file_journal.specs.Records.{reading_at, record_of, with_record}
-use Rattle.file_journal.specs.Position.{Position, StandsOn}
-use Rattle.file_journal.proofs.CallLemmas.{reads_now}
-use Rattle.file_journal.proofs.PositionLemmas.{moved}
-use Rattle.file_journal.proofs.ToldLemmas.{at_told, if_told}
+use Rattle.std.proofs.Common.{List, ℕ, IfSome, Option, Err, subst}
+use Rattle.file_journal.specs.Next.{ReadsNext}
+use Rattle.file_journal.proofs.ToldLemmas.{told_weaker}
 use Rattle.file_journal.proofs.journal.Journal.next.Goals as goal
 
-pub returns-in-Some-clause-stands_on : goal.returns-in-Some-clause-stands_on
-returns-in-Some-clause-stands_on g c =
-    let D = g.D.Disk in
-    let old = c.args.disk.now in
-    let only = c.read_record.ensures.reads.only in
-    let entry = record_of c.in-Some.kind c.read_record.new.room.items in
-    let place : c.self.inside.place + (4 + c.len.result) ≡ c.self.inside.place + 4 + length c.read_record.new.room.items = omega (arith, c.len.ensures.value) in
-    moved _ (c.self.inside.place + (4 + c.len.result)) entry place _ _ _ _ only.same_content (reads_now D old c.read_record.new.disk only)
-    (if_told (D.content old) _ (λ octets told.
-    let found = at_told _ octets told (at_told _ c.in-Some.kind c.in-Some.is c.in_ok-read_record.ensures.found) in
-    found.reading ∙ ap (λ (i : ℕ). with_record entry (reading_at i octets)) (sym place)))
-    (subst (λ (journal : Position). StandsOn D journal old) (sym c.self.view_is) c.requires.stands_on)
+-- what the room holds makes no difference to a refusal
+pub returns-in-Err-clause-next : goal.returns-in-Err-clause-next
+returns-in-Err-clause-next g c healthy =
+    let reads = λ (octets : List ℕ). ReadsNext c.args.self.now c.find_next.new.self c.args.room.now.items octets (Err c.in-Err.fault) in
+    subst (λ (content : Option (List ℕ)). IfSome content reads) c.in_ok-end.ensures.only_reads.same_content
+    (told_weaker (g.D.Disk.content c.len.new.self) _ reads (λ octets told answers. record { found = tt; none = answers.none; damaged = answers.damaged })
+    (c.in-Err.ensures.next healthy))

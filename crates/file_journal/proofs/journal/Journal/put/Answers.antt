@@ -13,32 +13,32 @@ put_record-requires-clause-gate g c =
 pub returns-in-Ok-clause-since : goal.returns-in-Ok-clause-since
 returns-in-Ok-clause-since g c =
     leaves g.D.Disk c.args.self.now c.args.disk.now c.requires.healthy c.requires.ended c.requires.stands_on (record_of c.args.kind c.args.content.now) c.requires.fits
-    _ c.self.view_is _ c.put_record.new.disk _ (c.as_slice.ensures.value ∙ c.encode_record-text.ensures) c.put_record.ensures.makes (g.met.D.Disk.counts_now _) (g.met.D.Disk.content_is_image _)
+    _ c.self.view_is _ c.put_record.new.disk _ (c.as_slice.ensures.octets ∙ c.encode_record.ensures) c.put_record.ensures.makes (g.met.D.Disk.counts_now _) (g.met.D.Disk.content_is_image _)
 
 pub returns-in-Ok-clause-any_moment : goal.returns-in-Ok-clause-any_moment
 returns-in-Ok-clause-any_moment g c healthy =
     any_moment g.D.Disk c.args.self.now c.args.disk.now c.requires.healthy c.requires.ended c.requires.stands_on (record_of c.args.kind c.args.content.now) c.requires.fits
-    _ c.self.view_is _ c.put_record.new.disk _ (c.as_slice.ensures.value ∙ c.encode_record-text.ensures) c.put_record.ensures.makes (g.met.D.Disk.counts_now _) (g.met.D.Disk.content_is_image _)
+    _ c.self.view_is _ c.put_record.new.disk _ (c.as_slice.ensures.octets ∙ c.encode_record.ensures) c.put_record.ensures.makes (g.met.D.Disk.counts_now _) (g.met.D.Disk.content_is_image _)
 
 pub returns-in-Err-clause-since : goal.returns-in-Err-clause-since
 returns-in-Err-clause-since g c =
     leaves g.D.Disk c.args.self.now c.args.disk.now c.requires.healthy c.requires.ended c.requires.stands_on (record_of c.args.kind c.args.content.now) c.requires.fits
-    _ c.self.view_is _ c.put_record.new.disk _ (c.as_slice.ensures.value ∙ c.encode_record-text.ensures) c.put_record.ensures.makes (g.met.D.Disk.counts_now _) (g.met.D.Disk.content_is_image _)
+    _ c.self.view_is _ c.put_record.new.disk _ (c.as_slice.ensures.octets ∙ c.encode_record.ensures) c.put_record.ensures.makes (g.met.D.Disk.counts_now _) (g.met.D.Disk.content_is_image _)
 
 pub returns-in-Err-clause-any_moment : goal.returns-in-Err-clause-any_moment
 returns-in-Err-clause-any_moment g c healthy =
     any_moment g.D.Disk c.args.self.now c.args.disk.now c.requires.healthy c.requires.ended c.requires.stands_on (record_of c.args.kind c.args.content.now) c.requires.fits
-    _ c.self.view_is _ c.put_record.new.disk _ (c.as_slice.ensures.value ∙ c.encode_record-text.ensures) c.put_record.ensures.makes (g.met.D.Disk.counts_now _) (g.met.D.Disk.content_is_image _)
+    _ c.self.view_is _ c.put_record.new.disk _ (c.as_slice.ensures.octets ∙ c.encode_record.ensures) c.put_record.ensures.makes (g.met.D.Disk.counts_now _) (g.met.D.Disk.content_is_image _)
 
 pub returns-in-Ok-clause-ok : goal.returns-in-Ok-clause-ok
 returns-in-Ok-clause-ok g c =
     appends g.D.Disk c.args.self.now c.args.disk.now c.requires.healthy c.requires.ended c.requires.stands_on (record_of c.args.kind c.args.content.now) c.requires.fits
-    _ c.self.view_is (Ok c.in-Ok.field-0) c.put_record.new.disk _ (c.as_slice.ensures.value ∙ c.encode_record-text.ensures) c.in-Ok.ensures.makes
+    _ c.self.view_is (Ok c.in-Ok.field-0) c.put_record.new.disk _ (c.as_slice.ensures.octets ∙ c.encode_record.ensures) c.in-Ok.ensures.makes
 
 pub returns-in-Ok-clause-stands_on : goal.returns-in-Ok-clause-stands_on
 returns-in-Ok-clause-stands_on g c =
     let place : c.self.inside.place + c.len.result ≡ c.self.inside.place + 4 + length c.args.content.now =
-    omega (arith, c.len.ensures.value, ap length c.encode_record-text.ensures, length-append c.args.content.now (0 ∷ [])) in
+    omega (arith, c.len.ensures.len, ap length c.encode_record.ensures, length-append c.args.content.now (0 ∷ [])) in
     stands_after g.D.Disk c.args.self.now c.args.disk.now c.requires.healthy c.requires.ended c.requires.stands_on (record_of c.args.kind c.args.content.now) c.requires.fits
-    _ c.self.view_is (Ok c.in-Ok.field-0) c.put_record.new.disk _ (c.as_slice.ensures.value ∙ c.encode_record-text.ensures) c.in-Ok.ensures.makes (c.self.inside.place + c.len.result) place
+    _ c.self.view_is (Ok c.in-Ok.field-0) c.put_record.new.disk _ (c.as_slice.ensures.octets ∙ c.encode_record.ensures) c.in-Ok.ensures.makes (c.self.inside.place + c.len.result) place
     (told_weaker (g.D.Disk.content c.put_record.new.disk) _ _ (λ now told image. (g.met.D.Disk.images_fit _ now image).0) (g.met.D.Disk.content_is_image _))

@@ -14,7 +14,7 @@ returns-then-len-le-FIRST_GATE-clause-recovered g c =
     let eight : length c.args.magic ≡ 8 = search rules in
     recovered D c.args.magic c.args.blocks old new c.args.blocks c.at_first_gate.result c.at_first_gate.ensures c.format_new.ensures.puts.told c.in_ok-format_new.ensures.quiet
     (told_weaker (D.content new) _ _ (λ now told image. (g.met.D.Disk.images_fit new now image).0) (g.met.D.Disk.content_is_image new))
-    (new_formatted D c.args.magic c.args.blocks old new eight c.requires.some c.requires.most
+    (new_formatted D c.args.magic c.args.blocks old new eight c.requires.blocks.some c.requires.blocks.most
     (if_told (D.content old) _ (λ before told. omega (arith, at_told _ before told c.requires.len, c.if-len-le-FIRST_GATE.true))) c.in_ok-format_new.ensures.ok)
 
 pub returns-then-len-le-FIRST_GATE-clause-refuses : goal.returns-then-len-le-FIRST_GATE-clause-refuses

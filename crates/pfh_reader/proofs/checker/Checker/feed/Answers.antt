@@ -16,7 +16,7 @@ loop-rest-preserved c =
             ∙ ap (λ (t : List ℕ). done ++ (more ++ t)) left
             ∙ ap (λ (t : List ℕ). done ++ t) (take-append-drop c.take-taken.result c.loop-rest.rest.now)
             ∙ c.loop-rest.invariant.taken.1,
-        λ fed is. subst (HasFed c.take-taken.new.self) (append_assoc fed done more) (c.take-taken.ensures.fed (fed ++ done) (c.loop-rest.invariant.taken.2 fed is)),
+        λ fed is. subst (HasFed c.take-taken.new.self) (append_assoc fed done more) (c.take-taken.ensures.takes.fed (fed ++ done) (c.loop-rest.invariant.taken.2 fed is)),
       );
       len = omega (arith, ap length left, length-drop c.take-taken.result c.loop-rest.rest.now);
     }

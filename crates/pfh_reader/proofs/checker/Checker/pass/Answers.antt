@@ -1,5 +1,5 @@
 -- More octets where no header begins.
-use Rattle.std.proofs.Common.{length, take, sym, ap, ◌∙◌, arith}
+use Rattle.std.proofs.Common.{length, take, sym, ap, ◌∙◌, arith, rules}
 use Rattle.std.proofs.lemmas.List.{take_all}
 use Rattle.pfh_reader.specs.declared.checker.Stage.{Stage}
 use Rattle.pfh_reader.specs.declared.checker.Stage.TheVariants as stages
@@ -9,8 +9,9 @@ use Rattle.pfh_reader.specs.Measures.{with_header}
 use Rattle.pfh_reader.proofs.FeedLemmas.{Extends-at, passes, value, value_at}
 use Rattle.pfh_reader.proofs.checker.Checker.pass.Goals as goal
 
-pub returns-clause-fed : goal.returns-clause-fed
-returns-clause-fed c =
+pub returns-clause-takes : goal.returns-clause-takes
+returns-clause-takes c =
+    let fed =
     Extends-at (value stages.NoHeader c.self.inside.held.items c.self.inside.claims c.self.inside.measures) c.args.self.now
     (value stages.NoHeader c.self.inside.held.items c.self.inside.claims (with_header c.self.inside.measures c.args.octets.now))
     (value c.self.inside.stage c.self.inside.held.items c.self.inside.claims c.add_header.new.self)
@@ -19,4 +20,5 @@ returns-clause-fed c =
     (ap (λ (s : Stage). value s c.self.inside.held.items c.self.inside.claims (with_header c.self.inside.measures c.args.octets.now)) (sym (ap (λ (v : CheckerValue). v.stage) c.self.view_is ∙ c.requires.stage))
     ∙ ap (λ (m : Measures). value c.self.inside.stage c.self.inside.held.items c.self.inside.claims m) (sym c.add_header.ensures))
     (sym (take_all (length c.args.octets.now) c.args.octets.now (omega arith)))
-    (passes c.self.inside.held.items c.self.inside.claims c.self.inside.measures c.args.octets.now)
+    (passes c.self.inside.held.items c.self.inside.claims c.self.inside.measures c.args.octets.now) in
+    record { fed = fed; len = search rules }

@@ -1,5 +1,5 @@
 -- Items that are whole, up to the end item or to one that is cut.
-use Rattle.std.proofs.Common.{ℕ, ◌+◌, List, [], refl, length, take, drop, sym, ap, ◌∙◌, subst, arith}
+use Rattle.std.proofs.Common.{ℕ, ◌+◌, List, [], refl, length, take, drop, sym, ap, ◌∙◌, subst, arith, rules}
 use Rattle.std.proofs.lemmas.List.{take_all}
 use Rattle.pfh_items.proofs.Offered.{IsOctets-slice}
 use Rattle.pfh_reader.specs.declared.checker.Stage.{Stage}
@@ -32,8 +32,9 @@ invariant_of-self-in-Ran c =
     (ran c.args.octets.now c.in-Ran.at c.self.inside.claims c.take_items.new.claims (IsOctets-slice c.args.octets.now (λ i. omega (arith, c.type_inv.octets i)))
     (sym c.take_items.ensures.stop ∙ c.in-Ran.is) c.take_items.ensures.claims).1
 
-pub returns-in-EndItem-clause-fed : goal.returns-in-EndItem-clause-fed
-returns-in-EndItem-clause-fed c =
+pub returns-in-EndItem-clause-takes : goal.returns-in-EndItem-clause-takes
+returns-in-EndItem-clause-takes c =
+    let fed =
     Extends-at (value stages.Items [] c.self.inside.claims c.self.inside.measures) c.args.self.now
     (value stages.Body c.self.inside.held.items c.take_items.new.claims (at_end (with_header c.self.inside.measures (take (c.in-EndItem.at + 3) c.args.octets.now))))
     (value stages.Body c.self.inside.held.items c.take_items.new.claims c.end_header.new.self)
@@ -44,13 +45,15 @@ returns-in-EndItem-clause-fed c =
     refl
     (takes_end [] c.self.inside.held.items c.self.inside.claims c.take_items.new.claims c.self.inside.measures (take (c.in-EndItem.at + 3) c.args.octets.now)
     (ends c.args.octets.now c.in-EndItem.at c.self.inside.claims c.take_items.new.claims (IsOctets-slice c.args.octets.now (λ i. omega (arith, c.type_inv.octets i)))
-    (sym c.take_items.ensures.stop ∙ c.in-EndItem.is) c.take_items.ensures.claims))
+    (sym c.take_items.ensures.stop ∙ c.in-EndItem.is) c.take_items.ensures.claims)) in
+    record { fed = fed; len = search rules }
 
-pub returns-in-Ran-clause-fed : goal.returns-in-Ran-clause-fed
-returns-in-Ran-clause-fed c =
+pub returns-in-Ran-clause-takes : goal.returns-in-Ran-clause-takes
+returns-in-Ran-clause-takes c =
     let left =
     ran c.args.octets.now c.in-Ran.at c.self.inside.claims c.take_items.new.claims (IsOctets-slice c.args.octets.now (λ i. omega (arith, c.type_inv.octets i)))
     (sym c.take_items.ensures.stop ∙ c.in-Ran.is) c.take_items.ensures.claims in
+    let fed =
     Extends-at (value stages.Items [] c.self.inside.claims c.self.inside.measures) c.args.self.now
     (value stages.Items (drop c.in-Ran.at c.args.octets.now) c.take_items.new.claims (with_header c.self.inside.measures c.args.octets.now))
     (value c.self.inside.stage c.held-self-inside.result.items c.take_items.new.claims c.add_header.new.self)
@@ -60,4 +63,5 @@ returns-in-Ran-clause-fed c =
     ∙ ap (λ (t : List ℕ). value stages.Items t c.take_items.new.claims c.add_header.new.self) (sym (c.held-self-inside.ensures ∙ c.split_at-in-Ran.ensures.back))
     ∙ ap (λ (s : Stage). value s c.held-self-inside.result.items c.take_items.new.claims c.add_header.new.self) (sym (ap (λ (v : CheckerValue). v.stage) c.self.view_is ∙ c.requires.stage)))
     (sym (take_all (length c.args.octets.now) c.args.octets.now (omega arith)))
-    (takes_items [] (drop c.in-Ran.at c.args.octets.now) c.self.inside.claims c.take_items.new.claims c.self.inside.measures c.args.octets.now left.0 left.1)
+    (takes_items [] (drop c.in-Ran.at c.args.octets.now) c.self.inside.claims c.take_items.new.claims c.self.inside.measures c.args.octets.now left.0 left.1) in
+    record { fed = fed; len = search rules }

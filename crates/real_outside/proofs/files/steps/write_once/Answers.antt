@@ -13,4 +13,4 @@ returns-clause-writes g c =
     let result = c.write_at.result in
     let below : at < limit = omega (arith, c.if-limit-at.false) in
     asks_two (WritesOnce at bytes result file) _ _ _ (call.Limit limit) (call.Write file at bytes result)
-    c.limit.ensures c.write_at.ensures.calls (limit, inl (below, refl))
+    c.limit.ensures c.write_at.ensures.moves.told (limit, inl (below, refl))

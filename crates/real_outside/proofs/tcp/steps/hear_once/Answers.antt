@@ -8,8 +8,8 @@ pub returns-clause-asks : goal.returns-clause-asks
 returns-clause-asks g c =
     let given = octets_read c.read.result c.read.new.room in
     let within : IfOk c.read.result (λ count. count ≤ length c.read.new.room) =
-    subst (λ (n : ℕ). IfOk c.read.result (λ count. count ≤ n)) (sym c.read.auto.room) c.read.ensures.count in (
+    subst (λ (n : ℕ). IfOk c.read.result (λ count. count ≤ n)) (sym c.read.auto.room) c.read.ensures.moves.count in (
       call.Read 512 given ∷ [],
-      rw c.told-room at c.read.ensures.calls,
+      rw c.told-room at c.read.ensures.moves.told,
       (given, turn_is c.read.result c.poll_answer.result c.read.new.room within c.poll_answer.ensures, refl),
     )

@@ -23,7 +23,7 @@ returns-clause-reads g c =
     taken_then number c.args.self.now after answer (Reads at room answer) _ _ _ _ file
     (ap (λ (s : State). calls_of s.files) c.self.view_is) refl c.in_ok-file.ensures.takes
     (asks_one (Reads at room answer (number file)) _ _ (call.Read (number file) at all (octets_read read.result room))
-    read.ensures.calls
+    read.ensures.moves.told
     (ap (λ (n : ℕ). call.Read (number file) at n (octets_read read.result room) ∷ []) (sym read.auto.room)
     ∙ ap (λ (told : Result ℕ SystemError). call.Read (number file) at (length room) (octets_read told room) ∷ [])
     (sym c.device_answer.ensures.system)))

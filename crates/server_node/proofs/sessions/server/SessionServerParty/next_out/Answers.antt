@@ -21,10 +21,10 @@ returns-then-self-clause-all g c is =
     (gave-last g.D.Disk g.met.D.Disk.lasts_same g.met.D.Disk.lasts_on (server_state c.self.inside) c.args.disk.now (is-nil _ (sym c.is_empty.ensures ∙ c.if-not-is_empty.false)) c.if-self.true)
 
 pub invariant_of-self-then-not-fill : goal.invariant_of-self-then-not-fill
-invariant_of-self-then-not-fill g c = server-filled c.self.inside c.fill.new.store c.fill.new.self c.fill.ensures.store c.fill.ensures.uploads c.fill.ensures.may.due c.self.invariant
+invariant_of-self-then-not-fill g c = server-filled c.self.inside _ c.fill.ensures.store c.fill.ensures.uploads c.fill.ensures.may.due refl refl c.self.invariant
 
 pub invariant_of-self-2 : goal.invariant_of-self-2
-invariant_of-self-2 g c = server-filled c.self.inside c.fill.new.store c.fill.new.self c.fill.ensures.store c.fill.ensures.uploads c.fill.ensures.may.due c.self.invariant
+invariant_of-self-2 g c = server-filled c.self.inside _ c.fill.ensures.store c.fill.ensures.uploads c.fill.ensures.may.due refl refl c.self.invariant
 
 pub returns-then-not-fill-clause-all : goal.returns-then-not-fill-clause-all
 returns-then-not-fill-clause-all g c is =

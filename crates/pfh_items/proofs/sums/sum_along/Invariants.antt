@@ -1,6 +1,6 @@
 use Rattle.std.proofs.Common.{◌≡◌, take}
 use Rattle.px_base.specs.Numbers.{sum16}
-use Rattle.pfh_items.proofs.sums.sum16.Given as goal
+use Rattle.pfh_items.proofs.sums.sum_along.Given as goal
 
 -- the sum of the octets so far
 abbrev pub invariant-loop-byte : goal.invariant-loop-byte

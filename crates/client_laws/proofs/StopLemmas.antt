@@ -1,0 +1,21 @@
+-- What an event begins that stops at a packet is a front of what it has where nothing stops it.
+use Rattle.std.proofs.Common.{List, ap, sym, ◌∙◌, append_assoc}
+use Rattle.ftl0_packets.specs.Layout.{Item}
+use Rattle.client_notes.specs.Command.{NotesCommand}
+use Rattle.client_notes.specs.Laws.{after_all}
+use Rattle.ftl0_job.specs.Table.{job_row}
+use Rattle.ftl0_client.specs.Attempt.Attempted.{Attempted}
+use Rattle.ftl0_client.specs.Attempt.Hearing.{after_hearing}
+use Rattle.ftl0_client.specs.Attempt.Taking.{Happened, taking}
+use Rattle.ftl0_client.proofs.attempt.TakingLemmas.{noted-front}
+use Rattle.client_laws.specs.Stops.{FrontOfEventLaw}
+
+pub front-of-event : FrontOfEventLaw
+front-of-event w lists a frame before item behind packets none =
+    let heard : Attempted = after_hearing w a frame in
+    let taken : Happened = taking lists heard before in
+    let own : List NotesCommand = (job_row (after_all lists taken.noted) taken.after.job item).commands in
+    let front = noted-front lists heard before item behind none in
+    (front.0,
+    ap (λ (items : List Item). (taking lists heard items).noted) packets ∙ front.1
+    ∙ sym (append_assoc taken.noted own front.0))

@@ -1,0 +1,261 @@
+-- A file that is received stays the caller's: behind each row, once what is due was queued, and behind a frame.
+use Rattle.std.proofs.Common.{◌≡◌, ℕ, suc, List, [], ◌∷◌, ◌++◌, length, refl, ap, sym, subst, ◌∙◌}
+use Rattle.std.proofs.Common.{arith, Bool, true, false, not, Option, None, Some}
+use Rattle.std.proofs.lemmas.Bool.{cond_both, not-false}
+use Rattle.std.proofs.lemmas.Bool.Decides.{nat_tests}
+use Rattle.std.proofs.lemmas.Option.{same_Some}
+use Rattle.std.specs.Prelude.{Ok, IfSome, if◌then◌else◌, ◌==◌, ◌/◌, ◌*◌, take}
+use Rattle.std.specs.Option.{option_map}
+use Rattle.px_base.specs.CallSign.{CallSign, IsCall}
+use Rattle.ax25_frames.specs.FrameText.{FrameValue}
+use Rattle.ax25_link.specs.Calls.{after_push}
+use Rattle.ax25_link.specs.declared.state.Heard.{Heard}
+use Rattle.ax25_link.specs.declared.state.Heard.TheVariants.{Nothing, Opened, Reopened, Bytes, Closed}
+use Rattle.ax25_link.specs.Ends.{LinkEnd, free_octets}
+use Rattle.ax25_link.specs.Rows.{after_frame, heard_of}
+use Rattle.ax25_link.specs.Window.{Window}
+use Rattle.pfh_items.specs.Faults.{fault_code}
+use Rattle.ftl0_packets.specs.Items.{kind_of_item, texts}
+use Rattle.ftl0_packets.specs.Layout.{Item, data_end, data_part, upload_cmd}
+use Rattle.ftl0_packets.specs.Reading.{packets_of}
+use Rattle.packet_link.specs.Queuing.{fits}
+use Rattle.packet_link.proofs.Queuing.{filling-keeps}
+use Rattle.file_entries.specs.Follows.{AreOf, FollowsBy, IsOwnEntry}
+use Rattle.file_entries.specs.IsStore.{IsStore}
+use Rattle.file_entries.proofs.Offered.{follows_law}
+use Rattle.file_store.specs.Command.{AreAllowed, Command, after, after_all, begin, can_begin, has_room, passes}
+use Rattle.file_store.specs.Command.{whole_grows}
+use Rattle.file_store.specs.Info.{is_complete}
+use Rattle.file_store.specs.Store.{Entry, Store, entry_of, new_entry, octets_at, octets_of}
+use Rattle.file_store.proofs.Offered.{after_all-append, find-push, find_past, grows-after, has_number}
+use Rattle.ftl0_session.specs.Downloads.Sending as due
+use Rattle.ftl0_session.specs.Downloads.Table as download
+use Rattle.ftl0_session.specs.Downloads.Table.{DownloadRow}
+use Rattle.ftl0_session.specs.Lists.Lists.{CallerList}
+use Rattle.ftl0_session.specs.Run.{Session, session_over}
+use Rattle.ftl0_session.specs.Table.{DuePacket, Row, State, aborting, command, download_part, download_row, downloading}
+use Rattle.ftl0_session.specs.Table.{due_at, in_session, listing, receiving, row_among, sending, session_row, state_by}
+use Rattle.ftl0_session.specs.Table.{upload_row, waiting}
+use Rattle.ftl0_session.specs.Uploads.Failures.{Failure, read_fails, write_fails}
+use Rattle.ftl0_session.specs.Uploads.Session as upload
+use Rattle.ftl0_session.specs.Uploads.Session.{is_all, is_theirs, is_upload_kind}
+use Rattle.ftl0_session.proofs.uploads.UploadRows.{theirs-decides}
+use Rattle.ftl0_server.specs.Connection.Connected.{Connected, caller_of}
+use Rattle.ftl0_server.specs.Connection.Hearing.{hearing, parts_as, parts_of_frame}
+use Rattle.ftl0_server.specs.Connection.Taking.{Progress, after_due, after_row, failing_at, giving_up, queued, queuing}
+use Rattle.ftl0_server.specs.Connection.Taking.{taking}
+use Rattle.ftl0_server.proofs.Offered.{queued-alone}
+use Rattle.server_laws.specs.Rows.{ReceivesAfter, ReceivesBehind, ReceivesHeard, ReceivesLaw, ReceivesOwn}
+use Rattle.server_laws.proofs.AcknowledgedLemmas.{allowed_then}
+use Rattle.server_laws.proofs.RowLemmas.{commands_own, own-grow}
+
+-- ---- behind a row
+
+-- while something is sent or listed no file is received
+downloads-own : (caller : CallSign) (store : Store) (part : download.DownloadState)
+    → ReceivesOwn caller store (downloading part)
+downloads-own caller store download.ready = tt
+downloads-own caller store (download.sending number place last) = tt
+downloads-own caller store download.waiting = tt
+downloads-own caller store (download.listing dues) = tt
+
+module _ (caller : CallSign) (moment : ℕ) (store : Store) where
+  -- the file that is received behind a row of uploading is the caller's
+  abbrev Receives : upload.Row → Type 0
+  Receives row = ReceivesOwn caller (after_all store row.commands) (state_by row.state download.ready)
+
+  -- the file that is begun is the caller's, where no entry has the next number before
+  begun-own : (len : ℕ) → IsStore store
+      → IsOwnEntry caller (after store (begin store.next caller len moment)) store.next
+  begun-own len is entry found =
+      let new : Entry = new_entry store.next caller len moment in
+      let there =
+      find-push (has_number store.next) store.entries new
+      (find_past store.next 1 store.next store.entries is.entries (omega arith)) (grind (arith, nat_tests)) in
+      ap (λ (e : Entry). e.caller) (sym (same_Some new entry (sym there ∙ found)))
+
+  -- one that goes on is the caller's, as its row looks
+  resumed-own : (number len : ℕ) (e : Entry) → entry_of store number ≡ Some e → not (is_theirs caller len e) ≡ false
+      → IsOwnEntry caller store number
+  resumed-own number len e is theirs entry found =
+      let mine : e.caller ≡ caller = ((theirs-decides caller len e).0 (not-false (is_theirs caller len e) theirs)).0 in
+      ap (λ (x : Entry). x.caller) (sym (same_Some e entry (sym is ∙ found))) ∙ mine
+
+  goes-on : (number len : ℕ) (o : Option Entry) → entry_of store number ≡ o
+      → Receives (upload.continue_row caller number len o)
+  goes-on number len None is = tt
+  goes-on number len (Some e) is =
+      cond_both (not (is_theirs caller len e)) (upload.refused_row upload.command 2) _ Receives (λ other. tt)
+      (λ theirs.
+      cond_both (is_complete e.holding) (upload.refused_row upload.command 12)
+      (upload.resumed_row number (length (octets_of e.holding))) Receives (λ whole. tt)
+      (λ partly. resumed-own number len e is theirs))
+
+  asks : (number len : ℕ) → IsStore store → Receives (upload.upload_row caller moment store number len)
+  asks number len is =
+      cond_both (number == 0) (upload.begin_row caller moment store len)
+      (upload.continue_row caller number len (entry_of store number)) Receives
+      (λ new.
+      cond_both (can_begin store len) (upload.granted_row caller moment store.next len)
+      (upload.refused_row upload.command 13) Receives (λ may. begun-own len is) (λ may. tt))
+      (λ old. goes-on number len (entry_of store number) refl)
+
+  grown-own : (n : ℕ) (octets : List ℕ) → IsOwnEntry caller store n
+      → IsOwnEntry caller (after_all store (whole_grows n octets)) n
+  grown-own n octets own =
+      let count : ℕ = length octets / 512 in
+      subst (λ (now : Store). IsOwnEntry caller now n) (sym (grows-after n count octets store))
+      (own-grow caller n store (take (512 * count) octets) own)
+
+  wholes : (n : ℕ) (rest : List ℕ) (fault : Option ℕ) → Receives (upload.whole_row moment n rest fault)
+  wholes n rest None = tt
+  wholes n rest (Some code) = tt
+
+  errors : (part : upload.State) (item : Item) → ReceivesOwn caller store (state_by part download.ready)
+      → IfSome (upload.error_row part item) Receives
+  errors part item own = by (is_upload_kind (kind_of_item item))
+    where
+      by : (b : Bool) → IfSome (if b then Some (upload.refused_row part 1) else None) Receives
+      by true = own
+      by false = tt
+
+  part-receives : (part : upload.State) (item : Item) → IsStore store
+      → ReceivesOwn caller store (state_by part download.ready)
+      → IfSome (upload.session_row caller moment store part item) Receives
+  unfolding upload.session_row
+  part-receives upload.command (Ok (upload_cmd number len)) is own = asks number len is
+  part-receives (upload.receiving n rest) (Ok (data_part octets)) is own =
+      cond_both (passes (λ e. has_room e.holding e.length (length (rest ++ octets))) (entry_of store n))
+      (upload.taken_row n (rest ++ octets)) _ Receives (λ room. grown-own n (rest ++ octets) own) (λ full. tt)
+  part-receives (upload.receiving n rest) (Ok data_end) is own =
+      cond_both (is_all (entry_of store n) rest) _ _ Receives
+      (λ all. wholes n rest (fault_code (octets_at (entry_of store n) ++ rest))) (λ some. tt)
+  part-receives upload.aborting (Ok (data_part octets)) is own = tt
+  part-receives upload.aborting (Ok data_end) is own = tt
+  part-receives part item is own = errors part item own
+
+  uploads-receive : (state : State) (item : Item) → IsStore store → ReceivesOwn caller store state
+      → IfSome (upload_row caller moment store state item) Receives
+  uploads-receive command item is own = part-receives upload.command item is own
+  uploads-receive (receiving number rest) item is own = part-receives (upload.receiving number rest) item is own
+  uploads-receive aborting item is own = part-receives upload.aborting item is own
+  uploads-receive (sending number place last) item is own = tt
+  uploads-receive waiting item is own = tt
+  uploads-receive (listing dues) item is own = tt
+
+  among-receive : (lists : List CallerList) (state : State) (item : Item) (o : Option upload.Row)
+      (other : Option DownloadRow) → ReceivesOwn caller store state → IfSome o Receives
+      → ReceivesBehind caller store (row_among lists state item o other)
+  among-receive lists state item (Some row) other before own = own
+  among-receive lists state item None (Some row) before own = downloads-own caller store row.state
+  among-receive lists state item None None before own = before
+
+  row-receives : (lists : List CallerList) (state : State) (item : Item) (fails : Bool) → IsStore store
+      → ReceivesOwn caller store state
+      → ReceivesBehind caller store (session_row caller moment store lists state item fails)
+  unfolding session_row
+  row-receives lists state item fails is own =
+      among-receive lists state item (upload_row caller moment store state item)
+      (download_row caller store lists state item fails) own (uploads-receive state item is own)
+
+-- ---- once what is due was queued
+
+-- a packet that is due leaves nothing that is received
+due-own : (caller : CallSign) (store : Store) (o : Option due.DuePacket) (next : DuePacket)
+    → option_map in_session o ≡ Some next → ReceivesOwn caller store next.state
+due-own caller store None next is = absurd cc
+due-own caller store (Some one) next is =
+    subst (λ (sent : DuePacket). ReceivesOwn caller store sent.state) (same_Some (in_session one) next is)
+    (downloads-own caller store one.state)
+
+queued-own : (caller : CallSign) (store : Store) (failures : List Failure) (progress : Progress)
+    → ReceivesAfter caller store progress → ReceivesAfter caller store (queued store failures progress)
+queued-own caller store failures progress own =
+    let made : Store = after_all store progress.done in
+    cond_both progress.over progress (queuing (free_octets progress.end) made failures progress)
+    (ReceivesAfter caller store) (λ over. own)
+    (λ on.
+    filling-keeps (λ (at : Progress). at.end) (λ (at : Progress). due_at made at.state failures at.part) after_due
+    (ReceivesAfter caller store)
+    (λ at next is before.
+    due-own caller (after_all store at.done)
+    (due.next_due made (download_part at.state) (read_fails failures at.part)) next is)
+    (free_octets progress.end) progress own)
+
+-- ---- behind a frame
+
+-- the commands before others are allowed
+allowed-before : (first others : List Command) (store : Store) → AreAllowed store (first ++ others)
+    → AreAllowed store first
+allowed-before [] others store allowed = tt
+allowed-before (one ∷ first) others store allowed =
+    (allowed.0, allowed-before first others (after store one) allowed.1)
+
+-- what commands of a caller, each of them allowed, make of a store that keeps its rules keeps them
+row-rules : (caller : CallSign) (store : Store) (commands : List Command) → IsStore store → IsCall caller
+    → AreOf caller store commands → AreAllowed store commands → IsStore (after_all store commands)
+row-rules caller store commands is call own allowed =
+    let now : Store = after_all store commands in
+    let by : FollowsBy caller store now = record { commands = commands; own = own; does = (allowed, refl) } in
+    (follows_law.entries store now is (follows_law.others caller store now is call by).0).rules
+
+-- where the commands of the parts are allowed, the file that is received behind them is the caller's
+abbrev IsKept : CallSign → Store → Progress → Type 0
+IsKept caller store progress = AreAllowed store progress.done → ReceivesAfter caller store progress
+
+module _ (caller : CallSign) (moment : ℕ) (call : IsCall caller) (failures : List Failure) where
+  taking-own : (session : Session) (end : LinkEnd) (items : List Item) (part : ℕ) → IsStore session.store
+      → ReceivesOwn caller session.store session.state
+      → IsKept caller session.store (taking caller moment session end items failures part)
+  taking-own session end [] part is own = λ allowed. own
+  taking-own session end (item ∷ items) part is own =
+      let fails : Bool = read_fails failures part in
+      let row : Row = session_row caller moment session.store session.lists session.state item fails in
+      let next : Session = session_over (after_all session.store row.commands) row.lists row.state in
+      let later : Progress = taking caller moment next (after_push end (texts row.replies)) items failures (suc part) in
+      let behind : ReceivesBehind caller session.store row =
+      row-receives caller moment session.store session.lists session.state item fails is own in
+      let commands : AreOf caller session.store row.commands =
+      commands_own caller moment session.store session.lists session.state item fails own in
+      cond_both (write_fails failures part) (failing_at end session.state session.lists row part) _
+      (IsKept caller session.store) (λ failed allowed. tt)
+      (λ written.
+      cond_both (fits end (texts row.replies)) (after_row row later) (giving_up end row part)
+      (IsKept caller session.store)
+      (λ enough allowed.
+      subst (λ (now : Store). ReceivesOwn caller now later.state)
+      (sym (after_all-append row.commands later.done session.store))
+      (taking-own next (after_push end (texts row.replies)) items (suc part)
+      (row-rules caller session.store row.commands is call commands
+      (allowed-before row.commands later.done session.store allowed)) behind
+      (allowed_then row.commands later.done session.store allowed)))
+      (λ few allowed. behind))
+
+module _ (moment : ℕ) (store : Store) (lists : List CallerList) (c : Connected) (failures : List Failure)
+    (is : IsStore store) (call : IsCall (caller_of c)) (own : ReceivesOwn (caller_of c) store c.state) where
+  parts-own : (told : Heard) (end : LinkEnd) (octets : List ℕ)
+      → IsKept (caller_of c) store (parts_as told moment store lists c end octets failures)
+  parts-own Nothing end octets = λ allowed. own
+  parts-own Opened end octets = λ allowed. own
+  parts-own Reopened end octets = λ allowed. tt
+  parts-own Bytes end octets =
+      taking-own (caller_of c) moment call failures (session_over store lists c.state) end
+      (packets_of (c.rest ++ octets)) 0 is own
+  parts-own (Closed why) end octets = λ allowed. own
+
+  heard-own : (w : Window) (frame : FrameValue)
+      → AreAllowed store (hearing w moment store lists c frame failures).done
+      → ReceivesHeard (caller_of c) store (hearing w moment store lists c frame failures)
+  heard-own w frame allowed =
+      let parts : Progress = parts_of_frame w moment store lists c frame failures in
+      queued-own (caller_of c) store failures parts
+      (parts-own (heard_of w c.end frame) (after_frame w c.end frame) frame.kind.information
+      (subst (AreAllowed store) (queued-alone store failures parts).done allowed))
+
+pub receives-law : ReceivesLaw
+receives-law = record {
+  rows = λ caller moment store lists state item fails. row-receives caller moment store lists state item fails;
+  queued = queued-own;
+  heard = λ w moment store lists c frame failures is call allowed own.
+      heard-own moment store lists c failures is call own w frame allowed;
+}
