@@ -1,6 +1,7 @@
 -- An attempt that begins with what is asked; and one whose client has no link any more, and answers a frame by DM at
 -- most.
-use Rattle.std.proofs.Common.{◌≡◌, ℕ, List, [], ◌∷◌, ◌++◌, map, Bool, true, false, Option, None, Some, refl, inl, sym, ap, ◌∙◌, subst, arith}
+use Rattle.std.proofs.Common.{◌≡◌, ℕ, List, [], ◌∷◌, ◌++◌, map, Bool, true, false, Option, None, Some, refl, inl, sym}
+use Rattle.std.proofs.Common.{ap, ◌∙◌, subst, arith}
 use Rattle.std.specs.Prelude.{if◌then◌else◌, ◌&&◌, ◌||◌}
 use Rattle.px_base.specs.CallSign.{CallSign}
 use Rattle.ax25_frames.specs.declared.control.Control.{Control}
@@ -13,26 +14,18 @@ use Rattle.ax25_link.specs.Refusals.{is_answered, refusal_frame}
 use Rattle.ax25_link.specs.Rows.{is_call}
 use Rattle.ax25_link.specs.Window.{IsWindow, Window}
 use Rattle.ax25_link.proofs.Offered.{prefix_law}
-use Rattle.ftl0_packets.specs.Reading.{packets_of, rest_of}
 use Rattle.ftl0_job.specs.JobState.{IsNew}
 use Rattle.ftl0_job.specs.Table.{JobState}
 use Rattle.ftl0_client.specs.Attempt.Attempted.{calling}
 use Rattle.ftl0_client.specs.Attempt.Hearing.{with_end}
-use Rattle.air_attempt.specs.Attempt.{AreFromTo, Attempt, IsAnsweredBy, IsAttempt, IsFromTo, IsRefusal, client_station, server_station}
+use Rattle.air_attempt.specs.Attempt.{AreFromTo, Attempt, IsAnsweredBy, IsAttempt, IsFromTo, IsRefusal, client_station}
+use Rattle.air_attempt.specs.Attempt.{server_station}
 use Rattle.air_attempt.specs.Sides.{IsJob, ServerSide}
-use Rattle.air_attempt.proofs.Sent.{all-at}
+use Rattle.air_attempt.proofs.ListLemmas.{all-at, each-append}
 use Rattle.air_attempt.proofs.Transmissions.{all-delivered, from-delivered, one-call-sent}
-use Rattle.air_attempt.proofs.PacketLists.{all-append}
+use Rattle.air_attempt.proofs.PacketLists.{no-packets, no-rest}
 
 -- ---- what is asked
-
-none-packets : packets_of [] ≡ []
-unfolding packets_of
-none-packets = refl
-
-none-left : rest_of [] ≡ []
-unfolding rest_of
-none-left = refl
 
 module _ (w : Window) (window : IsWindow w) (me server : CallSign) (job : JobState) (new : IsNew job) where
   -- the end that called, and has sent its SABM
@@ -52,14 +45,23 @@ module _ (w : Window) (window : IsWindow w) (me server : CallSign) (job : JobSta
   }
 
   unused : IsUnused called_end
-  unused = record { pushed = refl; queued = refl; sent = refl; acked = refl; taken = refl; again = refl; reply = λ is. cc is }
+  unused =
+      record {
+        pushed = refl;
+        queued = refl;
+        sent = refl;
+        acked = refl;
+        taken = refl;
+        again = refl;
+        reply = λ is. cc is;
+      }
 
   asked-job : IsJob asked.client
   asked-job = record {
     begun = new.1;
     reached = ap (λ (o : Option _). record { work = job.work; ending = o }) new.0;
-    packets = none-packets;
-    rest = sym none-left;
+    packets = no-packets;
+    rest = sym no-rest;
     said = refl;
     fits = tt;
     told_down = λ why is. absurd (cc is);
@@ -73,7 +75,16 @@ module _ (w : Window) (window : IsWindow w) (me server : CallSign) (job : JobSta
     stations = record {
       client = record { called_is = refl; me_is = refl; peer_is = refl };
       serves = tt;
-      from_client = (record { src_is = refl; dest_is = refl; via = refl; sends = (let more = window.fewer in omega arith); acks = (let more = window.fewer in omega arith) }, tt);
+      from_client = (
+        record {
+          src_is = refl;
+          dest_is = refl;
+          via = refl;
+          sends = (let more = window.fewer in omega arith);
+          acks = (let more = window.fewer in omega arith);
+        },
+        tt,
+      );
       from_server = tt;
     };
     call = (refl, tt);
@@ -85,7 +96,8 @@ module _ (w : Window) (window : IsWindow w) (me server : CallSign) (job : JobSta
 
 -- ---- a client without a link
 
-module _ (me server : CallSign) (a : Attempt) (is : IsAttempt me server a) (place : ℕ) (t : Transmission) (lawful : IsLawful a.window a.by_server place t) where
+module _ (me server : CallSign) (a : Attempt) (is : IsAttempt me server a) (place : ℕ) (t : Transmission)
+    (lawful : IsLawful a.window a.by_server place t) where
   abbrev list : List Transmission
   list = delivering a.by_server place t
 
@@ -95,10 +107,18 @@ module _ (me server : CallSign) (a : Attempt) (is : IsAttempt me server a) (plac
 
   -- the attempt with that sent
   abbrev answered : List FrameValue → Attempt
-  answered frames = record { window = a.window; client = a.client; server = a.server; by_client = sending_all a.by_client frames; by_server = list }
+  answered frames =
+      record {
+        window = a.window;
+        client = a.client;
+        server = a.server;
+        by_client = sending_all a.by_client frames;
+        by_server = list;
+      }
 
   from-server : IsFromTo a.window server me t.frame
-  from-server = all-at (λ u. IsFromTo a.window server me u.frame) a.by_server place t is.stations.from_server lawful.sent
+  from-server =
+      all-at (λ u. IsFromTo a.window server me u.frame) a.by_server place t is.stations.from_server lawful.sent
 
   -- what may be sent so
   record Answers (frames : List FrameValue) : Type 0 where
@@ -109,13 +129,23 @@ module _ (me server : CallSign) (a : Attempt) (is : IsAttempt me server a) (plac
   answers-are : Answers answers
   answers-are = by (is_answered t.frame)
     where
-      by : (b : Bool) → Answers (if b then refusal_frame me (record { to = t.frame.src; poll = t.frame.poll }) ∷ [] else [])
+      by : (b : Bool)
+          → Answers (if b then refusal_frame me (record { to = t.frame.src; poll = t.frame.poll }) ∷ [] else [])
       by true =
           let more = is.window.fewer in
           record {
             no_call = (refl, tt);
             are = (refl, refl, tt);
-            own = (record { src_is = refl; dest_is = from-server.src_is; via = refl; sends = omega arith; acks = omega arith }, tt);
+            own = (
+              record {
+                src_is = refl;
+                dest_is = from-server.src_is;
+                via = refl;
+                sends = omega arith;
+                acks = omega arith;
+              },
+              tt,
+            );
           }
       by false = record { no_call = tt; are = tt; own = tt }
 
@@ -123,8 +153,10 @@ module _ (me server : CallSign) (a : Attempt) (is : IsAttempt me server a) (plac
   dm-silent : IsRefusal t → answers ≡ []
   dm-silent refusal =
       let not_answered : is_answered t.frame ≡ false =
-      ap (λ (c : Control). is_call c || (t.frame.command && t.frame.poll)) refusal.refuses ∙ ap (λ (b : Bool). b && t.frame.poll) refusal.responds in
-      ap (λ (b : Bool). if b then refusal_frame me (record { to = t.frame.src; poll = t.frame.poll }) ∷ [] else []) not_answered
+      ap (λ (c : Control). is_call c || (t.frame.command && t.frame.poll)) refusal.refuses
+      ∙ ap (λ (b : Bool). b && t.frame.poll) refusal.responds in
+      ap (λ (b : Bool). if b then refusal_frame me (record { to = t.frame.src; poll = t.frame.poll }) ∷ [] else [])
+      not_answered
 
   stands : (o : Option ServerSide) → a.server ≡ o → IsAnsweredBy a o → IsAnsweredBy (answered answers) a.server
   stands None same unanswered =
@@ -135,16 +167,22 @@ module _ (me server : CallSign) (a : Attempt) (is : IsAttempt me server a) (plac
         state = unanswered.state;
         alone = (
           unanswered.alone.0,
-          ap (λ (fs : List FrameValue). sending_all a.by_client fs) (dm-silent refusal) ∙ ap (λ (l : List Transmission). l ++ []) unanswered.alone.1,
+          ap (λ (fs : List FrameValue). sending_all a.by_client fs) (dm-silent refusal)
+              ∙ ap (λ (l : List Transmission). l ++ []) unanswered.alone.1,
         );
-        refused = all-delivered IsRefusal (λ u refusal. record { refuses = refusal.refuses; responds = refusal.responds }) a.by_server place t lawful.sent unanswered.refused;
+        refused =
+            all-delivered IsRefusal (λ u refusal. record { refuses = refusal.refuses; responds = refusal.responds })
+            a.by_server place t lawful.sent unanswered.refused;
         unserved = unanswered.unserved;
       })
   stands (Some session) same was =
-      let marked = prefix_law.delivered a.window (client_station a) (server_station a session) place t is.window was.linked lawful.sent in
+      let marked = prefix_law.delivered a.window (client_station a)
+      (server_station a session) place t is.window was.linked lawful.sent in
       subst (IsAnsweredBy (answered answers)) (sym same)
       (record {
-        linked = prefix_law.answered a.window (client_station a) (record { end = session.connected.end; transmissions = list }) answers marked answers-are.are;
+        linked =
+            prefix_law.answered a.window (client_station a)
+            (record { end = session.connected.end; transmissions = list }) answers marked answers-are.are;
         quiet = was.quiet;
         session = was.session;
       })
@@ -155,7 +193,9 @@ module _ (me server : CallSign) (a : Attempt) (is : IsAttempt me server a) (plac
     stations = record {
       client = is.stations.client;
       serves = is.stations.serves;
-      from_client = all-append (λ u. IsFromTo a.window me server u.frame) a.by_client (map fresh answers) is.stations.from_client answers-are.own;
+      from_client =
+          each-append (λ u. IsFromTo a.window me server u.frame) a.by_client
+          (map fresh answers) is.stations.from_client answers-are.own;
       from_server = from-delivered a.window server me a.by_server place t lawful.sent is.stations.from_server;
     };
     call = one-call-sent a.by_client answers is.call answers-are.no_call;

@@ -4,6 +4,7 @@ use Rattle.std.specs.List.{AllByRecursion, concat}
 use Rattle.px_base.specs.CallSign.{CallSign}
 use Rattle.px_base.specs.Octets.{IsFront, IsOctets}
 use Rattle.ax25_frames.specs.FrameText.{FrameValue}
+use Rattle.ftl0_packets.proofs.OctetLemmas.{IsOctets-nil}
 use Rattle.ax25_link.specs.Air.{Transmission, sending_all}
 use Rattle.ax25_link.specs.declared.state.LinkState.TheVariants.{Calling}
 use Rattle.ax25_link.specs.Laws.{HasNoCall, IsUnused}
@@ -12,9 +13,9 @@ use Rattle.ax25_link.specs.Sending.{IsQuiet}
 use Rattle.ax25_link.specs.Stations.{SendsOwn}
 use Rattle.ax25_link.specs.Window.{Window}
 use Rattle.ax25_link.proofs.Offered.{prefix_law}
-use Rattle.ftl0_packets.proofs.OctetLemmas.{IsOctets-nil}
 use Rattle.ftl0_client.specs.Entries.{JobEntry}
-use Rattle.air_attempt.specs.Attempt.{AreFromTo, Attempt, IsAnswered, IsAnsweredBy, IsAttempt, IsRefusal, IsUnanswered, client_station, server_station}
+use Rattle.air_attempt.specs.Attempt.{AreFromTo, Attempt, IsAnswered, IsAnsweredBy, IsAttempt, IsRefusal, IsUnanswered}
+use Rattle.air_attempt.specs.Attempt.{client_station, server_station}
 use Rattle.air_attempt.specs.Sides.{ClientSide, IsJob, ServerSide, said_by_server}
 use Rattle.air_attempt.proofs.ClientUnanswered.{StaysWaiting, Waits}
 use Rattle.air_attempt.proofs.PacketLists.{octets-of_front}
@@ -24,10 +25,17 @@ use Rattle.air_attempt.proofs.Transmissions.{one-call-sent}
 -- the attempt with its client's side become this, and what it sent; and with what the server sent, some of it delivered
 abbrev pub moved : ClientSide → List FrameValue → List Transmission → Attempt → Attempt
 moved side frames list a =
-    record { window = a.window; client = side; server = a.server; by_client = sending_all a.by_client frames; by_server = list }
+    record {
+      window = a.window;
+      client = side;
+      server = a.server;
+      by_client = sending_all a.by_client frames;
+      by_server = list;
+    }
 
 -- What a step of the end of the newest attempt made of its client's side.
-pub record SideMoves (me server : CallSign) (a : Attempt) (side : ClientSide) (frames : List FrameValue) (list : List Transmission) : Type 0 where
+pub record SideMoves (me server : CallSign) (a : Attempt) (side : ClientSide) (frames : List FrameValue)
+    (list : List Transmission) : Type 0 where
   pub sends : SendsOwn a.window a.client.attempted.end frames side.attempted.end
   pub quiet : IsQuiet a.window side.attempted.end
   pub calling : side.attempted.end.state ≡ Calling → IsUnused side.attempted.end
@@ -36,13 +44,21 @@ pub record SideMoves (me server : CallSign) (a : Attempt) (side : ClientSide) (f
   pub none : HasNoCall frames
   pub answered : IsAnsweredBy (moved side frames list a) a.server
 
-pub attempt-moves : (me server : CallSign) (a : Attempt) (side : ClientSide) (frames : List FrameValue) (list : List Transmission) → IsAttempt me server a
+pub attempt-moves : (me server : CallSign) (a : Attempt) (side : ClientSide) (frames : List FrameValue)
+    (list : List Transmission) → IsAttempt me server a
     → SideMoves me server a side frames list → IsAttempt me server (moved side frames list a)
 attempt-moves me server a side frames list is moves =
-    let stays = stays-of a.window true me server a.by_client frames a.client.attempted.end side.attempted.end is.window is.stations.client is.stations.from_client moves.sends in
+    let stays = stays-of a.window true me server a.by_client frames a.client.attempted.end side.attempted.end is.window
+    is.stations.client is.stations.from_client moves.sends in
     record {
       window = is.window;
-      stations = record { client = stays.end; serves = is.stations.serves; from_client = stays.sent; from_server = moves.from_server };
+      stations =
+          record {
+            client = stays.end;
+            serves = is.stations.serves;
+            from_client = stays.sent;
+            from_server = moves.from_server;
+          };
       call = one-call-sent a.by_client frames is.call moves.none;
       calling = moves.calling;
       quiet = moves.quiet;
@@ -58,7 +74,8 @@ pub record Stands (a : Attempt) (now : Attempt) : Type 0 where
   pub answered : IsAnsweredBy now a.server
 
 -- linked to a session's end, what came is octets
-pub linked-stands : (a now : Attempt) (side : ServerSide) → a.server ≡ Some side → IsAnswered a side → now.window ≡ a.window → AreLinked now.window (client_station now) (server_station now side) → Stands a now
+pub linked-stands : (a now : Attempt) (side : ServerSide) → a.server ≡ Some side → IsAnswered a side
+    → now.window ≡ a.window → AreLinked now.window (client_station now) (server_station now side) → Stands a now
 linked-stands a now side same answered window linked =
     let turned = prefix_law.turned now.window (client_station now) (server_station now side) linked in
     let front = prefix_law.front now.window (server_station now side) (client_station now) turned in
@@ -68,12 +85,19 @@ linked-stands a now side same answered window linked =
           (subst (λ (text : List ℕ). IsFront (concat now.client.attempted.end.taken) text) answered.session.said front);
       answered =
           subst (IsAnsweredBy now) (sym same)
-          (record { linked = linked; quiet = subst (λ (w : Window). IsQuiet w side.connected.end) (sym window) answered.quiet; session = answered.session });
+          (record {
+            linked = linked;
+            quiet = subst (λ (w : Window). IsQuiet w side.connected.end) (sym window)
+                answered.quiet;
+            session = answered.session;
+          });
     }
 
 -- without a session it waits still
-pub waiting-stands : (a : Attempt) (side : ClientSide) (frames : List FrameValue) (list : List Transmission) (entries : List JobEntry) → a.server ≡ None → IsUnanswered a
-    → side.entries ≡ a.client.entries ++ entries → StaysWaiting frames side.attempted.end entries → AllByRecursion IsRefusal list → Stands a (moved side frames list a)
+pub waiting-stands : (a : Attempt) (side : ClientSide) (frames : List FrameValue) (list : List Transmission)
+    (entries : List JobEntry) → a.server ≡ None → IsUnanswered a
+    → side.entries ≡ a.client.entries ++ entries → StaysWaiting frames side.attempted.end entries
+    → AllByRecursion IsRefusal list → Stands a (moved side frames list a)
 waiting-stands a side frames list entries same unanswered more stays refused = record {
   octets = subst (λ (pieces : List (List ℕ)). IsOctets (concat pieces)) (sym stays.waits.unused.taken) IsOctets-nil;
   answered =
@@ -83,10 +107,13 @@ waiting-stands a side frames list entries same unanswered more stays refused = r
         state = stays.waits.state;
         alone = (
           unanswered.alone.0,
-          ap (λ (fs : List FrameValue). sending_all a.by_client fs) stays.silent ∙ ap (λ (l : List Transmission). l ++ []) unanswered.alone.1,
+          ap (λ (fs : List FrameValue). sending_all a.by_client fs) stays.silent
+              ∙ ap (λ (l : List Transmission). l ++ []) unanswered.alone.1,
         );
         refused = refused;
-        unserved = more ∙ ap (λ (es : List JobEntry). a.client.entries ++ es) stays.nothing ∙ ap (λ (es : List JobEntry). es ++ []) unanswered.unserved;
+        unserved =
+            more ∙ ap (λ (es : List JobEntry). a.client.entries ++ es) stays.nothing
+            ∙ ap (λ (es : List JobEntry). es ++ []) unanswered.unserved;
       });
 }
 

@@ -19,8 +19,10 @@ use Rattle.air_attempt.proofs.ClientJob.{Happens}
 use Rattle.air_attempt.proofs.ClientRows.{frame-comes, tick-comes, tick_outcome}
 use Rattle.air_attempt.proofs.ClientWorks.{after_of}
 
-pub frame-happens : HearingLaw → OutcomeLaw → (w : Window) (lists : Lists) (a : Attempted) (f : FrameValue) → a.end.called ≡ true → IsToldDown a
-    → Happens lists (after_all lists (hearing w lists a f).noted) a (row w a.end f) f.kind.information (entries_heard w lists a f) (hearing w lists a f).after
+pub frame-happens : HearingLaw → OutcomeLaw → (w : Window) (lists : Lists) (a : Attempted) (f : FrameValue)
+    → a.end.called ≡ true → IsToldDown a
+    → Happens lists (after_all lists (hearing w lists a f).noted) a (row w a.end f) f.kind.information
+    (entries_heard w lists a f) (hearing w lists a f).after
 frame-happens law outcome w lists a f called told =
     let heard = law w lists a f in
     let became = (outcome w lists a f told).0 in
@@ -37,7 +39,8 @@ frame-happens law outcome w lists a f called told =
     }
 
 -- a tick brings no packet
-tick-after : (lists : Lists) (a : Attempted) (end : LinkEnd) (o : Option Why) → settled (after_told (heard_of_tick o) (with_end a end) []) ≡ after_of lists a end [] (heard_of_tick o)
+tick-after : (lists : Lists) (a : Attempted) (end : LinkEnd) (o : Option Why)
+    → settled (after_told (heard_of_tick o) (with_end a end) []) ≡ after_of lists a end [] (heard_of_tick o)
 tick-after lists a end None = refl
 tick-after lists a end (Some why) = refl
 

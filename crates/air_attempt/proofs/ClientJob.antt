@@ -2,15 +2,15 @@
 use Rattle.std.proofs.Common.{◌≡◌, ℕ, List, [], ◌++◌, sym, ap, ap₂, ◌∙◌, subst, append-nil}
 use Rattle.std.specs.List.{AllByRecursion, concat}
 use Rattle.px_base.specs.Octets.{IsOctets}
+use Rattle.ftl0_packets.specs.Items.{texts}
+use Rattle.ftl0_packets.specs.Layout.{Fits, Item, PacketValue}
+use Rattle.ftl0_packets.specs.Reading.{packets_of, rest_of}
 use Rattle.ax25_link.specs.Calls.{Doing, DoesAll}
 use Rattle.ax25_link.specs.declared.state.Heard.{Heard}
 use Rattle.ax25_link.specs.declared.state.Heard.TheVariants.{Nothing, Opened, Reopened, Bytes, Closed}
 use Rattle.ax25_link.specs.declared.state.LinkState.{LinkState}
 use Rattle.ax25_link.specs.Ends.{LinkEnd}
 use Rattle.ax25_link.specs.Rows.{Outcome}
-use Rattle.ftl0_packets.specs.Items.{texts}
-use Rattle.ftl0_packets.specs.Layout.{Fits, Item, PacketValue}
-use Rattle.ftl0_packets.specs.Reading.{packets_of, rest_of}
 use Rattle.client_notes.specs.Notes.{Lists}
 use Rattle.ftl0_job.specs.JobState.{NotesGoWith}
 use Rattle.ftl0_job.specs.Table.{new_job}
@@ -25,19 +25,24 @@ use Rattle.air_attempt.proofs.ClientWorks.{CallsOrUp, KeepsWorking, after_of, ke
 use Rattle.air_attempt.proofs.JobAppend.{items-then, reaches-by, reaches-then, said-then, texts-then}
 use Rattle.air_attempt.proofs.JobSays.{entries-fit, reached-fits}
 use Rattle.air_attempt.proofs.LinkKeeps.{KeepsStreams, does-taken, taken_as}
-use Rattle.air_attempt.proofs.PacketLists.{ReadsOn, all-append, reads-on}
+use Rattle.air_attempt.proofs.PacketLists.{ReadsOn, reads-on}
+use Rattle.air_attempt.proofs.ListLemmas.{each-append}
 
 -- ---- what came
 
 -- What is read of the pieces that came, once this was told of a frame with this information.
-record ReadsTold (a : Attempted) (pieces : List (List ℕ)) (information : List ℕ) (end : LinkEnd) (told : Heard) : Type 0 where
-  packets : packets_of (concat (taken_as told pieces information)) ≡ packets_of (concat pieces) ++ packets_told told a information
+record ReadsTold (a : Attempted) (pieces : List (List ℕ)) (information : List ℕ) (end : LinkEnd)
+    (told : Heard) : Type 0 where
+  packets : packets_of (concat (taken_as told pieces information)) ≡ packets_of (concat pieces) ++ packets_told told a
+      information
   rest : (after_told told (with_end a end) information).rest ≡ rest_of (concat (taken_as told pieces information))
 
-module _ (a : Attempted) (pieces : List (List ℕ)) (information : List ℕ) (end : LinkEnd) (rest : a.rest ≡ rest_of (concat pieces)) where
+module _ (a : Attempted) (pieces : List (List ℕ)) (information : List ℕ) (end : LinkEnd)
+    (rest : a.rest ≡ rest_of (concat pieces)) where
   reads-bytes : ReadsOn pieces information → ReadsTold a pieces information end Bytes
   reads-bytes reads =
-      let same : rest_of (concat pieces) ++ information ≡ a.rest ++ information = ap (λ (r : List ℕ). r ++ information) (sym rest) in
+      let same : rest_of (concat pieces) ++ information ≡ a.rest ++ information =
+      ap (λ (r : List ℕ). r ++ information) (sym rest) in
       record {
         packets = reads.packets ∙ ap (λ (octets : List ℕ). packets_of (concat pieces) ++ packets_of octets) same;
         rest = ap (λ (octets : List ℕ). rest_of octets) (sym same) ∙ sym reads.rest;
@@ -46,7 +51,8 @@ module _ (a : Attempted) (pieces : List (List ℕ)) (information : List ℕ) (en
   reads-nothing : packets_of (concat pieces) ≡ packets_of (concat pieces) ++ []
   reads-nothing = sym (append-nil (packets_of (concat pieces)))
 
-  reads-told : (told : Heard) → IsOctets (concat (taken_as told pieces information)) → ReadsTold a pieces information end told
+  reads-told : (told : Heard) → IsOctets (concat (taken_as told pieces information))
+      → ReadsTold a pieces information end told
   reads-told Nothing octets = record { packets = reads-nothing; rest = rest }
   reads-told Opened octets = record { packets = reads-nothing; rest = rest }
   reads-told Reopened octets = record { packets = reads-nothing; rest = rest }
@@ -57,7 +63,8 @@ module _ (a : Attempted) (pieces : List (List ℕ)) (information : List ℕ) (en
 
 -- What comes to the client's side makes this of its end of the link, and these entries of the job; and that makes this
 -- of the attempt.
-pub record Happens (lists last : Lists) (a : Attempted) (o : Outcome) (information : List ℕ) (entries : List JobEntry) (now : Attempted) : Type 0 where
+pub record Happens (lists last : Lists) (a : Attempted) (o : Outcome) (information : List ℕ) (entries : List JobEntry)
+    (now : Attempted) : Type 0 where
   pub comes : Comes information a.end o
   pub now_is : now ≡ after_of lists a o.after information o.heard
   pub doings : List Doing
@@ -77,8 +84,10 @@ pub record SaysInRange (lists : Lists) (side : ClientSide) : Type 0 where
 abbrev pub gone_on : List JobEntry → Attempted → LinkEnd → ClientSide → ClientSide
 gone_on entries now end side = record side { attempted = with_end now end; entries = side.entries ++ entries }
 
-module _ (lists last : Lists) (side : ClientSide) (o : Outcome) (information : List ℕ) (entries : List JobEntry) (now : Attempted) (end : LinkEnd) (job : IsJob side)
-    (says : SaysInRange lists side) (happens : Happens lists last side.attempted o information entries now) (keeps : KeepsStreams now.end end) where
+module _ (lists last : Lists) (side : ClientSide) (o : Outcome) (information : List ℕ) (entries : List JobEntry)
+    (now : Attempted) (end : LinkEnd) (job : IsJob side)
+    (says : SaysInRange lists side) (happens : Happens lists last side.attempted o information entries now)
+    (keeps : KeepsStreams now.end end) where
   came : end.taken ≡ taken_as o.heard side.attempted.end.taken information
   came = keeps.taken ∙ does-taken o.after now.end happens.doings happens.does ∙ happens.comes.taken
 
@@ -87,26 +96,35 @@ module _ (lists last : Lists) (side : ClientSide) (o : Outcome) (information : L
       let a : Attempted = side.attempted in
       let before : KeepsWorking a = record { closed = job.closed; working = job.working } in
       subst KeepsWorking (sym happens.now_is)
-      (keeps-working lists a o.after information before o.heard happens.comes.state (subst (StaysReached a) happens.now_is happens.stays))
+      (keeps-working lists a o.after information before o.heard happens.comes.state
+      (subst (StaysReached a) happens.now_is happens.stays))
 
   pub job-goes-on : IsOctets (concat end.taken) → IsJob (gone_on entries now end side)
   job-goes-on octets =
-      let reads = reads-told side.attempted side.attempted.end.taken information o.after job.rest o.heard (subst (λ (pieces : List (List ℕ)). IsOctets (concat pieces)) came octets) in
+      let reads = reads-told side.attempted side.attempted.end.taken information o.after job.rest o.heard
+      (subst (λ (pieces : List (List ℕ)). IsOctets (concat pieces)) came octets) in
       let all = ap (λ (pieces : List (List ℕ)). concat pieces) came in
       record {
         begun = job.begun;
         reached =
-            reaches-then (new_job side.asked) side.attempted.job now.job side.entries entries job.reached (reaches-by lists last side.attempted.job now.job entries happens.goes);
+            reaches-then (new_job side.asked) side.attempted.job now.job side.entries entries job.reached
+            (reaches-by lists last side.attempted.job now.job entries happens.goes);
         packets =
-            ap (λ (text : List ℕ). packets_of text) all ∙ reads.packets ∙ ap₂ (λ (xs ys : List Item). xs ++ ys) job.packets happens.items ∙ sym (items-then side.entries entries);
+            ap (λ (text : List ℕ). packets_of text) all ∙ reads.packets
+            ∙ ap₂ (λ (xs ys : List Item). xs ++ ys) job.packets happens.items
+            ∙ sym (items-then side.entries entries);
         rest =
-            ap (λ (a : Attempted). a.rest) happens.now_is ∙ rest-kept lists side.attempted o.after information o.heard ∙ reads.rest ∙ ap (λ (text : List ℕ). rest_of text) (sym all);
+            ap (λ (a : Attempted). a.rest) happens.now_is ∙ rest-kept lists side.attempted o.after information o.heard
+            ∙ reads.rest ∙ ap (λ (text : List ℕ). rest_of text) (sym all);
         said =
-            keeps.pushed ∙ happens.said ∙ ap (λ (text : List ℕ). text ++ texts (said_in entries)) (happens.comes.pushed ∙ job.said) ∙ sym (texts-then side.entries entries);
+            keeps.pushed ∙ happens.said ∙ ap (λ (text : List ℕ). text ++ texts (said_in entries))
+            (happens.comes.pushed ∙ job.said) ∙ sym (texts-then side.entries entries);
         fits =
             subst (λ (packets : List PacketValue). AllByRecursion Fits packets) (sym (said-then side.entries entries))
-            (all-append Fits (said_in side.entries) (said_in entries) job.fits
-            (entries-fit lists last side.attempted.job now.job entries happens.goes (reached-fits (new_job side.asked) side.attempted.job side.entries job.reached says.asked) says.go_with));
+            (each-append Fits (said_in side.entries) (said_in entries) job.fits
+            (entries-fit lists last side.attempted.job now.job entries happens.goes
+            (reached-fits (new_job side.asked) side.attempted.job side.entries job.reached says.asked)
+            says.go_with));
         told_down = λ why is. keeps.state ∙ happens.told_down why is;
         closed = working.closed;
         working = λ none. subst (λ (s : LinkState). CallsOrUp s) (sym keeps.state) (working.working none);

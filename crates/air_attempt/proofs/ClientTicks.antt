@@ -1,9 +1,13 @@
 -- The newest attempt of a client, once a tick came: it goes on, or a further SABM was sent, with which one begins.
-use Rattle.std.proofs.Common.{◌≡◌, ◌⊎◌, ℕ, List, [], ◌∷◌, ◌++◌, map, true, false, Option, None, Some, refl, inl, inr, sym, ap, ◌∙◌, subst}
+use Rattle.std.proofs.Common.{◌≡◌, ◌⊎◌, ℕ, List, [], ◌∷◌, ◌++◌, map, true, false, Option, None, Some, refl, inl, inr}
+use Rattle.std.proofs.Common.{sym, ap, ◌∙◌, subst}
 use Rattle.std.specs.List.{concat}
 use Rattle.px_base.specs.CallSign.{CallSign}
 use Rattle.px_base.specs.Octets.{IsOctets}
 use Rattle.ax25_frames.specs.FrameText.{FrameValue}
+use Rattle.ftl0_packets.specs.Items.{texts}
+use Rattle.ftl0_packets.specs.Reading.{packets_of}
+use Rattle.ftl0_packets.proofs.OctetLemmas.{IsOctets-nil}
 use Rattle.ax25_link.specs.Air.{fresh}
 use Rattle.ax25_link.specs.declared.state.LinkState.{LinkState}
 use Rattle.ax25_link.specs.declared.state.LinkState.TheVariants.{Calling}
@@ -15,10 +19,8 @@ use Rattle.client_notes.specs.Notes.{Lists}
 use Rattle.ftl0_client.specs.Attempt.Attempted.{Attempted}
 use Rattle.ftl0_client.specs.Attempt.Hearing.{ticking, with_end}
 use Rattle.ftl0_client.specs.Attempt.Laws.{OutcomeLaw}
-use Rattle.ftl0_client.specs.Entries.{JobEntry, TickingLaw, entries_ticked, items_in, lost, passed, queued, said_in, took}
-use Rattle.ftl0_packets.specs.Items.{texts}
-use Rattle.ftl0_packets.specs.Reading.{packets_of}
-use Rattle.ftl0_packets.proofs.OctetLemmas.{IsOctets-nil}
+use Rattle.ftl0_client.specs.Entries.{JobEntry, TickingLaw, entries_ticked, items_in, lost, passed, queued, said_in}
+use Rattle.ftl0_client.specs.Entries.{took}
 use Rattle.air_attempt.specs.Attempt.{Attempt, IsAnsweredBy, IsAttempt, IsOneCall, client_station, server_station}
 use Rattle.air_attempt.specs.Sides.{ClientSide, IsJob, ServerSide}
 use Rattle.air_attempt.specs.Transfers.{has_call}
@@ -30,6 +32,7 @@ use Rattle.air_attempt.proofs.ClientLink.{StepKeeps, StepOf, step-keeps}
 use Rattle.air_attempt.proofs.ClientRows.{tick_outcome}
 use Rattle.air_attempt.proofs.ClientUnanswered.{StaysWaiting, tick-stays, ticks-nothing}
 use Rattle.air_attempt.proofs.Sent.{has-none, none-calls, stays-of}
+use Rattle.air_attempt.proofs.PacketLists.{no-packets}
 
 -- a SABM alone is one
 no-call-one : (frames : List FrameValue) (last : LinkEnd) → SendsCall frames last → has_call frames ≡ false → ⊥
@@ -48,16 +51,14 @@ no-texts (lost item row ∷ entries) items said = absurd (cc items)
 no-texts (passed item ∷ entries) items said = absurd (cc items)
 no-texts (queued due ∷ entries) items said = absurd (cc said)
 
-none-read : packets_of [] ≡ []
-unfolding packets_of
-none-read = refl
-
 -- behind an end that was never used there are no entries
 pub unused-entries : (side : ClientSide) → IsJob side → IsUnused side.attempted.end → side.entries ≡ []
 unused-entries side job unused =
-    no-texts side.entries (sym job.packets ∙ ap (λ (pieces : List (List ℕ)). packets_of (concat pieces)) unused.taken ∙ none-read) (sym job.said ∙ unused.pushed)
+    no-texts side.entries (sym job.packets ∙ ap (λ (pieces : List (List ℕ)). packets_of (concat pieces)) unused.taken
+    ∙ no-packets) (sym job.said ∙ unused.pushed)
 
-module _ (law : TickingLaw) (outcome : OutcomeLaw) (me server : CallSign) (lists : Lists) (a : Attempt) (is : IsAttempt me server a) (says : SaysInRange lists a.client) where
+module _ (law : TickingLaw) (outcome : OutcomeLaw) (me server : CallSign) (lists : Lists) (a : Attempt)
+    (is : IsAttempt me server a) (says : SaysInRange lists a.client) where
   -- what the tick makes of the attempt
   abbrev before : Attempted
   before = a.client.attempted
@@ -74,7 +75,8 @@ module _ (law : TickingLaw) (outcome : OutcomeLaw) (me server : CallSign) (lists
   called : before.end.called ≡ true
   called = is.stations.client.called_is
 
-  module _ (last : LinkEnd) (frames : List FrameValue) (step : StepOf a.window before.end tick now.end frames last) where
+  module _ (last : LinkEnd) (frames : List FrameValue)
+      (step : StepOf a.window before.end tick now.end frames last) where
     keeps : StepKeeps a.window before.end now.end frames last
     keeps = step-keeps a.window before.end tick now.end frames last is.window called is.calling step
 
@@ -90,13 +92,15 @@ module _ (law : TickingLaw) (outcome : OutcomeLaw) (me server : CallSign) (lists
       waiting (inl stays) = stays
       waiting (inr sends) = absurd (no-call-one frames last sends none)
 
-      stands : (o : Option ServerSide) → a.server ≡ o → IsAnsweredBy a o → Stands a (moved (side last) frames a.by_server a)
+      stands : (o : Option ServerSide) → a.server ≡ o → IsAnsweredBy a o
+          → Stands a (moved (side last) frames a.by_server a)
       stands None same unanswered =
           waiting-stands a (side last) frames a.by_server entries same unanswered refl
           (waiting (tick-stays a.window before now.end last frames (waits-of a unanswered) step)) unanswered.refused
       stands (Some session) same answered =
           linked-stands a (moved (side last) frames a.by_server a) session same answered refl
-          (prefix_law.ticked a.window (client_station a) (server_station a session) (heard_of_coming a.window before.end tick) step.doings frames last is.window
+          (prefix_law.ticked a.window (client_station a) (server_station a session)
+          (heard_of_coming a.window before.end tick) step.doings frames last is.window
           answered.linked step.link (none-calls frames none))
 
       pub tick-moves : IsAttempt me server (moved (side last) frames a.by_server a)
@@ -118,14 +122,16 @@ module _ (law : TickingLaw) (outcome : OutcomeLaw) (me server : CallSign) (lists
     module _ (calls : has_call frames ≡ true) where
       never-calls : (before.end.state ≡ Calling → ⊥) → ⊥
       never-calls never =
-          let others = prefix_law.no_call.step a.window before.end last tick (heard_of_coming a.window before.end tick) step.doings frames step.link (λ same. never) in
+          let others = prefix_law.no_call.step a.window before.end last tick
+          (heard_of_coming a.window before.end tick) step.doings frames step.link (λ same. never) in
           let no : true ≡ false = sym calls ∙ has-none frames others in
           cc no
 
       -- only an end that calls sends one
       called-still : (state : LinkState) → before.end.state ≡ state → before.end.state ≡ Calling
       called-still Calling same = same
-      called-still state same = absurd (never-calls (λ calling. (let no : state ≡ Calling = sym same ∙ calling in cc no)))
+      called-still state same =
+          absurd (never-calls (λ calling. (let no : state ≡ Calling = sym same ∙ calling in cc no)))
 
       calling : before.end.state ≡ Calling
       calling = called-still before.end.state refl
@@ -138,7 +144,9 @@ module _ (law : TickingLaw) (outcome : OutcomeLaw) (me server : CallSign) (lists
       sending (inr sends) = sends
 
       sends : SendsCall frames last
-      sends = sending (tick-stays a.window before now.end last frames (record { state = inl calling; unused = unused }) step)
+      sends =
+          sending (tick-stays a.window before now.end last frames
+          (record { state = inl calling; unused = unused }) step)
 
       unused-last : IsUnused last
       unused-last = keeps.calling sends.state
@@ -160,15 +168,21 @@ module _ (law : TickingLaw) (outcome : OutcomeLaw) (me server : CallSign) (lists
 
       job-anew : IsJob anew.client
       job-anew =
-          let octets : IsOctets (concat last.taken) = subst (λ (pieces : List (List ℕ)). IsOctets (concat pieces)) (sym unused-last.taken) IsOctets-nil in
-          subst (λ (es : List JobEntry). IsJob (record { attempted = with_end now last; asked = a.client.asked; entries = es })) none-did (job-ticked octets)
+          let octets : IsOctets (concat last.taken) =
+          subst (λ (pieces : List (List ℕ)). IsOctets (concat pieces)) (sym unused-last.taken) IsOctets-nil in
+          subst (λ (es : List JobEntry). IsJob (record {
+            attempted = with_end now last;
+            asked = a.client.asked;
+            entries = es;
+          })) none-did (job-ticked octets)
 
       one-call : IsOneCall (map fresh frames)
       one-call = subst (λ (fs : List FrameValue). IsOneCall (map fresh fs)) (sym sends.frames_are) (sends.calls, tt)
 
       pub tick-begins : IsAttempt me server anew
       tick-begins =
-          let stays = stays-of a.window true me server [] frames before.end last is.window is.stations.client tt keeps.sends in
+          let stays = stays-of a.window true me server [] frames before.end last is.window is.stations.client tt
+          keeps.sends in
           record {
             window = is.window;
             stations = record { client = stays.end; serves = tt; from_client = stays.sent; from_server = tt };

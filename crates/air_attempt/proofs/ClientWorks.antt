@@ -1,8 +1,11 @@
 -- As long as nothing became of an attempt its link calls or is up; and where its link went down before an outcome, none
 -- comes.
-use Rattle.std.proofs.Common.{◌≡◌, ◌⊎◌, ℕ, List, [], ◌∷◌, Bool, true, Option, None, Some, refl, inr, sym, ap, ◌∙◌, subst}
+use Rattle.std.proofs.Common.{◌≡◌, ◌⊎◌, ℕ, List, [], ◌∷◌, Bool, true, Option, None, Some, refl, inr, sym, ap, ◌∙◌}
+use Rattle.std.proofs.Common.{subst}
 use Rattle.std.specs.Prelude.{if◌then◌else◌, ◌&&◌}
 use Rattle.std.proofs.lemmas.Bool.{cond_both}
+use Rattle.ftl0_packets.specs.Items.{kind_of_item, texts}
+use Rattle.ftl0_packets.specs.Layout.{Item}
 use Rattle.ax25_link.specs.Calls.{after_hang_up, after_push}
 use Rattle.ax25_link.specs.declared.state.Heard.{Heard}
 use Rattle.ax25_link.specs.declared.state.Heard.TheVariants.{Nothing, Opened, Reopened, Bytes, Closed}
@@ -11,8 +14,6 @@ use Rattle.ax25_link.specs.declared.state.LinkState.TheVariants.{Calling, Up, Do
 use Rattle.ax25_link.specs.declared.state.Why.{Why}
 use Rattle.ax25_link.specs.Ends.{LinkEnd, free_octets}
 use Rattle.ax25_link.specs.Timer.{is_up}
-use Rattle.ftl0_packets.specs.Items.{kind_of_item, texts}
-use Rattle.ftl0_packets.specs.Layout.{Item}
 use Rattle.packet_link.specs.Queuing.{fits}
 use Rattle.packet_link.proofs.Queuing.{filling-keeps}
 use Rattle.client_notes.specs.Laws.{after_all}
@@ -46,18 +47,25 @@ goes-same : (a : Attempted) → GoesFrom a a
 goes-same a = record { down = refl; rest = refl; works = λ works. works }
 
 goes-then : (a between now : Attempted) → GoesFrom a between → GoesFrom between now → GoesFrom a now
-goes-then a between now first second = record { down = second.down ∙ first.down; rest = second.rest ∙ first.rest; works = λ works. second.works (first.works works) }
+goes-then a between now first second =
+    record {
+      down = second.down ∙ first.down;
+      rest = second.rest ∙ first.rest;
+      works = λ works. second.works (first.works works);
+    }
 
 -- ---- packets that are taken
 
 replied-state : (end : LinkEnd) (text : List ℕ) → (replied end text).state ≡ end.state
-replied-state end text = cond_both (fits end text) (after_push end text) end (λ (e : LinkEnd). e.state ≡ end.state) (λ b. refl) (λ b. refl)
+replied-state end text =
+    cond_both (fits end text) (after_push end text) end (λ (e : LinkEnd). e.state ≡ end.state) (λ b. refl) (λ b. refl)
 
 parted-works : (o : Option Ending) (end : LinkEnd) → o ≡ None → CallsOrUp end.state → CallsOrUp (parting o end).state
 parted-works None end none works = works
 parted-works (Some ending) end none works = absurd (cc none)
 
-goes-one : (lists : Lists) (a : Attempted) (item : Item) (o : Option Ending) → a.job.ending ≡ o → GoesFrom a (taking_by o lists a item).after
+goes-one : (lists : Lists) (a : Attempted) (item : Item) (o : Option Ending) → a.job.ending ≡ o
+    → GoesFrom a (taking_by o lists a item).after
 goes-one lists a item (Some ending) is = goes-same a
 goes-one lists a item None is =
     let text : List ℕ = texts (job_row lists a.job item).replies in
@@ -65,18 +73,21 @@ goes-one lists a item None is =
     record {
       down = refl;
       rest = refl;
-      works = λ works none. parted-works now.ending (replied a.end text) none (subst CallsOrUp (sym (replied-state a.end text)) (works is));
+      works =
+          λ works none. parted-works now.ending (replied a.end text) none
+          (subst CallsOrUp (sym (replied-state a.end text)) (works is));
     }
 
 goes-taken : (lists : Lists) (a : Attempted) (items : List Item) → GoesFrom a (taking lists a items).after
 goes-taken lists a [] = goes-same a
 goes-taken lists a (item ∷ items) =
     let one = taking_one lists a item in
-    goes-then a one.after (taking (after_all lists one.noted) one.after items).after (goes-one lists a item a.job.ending refl) (goes-taken (after_all lists one.noted) one.after items)
+    goes-then a one.after (taking (after_all lists one.noted) one.after items).after
+    (goes-one lists a item a.job.ending refl) (goes-taken (after_all lists one.noted) one.after items)
 
 -- ---- the end of an event
 
-due-none : (o : Option Ending) (doing : Work) (due : DuePacket JobState) → due_by o doing ≡ Some due → o ≡ None
+pub due-none : (o : Option Ending) (doing : Work) (due : DuePacket JobState) → due_by o doing ≡ Some due → o ≡ None
 due-none None doing due is = refl
 due-none (Some ending) doing due is = absurd (cc is)
 
@@ -84,7 +95,9 @@ goes-queued : (a : Attempted) (count : ℕ) → GoesFrom a (queuing count a)
 goes-queued a count =
     filling-keeps (λ (at : Attempted). at.end) (λ at. next_due at.job) after_due (GoesFrom a)
     (λ at due is goes.
-    goes-then a at (after_due due at) goes (record { down = refl; rest = refl; works = λ works none. works (due-none at.job.ending at.job.work due is) })) count a (goes-same a)
+    goes-then a at (after_due due at) goes
+    (record { down = refl; rest = refl; works = λ works none. works (due-none at.job.ending at.job.work due is) }))
+    count a (goes-same a)
 
 later-some : (o : Option Ending) (free : Bool) → (is_later o && free) ≡ true → o ≡ None → ⊥
 later-some None free is none = cc is
@@ -93,12 +106,18 @@ later-some (Some ending) free is none = cc none
 goes-parted : (a : Attempted) → GoesFrom a (parting_later a)
 goes-parted a =
     cond_both (is_later a.job.ending && is_all_free a.end) (record a { end = after_hang_up a.end }) a (GoesFrom a)
-    (λ both. record { down = refl; rest = refl; works = λ works none. absurd (later-some a.job.ending (is_all_free a.end) both none) }) (λ not_both. goes-same a)
+    (λ both. record {
+      down = refl;
+      rest = refl;
+      works = λ works none. absurd (later-some a.job.ending (is_all_free a.end) both none);
+    })
+    (λ not_both. goes-same a)
 
 goes-settled : (a : Attempted) → GoesFrom a (settled a)
 goes-settled a =
     cond_both (is_up a.end.state) (parting_later (queuing (free_octets a.end) a)) a (GoesFrom a)
-    (λ up. goes-then a (queuing (free_octets a.end) a) (parting_later (queuing (free_octets a.end) a)) (goes-queued a (free_octets a.end)) (goes-parted (queuing (free_octets a.end) a)))
+    (λ up. goes-then a (queuing (free_octets a.end) a) (parting_later (queuing (free_octets a.end) a))
+    (goes-queued a (free_octets a.end)) (goes-parted (queuing (free_octets a.end) a)))
     (λ down. goes-same a)
 
 -- where the link is down, nothing is done
@@ -123,21 +142,27 @@ down-outcome (Some ending) down why is = absurd (cc is)
 
 -- the attempt at the end of an event, once this was told
 abbrev pub after_of : Lists → Attempted → LinkEnd → List ℕ → Heard → Attempted
-after_of lists a end octets told = settled (taking lists (after_told told (with_end a end) octets) (packets_told told a octets)).after
+after_of lists a end octets told =
+    settled (taking lists (after_told told (with_end a end) octets) (packets_told told a octets)).after
 
-goes-all : (lists : Lists) (next : Attempted) (items : List Item) → GoesFrom next (settled (taking lists next items).after)
+goes-all : (lists : Lists) (next : Attempted) (items : List Item)
+    → GoesFrom next (settled (taking lists next items).after)
 goes-all lists next items =
     let taken = (taking lists next items).after in
     goes-then next taken (settled taken) (goes-taken lists next items) (goes-settled taken)
 
 -- the octets of which no packet was taken yet are those that were left before any was
-pub rest-kept : (lists : Lists) (a : Attempted) (end : LinkEnd) (octets : List ℕ) (told : Heard) → (after_of lists a end octets told).rest ≡ (after_told told (with_end a end) octets).rest
-rest-kept lists a end octets told = (goes-all lists (after_told told (with_end a end) octets) (packets_told told a octets)).rest
+pub rest-kept : (lists : Lists) (a : Attempted) (end : LinkEnd) (octets : List ℕ) (told : Heard)
+    → (after_of lists a end octets told).rest ≡ (after_told told (with_end a end) octets).rest
+rest-kept lists a end octets told =
+    (goes-all lists (after_told told (with_end a end) octets) (packets_told told a octets)).rest
 
 module _ (lists : Lists) (a : Attempted) (end : LinkEnd) (octets : List ℕ) (keeps : KeepsWorking a) where
   -- it goes on from one that was told nothing of the link's end
-  goes-on : (next : Attempted) (items : List Item) → next.down ≡ a.down → next.job ≡ a.job → (CallsOrUp a.end.state → CallsOrUp next.end.state)
-      → StaysReached a (settled (taking lists next items).after) → KeepsWorking (settled (taking lists next items).after)
+  goes-on : (next : Attempted) (items : List Item) → next.down ≡ a.down → next.job ≡ a.job
+      → (CallsOrUp a.end.state → CallsOrUp next.end.state)
+      → StaysReached a (settled (taking lists next items).after)
+      → KeepsWorking (settled (taking lists next items).after)
   goes-on next items down job state stays =
       let now : Attempted = settled (taking lists next items).after in
       let goes : GoesFrom next now = goes-all lists next items in
@@ -145,14 +170,17 @@ module _ (lists : Lists) (a : Attempted) (end : LinkEnd) (octets : List ℕ) (ke
       record {
         closed = λ why is.
             let before : a.down ≡ Some why = sym same ∙ is in
-            let reached : outcome_of a ≡ Some (LinkDown why) = ap (λ (o : Option Ending). outcome_by o a.down) (keeps.closed why before) ∙ ap (λ (d : Option Why). outcome_by None d) before in
+            let reached : outcome_of a ≡ Some (LinkDown why) =
+            ap (λ (o : Option Ending). outcome_by o a.down) (keeps.closed why before)
+            ∙ ap (λ (d : Option Why). outcome_by None d) before in
             down-outcome now.job.ending now.down why (stays (LinkDown why) reached);
         working = λ none.
             let both = none-outcome now.job.ending now.down none in
             goes.works
             (λ not_ended.
             let before : a.job.ending ≡ None = ap (λ (j : JobState). j.ending) (sym job) ∙ not_ended in
-            state (keeps.working (ap (λ (o : Option Ending). outcome_by o a.down) before ∙ ap (λ (d : Option Why). outcome_by None d) (sym same ∙ both.1))))
+            state (keeps.working (ap (λ (o : Option Ending). outcome_by o a.down) before
+            ∙ ap (λ (d : Option Why). outcome_by None d) (sym same ∙ both.1))))
             both.0;
       }
 
@@ -162,21 +190,27 @@ module _ (lists : Lists) (a : Attempted) (end : LinkEnd) (octets : List ℕ) (ke
     closed = λ other down. by a.job.ending refl other down;
     working = λ none.
         let both = none-outcome a.job.ending (down_by a.job.ending a.down why) none in
-        absurd (let no : Some why ≡ None = ap (λ (o : Option Ending). down_by o a.down why) (sym both.0) ∙ both.1 in cc no);
+        absurd (let no : Some why ≡ None = ap (λ (o : Option Ending). down_by o a.down why) (sym both.0) ∙ both.1 in
+        cc no);
   }
     where
-      by : (o : Option Ending) → a.job.ending ≡ o → (other : Why) → down_by a.job.ending a.down why ≡ Some other → a.job.ending ≡ None
+      by : (o : Option Ending) → a.job.ending ≡ o → (other : Why) → down_by a.job.ending a.down why ≡ Some other
+          → a.job.ending ≡ None
       by None same other down = same
-      by (Some ending) same other down = keeps.closed other (ap (λ (o : Option Ending). down_by o a.down why) (sym same) ∙ down)
+      by (Some ending) same other down =
+          keeps.closed other (ap (λ (o : Option Ending). down_by o a.down why) (sym same) ∙ down)
 
   same-works : (before now : LinkState) → now ≡ before → CallsOrUp before → CallsOrUp now
   same-works before now same works = subst CallsOrUp (sym same) works
 
   -- so it is after each event
-  pub keeps-working : (told : Heard) → StateAs told a.end.state end.state → StaysReached a (after_of lists a end octets told) → KeepsWorking (after_of lists a end octets told)
+  pub keeps-working : (told : Heard) → StateAs told a.end.state end.state
+      → StaysReached a (after_of lists a end octets told) → KeepsWorking (after_of lists a end octets told)
   keeps-working Nothing is stays = goes-on (with_end a end) [] refl refl (same-works a.end.state end.state is) stays
   keeps-working Opened is stays = goes-on (with_end a end) [] refl refl (λ works. inr is) stays
   keeps-working Reopened is stays = goes-on (with_end a end) [] refl refl (same-works a.end.state end.state is) stays
-  keeps-working Bytes is stays = goes-on (after_told Bytes (with_end a end) octets) (packets_told Bytes a octets) refl refl (same-works a.end.state end.state is) stays
+  keeps-working Bytes is stays =
+      goes-on (after_told Bytes (with_end a end) octets) (packets_told Bytes a octets) refl refl
+      (same-works a.end.state end.state is) stays
   keeps-working (Closed why) is stays =
       subst KeepsWorking (sym (settled-down (closing (with_end a end) why) is)) (closes why is)

@@ -9,8 +9,9 @@ use Rattle.ftl0_server.specs.Server.{Server}
 use Rattle.ftl0_server.specs.Slots.{Slot, all_freed, connected, free, leaving, left_by, place_of}
 use Rattle.air_attempt.specs.Laws.{IsBetween, IsSeatedIn}
 use Rattle.air_attempt.specs.Transfers.{connection_of, has_session}
-use Rattle.air_attempt.proofs.Places.{connection-is, connection-no, freed-seat, get-set, held, place-of-at, place-of-no}
+use Rattle.air_attempt.proofs.Places.{connection-is, connection-no, freed-seat, held, place-of-at, place-of-no}
 use Rattle.air_attempt.proofs.Places.{place-of-not, seat-freed}
+use Rattle.air_attempt.proofs.ListLemmas.{set-at}
 use Rattle.air_attempt.proofs.ServerBetween.{Resits}
 
 pub left-held : (over : Bool) (c : Connected) → held (left_by over c) ≡ Some c
@@ -136,7 +137,7 @@ place-behind old last new between caller place now within slots_are new_are sits
       ∙ ap Some now_is;
   caller_is = caller_is;
   only = λ other slot that at is theirs.
-      elim (get-set old.slots place other now slot within
+      elim (set-at old.slots place other now slot
       (ap (λ (s : List Slot). slice_get s other) (sym slots_are) ∙ at)) [
         | inl it ↦ it.0
         | inr was ↦ sits.only other that (held-seat old between other slot that was.1 is) theirs

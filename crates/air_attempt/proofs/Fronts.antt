@@ -4,14 +4,14 @@ use Rattle.std.specs.List.{AllByRecursion, concat}
 use Rattle.std.proofs.lemmas.List.{map-append}
 use Rattle.px_base.specs.CallSign.{CallSign}
 use Rattle.px_base.specs.Octets.{IsFront}
-use Rattle.ax25_link.specs.Air.{Transmission}
-use Rattle.ax25_link.specs.Ends.{LinkEnd}
-use Rattle.ax25_link.specs.Linked.{AreLinked}
-use Rattle.ax25_link.proofs.Offered.{prefix_law}
 use Rattle.ftl0_packets.specs.Items.{texts}
 use Rattle.ftl0_packets.specs.Layout.{Fits, Item, PacketValue}
 use Rattle.ftl0_packets.specs.Reading.{packets_of}
 use Rattle.ftl0_packets.proofs.SplitLemmas.{read_front}
+use Rattle.ax25_link.specs.Air.{Transmission}
+use Rattle.ax25_link.specs.Ends.{LinkEnd}
+use Rattle.ax25_link.specs.Linked.{AreLinked}
+use Rattle.ax25_link.proofs.Offered.{prefix_law}
 use Rattle.ftl0_server.specs.Entries as session
 use Rattle.ftl0_client.specs.Entries as job
 use Rattle.air_attempt.specs.Attempt.{Attempt, IsAnswered, IsAttempt, client_station, server_station}

@@ -7,25 +7,36 @@ use Rattle.ftl0_packets.proofs.SplitLemmas.{texts-append}
 use Rattle.client_notes.specs.Laws.{after_all}
 use Rattle.client_notes.specs.Notes.{Lists}
 use Rattle.ftl0_job.specs.Table.{JobState, job_after}
-use Rattle.ftl0_client.specs.Entries.{GoesBy, JobEntry, after_losing, items_in, items_of, lost, packets_said, passed, queued, said_in, took}
+use Rattle.ftl0_client.specs.Entries.{GoesBy, JobEntry, after_losing, items_in, items_of, lost, packets_said, passed}
+use Rattle.ftl0_client.specs.Entries.{queued, said_in, took}
 use Rattle.air_attempt.specs.Sides.{JobReaches}
 
 -- what entries of an event make of a job
-pub reaches-by : (lists last : Lists) (doing now : JobState) (entries : List JobEntry) → GoesBy lists doing entries last now → JobReaches doing entries now
+pub reaches-by : (lists last : Lists) (doing now : JobState) (entries : List JobEntry)
+    → GoesBy lists doing entries last now → JobReaches doing entries now
 reaches-by lists last doing now [] goes = goes.1
 reaches-by lists last doing now (took item row ∷ entries) goes =
     ((goes.0, (lists, goes.1)), reaches-by (after_all lists row.commands) last (job_after row) now entries goes.2)
-reaches-by lists last doing now (lost item row ∷ entries) goes =
-    ((goes.0, (lists, goes.1)), reaches-by (after_all lists row.commands) last (after_losing (kind_of_item item) row) now entries goes.2)
+reaches-by lists last doing now (lost item row ∷ entries) goes = (
+  (goes.0, (lists, goes.1)),
+  reaches-by (after_all lists row.commands) last
+      (after_losing (kind_of_item item) row) now entries goes.2,
+)
 reaches-by lists last doing now (passed item ∷ entries) goes = (goes.0, reaches-by lists last doing now entries goes.1)
-reaches-by lists last doing now (queued due ∷ entries) goes = (goes.0, reaches-by lists last due.state now entries goes.1)
+reaches-by lists last doing now (queued due ∷ entries) goes =
+    (goes.0, reaches-by lists last due.state now entries goes.1)
 
-pub reaches-then : (doing between now : JobState) (es fs : List JobEntry) → JobReaches doing es between → JobReaches between fs now → JobReaches doing (es ++ fs) now
+pub reaches-then : (doing between now : JobState) (es fs : List JobEntry) → JobReaches doing es between
+    → JobReaches between fs now → JobReaches doing (es ++ fs) now
 reaches-then doing between now [] fs first second = subst (λ (j : JobState). JobReaches j fs now) first second
-reaches-then doing between now (took item row ∷ es) fs first second = (first.0, reaches-then (job_after row) between now es fs first.1 second)
-reaches-then doing between now (lost item row ∷ es) fs first second = (first.0, reaches-then (after_losing (kind_of_item item) row) between now es fs first.1 second)
-reaches-then doing between now (passed item ∷ es) fs first second = (first.0, reaches-then doing between now es fs first.1 second)
-reaches-then doing between now (queued due ∷ es) fs first second = (first.0, reaches-then due.state between now es fs first.1 second)
+reaches-then doing between now (took item row ∷ es) fs first second =
+    (first.0, reaches-then (job_after row) between now es fs first.1 second)
+reaches-then doing between now (lost item row ∷ es) fs first second =
+    (first.0, reaches-then (after_losing (kind_of_item item) row) between now es fs first.1 second)
+reaches-then doing between now (passed item ∷ es) fs first second =
+    (first.0, reaches-then doing between now es fs first.1 second)
+reaches-then doing between now (queued due ∷ es) fs first second =
+    (first.0, reaches-then due.state between now es fs first.1 second)
 
 pub items-then : (es fs : List JobEntry) → items_in (es ++ fs) ≡ items_in es ++ items_in fs
 items-then = flat_map-append items_of
@@ -34,4 +45,5 @@ pub said-then : (es fs : List JobEntry) → said_in (es ++ fs) ≡ said_in es ++
 said-then = flat_map-append packets_said
 
 pub texts-then : (es fs : List JobEntry) → texts (said_in (es ++ fs)) ≡ texts (said_in es) ++ texts (said_in fs)
-texts-then es fs = ap (λ (packets : List PacketValue). texts packets) (said-then es fs) ∙ texts-append (said_in es) (said_in fs)
+texts-then es fs =
+    ap (λ (packets : List PacketValue). texts packets) (said-then es fs) ∙ texts-append (said_in es) (said_in fs)

@@ -1,5 +1,6 @@
 -- The fields of all packets that a job says have their ranges, where its work's have and the notes go with it.
-use Rattle.std.proofs.Common.{◌≡◌, ℕ, ◌^◌, ◌<◌, List, [], ◌∷◌, ◌++◌, length, drop, Option, None, Some, Ok, Err, refl, sym, ap, ◌∙◌, subst, arith, lit<}
+use Rattle.std.proofs.Common.{◌≡◌, ℕ, ◌^◌, ◌<◌, List, [], ◌∷◌, ◌++◌, length, drop, Option, None, Some, Ok, Err, refl}
+use Rattle.std.proofs.Common.{sym, ap, ◌∙◌, subst, arith, lit<}
 use Rattle.std.specs.Prelude.{◌==◌, nat_lt}
 use Rattle.std.specs.List.{AllByRecursion}
 use Rattle.std.specs.Option.{option_map}
@@ -8,7 +9,8 @@ use Rattle.std.proofs.lemmas.List.{length-take}
 use Rattle.std.proofs.lemmas.Option.{same_Some}
 use Rattle.px_base.specs.Octets.{IsOctets}
 use Rattle.ftl0_packets.specs.Items.{kind_of_item}
-use Rattle.ftl0_packets.specs.Layout.{Fits, Item, PacketValue, data_end, data_part, dir_short_cmd, dl_error_resp, login_resp, select_resp}
+use Rattle.ftl0_packets.specs.Layout.{Fits, Item, PacketValue, data_end, data_part, dir_short_cmd, dl_error_resp}
+use Rattle.ftl0_packets.specs.Layout.{login_resp, select_resp}
 use Rattle.ftl0_packets.proofs.OctetLemmas.{IsOctets-drop, IsOctets-take}
 use Rattle.client_notes.specs.Laws.{after_all}
 use Rattle.client_notes.specs.Notes.{Lists, got_of}
@@ -32,7 +34,7 @@ use Rattle.ftl0_job.proofs.Offered.{download-rows, job-in, stays-item, upload-ro
 use Rattle.ftl0_client.specs.Entries.{GoesBy, JobEntry, after_losing, lost, passed, queued, said_in, took}
 use Rattle.air_attempt.specs.Laws.{WorkFits}
 use Rattle.air_attempt.specs.Sides.{IsJobRow, JobReaches}
-use Rattle.air_attempt.proofs.PacketLists.{all-append}
+use Rattle.air_attempt.proofs.ListLemmas.{each-append}
 
 -- the replies of a row fit, where so many octets of a file at most were got, and its work does
 record RowFits {S : Type 0} (made : S → Work) (row : Row S) : Type 0 where
@@ -41,7 +43,8 @@ record RowFits {S : Type 0} (made : S → Work) (row : Row S) : Type 0 where
 
 -- ---- uploads
 
-upload-fits : (at : Upload) (packet : PacketValue) → WorkFits (work.Upload at) → RowFits work.Upload (upload_row at packet)
+upload-fits : (at : Upload) (packet : PacketValue) → WorkFits (work.Upload at)
+    → RowFits work.Upload (upload_row at packet)
 upload-fits at packet fits =
     upload-rows (RowFits work.Upload) at
     (record {
@@ -73,14 +76,19 @@ module _ (at : Directory) (fits : WorkFits (work.Directory at)) where
 
   listing-fits : (packet : PacketValue) → ListFits (directory.listing_row at packet)
   listing-fits (data_part octets) =
-      cond_both (nat_lt longest_listing (length (at.listing ++ octets))) _ _ ListFits (λ b. silent _ refl refl) (λ b. silent _ refl refl)
+      cond_both (nat_lt longest_listing (length (at.listing ++ octets))) _ _ ListFits (λ b. silent _ refl refl)
+      (λ b. silent _ refl refl)
   listing-fits data_end = cond_both (are_short_headers at.listing) _ _ ListFits (λ b. asks) (λ b. silent _ refl refl)
   listing-fits (dl_error_resp code) =
-      cond_both (is_empty_code code) _ _ ListFits (λ b. cond_both (are_short_headers at.listing) _ _ ListFits (λ c. silent _ refl refl) (λ c. silent _ refl refl)) (λ b. silent _ refl refl)
+      cond_both (is_empty_code code) _ _ ListFits
+      (λ b. cond_both (are_short_headers at.listing) _ _ ListFits (λ c. silent _ refl refl)
+      (λ c. silent _ refl refl)) (λ b. silent _ refl refl)
   listing-fits packet = silent _ refl refl
 
   selecting-fits : (packet : PacketValue) → ListFits (directory.selecting_row at packet)
-  selecting-fits (select_resp count) = cond_both (count == 0) _ _ ListFits (λ b. silent _ refl refl) (λ b. record { replies = (lit< tt, tt); work = fits })
+  selecting-fits (select_resp count) =
+      cond_both (count == 0) _ _ ListFits (λ b. silent _ refl refl)
+      (λ b. record { replies = (lit< tt, tt); work = fits })
   selecting-fits packet = silent _ refl refl
 
   login-fits : (packet : PacketValue) → ListFits (directory.login_row at packet)
@@ -98,7 +106,8 @@ module _ (at : Directory) (fits : WorkFits (work.Directory at)) where
 
 -- ---- downloads
 
-download-fits : (held : List ℕ) (at : Download) (packet : PacketValue) → length held < 2 ^ 32 → WorkFits (work.Download at) → RowFits work.Download (download_row held at packet)
+download-fits : (held : List ℕ) (at : Download) (packet : PacketValue) → length held < 2 ^ 32
+    → WorkFits (work.Download at) → RowFits work.Download (download_row held at packet)
 download-fits held at packet few fits =
     download-rows (RowFits work.Download) held at
     (record {
@@ -122,84 +131,128 @@ record SaysFit (lists : Lists) (doing : JobState) : Type 0 where
 few-got : (lists : Lists) (at : Download) → HasGot lists at → length (got_of lists at.server at.number) < 2 ^ 32
 few-got lists at has = let fits = has.fits in omega (arith, fits)
 
-item-fits : (lists : Lists) (doing : Work) (item : Item) → WorkFits doing → GoWith lists doing → RowFits (λ (w : Work). w) (item_row lists doing item)
-item-fits lists (work.Upload at) (Ok packet) fits goes = let row = upload-fits at packet fits in record { replies = row.replies; work = row.work }
-item-fits lists (work.Directory at) (Ok packet) fits goes = let row = list-fits at fits packet in record { replies = row.replies; work = row.work }
+item-fits : (lists : Lists) (doing : Work) (item : Item) → WorkFits doing → GoWith lists doing
+    → RowFits (λ (w : Work). w) (item_row lists doing item)
+item-fits lists (work.Upload at) (Ok packet) fits goes =
+    let row = upload-fits at packet fits in record { replies = row.replies; work = row.work }
+item-fits lists (work.Directory at) (Ok packet) fits goes =
+    let row = list-fits at fits packet in record { replies = row.replies; work = row.work }
 item-fits lists (work.Download at) (Ok packet) fits goes =
-    let row = download-fits (got_of lists at.server at.number) at packet (few-got lists at goes) fits in record { replies = row.replies; work = row.work }
+    let row = download-fits (got_of lists at.server at.number) at packet (few-got lists at goes) fits in
+    record { replies = row.replies; work = row.work }
 item-fits lists doing (Err malformed) fits goes = record { replies = tt; work = fits }
 
-row-fits : (lists : Lists) (doing : JobState) (item : Item) (row : Row Work) → doing.ending ≡ None → row ≡ job_row lists doing item → SaysFit lists doing
+row-fits : (lists : Lists) (doing : JobState) (item : Item) (row : Row Work) → doing.ending ≡ None
+    → row ≡ job_row lists doing item → SaysFit lists doing
     → AllByRecursion Fits row.replies × SaysFit (after_all lists row.commands) (job_after row)
 row-fits lists doing item row none is says =
     let goes : GoWith lists doing.work = subst (λ (o : Option Ending). GoBy o lists doing.work) none says.go_with in
     let fits = item-fits lists doing.work item says.work goes in
     let same : row ≡ item_row lists doing.work item = is ∙ job-in lists doing item none in
-    let P : Row Work → Type 0 = λ r. AllByRecursion Fits r.replies × SaysFit (after_all lists r.commands) (job_after r) in
+    let P : Row Work → Type 0 = λ r. AllByRecursion Fits r.replies × SaysFit (after_all lists r.commands)
+    (job_after r) in
     subst P (sym same) (fits.replies, record { work = fits.work; go_with = stays-item lists doing.work item goes })
 
 -- what is due is so
-from-fits : (at : Upload) (number place : ℕ) → WorkFits (work.Upload at) → Fits (due_from at number place).packet × WorkFits (work.Upload (due_from at number place).state)
+from-fits : (at : Upload) (number place : ℕ) → WorkFits (work.Upload at)
+    → Fits (due_from at number place).packet × WorkFits (work.Upload (due_from at number place).state)
 from-fits at number place fits =
-    cond_both (length (drop place at.file) == 0) _ _ (λ (d : DuePacket Upload). Fits d.packet × WorkFits (work.Upload d.state)) (λ none. (tt, fits))
-    (λ some. ((omega (arith, length-take most_data (drop place at.file)), IsOctets-take most_data (drop place at.file) (IsOctets-drop place at.file fits.2)), fits))
+    cond_both (length (drop place at.file) == 0) _ _
+    (λ (d : DuePacket Upload). Fits d.packet × WorkFits (work.Upload d.state)) (λ none. (tt, fits))
+    (λ some. (
+      (
+        omega (arith, length-take most_data (drop place at.file)),
+        IsOctets-take most_data (drop place at.file)
+            (IsOctets-drop place at.file fits.2),
+      ),
+      fits,
+    ))
 
-due-fits : (o : Option Ending) (doing : Work) (due : DuePacket JobState) → due_by o doing ≡ Some due → WorkFits doing → Fits due.packet × WorkFits due.state.work
+due-fits : (o : Option Ending) (doing : Work) (due : DuePacket JobState) → due_by o doing ≡ Some due → WorkFits doing
+    → Fits due.packet × WorkFits due.state.work
 due-fits (Some ending) doing due is fits = absurd (cc is)
 due-fits None (work.Directory at) due is fits = absurd (cc is)
 due-fits None (work.Download at) due is fits = absurd (cc is)
 due-fits None (work.Upload at) due is fits = by at.phase is
   where
-    by : (p : UploadPhase) → option_map in_job (option_map in_work (due_in p at)) ≡ Some due → Fits due.packet × WorkFits due.state.work
+    by : (p : UploadPhase) → option_map in_job (option_map in_work (due_in p at)) ≡ Some due
+        → Fits due.packet × WorkFits due.state.work
     by phase.Login is = absurd (cc is)
     by phase.Go is = absurd (cc is)
     by (phase.Sending number place) is =
-        subst (λ (d : DuePacket JobState). Fits d.packet × WorkFits d.state.work) (same_Some (in_job (in_work (due_from at number place))) due is) (from-fits at number place fits)
+        subst (λ (d : DuePacket JobState). Fits d.packet × WorkFits d.state.work)
+        (same_Some (in_job (in_work (due_from at number place))) due is) (from-fits at number place fits)
     by (phase.Ack number) is = absurd (cc is)
 
 -- the notes go with it still
-from-goes : (lists : Lists) (at : Upload) (number place : ℕ) → at.phase ≡ phase.Sending number place → HasTask lists at → HasTask lists (due_from at number place).state
+from-goes : (lists : Lists) (at : Upload) (number place : ℕ) → at.phase ≡ phase.Sending number place → HasTask lists at
+    → HasTask lists (due_from at number place).state
 from-goes lists at number place is has =
     let same : has.entry.number ≡ number = has.number ∙ ap (λ (p : UploadPhase). number_in p at.known) is in
     cond_both (length (drop place at.file) == 0) _ _ (λ (d : DuePacket Upload). HasTask lists d.state)
-    (λ none. record { entry = has.entry; is_entry = has.is_entry; going = has.going; number = same; file_length = has.file_length })
-    (λ some. record { entry = has.entry; is_entry = has.is_entry; going = has.going; number = same; file_length = has.file_length })
+    (λ none. record {
+      entry = has.entry;
+      is_entry = has.is_entry;
+      going = has.going;
+      number = same;
+      file_length = has.file_length;
+    })
+    (λ some. record {
+      entry = has.entry;
+      is_entry = has.is_entry;
+      going = has.going;
+      number = same;
+      file_length = has.file_length;
+    })
 
-due-goes : (lists : Lists) (o : Option Ending) (doing : Work) (due : DuePacket JobState) → due_by o doing ≡ Some due → GoBy o lists doing → NotesGoWith lists due.state
+due-goes : (lists : Lists) (o : Option Ending) (doing : Work) (due : DuePacket JobState) → due_by o doing ≡ Some due
+    → GoBy o lists doing → NotesGoWith lists due.state
 due-goes lists (Some ending) doing due is goes = absurd (cc is)
 due-goes lists None (work.Directory at) due is goes = absurd (cc is)
 due-goes lists None (work.Download at) due is goes = absurd (cc is)
 due-goes lists None (work.Upload at) due is goes = by at.phase refl is
   where
-    by : (p : UploadPhase) → at.phase ≡ p → option_map in_job (option_map in_work (due_in p at)) ≡ Some due → NotesGoWith lists due.state
+    by : (p : UploadPhase) → at.phase ≡ p → option_map in_job (option_map in_work (due_in p at)) ≡ Some due
+        → NotesGoWith lists due.state
     by phase.Login phase_is is = absurd (cc is)
     by phase.Go phase_is is = absurd (cc is)
     by (phase.Sending number place) phase_is is =
-        subst (λ (d : DuePacket JobState). NotesGoWith lists d.state) (same_Some (in_job (in_work (due_from at number place))) due is) (from-goes lists at number place phase_is goes)
+        subst (λ (d : DuePacket JobState). NotesGoWith lists d.state)
+        (same_Some (in_job (in_work (due_from at number place))) due is)
+        (from-goes lists at number place phase_is goes)
     by (phase.Ack number) phase_is is = absurd (cc is)
 
 -- ---- what a job does
 
 -- whatever comes of an event fits
-pub entries-fit : (lists last : Lists) (doing now : JobState) (entries : List JobEntry) → GoesBy lists doing entries last now → WorkFits doing.work → NotesGoWith lists doing
+pub entries-fit : (lists last : Lists) (doing now : JobState) (entries : List JobEntry)
+    → GoesBy lists doing entries last now → WorkFits doing.work → NotesGoWith lists doing
     → AllByRecursion Fits (said_in entries)
-entries-fit lists last doing now entries goes fits notes = by lists doing entries goes (record { work = fits; go_with = notes })
+entries-fit lists last doing now entries goes fits notes =
+    by lists doing entries goes (record { work = fits; go_with = notes })
   where
-    by : (lists : Lists) (doing : JobState) (entries : List JobEntry) → GoesBy lists doing entries last now → SaysFit lists doing → AllByRecursion Fits (said_in entries)
+    by : (lists : Lists) (doing : JobState) (entries : List JobEntry) → GoesBy lists doing entries last now
+        → SaysFit lists doing → AllByRecursion Fits (said_in entries)
     by lists doing [] goes says = tt
     by lists doing (took item row ∷ entries) goes says =
         let one = row-fits lists doing item row goes.0 goes.1 says in
-        all-append Fits row.replies (said_in entries) one.0 (by (after_all lists row.commands) (job_after row) entries goes.2 one.1)
+        each-append Fits row.replies (said_in entries) one.0
+        (by (after_all lists row.commands) (job_after row) entries goes.2 one.1)
     by lists doing (lost item row ∷ entries) goes says =
         let one = row-fits lists doing item row goes.0 goes.1 says in
-        by (after_all lists row.commands) (after_losing (kind_of_item item) row) entries goes.2 (record { work = one.1.work; go_with = tt })
+        by (after_all lists row.commands) (after_losing (kind_of_item item) row) entries goes.2
+        (record { work = one.1.work; go_with = tt })
     by lists doing (passed item ∷ entries) goes says = by lists doing entries goes.1 says
     by lists doing (queued due ∷ entries) goes says =
-        let one = due-fits doing.ending doing.work due goes.0 says.work in
-        (one.0, by lists due.state entries goes.1 (record { work = one.1; go_with = due-goes lists doing.ending doing.work due goes.0 says.go_with }))
+        let one = due-fits doing.ending doing.work due goes.0 says.work in (
+          one.0,
+          by lists due.state entries goes.1
+              (record { work = one.1; go_with = due-goes lists doing.ending doing.work due goes.0 says.go_with }),
+        )
 
 -- the work has its ranges still
-same-download : (held : List ℕ) (at : Download) (packet : PacketValue) → (download_row held at packet).state.number ≡ at.number
+same-download : (held : List ℕ) (at : Download) (packet : PacketValue)
+    → (download_row held at packet).state.number ≡ at.number
 same-download held at packet =
     download-rows (λ row. row.state.number ≡ at.number) held at
     (record {
@@ -220,14 +273,19 @@ item-work lists (work.Download at) (Ok packet) fits =
     subst (λ (n : ℕ). n < 2 ^ 32) (sym (same-download (got_of lists at.server at.number) at packet)) fits
 item-work lists doing (Err malformed) fits = fits
 
-row-work : (doing : JobState) (item : Item) (row : Row Work) → IsJobRow doing item row → WorkFits doing.work → WorkFits row.state
+row-work : (doing : JobState) (item : Item) (row : Row Work) → IsJobRow doing item row → WorkFits doing.work
+    → WorkFits row.state
 row-work doing item row is fits =
-    subst (λ (r : Row Work). WorkFits r.state) (sym (is.1.1 ∙ job-in is.1.0 doing item is.0)) (item-work is.1.0 doing.work item fits)
+    subst (λ (r : Row Work). WorkFits r.state) (sym (is.1.1 ∙ job-in is.1.0 doing item is.0))
+    (item-work is.1.0 doing.work item fits)
 
-pub reached-fits : (doing now : JobState) (entries : List JobEntry) → JobReaches doing entries now → WorkFits doing.work → WorkFits now.work
+pub reached-fits : (doing now : JobState) (entries : List JobEntry) → JobReaches doing entries now → WorkFits doing.work
+    → WorkFits now.work
 reached-fits doing now [] reached fits = subst (λ (j : JobState). WorkFits j.work) (sym reached) fits
-reached-fits doing now (took item row ∷ entries) reached fits = reached-fits (job_after row) now entries reached.1 (row-work doing item row reached.0 fits)
+reached-fits doing now (took item row ∷ entries) reached fits =
+    reached-fits (job_after row) now entries reached.1 (row-work doing item row reached.0 fits)
 reached-fits doing now (lost item row ∷ entries) reached fits =
     reached-fits (after_losing (kind_of_item item) row) now entries reached.1 (row-work doing item row reached.0 fits)
 reached-fits doing now (passed item ∷ entries) reached fits = reached-fits doing now entries reached.1 fits
-reached-fits doing now (queued due ∷ entries) reached fits = reached-fits due.state now entries reached.1 (due-fits doing.ending doing.work due reached.0 fits).1
+reached-fits doing now (queued due ∷ entries) reached fits =
+    reached-fits due.state now entries reached.1 (due-fits doing.ending doing.work due reached.0 fits).1

@@ -21,6 +21,8 @@ mod JobAppend
 mod JobSays
 mod Left
 mod LinkKeeps
+mod ListLemmas
+pub mod Offered
 mod PacketLists
 mod Places
 mod Sent

@@ -1,21 +1,27 @@
 -- Packets, their texts and their octets, one list behind another.
 use Rattle.std.proofs.Common.{◌≡◌, ℕ, ◌+◌, ◌*◌, ◌/◌, ◌%◌, ◌<◌, List, [], ◌∷◌, ◌++◌, length, ◌∙◌, ap, subst, arith, lit<}
+use Rattle.std.proofs.Common.{refl}
 use Rattle.std.specs.List.{AllByRecursion, concat}
 use Rattle.px_base.specs.Numbers.{le16_octets, le32_octets}
 use Rattle.px_base.specs.Octets.{IsFront, IsOctets}
 use Rattle.ftl0_packets.specs.Items.{texts}
-use Rattle.ftl0_packets.specs.Layout.{Fits, PacketValue, data_part, dir_long_cmd, dir_short_cmd, dl_error_resp, download_cmd, information, kind_of, login_resp, packet_text, select_cmd, select_resp, ul_error_resp, ul_go_resp, ul_nak_resp, upload_cmd}
+use Rattle.ftl0_packets.specs.Layout.{Fits, PacketValue, data_part, dir_long_cmd, dir_short_cmd, dl_error_resp}
+use Rattle.ftl0_packets.specs.Layout.{download_cmd, information, kind_of, login_resp, packet_text, select_cmd}
+use Rattle.ftl0_packets.specs.Layout.{select_resp, ul_error_resp, ul_go_resp, ul_nak_resp, upload_cmd}
 use Rattle.ftl0_packets.specs.Reading.{packets_of, rest_of}
 use Rattle.ftl0_packets.proofs.OctetLemmas.{IsOctets-append, IsOctets-cons, IsOctets-nil}
 use Rattle.ftl0_packets.proofs.SplitLemmas.{octets_front, read-append}
 use Rattle.ax25_link.proofs.Offered.{concat-append_one}
 
--- ---- lists of which each is so
+-- ---- no octets
 
-module _ {X : Type 0} (P : X → Type 0) where
-  pub all-append : (xs ys : List X) → AllByRecursion P xs → AllByRecursion P ys → AllByRecursion P (xs ++ ys)
-  all-append [] ys h k = k
-  all-append (x ∷ xs) ys h k = (h.0, all-append xs ys h.1 k)
+pub no-packets : packets_of [] ≡ []
+unfolding packets_of
+no-packets = refl
+
+pub no-rest : rest_of [] ≡ []
+unfolding rest_of
+no-rest = refl
 
 -- ---- the octets of packets
 
@@ -23,13 +29,16 @@ low-octet : (n : ℕ) → n % 256 < 256
 low-octet n = omega arith
 
 octets-16 : (n : ℕ) → IsOctets (le16_octets n)
-octets-16 n = IsOctets-cons (n % 256) (n / 256 % 256 ∷ []) (low-octet n) (IsOctets-cons (n / 256 % 256) [] (low-octet (n / 256)) IsOctets-nil)
+octets-16 n =
+    IsOctets-cons (n % 256) (n / 256 % 256 ∷ []) (low-octet n)
+    (IsOctets-cons (n / 256 % 256) [] (low-octet (n / 256)) IsOctets-nil)
 
 octets-32 : (n : ℕ) (later : List ℕ) → IsOctets later → IsOctets (le32_octets n ++ later)
 octets-32 n later h =
     let fourth = IsOctets-cons (n / 16777216 % 256) later (low-octet (n / 16777216)) h in
     let third = IsOctets-cons (n / 65536 % 256) (n / 16777216 % 256 ∷ later) (low-octet (n / 65536)) fourth in
-    let second = IsOctets-cons (n / 256 % 256) (n / 65536 % 256 ∷ n / 16777216 % 256 ∷ later) (low-octet (n / 256)) third in
+    let second = IsOctets-cons (n / 256 % 256) (n / 65536 % 256 ∷ n / 16777216 % 256 ∷ later)
+    (low-octet (n / 256)) third in
     IsOctets-cons (n % 256) (n / 256 % 256 ∷ n / 65536 % 256 ∷ n / 16777216 % 256 ∷ later) (low-octet n) second
 
 one-octet : (n : ℕ) → n < 256 → IsOctets (n ∷ [])
@@ -43,16 +52,36 @@ record HasInformation (packet : PacketValue) : Type 0 where
 
 has-information : (packet : PacketValue) → Fits packet → HasInformation packet
 has-information (data_part octets) h = record { kind = lit< tt; few = h.0; octets = h.1 }
-has-information (login_resp moment flags) h = record { kind = lit< tt; few = lit< tt; octets = octets-32 moment (flags ∷ []) (one-octet flags h.1) }
-has-information (upload_cmd number file_length) h = record { kind = lit< tt; few = lit< tt; octets = octets-32 number (le32_octets file_length) (octets-32 file_length [] IsOctets-nil) }
-has-information (ul_go_resp number offset) h = record { kind = lit< tt; few = lit< tt; octets = octets-32 number (le32_octets offset) (octets-32 offset [] IsOctets-nil) }
+has-information (login_resp moment flags) h =
+    record { kind = lit< tt; few = lit< tt; octets = octets-32 moment (flags ∷ []) (one-octet flags h.1) }
+has-information (upload_cmd number file_length) h =
+    record {
+      kind = lit< tt;
+      few = lit< tt;
+      octets = octets-32 number (le32_octets file_length)
+          (octets-32 file_length [] IsOctets-nil);
+    }
+has-information (ul_go_resp number offset) h =
+    record {
+      kind = lit< tt;
+      few = lit< tt;
+      octets = octets-32 number (le32_octets offset)
+          (octets-32 offset [] IsOctets-nil);
+    }
 has-information (ul_error_resp code) h = record { kind = lit< tt; few = lit< tt; octets = one-octet code h }
 has-information (ul_nak_resp code) h = record { kind = lit< tt; few = lit< tt; octets = one-octet code h }
 has-information (download_cmd number offset lock) h =
-    record { kind = lit< tt; few = lit< tt; octets = octets-32 number (le32_octets offset ++ lock ∷ []) (octets-32 offset (lock ∷ []) (one-octet lock h.2)) }
+    record {
+      kind = lit< tt;
+      few = lit< tt;
+      octets = octets-32 number (le32_octets offset ++ lock ∷ [])
+          (octets-32 offset (lock ∷ []) (one-octet lock h.2));
+    }
 has-information (dl_error_resp code) h = record { kind = lit< tt; few = lit< tt; octets = one-octet code h }
-has-information (dir_short_cmd number) h = record { kind = lit< tt; few = lit< tt; octets = octets-32 number [] IsOctets-nil }
-has-information (dir_long_cmd number) h = record { kind = lit< tt; few = lit< tt; octets = octets-32 number [] IsOctets-nil }
+has-information (dir_short_cmd number) h =
+    record { kind = lit< tt; few = lit< tt; octets = octets-32 number [] IsOctets-nil }
+has-information (dir_long_cmd number) h =
+    record { kind = lit< tt; few = lit< tt; octets = octets-32 number [] IsOctets-nil }
 has-information (select_cmd tokens) h = record { kind = lit< tt; few = h.0; octets = h.1 }
 has-information (select_resp count) h = record { kind = lit< tt; few = lit< tt; octets = octets-16 count }
 has-information packet h = record { kind = lit< tt; few = lit< tt; octets = IsOctets-nil }
@@ -68,21 +97,26 @@ octets-text packet fits =
 
 pub octets-texts : (packets : List PacketValue) → AllByRecursion Fits packets → IsOctets (texts packets)
 octets-texts [] fits = IsOctets-nil
-octets-texts (packet ∷ packets) fits = IsOctets-append (packet_text packet) (texts packets) (octets-text packet fits.0) (octets-texts packets fits.1)
+octets-texts (packet ∷ packets) fits =
+    IsOctets-append (packet_text packet) (texts packets) (octets-text packet fits.0) (octets-texts packets fits.1)
 
 -- the octets of a front of the texts of packets
-pub octets-of_front : (packets : List PacketValue) (front : List ℕ) → AllByRecursion Fits packets → IsFront front (texts packets) → IsOctets front
-octets-of_front packets front fits is = octets_front front is.0 (subst (λ (o : List ℕ). IsOctets o) is.1 (octets-texts packets fits))
+pub octets-of_front : (packets : List PacketValue) (front : List ℕ) → AllByRecursion Fits packets
+    → IsFront front (texts packets) → IsOctets front
+octets-of_front packets front fits is =
+    octets_front front is.0 (subst (λ (o : List ℕ). IsOctets o) is.1 (octets-texts packets fits))
 
 -- ---- a further piece
 
 -- What is read of pieces and a further one: the packets of all but the last, and then those of the rest with the last
 -- one behind it.
 pub record ReadsOn (pieces : List (List ℕ)) (piece : List ℕ) : Type 0 where
-  pub packets : packets_of (concat (pieces ++ piece ∷ [])) ≡ packets_of (concat pieces) ++ packets_of (rest_of (concat pieces) ++ piece)
+  pub packets : packets_of (concat (pieces ++ piece ∷ [])) ≡ packets_of (concat pieces) ++ packets_of
+      (rest_of (concat pieces) ++ piece)
   pub rest : rest_of (concat (pieces ++ piece ∷ [])) ≡ rest_of (rest_of (concat pieces) ++ piece)
 
-pub reads-on : (pieces : List (List ℕ)) (piece : List ℕ) → IsOctets (concat (pieces ++ piece ∷ [])) → ReadsOn pieces piece
+pub reads-on : (pieces : List (List ℕ)) (piece : List ℕ) → IsOctets (concat (pieces ++ piece ∷ []))
+    → ReadsOn pieces piece
 reads-on pieces piece are =
     let same = concat-append_one pieces piece in
     let read = read-append (concat pieces) piece (subst (λ (o : List ℕ). IsOctets o) same are) in

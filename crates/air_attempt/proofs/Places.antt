@@ -1,17 +1,16 @@
 -- The places of a server: which of them has a caller's connection.
-use Rattle.std.proofs.lemmas.Grind.{common_steps}
-use Rattle.std.proofs.Common.{◌≡◌, ◌≢◌, ◌⊎◌, inl, inr, ℕ, zero, suc, ◌<◌, ◌≤◌, List, [], ◌∷◌, length, get_or, Bool}
-use Rattle.std.proofs.Common.{true, false, Option, None, Some, refl, sym, ap, ◌∙◌, arith}
-use Rattle.std.specs.Prelude.{cond, find, is_some, slice_get, slice_set}
+use Rattle.std.proofs.Common.{◌≡◌, ℕ, zero, suc, ◌<◌, ◌≤◌, List, [], ◌∷◌, length, get_or, Bool, true, false, Option}
+use Rattle.std.proofs.Common.{None, Some, refl, sym, ap, ◌∙◌, arith}
+use Rattle.std.specs.Prelude.{cond, find, is_some, slice_get}
 use Rattle.std.specs.List.{position, position_or_len}
 use Rattle.std.specs.Option.{option_and_then, option_map}
-use Rattle.std.proofs.lemmas.Bool.{cases_eq, cond_both}
+use Rattle.std.proofs.lemmas.Grind.{common_steps}
+use Rattle.std.proofs.lemmas.Bool.{cond_both}
 use Rattle.std.proofs.lemmas.List.Quantifiers.{position-Some}
 use Rattle.std.proofs.lemmas.List.Sums.{fails_before_first}
 use Rattle.std.proofs.lemmas.Option.{get_or_from_slice_get, same_Some, slice_get-get_or, slice_get-map}
 use Rattle.std.proofs.lemmas.Option.{slice_get_within}
 use Rattle.px_base.specs.CallSign.{CallSign}
-use Rattle.ax25_link.proofs.Offered.{slice_get-set_other, slice_get-set_same}
 use Rattle.ftl0_session.specs.Uploads.Session.{is_same_call}
 use Rattle.ftl0_session.proofs.uploads.UploadRows.{same_call-decides}
 use Rattle.ftl0_server.specs.Connection.Connected.{Connected, caller_of}
@@ -79,21 +78,6 @@ module _ {X : Type 0} (p : X → Bool) where
   find-no (y ∷ xs) none =
       cond_both (p y) (Some y) (find p xs) (λ (o : Option X). o ≡ None) (λ is. absurd (none 0 y refl is))
       (λ is. find-no xs (λ other z there passes. none (suc other) z there passes))
-
--- an element of a list of which one is another now
-pub get-set : {X : Type 0} (xs : List X) (place other : ℕ) (y x : X) → place < length xs
-    → slice_get (slice_set xs place y) other ≡ Some x
-    → ((other ≡ place) × (y ≡ x)) ⊎ ((other ≢ place) × (slice_get xs other ≡ Some x))
-get-set xs place other y x within at =
-    elim (cases_eq other place) [
-      | inl same ↦
-          inl (
-            same,
-            same_Some y x (sym (slice_get-set_same xs place y within) ∙ ap
-                (λ n. slice_get (slice_set xs place y) n) (sym same) ∙ at),
-          )
-      | inr apart ↦ inr (apart, sym (slice_get-set_other xs place other y apart) ∙ at)
-    ]
 
 -- ---- places
 

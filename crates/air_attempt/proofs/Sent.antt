@@ -1,8 +1,7 @@
 -- What a station of an attempt sends at an event: whether a SABM is among the frames, and whose they are.
-use Rattle.std.proofs.Common.{◌≡◌, ℕ, zero, suc, List, [], ◌∷◌, Bool, true, false, Some, refl, ap, ◌∙◌, subst}
-use Rattle.std.specs.Prelude.{◌||◌, slice_get}
+use Rattle.std.proofs.Common.{◌≡◌, List, [], ◌∷◌, Bool, true, false, refl, ap, ◌∙◌, subst}
+use Rattle.std.specs.Prelude.{◌||◌}
 use Rattle.std.specs.List.{AllByRecursion}
-use Rattle.std.proofs.lemmas.Option.{same_Some}
 use Rattle.px_base.specs.CallSign.{CallSign}
 use Rattle.ax25_frames.specs.FrameText.{FrameValue}
 use Rattle.ax25_link.specs.Air.{Transmission, sending_all}
@@ -14,12 +13,6 @@ use Rattle.ax25_link.specs.Window.{IsWindow, Window}
 use Rattle.air_attempt.specs.Attempt.{AreFromTo, IsEndOf}
 use Rattle.air_attempt.specs.Transfers.{has_call}
 use Rattle.air_attempt.proofs.Transmissions.{from-sent}
-
--- the one at a place of a list of which each is so
-pub all-at : {X : Type 0} (P : X → Type 0) (xs : List X) (place : ℕ) (x : X) → AllByRecursion P xs → slice_get xs place ≡ Some x → P x
-all-at P [] place x all is = absurd (cc is)
-all-at P (y ∷ xs) zero x all is = subst P (same_Some y x is) all.0
-all-at P (y ∷ xs) (suc place) x all is = all-at P xs place x all.1 is
 
 -- ---- whether a SABM is among them
 
@@ -43,12 +36,15 @@ has-none (f ∷ frames) none = ap (λ (b : Bool). b || has_call frames) none.0 �
 abbrev pub stations : Bool → CallSign → CallSign → Stations
 stations called me peer = record { called = called; me = me; peer = peer }
 
-pub stations-from : (called : Bool) (me peer : CallSign) (end : LinkEnd) → IsEndOf called me peer end → stations_of end ≡ stations called me peer
+pub stations-from : (called : Bool) (me peer : CallSign) (end : LinkEnd) → IsEndOf called me peer end
+    → stations_of end ≡ stations called me peer
 stations-from called me peer end is =
-    ap (λ (c : Bool). stations c end.me end.peer) is.called_is ∙ ap (λ (c : CallSign). stations called c end.peer) is.me_is
+    ap (λ (c : Bool). stations c end.me end.peer) is.called_is
+    ∙ ap (λ (c : CallSign). stations called c end.peer) is.me_is
     ∙ ap (λ (c : CallSign). stations called me c) is.peer_is
 
-pub stations-to : (called : Bool) (me peer : CallSign) (end : LinkEnd) → stations_of end ≡ stations called me peer → IsEndOf called me peer end
+pub stations-to : (called : Bool) (me peer : CallSign) (end : LinkEnd) → stations_of end ≡ stations called me peer
+    → IsEndOf called me peer end
 stations-to called me peer end is = record {
   called_is = ap (λ (s : Stations). s.called) is;
   me_is = ap (λ (s : Stations). s.me) is;
@@ -56,15 +52,20 @@ stations-to called me peer end is = record {
 }
 
 -- an end that stays of its stations, and what it sends behind what was sent
-pub record StaysOf (w : Window) (called : Bool) (me peer : CallSign) (list : List Transmission) (frames : List FrameValue) (new : LinkEnd) : Type 0 where
+pub record StaysOf (w : Window) (called : Bool) (me peer : CallSign) (list : List Transmission)
+    (frames : List FrameValue) (new : LinkEnd) : Type 0 where
   pub end : IsEndOf called me peer new
   pub sent : AreFromTo w me peer (sending_all list frames)
 
-pub stays-of : (w : Window) (called : Bool) (me peer : CallSign) (list : List Transmission) (frames : List FrameValue) (old new : LinkEnd) → IsWindow w
-    → IsEndOf called me peer old → AreFromTo w me peer list → SendsOwn w old frames new → StaysOf w called me peer list frames new
+pub stays-of : (w : Window) (called : Bool) (me peer : CallSign) (list : List Transmission) (frames : List FrameValue)
+    (old new : LinkEnd) → IsWindow w
+    → IsEndOf called me peer old → AreFromTo w me peer list → SendsOwn w old frames new
+    → StaysOf w called me peer list frames new
 stays-of w called me peer list frames old new window is before sends =
     let same = stations-from called me peer old is in
     record {
       end = stations-to called me peer new (sends.stations ∙ same);
-      sent = from-sent w (stations called me peer) list frames window before (subst (λ (s : Stations). AllByRecursion (IsFrameOf w s) frames) same sends.own);
+      sent =
+          from-sent w (stations called me peer) list frames window before
+          (subst (λ (s : Stations). AllByRecursion (IsFrameOf w s) frames) same sends.own);
     }

@@ -1,7 +1,7 @@
 -- Between events a server is as it was before, but for the connections that a step changed.
-use Rattle.std.proofs.Common.{◌≡◌, ◌≢◌, ◌⊎◌, inl, inr, ℕ, zero, suc, ◌<◌, List, [], ◌∷◌, length, map, Some, refl, sym}
-use Rattle.std.proofs.Common.{ap, subst, ◌∙◌}
+use Rattle.std.proofs.Common.{◌≡◌, ◌≢◌, ◌⊎◌, inl, inr, ℕ, ◌<◌, List, [], length, Some, refl, sym, ap, subst, ◌∙◌}
 use Rattle.std.specs.Prelude.{slice_get, slice_set}
+use Rattle.std.proofs.lemmas.List.{length-map, length-set}
 use Rattle.px_base.specs.CallSign.{CallSign}
 use Rattle.ax25_link.specs.declared.state.LinkState.TheVariants.{Up}
 use Rattle.ax25_link.specs.Window.{IsWindow, Window}
@@ -12,7 +12,8 @@ use Rattle.ftl0_server.specs.Server.{Server}
 use Rattle.ftl0_server.specs.ServerStep.{ServerStep, Stepped}
 use Rattle.ftl0_server.specs.Slots.{Slot, all_freed, connected, leaving}
 use Rattle.air_attempt.specs.Laws.{IsBetween, IsKnown, IsSeatedIn}
-use Rattle.air_attempt.proofs.Places.{freed-none, freed-seat, get-set}
+use Rattle.air_attempt.proofs.Places.{freed-none, freed-seat}
+use Rattle.air_attempt.proofs.ListLemmas.{set-at}
 
 -- ---- connections at places
 
@@ -88,15 +89,6 @@ steps-again some one old event gives may step =
 
 -- ---- one place
 
-length-set : {X : Type 0} (xs : List X) (place : ℕ) (x : X) → length (slice_set xs place x) ≡ length xs
-length-set [] place x = refl
-length-set (y ∷ xs) zero x = refl
-length-set (y ∷ xs) (suc place) x = ap suc (length-set xs place x)
-
-pub length-map : {X Y : Type 0} (f : X → Y) (xs : List X) → length (map f xs) ≡ length xs
-length-map f [] = refl
-length-map f (x ∷ xs) = ap suc (length-map f xs)
-
 -- A place has a connection of this caller now, or none, and had so before; no other one had one.
 pub record Resits (old : Server) (caller : CallSign) (place : ℕ) (now : Slot) : Type 0 where
   pub is : (c : Connected) → now ≡ connected c → (c.end.state ≡ Up) × (caller_of c ≡ caller)
@@ -123,12 +115,15 @@ module _ (old new : Server) (between : IsBetween old) (caller : CallSign) (place
   pub seat-is : (other : ℕ) (c : Connected) → IsSeatedIn new other c
       → ((other ≡ place) × (now ≡ connected c)) ⊎ ((other ≢ place) × IsSeatedIn old other c)
   seat-is other c there =
-      get-set old.slots place other now (connected c) within
-      (seat-before old (slice_set old.slots place now) new slots_are other c there)
+      elim (set-at old.slots place other now (connected c)
+      (seat-before old (slice_set old.slots place now) new slots_are other c there)) [
+        | inl it ↦ inl (it.0, sym it.1)
+        | inr was ↦ inr was
+      ]
 
   pub place-reseats : Reseats old new (IsAtPlace caller place)
   place-reseats = record {
-    eight = ap (λ (s : List Slot). length s) slots_are ∙ length-map _ (slice_set old.slots place now)
+    eight = ap (λ (s : List Slot). length s) slots_are ∙ length-map (slice_set old.slots place now) _
         ∙ length-set old.slots place now;
     none_leaving = none-left old (slice_set old.slots place now) new slots_are;
     up = λ other c there.
@@ -149,7 +144,7 @@ module _ (old new : Server) (between : IsBetween old) (caller : CallSign) (place
 pub none-reseats : (old new : Server) → IsBetween old → new.slots ≡ all_freed old.slots
     → Reseats old new (λ caller place. ⊥)
 none-reseats old new between slots_are = record {
-  eight = ap (λ (s : List Slot). length s) slots_are ∙ length-map _ old.slots;
+  eight = ap (λ (s : List Slot). length s) slots_are ∙ length-map old.slots _;
   none_leaving = none-left old old.slots new slots_are;
   up = λ place c there. between.ups place c (seat-before old old.slots new slots_are place c there);
   each = λ place c there. inl (record

@@ -12,17 +12,16 @@ use Rattle.ax25_link.specs.declared.state.Heard.TheVariants.{Reopened}
 use Rattle.ax25_link.specs.Ends.{LinkEnd, answering_end, free_octets}
 use Rattle.ax25_link.specs.LinkStep as step
 use Rattle.ax25_link.specs.Rows.{Outcome, after_frame, called_again, heard_of, is_call, outcome, passed_over, row}
-use Rattle.ax25_link.specs.Rows.{row_of_state}
-use Rattle.ax25_link.specs.Rows.{up_row}
+use Rattle.ax25_link.specs.Rows.{row_of_state, up_row}
 use Rattle.ax25_link.specs.Sending.{Drains}
 use Rattle.ax25_link.specs.Stations.{Stations}
 use Rattle.ax25_link.specs.Window.{IsWindow, Window}
 use Rattle.ax25_link.proofs.Offered.{stations_law}
 use Rattle.packet_link.proofs.Queuing.{filling-keeps, filling-none}
-use Rattle.ftl0_session.specs.Lists.Lists.{CallerList, has_left}
-use Rattle.ftl0_session.specs.Table.{command, due_at}
 use Rattle.file_store.specs.Command.{after_all}
 use Rattle.file_store.specs.Store.{Store}
+use Rattle.ftl0_session.specs.Lists.Lists.{CallerList, has_left}
+use Rattle.ftl0_session.specs.Table.{command, due_at}
 use Rattle.ftl0_server.specs.Connection.Connected.{Connected, beginning, caller_of, greeted}
 use Rattle.ftl0_server.specs.Connection.Hearing.{Happened, hearing, parts_as, parts_of_frame, progressed, rest_as}
 use Rattle.ftl0_server.specs.Connection.Hearing.{with_end}

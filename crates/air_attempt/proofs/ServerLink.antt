@@ -5,6 +5,7 @@ use Rattle.std.specs.List.{concat}
 use Rattle.px_base.specs.CallSign.{CallSign}
 use Rattle.px_base.specs.Octets.{IsFront, IsOctets}
 use Rattle.ax25_frames.specs.FrameText.{FrameValue}
+use Rattle.ftl0_packets.specs.Items.{texts}
 use Rattle.ax25_link.specs.Air.{IsLawful, Transmission, delivering, sending_all}
 use Rattle.ax25_link.specs.Calls.{Doing}
 use Rattle.ax25_link.specs.declared.state.Heard.{Heard}
@@ -16,7 +17,6 @@ use Rattle.ax25_link.specs.Linked.{AreLinked}
 use Rattle.ax25_link.specs.Sending.{IsQuiet}
 use Rattle.ax25_link.specs.Stations.{SendsOwn}
 use Rattle.ax25_link.proofs.Offered.{prefix_law}
-use Rattle.ftl0_packets.specs.Items.{texts}
 use Rattle.air_attempt.specs.Attempt.{AreFromTo, Attempt, IsAnswered, IsAnsweredBy, IsAttempt, IsEndOf, IsOneCall}
 use Rattle.air_attempt.specs.Attempt.{client_station, server_station}
 use Rattle.air_attempt.specs.Sides.{IsSession, ServerSide, said_by_client}

@@ -4,6 +4,7 @@ use Rattle.std.specs.List.{AllByRecursion, concat}
 use Rattle.px_base.specs.CallSign.{CallSign}
 use Rattle.px_base.specs.Octets.{IsOctets}
 use Rattle.ax25_frames.specs.FrameText.{FrameValue}
+use Rattle.ftl0_packets.specs.Layout.{Fits}
 use Rattle.ax25_link.specs.Air.{IsLawful, Transmission, delivering, sending_all}
 use Rattle.ax25_link.specs.declared.state.LinkState.TheVariants.{Up}
 use Rattle.ax25_link.specs.Ends.{LinkEnd}
@@ -15,10 +16,9 @@ use Rattle.ax25_link.specs.Sending.{Drains, IsQuiet}
 use Rattle.ax25_link.specs.Stations.{SendsOwn}
 use Rattle.ax25_link.specs.Window.{Window}
 use Rattle.ax25_link.proofs.Offered.{stations_law}
-use Rattle.ftl0_packets.specs.Layout.{Fits}
+use Rattle.file_store.specs.Store.{Store}
 use Rattle.ftl0_session.specs.Lists.Lists.{CallerList}
 use Rattle.ftl0_session.specs.Run.{session_over}
-use Rattle.file_store.specs.Store.{Store}
 use Rattle.ftl0_server.specs.Connection.Connected.{Connected, caller_of}
 use Rattle.ftl0_server.specs.Connection.Hearing.{hearing}
 use Rattle.ftl0_server.specs.Entries as session

@@ -3,6 +3,7 @@ use Rattle.std.proofs.Common.{◌≡◌, inl, ℕ, List, [], length, map, false,
 use Rattle.std.specs.Prelude.{slice_get}
 use Rattle.std.specs.Option.{option_map}
 use Rattle.std.proofs.lemmas.Option.{same_Some, slice_get-map}
+use Rattle.std.proofs.lemmas.List.{length-map}
 use Rattle.px_base.specs.CallSign.{CallSign}
 use Rattle.ax25_frames.specs.FrameText.{FrameValue}
 use Rattle.ax25_link.specs.Ends.{LinkEnd}
@@ -26,8 +27,7 @@ use Rattle.air_attempt.proofs.Connections.{IsBehind, left-held}
 use Rattle.air_attempt.proofs.Drained.{DrainedAt, IsHeldAt, drained-at, drained-length, to_station, was-drained}
 use Rattle.air_attempt.proofs.LinkKeeps.{drains-keep}
 use Rattle.air_attempt.proofs.Places.{held, mapped-some}
-use Rattle.air_attempt.proofs.ServerBetween.{Reseats, between-new, known-new, length-map, none-left, seat-before}
-use Rattle.air_attempt.proofs.ServerBetween.{steps-again}
+use Rattle.air_attempt.proofs.ServerBetween.{Reseats, between-new, known-new, none-left, seat-before, steps-again}
 use Rattle.air_attempt.proofs.ServerHearing.{SlotEnds, drains-peer, left-connected, slot-ends}
 use Rattle.air_attempt.proofs.ServerPlaces.{ChangesAll, tick-places}
 use Rattle.air_attempt.proofs.SessionTicks.{tick-up, ticked_to}
@@ -90,9 +90,9 @@ module _ (old : Server) (moment : ℕ) (gives : Stepped) (step : ServerStep old 
   pub tick-reseats : Reseats old gives.new (λ caller place. ⊥)
   tick-reseats = record {
     eight =
-        ap (λ (s : List Slot). length s) changes.keeps.slots ∙ length-map _ step.last.slots
+        ap (λ (s : List Slot). length s) changes.keeps.slots ∙ length-map step.last.slots _
         ∙ drained-length old.window ticked gives.frames step.last.slots changes.drains
-        ∙ length-map slot_ticking old.slots;
+        ∙ length-map old.slots slot_ticking;
     none_leaving = none-left old step.last.slots gives.new changes.keeps.slots;
     up = λ place c there.
         let seat = tick-seat place c there in

@@ -6,6 +6,10 @@ use Rattle.std.proofs.lemmas.List.Concat.{flat_map-append}
 use Rattle.px_base.specs.CallSign.{CallSign}
 use Rattle.px_base.specs.Octets.{IsOctets}
 use Rattle.ax25_frames.specs.FrameText.{FrameValue}
+use Rattle.ftl0_packets.specs.Items.{texts}
+use Rattle.ftl0_packets.specs.Layout.{Fits, Item}
+use Rattle.ftl0_packets.specs.Reading.{packets_of, rest_of}
+use Rattle.ftl0_packets.proofs.SplitLemmas.{texts-append}
 use Rattle.ax25_link.specs.declared.state.Heard.{Heard}
 use Rattle.ax25_link.specs.declared.state.Heard.TheVariants.{Nothing, Opened, Reopened, Bytes, Closed}
 use Rattle.ax25_link.specs.declared.state.LinkState.TheVariants.{Up}
@@ -13,21 +17,18 @@ use Rattle.ax25_link.specs.Ends.{LinkEnd}
 use Rattle.ax25_link.specs.Rows.{after_frame, heard_of, is_call}
 use Rattle.ax25_link.specs.Sending.{Drains}
 use Rattle.ax25_link.specs.Window.{Window}
-use Rattle.ftl0_packets.specs.Items.{texts}
-use Rattle.ftl0_packets.specs.Layout.{Fits, Item}
-use Rattle.ftl0_packets.specs.Reading.{packets_of, rest_of}
-use Rattle.ftl0_packets.proofs.SplitLemmas.{texts-append}
+use Rattle.file_store.specs.Store.{Store}
 use Rattle.ftl0_session.specs.Lists.Lists.{CallerList}
 use Rattle.ftl0_session.specs.Run.{Session, session_over}
 use Rattle.ftl0_session.specs.Table.{State, command}
-use Rattle.file_store.specs.Store.{Store}
 use Rattle.ftl0_server.specs.Connection.Connected.{Connected, caller_of}
 use Rattle.ftl0_server.specs.Connection.Hearing.{Happened, hearing, rest_as, with_end}
 use Rattle.ftl0_server.specs.Entries as session
 use Rattle.ftl0_server.specs.Entries.{GoesBy, HeardBy, IsNotLost, SessionEntry, after_row, packets_told, session_after}
 use Rattle.air_attempt.specs.Sides.{IsSession, ServerSide, SessionReaches, said_by_server}
 use Rattle.air_attempt.proofs.LinkKeeps.{IsNoReopening, does-taken, drains-keep, frame-brings, taken_as}
-use Rattle.air_attempt.proofs.PacketLists.{all-append, reads-on}
+use Rattle.air_attempt.proofs.PacketLists.{reads-on}
+use Rattle.air_attempt.proofs.ListLemmas.{each-append}
 
 -- ---- entries behind others
 
@@ -179,13 +180,13 @@ module _ (w : Window) (moment : ℕ) (store : Store) (lists : List CallerList) (
         unread = h.heard.unread;
         packets = packets-are;
         all = λ all. h.heard.all (none-lost-second side.entries entries all);
-        none_lost = λ still. all-append IsNotLost side.entries entries none (h.heard.none_lost (h.goes_on still));
+        none_lost = λ still. each-append IsNotLost side.entries entries none (h.heard.none_lost (h.goes_on still));
         rest = read.rest ∙ ap (λ (t : List (List ℕ)). rest_of (concat t)) (sym taken-is);
         said = pushed-is;
         greets = is.greets;
         fits = (
           is.fits.0,
           subst (AllByRecursion Fits) (sym (said-then side.entries entries))
-              (all-append Fits (session.said_in side.entries) (session.said_in entries) is.fits.1 fits),
+              (each-append Fits (session.said_in side.entries) (session.said_in entries) is.fits.1 fits),
         );
       }

@@ -14,7 +14,7 @@ use Rattle.ax25_link.specs.Rows.{is_call}
 use Rattle.ax25_link.specs.Stations.{IsFrameOf, Stations}
 use Rattle.ax25_link.specs.Window.{IsWindow, Window}
 use Rattle.air_attempt.specs.Attempt.{AreFromTo, IsFromTo, IsOneCall}
-use Rattle.air_attempt.proofs.PacketLists.{all-append}
+use Rattle.air_attempt.proofs.ListLemmas.{each-append}
 
 -- ---- a delivery
 
@@ -53,7 +53,7 @@ pub all-sent : (Q : FrameValue → Type 0) (P : Transmission → Type 0)
     → ((frame : FrameValue) → Q frame → P (fresh frame)) → (list : List Transmission)
     (frames : List FrameValue) → AllByRecursion P list → AllByRecursion Q frames
     → AllByRecursion P (sending_all list frames)
-all-sent Q P each list frames before new = all-append P list (map fresh frames) before (all-fresh Q P each frames new)
+all-sent Q P each list frames before new = each-append P list (map fresh frames) before (all-fresh Q P each frames new)
 
 -- the numbers of a frame whose numbers are all below the modulus
 numbers-below : (w : Window) (control : Control) → IsWindow w

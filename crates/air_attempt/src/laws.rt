@@ -16,16 +16,16 @@ pub fn server_hears_law()
     one_step_law();
 }
 
-/// What a frame makes of store and lists: what the session makes of it that hears it; and nothing, where it is a SABM or
-/// no session does.
+/// What a frame makes of store and lists: what the session makes of it that hears it; and nothing, where it is a SABM
+/// or no session does.
 pub fn heard_law()
     ensures { HeardLaw }
 {
     hearing_law();
 }
 
-/// What the server makes of a tick: the attempts of each client stay attempts, of which the newest session goes on, or is
-/// over.
+/// What the server makes of a tick: the attempts of each client stay attempts, of which the newest session goes on, or
+/// is over.
 pub fn server_ticks_law()
     ensures { ServerTicksLaw }
 {

@@ -9,11 +9,12 @@ use Rattle.air_attempt.specs.Lists.{Has}
 use Rattle.air_attempt.specs.Party.{Asked, EachAttempt, EachSide, IsFileOf, Party, newest}
 use Rattle.air_attempt.specs.Said.{Grants, Offers, SaysComplete}
 use Rattle.air_attempt.specs.Sides.{ServerSide}
+use Rattle.air_attempt.proofs.Offered.{each-at, each-from}
 use Rattle.air_files.specs.Dialogue.{IsDueNow, Says, Serves}
 use Rattle.air_files.specs.Facts.{AreFirstIfAny, AskedWithin, GoesOnWithTask, HasFacts, HasFetched, HasNumber}
 use Rattle.air_files.specs.Facts.{IsFetching, IsGrantKept, IsNumbered, IsOfferKept, NotesGrant, Receives, got}
 use Rattle.air_files.specs.Kept.{HoldsAck, IsTaskKept}
-use Rattle.air_files.proofs.LiftLemmas.{each-at, each-from, each-side, side-at}
+use Rattle.air_files.proofs.LiftLemmas.{each-side, side-at}
 
 -- the facts of one session of an attempt, each as `HasSessionFacts` has it of all
 abbrev pub GrantFact : Store → Party → Attempt → ServerSide → Type 0

@@ -1,13 +1,16 @@
 -- What a packet that a job takes of a download keeps of its client's notes, and of what it fetches.
-use Rattle.std.proofs.Common.{◌≡◌, ◌≢◌, inl, inr, ℕ, ◌+◌, ◌-◌, ◌≤◌, ◌==◌, List, [], ◌∷◌, ◌++◌, length, map, drop, refl, ap, sym, ◌∙◌, subst, Bool, true, false, None, Some, Ok, arith, append_assoc, append-nil, length-append, length-drop}
+use Rattle.std.proofs.Common.{◌≡◌, ◌≢◌, inl, inr, ℕ, ◌+◌, ◌-◌, ◌≤◌, ◌==◌, List, [], ◌∷◌, ◌++◌, length, map, drop, refl}
+use Rattle.std.proofs.Common.{ap, sym, ◌∙◌, subst, Bool, true, false, None, Some, Ok, arith, append_assoc, append-nil}
+use Rattle.std.proofs.Common.{length-append, length-drop}
 use Rattle.std.specs.Prelude.{if◌then◌else◌}
 use Rattle.std.specs.List.{concat}
 use Rattle.std.proofs.lemmas.Bool.Decides.{nat_tests}
 use Rattle.std.proofs.lemmas.List.{nil_from_length}
 use Rattle.px_base.specs.CallSign.{CallSign}
 use Rattle.px_base.specs.Octets.{IsFront}
+use Rattle.ftl0_packets.specs.Layout.{Item, PacketValue, data_end, data_part, dl_ack_cmd, dl_completed_resp}
+use Rattle.ftl0_packets.specs.Layout.{dl_error_resp, download_cmd, login_resp}
 use Rattle.pfh_items.specs.Faults.{fault_code}
-use Rattle.ftl0_packets.specs.Layout.{Item, PacketValue, data_end, data_part, dl_ack_cmd, dl_completed_resp, dl_error_resp, download_cmd, login_resp}
 use Rattle.file_store.specs.Store.{Store}
 use Rattle.ftl0_session.proofs.downloads.FileLemmas.{file-complete}
 use Rattle.ftl0_server.specs.Entries as session
@@ -33,22 +36,22 @@ use Rattle.air_attempt.specs.Lists.{Has}
 use Rattle.air_attempt.specs.Party.{Asked, Party}
 use Rattle.air_attempt.specs.Said.{octets_of_data, octets_of_item, octets_said, octets_taken}
 use Rattle.air_attempt.specs.Sides.{IsGreeting, ServerSide, said_by_client, said_by_server}
+use Rattle.air_attempt.proofs.Offered.{flat_map-one, one-left, one-right}
 use Rattle.air_files.specs.DownloadDialogue.{SaysDownload, ServesDownload}
 use Rattle.air_files.specs.Facts.{AreFirstIfAny, Fetches, FetchesIn, HasFacts, coming_by}
 use Rattle.air_files.specs.Laws.{job_gone, with_job}
 use Rattle.air_files.specs.SoundStore.{IsSoundStore}
 use Rattle.air_files.proofs.DownloadComing.{front-if-any}
-use Rattle.air_files.proofs.DownloadJobHeard.{IsNext, asks-once, coming-octets, end-sent, error-other, left-octets, unasked-silent}
+use Rattle.air_files.proofs.DownloadJobHeard.{IsNext, asks-once, coming-octets, end-sent, error-other, left-octets}
+use Rattle.air_files.proofs.DownloadJobHeard.{unasked-silent}
 use Rattle.air_files.proofs.DownloadJobRows.{DownloadCases, download-cases, download_at}
 use Rattle.air_files.proofs.DownloadJobSaid.{CameTo}
-use Rattle.air_files.proofs.FetchesOn.{flat_map-one}
 use Rattle.air_files.proofs.GotKept.{first-before, last-pieces, noted-after, pieces-fronts, whole-pieces}
 use Rattle.air_files.proofs.JobNotes.{NotesKept}
 use Rattle.air_files.proofs.JobStep.{of_attempts}
 use Rattle.air_files.proofs.JobTook.{answered-item, front-has, has-ok}
 use Rattle.air_files.proofs.JobUploadNotes.{fronts-none}
-use Rattle.air_files.proofs.JobUploadSaid.{said-one}
-use Rattle.air_files.proofs.LiftLemmas.{one-left, one-right}
+use Rattle.air_files.proofs.JobUploadCame.{said-one}
 use Rattle.air_files.proofs.ShortOctets.{whole-fault}
 
 -- What is known of a client whose job is a download, and of its session.
@@ -92,7 +95,8 @@ module _ (store : Store) (files : List Asked) (base : Party) (a : Attempt) (olde
   pub record RowKept (packet : PacketValue) (row : Row Download) : Type 0 where
     pub fronts : (count : ℕ) → NotesKept store files party (notes.after_first count lists row.commands)
     pub checked : IsCheckedIn row.state.phase (got_of (after_all lists row.commands) server row.state.number)
-    pub fetched : (ending : Ending) (n : ℕ) → row.ending ≡ Some ending → ending.outcome ≡ outcome.Fetched n → fault_code (got_of (after_all lists row.commands) server n) ≡ None
+    pub fetched : (ending : Ending) (n : ℕ) → row.ending ≡ Some ending → ending.outcome ≡ outcome.Fetched n
+        → fault_code (got_of (after_all lists row.commands) server n) ≡ None
     pub fetches : (now : Attempted) → row.ending ≡ None → FetchesIn row.state.phase store (party_then packet row now) (attempt_then packet row now) row.state
     pub asks : (n offset : ℕ) → Has row.replies (download_cmd n offset 0) → offset ≤ length (got_of (after_all lists row.commands) server n)
 
@@ -108,7 +112,8 @@ module _ (store : Store) (files : List Asked) (base : Party) (a : Attempt) (olde
   checked-in phase.Done fetches = fetches.1
 
   -- a row that ends the job, without a command and a reply
-  ends-kept : (p : DownloadPhase) (packet : PacketValue) (row : Row Download) → row.state ≡ download_at server number rest p → row.commands ≡ [] → row.replies ≡ [] → row.ending ≢ None
+  ends-kept : (p : DownloadPhase) (packet : PacketValue) (row : Row Download)
+      → row.state ≡ download_at server number rest p → row.commands ≡ [] → row.replies ≡ [] → row.ending ≢ None
       → ((ending : Ending) (n : ℕ) → row.ending ≡ Some ending → ending.outcome ≡ outcome.Fetched n → fault_code (got_of lists server n) ≡ None)
       → FetchesIn p store party a (download_at server number rest p) → RowKept packet row
   ends-kept p packet row state commands replies over fetched fetches = record {
@@ -137,7 +142,9 @@ module _ (store : Store) (files : List Asked) (base : Party) (a : Attempt) (olde
   coming-was : (packet : PacketValue) (next : IsNext items packet (said_by_server side)) → coming_by a a.server ≡ octets_of_data packet ++ octets_said next.after
   coming-was packet next = ap (coming_by a) it.is_side ∙ coming-octets items packet (said_by_server side) next
 
-  taken-then : (packet : PacketValue) (row : Row Download) → octets_taken (job.items_in (a.client.entries ++ entry_of_row packet row ∷ [])) ≡ octets_taken items ++ octets_of_data packet
+  taken-then : (packet : PacketValue) (row : Row Download)
+      → octets_taken (job.items_in (a.client.entries ++ entry_of_row packet row ∷ [])) ≡ octets_taken
+      items ++ octets_of_data packet
   taken-then packet row = ap octets_taken (items-then packet row) ∙ flat_map-one octets_of_item items (Ok packet)
 
   said-then : (packet : PacketValue) (row : Row Download) (now : Attempted) → said_by_client (attempt_then packet row now).client ≡ said_by_client a.client ++ row.replies
@@ -153,7 +160,9 @@ module _ (store : Store) (files : List Asked) (base : Party) (a : Attempt) (olde
   nothing-comes packet none next =
       let before : map {B = Item} Ok next.before ≡ [] = sym next.items_are ∙ ap job.items_in none in
       let said_none : said_by_client a.client ≡ [] = ap job.said_in none in
-      let told : session.items_in side.entries ≡ [] = none-behind-items (session.items_in side.entries) it.told.0 (sym it.told.1 ∙ ap (λ (l : List PacketValue). map {B = Item} Ok l) said_none) in
+      let told : session.items_in side.entries ≡ [] =
+      none-behind-items (session.items_in side.entries) it.told.0
+      (sym it.told.1 ∙ ap (λ (l : List PacketValue). map {B = Item} Ok l) said_none) in
       let silent = unasked-silent store number side it.serves told in
       let all : said_by_server side ≡ packet ∷ next.after = next.said_is ∙ ap (λ (l : List PacketValue). l ++ packet ∷ next.after) (none-mapped next.before before) in
       let rest : session.said_in side.entries ≡ next.after = cc in
@@ -222,7 +231,9 @@ module _ (store : Store) (files : List Asked) (base : Party) (a : Attempt) (olde
         fronts = λ count.
             subst (λ (cs : List NotesCommand). NotesKept store files party (notes.after_first count lists cs)) (sym pieces.1)
             (pieces-fronts store files party it.facts it.sound number pieces.0
-             (first-before store number (held ++ concat pieces.0) ((held ++ concat pieces.0) ++ (unnoted (rest ++ octets) ++ left)) (unnoted (rest ++ octets) ++ left, refl) first) count);
+            (first-before store number (held ++ concat pieces.0)
+            ((held ++ concat pieces.0) ++ (unnoted (rest ++ octets) ++ left))
+            (unnoted (rest ++ octets) ++ left, refl) first) count);
         checked = tt;
         fetched = λ ending n is reached. absurd (cc);
         fetches = λ now goes.
@@ -250,17 +261,20 @@ module _ (store : Store) (files : List Asked) (base : Party) (a : Attempt) (olde
   -- ---- DATA_END
 
   -- with the rest all octets of the file came
-  end-whole : (packet : PacketValue) → packet ≡ data_end → Fetches store party a (download_at server number rest phase.Fetching) → IsNext items data_end (said_by_server side) → fault_code (held ++ rest) ≡ None
+  end-whole : (packet : PacketValue) → packet ≡ data_end
+      → Fetches store party a (download_at server number rest phase.Fetching)
+      → IsNext items data_end (said_by_server side) → fault_code (held ++ rest) ≡ None
   end-whole packet is fetches next =
       let sent = end-sent store number side it.serves it.greets items next in
       let command : Has (said_by_client a.client) (download_cmd number sent.offset 0) =
       has-ok (said_by_client a.client) (download_cmd number sent.offset 0)
       (front-has (session.items_in side.entries) (map Ok (said_by_client a.client)) (Ok (download_cmd number sent.offset 0)) it.told
-       (answered-item side.entries (Ok (download_cmd number sent.offset 0)) sent.answered)) in
+      (answered-item side.entries (Ok (download_cmd number sent.offset 0)) sent.answered)) in
       let same = asks-once number a.client it.says number number fetches.offset sent.offset fetches.asked command in
       let all : length (octets_taken items) ≡ length sent.file - sent.offset = ap length (sent.octets_are ∙ sent.all.1) ∙ length-drop sent.offset sent.file in
       let first : AreFirstIfAny store number (held ++ rest) =
-      first-before store number (held ++ rest) (held ++ (rest ++ coming_by a a.server)) (coming_by a a.server, sym (append_assoc held rest (coming_by a a.server))) fetches.first in
+      first-before store number (held ++ rest) (held ++ (rest ++ coming_by a a.server))
+      (coming_by a a.server, sym (append_assoc held rest (coming_by a a.server))) fetches.first in
       let front : IsFront (held ++ rest) sent.file = front-if-any store number sent.file (held ++ rest) sent.all.0.is_file first in
       let long : length (held ++ rest) ≡ length sent.file = omega (arith, fetches.counted, same.1, all, sent.all.0.within) in
       let whole : held ++ rest ≡ sent.file = front-all (held ++ rest) sent.file front long in
@@ -278,9 +292,11 @@ module _ (store : Store) (files : List Asked) (base : Party) (a : Attempt) (olde
       let pieces = last-pieces server number rest in
       let first : AreFirstIfAny store number (held ++ concat pieces.0) =
       subst (λ (l : List ℕ). AreFirstIfAny store number (held ++ l)) (sym pieces.2)
-      (first-before store number (held ++ rest) (held ++ (rest ++ coming_by a a.server)) (coming_by a a.server, sym (append_assoc held rest (coming_by a a.server))) fetches.first) in
+      (first-before store number (held ++ rest) (held ++ (rest ++ coming_by a a.server))
+      (coming_by a a.server, sym (append_assoc held rest (coming_by a a.server))) fetches.first) in
       let got_then : got_of (after_all lists row.commands) server number ≡ held ++ rest =
-      ap (λ (cs : List NotesCommand). got_of (after_all lists cs) server number) pieces.1 ∙ noted-after server number pieces.0 lists ∙ ap (λ (l : List ℕ). held ++ l) pieces.2 in
+      ap (λ (cs : List NotesCommand). got_of (after_all lists cs) server number) pieces.1
+      ∙ noted-after server number pieces.0 lists ∙ ap (λ (l : List ℕ). held ++ l) pieces.2 in
       record {
         fronts = λ count.
             subst (λ (cs : List NotesCommand). NotesKept store files party (notes.after_first count lists cs)) (sym pieces.1)
@@ -315,7 +331,10 @@ module _ (store : Store) (files : List Asked) (base : Party) (a : Attempt) (olde
 
   kept-cases : DownloadCases server number held rest Keeps
   kept-cases = record {
-    strange_rows = λ p packet kind came fetches next. ends-kept p packet (strange (download_at server number rest p) kind) refl refl refl (λ none. absurd (cc)) (λ ending n is reached. absurd (cc)) fetches;
+    strange_rows =
+        λ p packet kind came fetches next. ends-kept p packet
+        (strange (download_at server number rest p) kind) refl refl refl (λ none. absurd (cc))
+        (λ ending n is reached. absurd (cc)) fetches;
     login = login-kept;
     octets = octets-kept;
     whole = whole-kept;

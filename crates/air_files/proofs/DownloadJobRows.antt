@@ -2,13 +2,15 @@
 use Rattle.std.proofs.Common.{◌≡◌, ℕ, ◌+◌, List, [], ◌∷◌, ◌++◌, Bool, true, false, Option, None, Some, length, refl}
 use Rattle.std.specs.Prelude.{if◌then◌else◌, nat_lt}
 use Rattle.px_base.specs.CallSign.{CallSign}
-use Rattle.ftl0_packets.specs.Layout.{PacketValue, data_end, data_part, dl_completed_resp, dl_error_resp, download_cmd, kind_of, login_resp}
+use Rattle.ftl0_packets.specs.Layout.{PacketValue, data_end, data_part, dl_completed_resp, dl_error_resp, download_cmd}
+use Rattle.ftl0_packets.specs.Layout.{kind_of, login_resp}
 use Rattle.pfh_items.specs.Faults.{fault_code}
 use Rattle.client_notes.specs.Limits.{longest_file}
 use Rattle.ftl0_job.specs.declared.ending.Outcome.TheVariants as outcome
 use Rattle.ftl0_job.specs.declared.phases.DownloadPhase.{DownloadPhase}
 use Rattle.ftl0_job.specs.declared.phases.DownloadPhase.TheVariants as phase
-use Rattle.ftl0_job.specs.Download.{Download, done_row, download_row, error_row, fetching_row, login_row, unnoted, whole_gots, whole_row}
+use Rattle.ftl0_job.specs.Download.{Download, done_row, download_row, error_row, fetching_row, login_row, unnoted}
+use Rattle.ftl0_job.specs.Download.{whole_gots, whole_row}
 use Rattle.ftl0_job.specs.Row.{Row, ends, goes_on, strange}
 
 -- the download of a server's file, of which these octets aren't noted yet, come so far
@@ -16,22 +18,31 @@ abbrev pub download_at : CallSign → ℕ → List ℕ → DownloadPhase → Dow
 download_at server number rest p = record { server = server; number = number; rest = rest; phase = p }
 
 -- it holds of each row of a download, by how far it has come and by the packet, where these octets were noted
-pub record DownloadCases (server : CallSign) (number : ℕ) (held rest : List ℕ) (P : DownloadPhase → PacketValue → Row Download → Type 0) : Type 0 where
-  pub strange_rows : (p : DownloadPhase) (packet : PacketValue) (kind : ℕ) → P p packet (strange (download_at server number rest p) kind)
+pub record DownloadCases (server : CallSign) (number : ℕ) (held rest : List ℕ)
+    (P : DownloadPhase → PacketValue → Row Download → Type 0) : Type 0 where
+  pub strange_rows : (p : DownloadPhase) (packet : PacketValue) (kind : ℕ)
+      → P p packet (strange (download_at server number rest p) kind)
   pub login :
       (moment flags : ℕ)
-      → P phase.Login (login_resp moment flags) (goes_on (download_at server number [] phase.Fetching) [] (download_cmd number (length held) 0 ∷ []))
+      → P phase.Login (login_resp moment flags)
+      (goes_on (download_at server number [] phase.Fetching) [] (download_cmd number (length held) 0 ∷ []))
   pub octets :
       (octets : List ℕ)
       → P phase.Fetching (data_part octets)
-        (goes_on (download_at server number (unnoted (rest ++ octets)) phase.Fetching) (whole_gots server number (rest ++ octets)) [])
-  pub whole : fault_code (held ++ rest) ≡ None → P phase.Fetching data_end (whole_row (download_at server number rest phase.Fetching) None)
+      (goes_on (download_at server number (unnoted (rest ++ octets)) phase.Fetching)
+      (whole_gots server number (rest ++ octets)) [])
+  pub whole : fault_code (held ++ rest) ≡ None
+      → P phase.Fetching data_end (whole_row (download_at server number rest phase.Fetching) None)
   pub bad :
-      (code : ℕ) → fault_code (held ++ rest) ≡ Some code → P phase.Fetching data_end (whole_row (download_at server number rest phase.Fetching) (Some code))
-  pub refused : (code : ℕ) → P phase.Fetching (dl_error_resp code) (error_row (download_at server number rest phase.Fetching) code)
-  pub done : P phase.Done dl_completed_resp (ends (download_at server number rest phase.Done) [] (outcome.Fetched number))
+      (code : ℕ) → fault_code (held ++ rest) ≡ Some code
+      → P phase.Fetching data_end (whole_row (download_at server number rest phase.Fetching) (Some code))
+  pub refused : (code : ℕ)
+      → P phase.Fetching (dl_error_resp code) (error_row (download_at server number rest phase.Fetching) code)
+  pub done : P phase.Done dl_completed_resp
+      (ends (download_at server number rest phase.Done) [] (outcome.Fetched number))
 
-module _ (server : CallSign) (number : ℕ) (held rest : List ℕ) (P : DownloadPhase → PacketValue → Row Download → Type 0) (each : DownloadCases server number held rest P) where
+module _ (server : CallSign) (number : ℕ) (held rest : List ℕ) (P : DownloadPhase → PacketValue → Row Download → Type 0)
+    (each : DownloadCases server number held rest P) where
   abbrev at : DownloadPhase → Download
   at p = download_at server number rest p
 
@@ -41,12 +52,14 @@ module _ (server : CallSign) (number : ℕ) (held rest : List ℕ) (P : Download
 
   octets-case : (octets : List ℕ) (b : Bool)
       → P phase.Fetching (data_part octets)
-        (if b then strange (at phase.Fetching) 0
-        else goes_on (download_at server number (unnoted (rest ++ octets)) phase.Fetching) (whole_gots server number (rest ++ octets)) [])
+      (if b then strange (at phase.Fetching) 0
+      else goes_on (download_at server number (unnoted (rest ++ octets)) phase.Fetching)
+      (whole_gots server number (rest ++ octets)) [])
   octets-case octets true = each.strange_rows phase.Fetching (data_part octets) 0
   octets-case octets false = each.octets octets
 
-  end-case : (o : Option ℕ) → fault_code (held ++ rest) ≡ o → P phase.Fetching data_end (whole_row (at phase.Fetching) o)
+  end-case : (o : Option ℕ) → fault_code (held ++ rest) ≡ o
+      → P phase.Fetching data_end (whole_row (at phase.Fetching) o)
   end-case None is = each.whole is
   end-case (Some code) is = each.bad code is
 

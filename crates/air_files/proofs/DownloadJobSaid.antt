@@ -1,5 +1,6 @@
 -- What a job of a download has said, by how far it has come.
-use Rattle.std.proofs.Common.{◌≡◌, inl, inr, ℕ, List, [], ◌∷◌, ◌++◌, length, refl, ap, sym, ◌∙◌, subst, Option, None, Some, Ok, Err, append-nil}
+use Rattle.std.proofs.Common.{◌≡◌, inl, inr, ℕ, List, [], ◌∷◌, ◌++◌, length, refl, ap, sym, ◌∙◌, subst, Option, None}
+use Rattle.std.proofs.Common.{Some, Ok, Err, append-nil}
 use Rattle.std.specs.Prelude.{⊤}
 use Rattle.px_base.specs.CallSign.{CallSign}
 use Rattle.ftl0_packets.specs.Items.{kind_of_item}
@@ -18,11 +19,11 @@ use Rattle.ftl0_client.specs.Entries.{JobEntry, after_losing, lost, packets_said
 use Rattle.air_attempt.specs.Lists.{OneIs}
 use Rattle.air_attempt.specs.Said.{IsTaken}
 use Rattle.air_attempt.specs.Sides.{JobReaches}
+use Rattle.air_attempt.proofs.Offered.{one-last, one-left}
 use Rattle.air_files.specs.DownloadDialogue.{Fetching, IsWord, asked, fetching_said, silent, told}
 use Rattle.air_files.proofs.DownloadJobRows.{DownloadCases, download-cases, download_at}
 use Rattle.air_files.proofs.JobReach.{Stays, of-reached}
-use Rattle.air_files.proofs.JobUploadSaid.{one-last, said-one}
-use Rattle.air_files.proofs.LiftLemmas.{one-left}
+use Rattle.air_files.proofs.JobUploadCame.{said-one}
 
 -- what a job that has said so much has taken: its word came behind DATA_END
 abbrev pub Told : List JobEntry → Fetching → Type 0
@@ -51,7 +52,8 @@ module _ (server : CallSign) (number : ℕ) where
   Does es job = DoesDownload server number es job
 
   -- nothing is due of it
-  pub none-due : (job : JobState) (due : DuePacket JobState) (download : Download) → job.work ≡ work.Download download → next_due job ≡ Some due → ⊥
+  pub none-due : (job : JobState) (due : DuePacket JobState) (download : Download) → job.work ≡ work.Download download
+      → next_due job ≡ Some due → ⊥
   none-due job due download is next = by job.ending (ap (λ (doing : Work). due_by job.ending doing) (sym is) ∙ next)
     where
       by : (o : Option Ending) → due_by o (work.Download download) ≡ Some due → ⊥
@@ -64,9 +66,11 @@ module _ (server : CallSign) (number : ℕ) where
   told-more es more (told offset word) were = (were.0, one-left (IsTaken (Ok data_end)) es more were.1)
 
   -- nothing more is said
-  module _ (es : List JobEntry) (job : JobState) (does : Does es job) (entry : JobEntry) (quiet : packets_said entry ≡ []) where
+  module _ (es : List JobEntry) (job : JobState) (does : Does es job) (entry : JobEntry)
+      (quiet : packets_said entry ≡ []) where
     said-same : said_in (es ++ entry ∷ []) ≡ fetching_said number does.stage
-    said-same = said-one es entry ∙ ap (λ (l : List PacketValue). said_in es ++ l) quiet ∙ append-nil (said_in es) ∙ does.said
+    said-same =
+        said-one es entry ∙ ap (λ (l : List PacketValue). said_in es ++ l) quiet ∙ append-nil (said_in es) ∙ does.said
 
   -- ---- a packet that is taken, by its row
 
@@ -76,14 +80,17 @@ module _ (server : CallSign) (number : ℕ) where
     Comes p packet row =
         CameTo p number es
         → (row.state ≡ download_at server number row.state.rest row.state.phase)
-        × ((stage : Fetching) × (said_in es ++ row.replies ≡ fetching_said number stage) × Told (es ++ took (Ok packet) (row_of work.Download row) ∷ []) stage)
+        × ((stage : Fetching) × (said_in es ++ row.replies ≡ fetching_said number stage) × Told
+        (es ++ took (Ok packet) (row_of work.Download row) ∷ []) stage)
         × (row.ending ≡ None → CameTo row.state.phase number (es ++ took (Ok packet) (row_of work.Download row) ∷ []))
 
     -- nothing is said
-    silent-so : (more : List JobEntry) → (stage : Fetching) × (said_in es ++ [] ≡ fetching_said number stage) × Told (es ++ more) stage
+    silent-so : (more : List JobEntry)
+        → (stage : Fetching) × (said_in es ++ [] ≡ fetching_said number stage) × Told (es ++ more) stage
     silent-so more = (does.stage, append-nil (said_in es) ∙ does.said, told-more es more does.stage does.fetches)
 
-    said-then : (packet : PacketValue) (row : Row Download) → said_in (es ++ took (Ok packet) (row_of work.Download row) ∷ []) ≡ said_in es ++ row.replies
+    said-then : (packet : PacketValue) (row : Row Download)
+        → said_in (es ++ took (Ok packet) (row_of work.Download row) ∷ []) ≡ said_in es ++ row.replies
     said-then packet row = said-one es (took (Ok packet) (row_of work.Download row))
 
     come-cases : DownloadCases server number held does.rest Comes
@@ -92,8 +99,16 @@ module _ (server : CallSign) (number : ℕ) where
       login = λ moment flags came.
           let nothing : said_in es ≡ [] = ap said_in came in (
             refl,
-            (asked (length held), ap (λ (l : List PacketValue). l ++ download_cmd number (length held) 0 ∷ []) nothing, tt),
-            λ goes. (length held, said-one es _ ∙ ap (λ (l : List PacketValue). l ++ download_cmd number (length held) 0 ∷ []) nothing),
+            (
+              asked (length held),
+              ap (λ (l : List PacketValue). l ++ download_cmd number (length held) 0 ∷ []) nothing,
+              tt,
+            ),
+            λ goes. (
+              length held,
+              said-one es _ ∙ ap (λ (l : List PacketValue). l ++ download_cmd number
+                  (length held) 0 ∷ []) nothing,
+            ),
           );
       octets = λ octets came. (refl, silent-so _, λ goes. (came.0, said-one es _ ∙ append-nil (said_in es) ∙ came.1));
       whole = λ good came. (
@@ -118,7 +133,8 @@ module _ (server : CallSign) (number : ℕ) where
       done = λ came. (refl, silent-so _, λ goes. absurd (cc));
     }
 
-    comes : (p : DownloadPhase) (packet : PacketValue) → Comes p packet (download_row held (download_at server number does.rest p) packet)
+    comes : (p : DownloadPhase) (packet : PacketValue)
+        → Comes p packet (download_row held (download_at server number does.rest p) packet)
     comes p packet = download-cases server number held does.rest Comes come-cases p packet
 
   -- ---- entry by entry
@@ -127,7 +143,8 @@ module _ (server : CallSign) (number : ℕ) where
   item_here lists rest p item = item_row lists (work.Download (download_at server number rest p)) item
 
   takes : (es : List JobEntry) (job : JobState) (lists : Lists) (item : Item) → job.ending ≡ None → (does : Does es job)
-      → Does (es ++ took item (item_here lists does.rest does.phase_is item) ∷ []) (job_after (item_here lists does.rest does.phase_is item))
+      → Does (es ++ took item (item_here lists does.rest does.phase_is item) ∷ [])
+      (job_after (item_here lists does.rest does.phase_is item))
   takes es job lists (Ok packet) none does =
       let row = download_row (got_of lists server number) (download_at server number does.rest does.phase_is) packet in
       let it = comes es job none does (got_of lists server number) does.phase_is packet (does.came none) in
@@ -153,14 +170,17 @@ module _ (server : CallSign) (number : ℕ) where
       }
 
   loses : (es : List JobEntry) (job : JobState) (lists : Lists) (item : Item) → job.ending ≡ None → (does : Does es job)
-      → Does (es ++ lost item (item_here lists does.rest does.phase_is item) ∷ []) (after_losing (kind_of_item item) (item_here lists does.rest does.phase_is item))
+      → Does (es ++ lost item (item_here lists does.rest does.phase_is item) ∷ [])
+      (after_losing (kind_of_item item) (item_here lists does.rest does.phase_is item))
   loses es job lists (Ok packet) none does =
       let row = download_row (got_of lists server number) (download_at server number does.rest does.phase_is) packet in
       let entry = lost (Ok packet) (row_of work.Download row) in
       record {
         phase_is = row.state.phase;
         rest = row.state.rest;
-        work_is = ap work.Download (comes es job none does (got_of lists server number) does.phase_is packet (does.came none)).0;
+        work_is =
+            ap work.Download (comes es job none does (got_of lists server number) does.phase_is packet
+            (does.came none)).0;
         stage = does.stage;
         said = said-same es job does entry refl;
         fetches = told-more es (entry ∷ []) does.stage does.fetches;
@@ -181,10 +201,12 @@ module _ (server : CallSign) (number : ℕ) where
   stays : Stays Does
   stays = record {
     taking = λ es job lists item none does.
-        subst (λ (doing : Work). Does (es ++ took item (item_row lists doing item) ∷ []) (job_after (item_row lists doing item))) (sym does.work_is)
+        subst (λ (doing : Work). Does (es ++ took item (item_row lists doing item) ∷ [])
+        (job_after (item_row lists doing item))) (sym does.work_is)
         (takes es job lists item none does);
     losing = λ es job lists item none does.
-        subst (λ (doing : Work). Does (es ++ lost item (item_row lists doing item) ∷ []) (after_losing (kind_of_item item) (item_row lists doing item))) (sym does.work_is)
+        subst (λ (doing : Work). Does (es ++ lost item (item_row lists doing item) ∷ [])
+        (after_losing (kind_of_item item) (item_row lists doing item))) (sym does.work_is)
         (loses es job lists item none does);
     passing = λ es job item ended does.
         record {
@@ -196,11 +218,22 @@ module _ (server : CallSign) (number : ℕ) where
           fetches = told-more es (passed item ∷ []) does.stage does.fetches;
           came = λ none. absurd (ended none);
         };
-    queuing = λ es job due next does. absurd (none-due job due (download_at server number does.rest does.phase_is) does.work_is next);
+    queuing =
+        λ es job due next does. absurd
+        (none-due job due (download_at server number does.rest does.phase_is) does.work_is next);
   }
 
   -- so far a download came
-  pub does-download : (es : List JobEntry) (job : JobState) → JobReaches (new_job (work.Download (new_download server number))) es job → Does es job
+  pub does-download : (es : List JobEntry) (job : JobState)
+      → JobReaches (new_job (work.Download (new_download server number))) es job → Does es job
   does-download es job reached =
       of-reached Does stays es (new_job (work.Download (new_download server number))) job
-      (record { phase_is = phase.Login; rest = []; work_is = refl; stage = silent; said = refl; fetches = tt; came = λ none. refl }) reached
+      (record {
+        phase_is = phase.Login;
+        rest = [];
+        work_is = refl;
+        stage = silent;
+        said = refl;
+        fetches = tt;
+        came = λ none. refl;
+      }) reached

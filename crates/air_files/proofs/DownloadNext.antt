@@ -9,38 +9,36 @@ use Rattle.ftl0_client.specs.Entries as job
 use Rattle.ftl0_client.specs.Entries.{JobEntry}
 use Rattle.air_attempt.specs.Attempt.{Attempt}
 use Rattle.air_attempt.specs.Laws.{ClientTookFront, ServerTookFront}
-use Rattle.air_attempt.specs.Lists.{AreFirstOf, Has, OneIs}
-use Rattle.air_attempt.specs.Said.{IsTaken, Took}
+use Rattle.air_attempt.specs.Lists.{AreFirstOf, Has}
+use Rattle.air_attempt.specs.Said.{Took}
 use Rattle.air_attempt.specs.Sides.{IsGreeting, ServerSide, said_by_client, said_by_server}
-use Rattle.air_files.specs.DownloadDialogue.{Fetching, IsFetchingFile, IsWord, SaysDownload, Sending, asked, ended, fetching_said, refused, sending_items, sending_said, sends, silent, told, unasked, waits}
+use Rattle.air_attempt.proofs.Offered.{flat_map-one, one-left}
+use Rattle.air_files.specs.DownloadDialogue.{Fetching, IsFetchingFile, IsWord, SaysDownload, Sending, asked, ended}
+use Rattle.air_files.specs.DownloadDialogue.{fetching_said, refused, sending_items, sending_said, sends, silent, told}
+use Rattle.air_files.specs.DownloadDialogue.{unasked, waits}
 use Rattle.air_files.specs.UploadDialogue.{answered_in}
-use Rattle.air_files.proofs.FetchesOn.{flat_map-one}
-use Rattle.air_files.proofs.LiftLemmas.{one-left, one-right}
+use Rattle.air_files.proofs.JobTook.{took-item}
+use Rattle.air_files.proofs.UploadNext.{answered-all}
 
 -- ---- what a client took was said
 
-took-item : (entries : List JobEntry) (item : Item) → OneIs (IsTaken item) entries → Has (job.items_in entries) item
-took-item [] item one = one
-took-item (job.took taken row ∷ entries) item (inl is) = inl is
-took-item (job.lost taken row ∷ entries) item (inl is) = absurd is
-took-item (job.passed taken ∷ entries) item (inl is) = absurd is
-took-item (job.queued due ∷ entries) item (inl is) = absurd is
-took-item (entry ∷ entries) item (inr there) = one-right (λ it. it ≡ item) (job.items_of entry) (job.items_in entries) (took-item entries item there)
-
-had-ok : (packets : List PacketValue) (packet : PacketValue) → Has (map {B = Item} Ok packets) (Ok packet) → Has packets packet
+had-ok : (packets : List PacketValue) (packet : PacketValue) → Has (map {B = Item} Ok packets) (Ok packet)
+    → Has packets packet
 had-ok [] packet has = has
 had-ok (x ∷ packets) packet (inl is) = inl (cc)
 had-ok (x ∷ packets) packet (inr there) = inr (had-ok packets packet there)
 
 -- but for the greeting
-pub took-said : (a : Attempt) (side : ServerSide) (packet : PacketValue) → ClientTookFront a side → Took a.client packet → side.greeting ≢ packet
+pub took-said : (a : Attempt) (side : ServerSide) (packet : PacketValue) → ClientTookFront a side → Took a.client packet
+    → side.greeting ≢ packet
     → Has (session.said_in side.entries) packet
 took-said a side packet heard took other = by (had-ok (said_by_server side) packet all)
   where
     all : Has (map {B = Item} Ok (said_by_server side)) (Ok packet)
     all =
         subst (λ (items : List Item). Has items (Ok packet)) (sym heard.1)
-        (one-left (λ it. it ≡ Ok packet) (job.items_in a.client.entries) heard.0 (took-item a.client.entries (Ok packet) took))
+        (one-left (λ it. it ≡ Ok packet) (job.items_in a.client.entries) heard.0
+        (took-item a.client.entries (Ok packet) took))
 
     by : Has (said_by_server side) packet → Has (session.said_in side.entries) packet
     by (inl is) = absurd (other is)
@@ -60,7 +58,8 @@ none-among (part ∷ parts) (inr there) = none-among parts there
 -- the packet that may come next: DOWNLOAD_CMD of the client's, or its word
 abbrev pub IsNextOf : ℕ → Attempt → Sending → Item → Type 0
 IsNextOf number a unasked item =
-    (offset : ℕ) × (item ≡ Ok (download_cmd number offset 0)) × Has (said_by_client a.client) (download_cmd number offset 0)
+    (offset : ℕ) × (item ≡ Ok (download_cmd number offset 0)) × Has (said_by_client a.client)
+    (download_cmd number offset 0)
 IsNextOf number a (refused offset code) item = ⊥
 IsNextOf number a (sends offset parts) item = ⊥
 IsNextOf number a (waits offset parts) item = (word : PacketValue) × (item ≡ Ok word) × IsWord word
@@ -68,17 +67,29 @@ IsNextOf number a (ended offset parts word last) item = ⊥
 
 module _ (number : ℕ) (a : Attempt) (item : Item) where
   -- nothing comes of a client that has said no more
-  none-more : (stage : Sending) (words : List PacketValue) → AreFirstOf (sending_items number stage ++ item ∷ []) (map Ok words) → words ≡ [] → ⊥
-  none-more unasked words front is = absurd (let f = front.1 in let w : map {B = Item} Ok words ≡ [] = ap (map Ok) is in cc)
-  none-more (refused offset code) words front is = absurd (let f = front.1 in let w : map {B = Item} Ok words ≡ [] = ap (map Ok) is in cc)
-  none-more (sends offset parts) words front is = absurd (let f = front.1 in let w : map {B = Item} Ok words ≡ [] = ap (map Ok) is in cc)
-  none-more (waits offset parts) words front is = absurd (let f = front.1 in let w : map {B = Item} Ok words ≡ [] = ap (map Ok) is in cc)
-  none-more (ended offset parts word last) words front is = absurd (let f = front.1 in let w : map {B = Item} Ok words ≡ [] = ap (map Ok) is in cc)
+  none-more : (stage : Sending) (words : List PacketValue)
+      → AreFirstOf (sending_items number stage ++ item ∷ []) (map Ok words) → words ≡ [] → ⊥
+  none-more unasked words front is =
+      absurd (let f = front.1 in let w : map {B = Item} Ok words ≡ [] = ap (map Ok) is in cc)
+  none-more (refused offset code) words front is =
+      absurd (let f = front.1 in let w : map {B = Item} Ok words ≡ [] = ap (map Ok) is in cc)
+  none-more (sends offset parts) words front is =
+      absurd (let f = front.1 in let w : map {B = Item} Ok words ≡ [] = ap (map Ok) is in cc)
+  none-more (waits offset parts) words front is =
+      absurd (let f = front.1 in let w : map {B = Item} Ok words ≡ [] = ap (map Ok) is in cc)
+  none-more (ended offset parts word last) words front is =
+      absurd (let f = front.1 in let w : map {B = Item} Ok words ≡ [] = ap (map Ok) is in cc)
 
   -- nor of one that has asked alone, but its command
   next-asked : (stage : Sending) (from : ℕ) → said_by_client a.client ≡ download_cmd number from 0 ∷ []
-      → AreFirstOf (sending_items number stage ++ item ∷ []) (map Ok (download_cmd number from 0 ∷ [])) → IsNextOf number a stage item
-  next-asked unasked from said front = (from, let f = front.1 in cc, subst (λ (l : List PacketValue). Has l (download_cmd number from 0)) (sym said) (inl refl))
+      → AreFirstOf (sending_items number stage ++ item ∷ []) (map Ok (download_cmd number from 0 ∷ []))
+      → IsNextOf number a stage item
+  next-asked unasked from said front = (
+    from,
+    let f = front.1 in cc,
+    subst (λ (l : List PacketValue). Has l (download_cmd number from 0)) (sym said)
+        (inl refl),
+  )
   next-asked (refused offset code) from said front = absurd (let f = front.1 in cc)
   next-asked (sends offset parts) from said front = absurd (let f = front.1 in cc)
   next-asked (waits offset parts) from said front = absurd (let f = front.1 in cc)
@@ -86,7 +97,8 @@ module _ (number : ℕ) (a : Attempt) (item : Item) where
 
   -- a client that has given its word took DATA_END before
   next-told : (stage : Sending) (from : ℕ) (it : PacketValue) → IsWord it → Has (sending_said stage) data_end
-      → AreFirstOf (sending_items number stage ++ item ∷ []) (map Ok (download_cmd number from 0 ∷ it ∷ [])) → IsNextOf number a stage item
+      → AreFirstOf (sending_items number stage ++ item ∷ []) (map Ok (download_cmd number from 0 ∷ it ∷ []))
+      → IsNextOf number a stage item
   next-told unasked from it is has front = absurd has
   next-told (refused offset code) from it is (inl same) front = absurd (cc)
   next-told (refused offset code) from it is (inr has) front = absurd has
@@ -94,8 +106,10 @@ module _ (number : ℕ) (a : Attempt) (item : Item) where
   next-told (waits offset parts) from it is has front = (it, let f = front.1 in cc, is)
   next-told (ended offset parts word last) from it is has front = absurd (let f = front.1 in cc)
 
-  next-by : (stage : Sending) (fetches : Fetching) → said_by_client a.client ≡ fetching_said number fetches → IsFetchingFile a.client fetches
-      → (Took a.client data_end → Has (sending_said stage) data_end) → AreFirstOf (sending_items number stage ++ item ∷ []) (map Ok (fetching_said number fetches))
+  next-by : (stage : Sending) (fetches : Fetching) → said_by_client a.client ≡ fetching_said number fetches
+      → IsFetchingFile a.client fetches
+      → (Took a.client data_end → Has (sending_said stage) data_end)
+      → AreFirstOf (sending_items number stage ++ item ∷ []) (map Ok (fetching_said number fetches))
       → IsNextOf number a stage item
   next-by stage silent said is end front = absurd (none-more stage [] front refl)
   next-by stage (asked from) said is end front = next-asked stage from said front
@@ -103,21 +117,22 @@ module _ (number : ℕ) (a : Attempt) (item : Item) where
 
 -- ---- the packets of a session that lost none
 
-pub answered-all : (entries : List SessionEntry) → AllByRecursion session.IsNotLost entries → answered_in entries ≡ session.items_in entries
-answered-all [] none = refl
-answered-all (session.took item row ∷ entries) none = ap (λ (l : List Item). item ∷ l) (answered-all entries none.1)
-answered-all (session.lost item row ∷ entries) none = absurd none.0
-answered-all (session.queued due ∷ entries) none = answered-all entries none.1
-
 -- The item that such a session takes next is so.
 pub next-is : (number : ℕ) (a : Attempt) (side : ServerSide) (stage : Sending) (entry : SessionEntry) (item : Item)
-    → answered_in side.entries ≡ sending_items number stage → session.said_in side.entries ≡ sending_said stage → AllByRecursion session.IsNotLost side.entries
-    → SaysDownload number a.client → IsGreeting side.greeting → ClientTookFront a side → session.items_of entry ≡ item ∷ []
+    → answered_in side.entries ≡ sending_items number stage → session.said_in side.entries ≡ sending_said stage
+    → AllByRecursion session.IsNotLost side.entries
+    → SaysDownload number a.client → IsGreeting side.greeting → ClientTookFront a side
+    → session.items_of entry ≡ item ∷ []
     → ServerTookFront a (record side { entries = side.entries ++ entry ∷ [] }) → IsNextOf number a stage item
 next-is number a side stage entry item items said none says greets heard taken front =
     let here : session.items_in (side.entries ++ entry ∷ []) ≡ sending_items number stage ++ item ∷ [] =
-    flat_map-one session.items_of side.entries entry ∙ ap₂ (λ (l m : List Item). l ++ m) (sym (answered-all side.entries none) ∙ items) taken in
+    flat_map-one session.items_of side.entries entry
+    ∙ ap₂ (λ (l m : List Item). l ++ m) (sym (answered-all side.entries none) ∙ items) taken in
     let end : Took a.client data_end → Has (sending_said stage) data_end = λ took.
-    subst (λ (l : List PacketValue). Has l data_end) said (took-said a side data_end heard took (greeting-other side.greeting greets)) in
-    next-by number a item stage says.stage says.said says.fetches end
-    (front.0, sym (ap (λ (l : List PacketValue). map {B = Item} Ok l) says.said) ∙ front.1 ∙ ap (λ (l : List Item). l ++ front.0) here)
+    subst (λ (l : List PacketValue). Has l data_end) said
+    (took-said a side data_end heard took (greeting-other side.greeting greets)) in
+    next-by number a item stage says.stage says.said says.fetches end (
+      front.0,
+      sym (ap (λ (l : List PacketValue). map {B = Item} Ok l) says.said) ∙ front.1
+          ∙ ap (λ (l : List Item). l ++ front.0) here,
+    )

@@ -1,5 +1,6 @@
 -- A session of a download queues what is due: DATA with the next octets of the file, and then DATA_END.
-use Rattle.std.proofs.Common.{◌≡◌, ℕ, ◌+◌, ◌-◌, ◌≤◌, ◌<◌, min, List, [], ◌∷◌, ◌++◌, length, map, take, refl, ap, sym, ◌∙◌, subst, Bool, false, Some, arith, append-nil, length-take}
+use Rattle.std.proofs.Common.{◌≡◌, ℕ, ◌+◌, ◌-◌, ◌≤◌, ◌<◌, min, List, [], ◌∷◌, ◌++◌, length, map, take, refl, ap, sym}
+use Rattle.std.proofs.Common.{◌∙◌, subst, Bool, false, Some, arith, append-nil, length-take}
 use Rattle.std.specs.Prelude.{Ok}
 use Rattle.std.specs.List.{concat}
 use Rattle.std.proofs.lemmas.List.{map-append}
@@ -18,13 +19,16 @@ use Rattle.air_attempt.specs.Laws.{ServerTookFront}
 use Rattle.air_attempt.specs.Lists.{AreFirstOf as AreFirstIn}
 use Rattle.air_attempt.specs.Party.{Party}
 use Rattle.air_attempt.specs.Sides.{ServerSide, said_by_client}
-use Rattle.air_files.specs.DownloadDialogue.{AreSent, AreSentFrom, IsSendingState, Sending, ended, refused, sending_items, sending_said, sends, unasked, waits}
+use Rattle.air_attempt.proofs.Offered.{flat_map-one}
+use Rattle.air_files.specs.DownloadDialogue.{AreSent, AreSentFrom, IsSendingState, Sending, ended, refused}
+use Rattle.air_files.specs.DownloadDialogue.{sending_items, sending_said, sends, unasked, waits}
 use Rattle.air_files.specs.UploadDialogue.{answered_by, answered_in}
 use Rattle.air_files.proofs.DownloadComing.{comes-data}
-use Rattle.air_files.proofs.DownloadDue.{all-sent, due-then, left-is, left_then, more-sent, place-more, place-within, place_then, rest_due}
-use Rattle.air_files.proofs.DownloadNext.{answered-all}
+use Rattle.air_files.proofs.DownloadDue.{all-sent, due-then, left-is, left_then, more-sent, place-more, place-within}
+use Rattle.air_files.proofs.DownloadDue.{place_then, rest_due}
+use Rattle.air_files.proofs.UploadNext.{answered-all}
 use Rattle.air_files.proofs.DownloadServed.{IsDownloading, KeepsDownload, due-waiting, said-one}
-use Rattle.air_files.proofs.FetchesOn.{comes-silent, flat_map-one}
+use Rattle.air_files.proofs.FetchesOn.{comes-silent}
 use Rattle.air_files.proofs.FileOctets.{due-sending, octets-entry}
 use Rattle.air_files.proofs.QuietKeeps.{gone_side}
 
@@ -34,13 +38,20 @@ use Rattle.air_files.proofs.QuietKeeps.{gone_side}
 abbrev pub IsSends : Sending → Type 0
 IsSends stage = (offset : ℕ) × (parts : List (List ℕ)) × (stage ≡ sends offset parts)
 
-none-due : (store : Store) (state : State) (due : DuePacket) → next_due store state false ≡ Some due → state ≡ command → ⊥
-none-due store state due is at = absurd (let no : next_due store command false ≡ Some due = ap (λ (s : State). next_due store s false) (sym at) ∙ is in cc)
+none-due : (store : Store) (state : State) (due : DuePacket) → next_due store state false ≡ Some due → state ≡ command
+    → ⊥
+none-due store state due is at =
+    absurd (let no : next_due store command false ≡ Some due = ap (λ (s : State). next_due store s false) (sym at)
+    ∙ is in cc)
 
-none-waiting : (store : Store) (state : State) (due : DuePacket) → next_due store state false ≡ Some due → state ≡ waiting → ⊥
-none-waiting store state due is at = absurd (let no : next_due store waiting false ≡ Some due = ap (λ (s : State). next_due store s false) (sym at) ∙ is in cc)
+none-waiting : (store : Store) (state : State) (due : DuePacket) → next_due store state false ≡ Some due
+    → state ≡ waiting → ⊥
+none-waiting store state due is at =
+    absurd (let no : next_due store waiting false ≡ Some due = ap (λ (s : State). next_due store s false) (sym at)
+    ∙ is in cc)
 
-pub due-sends : (store : Store) (number : ℕ) (file : List ℕ) (stage : Sending) (state : State) (due : DuePacket) → next_due store state false ≡ Some due
+pub due-sends : (store : Store) (number : ℕ) (file : List ℕ) (stage : Sending) (state : State) (due : DuePacket)
+    → next_due store state false ≡ Some due
     → IsSendingState number file stage state → IsSends stage
 due-sends store number file unasked state due is at = absurd (none-due store state due is at)
 due-sends store number file (refused offset code) state due is at = absurd (none-due store state due is at)
@@ -50,7 +61,8 @@ due-sends store number file (ended offset parts word last) state due is at = abs
 
 -- ---- what is due
 
-module _ (before : Session) (party : Party) (a : Attempt) (old : ServerSide) (number : ℕ) (it : IsDownloading before.store a old number) (up : Bool)
+module _ (before : Session) (party : Party) (a : Attempt) (old : ServerSide) (number : ℕ)
+    (it : IsDownloading before.store a old number) (up : Bool)
     (offset : ℕ) (parts : List (List ℕ)) (is : it.serves.stage ≡ sends offset parts) where
   abbrev file : List ℕ
   file = it.serves.file
@@ -74,22 +86,30 @@ module _ (before : Session) (party : Party) (a : Attempt) (old : ServerSide) (nu
   due-rest : (due : DuePacket) → next_due before.store old.connected.state false ≡ Some due
       → due ≡ rest_due number (place_then before.store number offset file parts sent) (length file) left
   due-rest due there =
-      let both : Some due ≡ Some (rest_due number (place_then before.store number offset file parts sent) (length file) left) =
-      sym there ∙ ap (λ (s : State). next_due before.store s false) state-is ∙ due-then before.store number offset file parts sent in
+      let both : Some due ≡ Some
+      (rest_due number (place_then before.store number offset file parts sent) (length file) left) =
+      sym there ∙ ap (λ (s : State). next_due before.store s false) state-is
+      ∙ due-then before.store number offset file parts sent in
       cc
 
   abbrev new_side : DuePacket → ServerSide
   new_side due = gone_side old (session.queued due ∷ []) due.state up
 
   abbrev Keeps : DuePacket → Type 0
-  Keeps due = KeepsDownload before (record before { state = due.state }) party a old (new_side due) number (session.queued due)
+  Keeps due =
+      KeepsDownload before (record before { state = due.state }) party a old (new_side due) number (session.queued due)
 
   -- what it answered stays
-  items-queued : (due : DuePacket) → answered_in (old.entries ++ session.queued due ∷ []) ≡ sending_items number (sends offset parts)
-  items-queued due = flat_map-one answered_by old.entries (session.queued due) ∙ append-nil (answered_in old.entries) ∙ items
+  items-queued : (due : DuePacket)
+      → answered_in (old.entries ++ session.queued due ∷ []) ≡ sending_items number (sends offset parts)
+  items-queued due =
+      flat_map-one answered_by old.entries (session.queued due) ∙ append-nil (answered_in old.entries) ∙ items
 
-  said-queued : (due : DuePacket) → session.said_in (old.entries ++ session.queued due ∷ []) ≡ map data_part parts ++ due.packet ∷ []
-  said-queued due = flat_map-one session.packets_said old.entries (session.queued due) ∙ ap (λ (l : List PacketValue). l ++ due.packet ∷ []) said
+  said-queued : (due : DuePacket)
+      → session.said_in (old.entries ++ session.queued due ∷ []) ≡ map data_part parts ++ due.packet ∷ []
+  said-queued due =
+      flat_map-one session.packets_said old.entries (session.queued due)
+      ∙ ap (λ (l : List PacketValue). l ++ due.packet ∷ []) said
 
   -- all octets were sent: DATA_END
   abbrev end_due : DuePacket
@@ -111,7 +131,9 @@ module _ (before : Session) (party : Party) (a : Attempt) (old : ServerSide) (nu
           sent = all-sent before.store number offset file parts sent none;
         };
     due = λ is_up. due-waiting old (session.queued end_due) waiting up before.store refl;
-    comes = comes-silent before.store party a old (new_side end_due) it.heard (data_end ∷ []) (said-one old (session.queued end_due) waiting up) refl;
+    comes =
+        comes-silent before.store party a old (new_side end_due) it.heard (data_end ∷ [])
+        (said-one old (session.queued end_due) waiting up) refl;
   }
 
   -- some are left: DATA with the next ones
@@ -122,14 +144,21 @@ module _ (before : Session) (party : Party) (a : Attempt) (old : ServerSide) (nu
   place = place_then before.store number offset file parts sent
 
   abbrev data_due : DuePacket
-  data_due = record { packet = data_part piece; state = sending number (place + min most_data (length file - place)) (length file) }
+  data_due =
+      record {
+        packet = data_part piece;
+        state = sending number (place + min most_data (length file - place))
+            (length file);
+      }
 
   -- they are octets of the file
   piece-octets : IsOctets piece
   piece-octets =
-      let whole : IsOctets file = subst IsOctets (file-complete before.store number file sent.is_file).1 (octets-entry before.store number it.sound) in
+      let whole : IsOctets file = subst IsOctets (file-complete before.store number file sent.is_file).1
+      (octets-entry before.store number it.sound) in
       All-take (λ octet. octet < 256) most_data left
-      (subst IsOctets (left-is before.store number offset file parts sent) (All-drop (λ octet. octet < 256) place file whole))
+      (subst IsOctets (left-is before.store number offset file parts sent)
+      (All-drop (λ octet. octet < 256) place file whole))
 
   place-now : offset + length (concat (parts ++ piece ∷ [])) ≡ place + min most_data (length file - place)
   place-now = place-more before.store number offset file parts sent
@@ -141,7 +170,8 @@ module _ (before : Session) (party : Party) (a : Attempt) (old : ServerSide) (nu
       → AreFirstIn {X = Item} (Ok (download_cmd number offset 0) ∷ []) (map Ok (said_by_client a.client))
   front-is due front =
       let same : session.items_in (old.entries ++ session.queued due ∷ []) ≡ Ok (download_cmd number offset 0) ∷ [] =
-      flat_map-one session.items_of old.entries (session.queued due) ∙ append-nil (session.items_in old.entries) ∙ sym (answered-all old.entries it.none_lost) ∙ items in
+      flat_map-one session.items_of old.entries (session.queued due) ∙ append-nil (session.items_in old.entries)
+      ∙ sym (answered-all old.entries it.none_lost) ∙ items in
       subst (λ (l : List Item). AreFirstIn l (map Ok (said_by_client a.client))) same front
 
   keeps-data : ServerTookFront a (record old { entries = old.entries ++ session.queued data_due ∷ [] }) → Keeps data_due
@@ -160,9 +190,11 @@ module _ (before : Session) (party : Party) (a : Attempt) (old : ServerSide) (nu
           sent = more-sent before.store number offset file parts sent;
         };
     due = λ is_up.
-        due-sending before.store number (place + min most_data (length file - place)) file (new_side data_due) it.sound sent.is_file within-now refl;
+        due-sending before.store number (place + min most_data (length file - place)) file
+        (new_side data_due) it.sound sent.is_file within-now refl;
     comes =
-        comes-data before.store party a old (new_side data_due) number offset file parts sent it.says (front-is data_due front) it.greets said it.heard
+        comes-data before.store party a old (new_side data_due) number offset file parts sent it.says
+        (front-is data_due front) it.greets said it.heard
         (said-one old (session.queued data_due) data_due.state up);
   }
 
@@ -172,10 +204,15 @@ module _ (before : Session) (party : Party) (a : Attempt) (old : ServerSide) (nu
   keeps-queued due there front = by left refl
     where
       by : (l : List ℕ) → left ≡ l → Keeps due
-      by [] none = subst Keeps (sym (due-rest due there ∙ ap (rest_due number place (length file)) none)) (keeps-end none)
+      by [] none =
+          subst Keeps (sym (due-rest due there ∙ ap (rest_due number place (length file)) none)) (keeps-end none)
       by (octet ∷ octets) some =
           let is : due ≡ data_due =
           due-rest due there ∙ ap (rest_due number place (length file)) some
-          ∙ ap (λ (l : List ℕ). record { packet = data_part (take most_data l); state = sending number (place + min most_data (length file - place)) (length file) }) (sym some) in
+          ∙ ap (λ (l : List ℕ). record {
+            packet = data_part (take most_data l);
+            state = sending number (place + min most_data (length file - place)) (length file);
+          }) (sym some) in
           subst Keeps (sym is)
-          (keeps-data (subst (λ (d : DuePacket). ServerTookFront a (record old { entries = old.entries ++ session.queued d ∷ [] })) is front))
+          (keeps-data (subst (λ (d : DuePacket). ServerTookFront a
+          (record old { entries = old.entries ++ session.queued d ∷ [] })) is front))

@@ -1,5 +1,6 @@
 -- One entry of a session of a download keeps its client's facts.
-use Rattle.std.proofs.Common.{◌≡◌, ◌≢◌, inl, inr, ℕ, ◌+◌, ◌≤◌, List, [], ◌∷◌, length, map, refl, ap, sym, ◌∙◌, subst, Bool, true, Option, Some, arith, length-append, append-nil}
+use Rattle.std.proofs.Common.{◌≡◌, ◌≢◌, inl, inr, ℕ, ◌+◌, ◌≤◌, List, [], ◌∷◌, length, map, refl, ap, sym, ◌∙◌, subst}
+use Rattle.std.proofs.Common.{Bool, true, Option, Some, arith, length-append, append-nil}
 use Rattle.std.specs.Prelude.{IfSome}
 use Rattle.std.specs.List.{AllByRecursion}
 use Rattle.ftl0_packets.specs.Layout.{Fits, PacketValue, data_end, data_part, download_cmd}
@@ -18,17 +19,19 @@ use Rattle.air_attempt.specs.Attempt.{Attempt}
 use Rattle.air_attempt.specs.Lists.{Has}
 use Rattle.air_attempt.specs.Party.{Asked, EachAttempt, Party}
 use Rattle.air_attempt.specs.Sides.{ServerSide, said_by_client}
+use Rattle.air_attempt.proofs.Offered.{each-append}
 use Rattle.air_files.specs.Dialogue.{Says, Serves}
-use Rattle.air_files.specs.DownloadDialogue.{AreSent, IsLast, IsSendingState, Sending, ServesDownload, ended, refused, sending_said, sends, unasked, waits}
+use Rattle.air_files.specs.DownloadDialogue.{AreSent, IsLast, IsSendingState, Sending, ServesDownload, ended, refused}
+use Rattle.air_files.specs.DownloadDialogue.{sending_said, sends, unasked, waits}
 use Rattle.air_files.specs.Facts.{AskedWithin, got}
-use Rattle.air_files.specs.Laws.{IsDownloadOf, IsOne, IsServed, SessionGoes, SessionKeeps, SessionLawOf, session_gone, with_attempt}
+use Rattle.air_files.specs.Laws.{IsDownloadOf, IsOne, IsServed, SessionGoes, SessionKeeps, SessionLawOf, session_gone}
+use Rattle.air_files.specs.Laws.{with_attempt}
 use Rattle.air_files.specs.Tasks.{IsWork}
 use Rattle.air_files.proofs.DownloadComing.{front-if-any}
 use Rattle.air_files.proofs.DownloadEntry.{keeps-entry}
 use Rattle.air_files.proofs.DownloadServed.{IsDownloading, KeepsDownload}
 use Rattle.air_files.proofs.FetchesOn.{fetching-on}
 use Rattle.air_files.proofs.GoneLemmas.{facts-over}
-use Rattle.air_files.proofs.LiftLemmas.{each-append}
 use Rattle.air_files.proofs.QuietKeeps.{StaysQuiet, gone_side, keeps-quiet}
 use Rattle.air_files.proofs.QuietLemmas.{IsNoUpload, IsQuiet}
 
@@ -42,15 +45,19 @@ none-last : (last : PacketValue) → IsLast last → IsNoUpload last
 none-last last (inl is) = subst IsNoUpload (sym is) tt
 none-last last (inr is) = subst IsNoUpload (sym is) tt
 
-none-said : (store : Store) (number : ℕ) (file : List ℕ) (stage : Sending) → AreSent store number file stage → AllByRecursion IsNoUpload (sending_said stage)
+none-said : (store : Store) (number : ℕ) (file : List ℕ) (stage : Sending) → AreSent store number file stage
+    → AllByRecursion IsNoUpload (sending_said stage)
 none-said store number file unasked sent = tt
 none-said store number file (refused offset code) sent = (tt, tt)
 none-said store number file (sends offset parts) sent = none-data parts
-none-said store number file (waits offset parts) sent = each-append IsNoUpload (map data_part parts) (data_end ∷ []) (none-data parts) (tt, tt)
+none-said store number file (waits offset parts) sent =
+    each-append IsNoUpload (map data_part parts) (data_end ∷ []) (none-data parts) (tt, tt)
 none-said store number file (ended offset parts word last) sent =
-    each-append IsNoUpload (map data_part parts) (data_end ∷ last ∷ []) (none-data parts) (tt, (none-last last sent.2, tt))
+    each-append IsNoUpload (map data_part parts) (data_end ∷ last ∷ []) (none-data parts)
+    (tt, (none-last last sent.2, tt))
 
-other-state : (number : ℕ) (file : List ℕ) (stage : Sending) (state : State) (n : ℕ) (rest : List ℕ) → IsSendingState number file stage state → state ≢ receiving n rest
+other-state : (number : ℕ) (file : List ℕ) (stage : Sending) (state : State) (n : ℕ) (rest : List ℕ)
+    → IsSendingState number file stage state → state ≢ receiving n rest
 other-state number file unasked state n rest is same = absurd (cc)
 other-state number file (refused offset code) state n rest is same = absurd (cc)
 other-state number file (sends offset parts) state n rest is same = absurd (cc)
@@ -59,7 +66,8 @@ other-state number file (ended offset parts word last) state n rest is same = ab
 
 -- ---- what is known of it
 
-module _ (files : List Asked) (c : ℕ) (party : Party) (before : Session) (served : IsServed files c party before) (at : Download)
+module _ (files : List Asked) (c : ℕ) (party : Party) (before : Session) (served : IsServed files c party before)
+    (at : Download)
     (asked : served.attempt.client.asked ≡ work.Download at) where
   -- what holds of each attempt holds of the current one
   here : (P : Attempt → Type 0) → EachAttempt party P → P served.attempt
@@ -72,16 +80,21 @@ module _ (files : List Asked) (c : ℕ) (party : Party) (before : Session) (serv
       (here (λ a. IfSome a.server (Serves before.store a.client.asked)) served.facts.sessions.serves))
 
   says : Says (work.Download at) served.attempt.client
-  says = subst (λ (w : Work). Says w served.attempt.client) asked (here (λ a. Says a.client.asked a.client) served.facts.sessions.says)
+  says =
+      subst (λ (w : Work). Says w served.attempt.client) asked
+      (here (λ a. Says a.client.asked a.client) served.facts.sessions.says)
 
   works : IsWork files party (work.Download at)
   works = subst (IsWork files party) asked (here (λ a. IsWork files party a.client.asked) served.stands.works)
 
-  within : (offset : ℕ) (file : List ℕ) → Has (said_by_client served.attempt.client) (download_cmd at.number offset 0) → file_of before.store at.number ≡ Some file → offset ≤ length file
+  within : (offset : ℕ) (file : List ℕ) → Has (said_by_client served.attempt.client) (download_cmd at.number offset 0)
+      → file_of before.store at.number ≡ Some file → offset ≤ length file
   within offset file has is_file =
       let few = here (AskedWithin party) served.facts.files_got.asked_within at.number offset has in
-      let front = front-if-any before.store at.number file (got party at.number) is_file (served.facts.files_got.got_front at.number) in
-      let all : length file ≡ length (got party at.number) + length front.0 = ap length front.1 ∙ length-append (got party at.number) front.0 in
+      let front = front-if-any before.store at.number file (got party at.number) is_file
+      (served.facts.files_got.got_front at.number) in
+      let all : length file ≡ length (got party at.number) + length front.0 =
+      ap length front.1 ∙ length-append (got party at.number) front.0 in
       omega (arith, few, all)
 
   downloading : IsDownloading before.store served.attempt served.side at.number
@@ -96,7 +109,9 @@ module _ (files : List Asked) (c : ℕ) (party : Party) (before : Session) (serv
     within = within;
   }
 
-  module _ (entry : SessionEntry) (now : Session) (up : Bool) (keeps : KeepsDownload before now party served.attempt served.side (gone_side served.side (entry ∷ []) now.state up) at.number entry)
+  module _ (entry : SessionEntry) (now : Session) (up : Bool)
+      (keeps : KeepsDownload before now party served.attempt served.side
+      (gone_side served.side (entry ∷ []) now.state up) at.number entry)
       (none_lost : up ≡ true → AllByRecursion session.IsNotLost (entry ∷ [])) where
     abbrev new_side : ServerSide
     new_side = gone_side served.side (entry ∷ []) now.state up
@@ -104,12 +119,15 @@ module _ (files : List Asked) (c : ℕ) (party : Party) (before : Session) (serv
     quiet : IsQuiet before.store served.attempt.client.asked served.side new_side
     quiet = record {
       greeting = refl;
-      none = subst (AllByRecursion IsNoUpload) (sym keeps.serves.said) (none-said before.store at.number keeps.serves.file keeps.serves.stage keeps.serves.sent);
+      none =
+          subst (AllByRecursion IsNoUpload) (sym keeps.serves.said)
+          (none-said before.store at.number keeps.serves.file keeps.serves.stage keeps.serves.sent);
       serves = subst (λ (w : Work). Serves before.store w new_side) (sym asked) keeps.serves;
       due = keeps.due;
       receives = λ n rest is_up.
           other-state at.number keeps.serves.file keeps.serves.stage now.state n rest
-          (keeps.serves.state (each-append session.IsNotLost served.side.entries (entry ∷ []) served.none_lost (none_lost is_up)));
+          (keeps.serves.state (each-append session.IsNotLost served.side.entries (entry ∷ []) served.none_lost
+          (none_lost is_up)));
     }
 
     stays-quiet : StaysQuiet before.store party served.attempt served.side new_side served.older (entry ∷ []) now
@@ -120,21 +138,29 @@ module _ (files : List Asked) (c : ℕ) (party : Party) (before : Session) (serv
       lists = subst (AreComplete before.store) (sym keeps.lists) served.lists;
       quiet = quiet;
       fetching =
-          fetching-on before.store party served.attempt served.older served.side new_side served.is_side keeps.comes served.attempts_are
+          fetching-on before.store party served.attempt served.older served.side new_side served.is_side keeps.comes
+          served.attempts_are
           served.facts.files_got.fetching;
     }
 
-  pub one-keeps : (law : DownloadsLaw) (moment : ℕ) (entry : SessionEntry) (now : Session) (up : Bool) → SessionGoes party moment before now (entry ∷ []) up served.attempt served.side
-      → SessionKeeps files party (with_attempt party (session_gone (entry ∷ []) now.state up served.attempt served.side) served.older) before now (entry ∷ []) served.side
+  pub one-keeps : (law : DownloadsLaw) (moment : ℕ) (entry : SessionEntry) (now : Session) (up : Bool)
+      → SessionGoes party moment before now (entry ∷ []) up served.attempt served.side
+      → SessionKeeps files party
+      (with_attempt party (session_gone (entry ∷ []) now.state up served.attempt served.side) served.older) before
+      now (entry ∷ []) served.side
   one-keeps law moment entry now up goes =
-      let keeps = keeps-entry law party.client.me moment before party served.attempt served.side at.number downloading served.state_is up entry now goes.goes goes.none_lost goes.front in
+      let keeps = keeps-entry law party.client.me moment before party served.attempt served.side at.number downloading
+      served.state_is up entry now goes.goes goes.none_lost goes.front in
       keeps-quiet facts-over files c party before now (entry ∷ []) up served
-      (λ other is. absurd (let no : work.Download at ≡ work.Upload other = sym asked ∙ is in cc)) (stays-quiet entry now up keeps goes.none_lost)
+      (λ other is. absurd (let no : work.Download at ≡ work.Upload other = sym asked ∙ is in cc))
+      (stays-quiet entry now up keeps goes.none_lost)
 
 pub session-of-download : DownloadsLaw → SessionLawOf IsDownloadOf IsOne
 session-of-download law files c party moment before now entries up served (at, asked) (entry, is) goes =
     subst
     (λ (l : List SessionEntry).
     SessionGoes party moment before now l up served.attempt served.side
-    → SessionKeeps files party (with_attempt party (session_gone l now.state up served.attempt served.side) served.older) before now l served.side)
+    → SessionKeeps files party
+    (with_attempt party (session_gone l now.state up served.attempt served.side) served.older) before now l
+    served.side)
     (sym is) (one-keeps files c party before served at asked law moment entry now up) goes

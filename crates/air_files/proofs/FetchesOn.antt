@@ -1,9 +1,9 @@
 -- What a client fetches goes on with what its session says.
-use Rattle.std.proofs.Common.{◌≡◌, ℕ, zero, suc, ◌+◌, ◌≤◌, List, [], ◌∷◌, ◌++◌, length, map, drop, refl, ap, sym, ◌∙◌, subst, Option, None, Some, arith, length-append, append-nil}
+use Rattle.std.proofs.Common.{◌≡◌, ℕ, zero, suc, ◌+◌, ◌≤◌, List, [], ◌∷◌, ◌++◌, length, map, drop, refl, ap, sym, ◌∙◌}
+use Rattle.std.proofs.Common.{subst, Option, None, Some, arith, length-append, append-nil}
 use Rattle.std.specs.Prelude.{IfSome, Ok, slice_get}
-use Rattle.std.specs.List.{flat_map}
 use Rattle.std.proofs.lemmas.Grind.{flat_map-append}
-use Rattle.std.proofs.lemmas.List.{drop-append-le}
+use Rattle.std.proofs.lemmas.List.{drop-append-le, length-map}
 use Rattle.ftl0_packets.specs.Layout.{Item, PacketValue}
 use Rattle.file_store.specs.Store.{Store}
 use Rattle.ftl0_job.specs.declared.ending.Ending.{Ending}
@@ -24,20 +24,14 @@ use Rattle.air_files.specs.Laws.{with_attempt}
 
 -- ---- lists
 
-pub flat_map-one : {X Y : Type 0} (f : X → List Y) (xs : List X) (x : X) → flat_map f (xs ++ x ∷ []) ≡ flat_map f xs ++ f x
-flat_map-one {Y = Y} f xs x = flat_map-append f xs (x ∷ []) ∙ ap (λ (l : List Y). flat_map f xs ++ l) (append-nil (f x))
-
-pub map-length : {X Y : Type 0} (f : X → Y) (xs : List X) → length (map f xs) ≡ length xs
-map-length f [] = refl
-map-length f (x ∷ xs) = ap suc (map-length f xs)
-
 -- ---- the octets that one side said, of which the other one took the first
 
-octets-all : (packets : List PacketValue) → octets_taken (map Ok packets) ≡ octets_said packets
+pub octets-all : (packets : List PacketValue) → octets_taken (map Ok packets) ≡ octets_said packets
 octets-all [] = refl
 octets-all (packet ∷ packets) = ap (λ (l : List ℕ). octets_of_data packet ++ l) (octets-all packets)
 
-drop-ok : (count : ℕ) (packets : List PacketValue) → drop count (map Ok packets) ≡ map {B = Item} Ok (drop count packets)
+drop-ok : (count : ℕ) (packets : List PacketValue)
+    → drop count (map Ok packets) ≡ map {B = Item} Ok (drop count packets)
 drop-ok zero packets = refl
 drop-ok (suc count) [] = refl
 drop-ok (suc count) (packet ∷ packets) = drop-ok count packets
@@ -49,19 +43,24 @@ drop-taken (item ∷ items) more = drop-taken items more
 module _ (items : List Item) (packets : List PacketValue) (front : AreFirstIn items (map Ok packets)) where
   pub front-few : length items ≤ length packets
   front-few =
-      let all : length packets ≡ length items + length front.0 = sym (map-length {Y = Item} Ok packets) ∙ ap length front.1 ∙ length-append items front.0 in
+      let all : length packets ≡ length items + length front.0 =
+      sym (length-map {B = Item} packets Ok) ∙ ap length front.1 ∙ length-append items front.0 in
       omega (arith, all)
 
   -- what was taken, and what comes behind it
   pub octets-behind : octets_taken items ++ octets_said (drop (length items) packets) ≡ octets_said packets
   octets-behind =
       let behind : map {B = Item} Ok (drop (length items) packets) ≡ front.0 =
-      sym (drop-ok (length items) packets) ∙ ap (λ (l : List Item). drop (length items) l) front.1 ∙ drop-taken items front.0 in
-      ap (λ (l : List ℕ). octets_taken items ++ l) (sym (octets-all (drop (length items) packets)) ∙ ap octets_taken behind)
+      sym (drop-ok (length items) packets) ∙ ap (λ (l : List Item). drop (length items) l) front.1
+      ∙ drop-taken items front.0 in
+      ap (λ (l : List ℕ). octets_taken items ++ l)
+      (sym (octets-all (drop (length items) packets)) ∙ ap octets_taken behind)
       ∙ sym (flat_map-append octets_of_item items front.0) ∙ ap octets_taken (sym front.1) ∙ octets-all packets
 
   -- more that is said comes behind
-  pub octets-more : (more : List PacketValue) → octets_said (drop (length items) (packets ++ more)) ≡ octets_said (drop (length items) packets) ++ octets_said more
+  pub octets-more : (more : List PacketValue)
+      → octets_said (drop (length items) (packets ++ more)) ≡ octets_said
+      (drop (length items) packets) ++ octets_said more
   octets-more more =
       ap octets_said (drop-append-le (length items) packets more front-few)
       ∙ flat_map-append octets_of_data (drop (length items) packets) more
@@ -70,14 +69,16 @@ module _ (items : List Item) (packets : List PacketValue) (front : AreFirstIn it
 
 -- what came and comes of a file is its first octets
 abbrev pub ComesFirst : Store → Party → Attempt → ServerSide → Download → Type 0
-ComesFirst store party a side at = AreFirstIfAny store at.number (got party at.number ++ (at.rest ++ coming_by a (Some side)))
+ComesFirst store party a side at =
+    AreFirstIfAny store at.number (got party at.number ++ (at.rest ++ coming_by a (Some side)))
 
 -- it is so with the new session where it was so with the old one
 abbrev pub ComesOn : Store → Party → Attempt → ServerSide → ServerSide → Type 0
 ComesOn store party a old new =
     (at : Download) → Fetches store party a at → ComesFirst store party a old at → ComesFirst store party a new at
 
-module _ (store : Store) (party : Party) (a : Attempt) (older : List Attempt) (old new : ServerSide) (is_side : a.server ≡ Some old) where
+module _ (store : Store) (party : Party) (a : Attempt) (older : List Attempt) (old new : ServerSide)
+    (is_side : a.server ≡ Some old) where
   abbrev now_is : Attempt
   now_is = record a { server = Some new }
 
@@ -88,18 +89,21 @@ module _ (store : Store) (party : Party) (a : Attempt) (older : List Attempt) (o
   fetches-on comes at fetches = record {
     first =
         comes at fetches
-        (subst (λ (o : Option ServerSide). AreFirstIfAny store at.number (got party at.number ++ (at.rest ++ coming_by a o))) is_side fetches.first);
+        (subst (λ (o : Option ServerSide). AreFirstIfAny store at.number
+        (got party at.number ++ (at.rest ++ coming_by a o))) is_side fetches.first);
     offset = fetches.offset;
     asked = fetches.asked;
     counted = fetches.counted;
   }
 
-  fetches_in-on : ComesOn store party a old new → (phase : DownloadPhase) (at : Download) → FetchesIn phase store party a at → FetchesIn phase store done now_is at
+  fetches_in-on : ComesOn store party a old new → (phase : DownloadPhase) (at : Download)
+      → FetchesIn phase store party a at → FetchesIn phase store done now_is at
   fetches_in-on comes fetch.Login at fetches = fetches
   fetches_in-on comes fetch.Fetching at fetches = fetches-on comes at fetches
   fetches_in-on comes fetch.Done at fetches = fetches
 
-  fetches_by-on : ComesOn store party a old new → (ending : Option Ending) (doing : Work) → FetchesBy ending doing store party a → FetchesBy ending doing store done now_is
+  fetches_by-on : ComesOn store party a old new → (ending : Option Ending) (doing : Work)
+      → FetchesBy ending doing store party a → FetchesBy ending doing store done now_is
   fetches_by-on comes None (work.Download at) fetches = fetches_in-on comes at.phase at fetches
   fetches_by-on comes (Some ending) (work.Download at) fetches = fetches
   fetches_by-on comes None (work.Upload at) fetches = tt
@@ -107,14 +111,16 @@ module _ (store : Store) (party : Party) (a : Attempt) (older : List Attempt) (o
   fetches_by-on comes None (work.Directory at) fetches = tt
   fetches_by-on comes (Some ending) (work.Directory at) fetches = tt
 
-  pub fetching-on : ComesOn store party a old new → party.attempts ≡ a ∷ older → IfSome (slice_get party.attempts 0) (IsFetching store party) → IsFetching store done now_is
+  pub fetching-on : ComesOn store party a old new → party.attempts ≡ a ∷ older
+      → IfSome (slice_get party.attempts 0) (IsFetching store party) → IsFetching store done now_is
   fetching-on comes attempts_are fetching link =
       let was = subst (λ (l : List Attempt). IfSome (slice_get l 0) (IsFetching store party)) attempts_are fetching in
       fetches_by-on comes a.client.attempted.job.ending a.client.attempted.job.work (was link)
 
 -- ---- what comes, as the session says more
 
-module _ (store : Store) (party : Party) (a : Attempt) (old new : ServerSide) (heard : ClientTookFront a old) (more : List PacketValue)
+module _ (store : Store) (party : Party) (a : Attempt) (old new : ServerSide) (heard : ClientTookFront a old)
+    (more : List PacketValue)
     (said : said_by_server new ≡ said_by_server old ++ more) where
   pub coming-more : coming_by a (Some new) ≡ coming_by a (Some old) ++ octets_said more
   coming-more =
@@ -125,4 +131,5 @@ module _ (store : Store) (party : Party) (a : Attempt) (old new : ServerSide) (h
   pub comes-silent : octets_said more ≡ [] → ComesOn store party a old new
   comes-silent none at fetches first =
       subst (λ (octets : List ℕ). AreFirstIfAny store at.number (got party at.number ++ (at.rest ++ octets)))
-      (sym (coming-more ∙ ap (λ (l : List ℕ). coming_by a (Some old) ++ l) none ∙ append-nil (coming_by a (Some old)))) first
+      (sym (coming-more ∙ ap (λ (l : List ℕ). coming_by a (Some old) ++ l) none ∙ append-nil (coming_by a (Some old))))
+      first

@@ -1,7 +1,6 @@
 -- The octets of a complete file of a sound store, and of what is due of it.
-use Rattle.std.proofs.Common.{◌≡◌, ℕ, ◌-◌, ◌≤◌, ◌<◌, ◌==◌, List, [], ◌∷◌, length, take, drop, refl, ap, sym, subst, cond, Bool, true, false, Option, None, Some, arith}
-use Rattle.std.specs.Prelude.{find}
-use Rattle.std.specs.List.{AllByRecursion}
+use Rattle.std.proofs.Common.{◌≡◌, ℕ, ◌-◌, ◌≤◌, ◌<◌, ◌==◌, List, length, take, drop, refl, ap, sym, subst, Option, None}
+use Rattle.std.proofs.Common.{Some, arith}
 use Rattle.std.proofs.lemmas.List.Elements.{All-drop, All-nil, All-take}
 use Rattle.px_base.specs.Octets.{IsOctets}
 use Rattle.file_store.specs.Store.{Entry, Store, entry_of, octets_at, octets_of}
@@ -13,33 +12,30 @@ use Rattle.ftl0_session.proofs.downloads.FileLemmas.{file-complete}
 use Rattle.air_attempt.specs.Sides.{ServerSide}
 use Rattle.air_files.specs.Dialogue.{IsDueNow}
 use Rattle.air_files.specs.SoundStore.{IsSoundStore}
-
--- what is found is such as all are
-pub found-such : {X : Type 0} (P : X → Type 0) (test : X → Bool) (xs : List X) (x : X) → find test xs ≡ Some x → AllByRecursion P xs → P x
-found-such P test [] x found all = absurd (cc)
-found-such P test (y ∷ ys) x found all = by (λ there. found-such P test ys x there all.1) (test y) found
-  where
-    by : (find test ys ≡ Some x → P x) → (b : Bool) → cond b (Some y) (find test ys) ≡ Some x → P x
-    by later true is = let same : y ≡ x = cc in subst P same all.0
-    by later false is = later is
+use Rattle.air_files.proofs.StoreLemmas.{found-such}
 
 pub octets-entry : (store : Store) (number : ℕ) → IsSoundStore store → IsOctets (octets_in store number)
 octets-entry store number sound = by (entry_of store number) refl
   where
     by : (o : Option Entry) → entry_of store number ≡ o → IsOctets (octets_at o)
     by None is = All-nil _
-    by (Some entry) is = found-such (λ (e : Entry). IsOctets (octets_of e.holding)) (λ (e : Entry). e.number == number) store.entries entry is sound.octets
+    by (Some entry) is =
+        found-such (λ (e : Entry). IsOctets (octets_of e.holding))
+        (λ (e : Entry). e.number == number) store.entries entry is sound.octets
 
 pub octets-part : (count place : ℕ) (octets : List ℕ) → IsOctets octets → IsOctets (take count (drop place octets))
-octets-part count place octets are = All-take (λ octet. octet < 256) count (drop place octets) (All-drop (λ octet. octet < 256) place octets are)
+octets-part count place octets are =
+    All-take (λ octet. octet < 256) count (drop place octets) (All-drop (λ octet. octet < 256) place octets are)
 
 -- what is due of the file of this number, from a place within it to its end
-pub due-sending : (store : Store) (number place : ℕ) (file : List ℕ) (side : ServerSide) → IsSoundStore store → file_of store number ≡ Some file → place ≤ length file
+pub due-sending : (store : Store) (number place : ℕ) (file : List ℕ) (side : ServerSide) → IsSoundStore store
+    → file_of store number ≡ Some file → place ≤ length file
     → side.connected.state ≡ sending number place (length file) → IsDueNow store side
 due-sending store number place file side sound is_file within is =
     let whole = file-complete store number file is_file in
     let all : length (octets_in store number) ≡ length file = ap length whole.1 in
-    let lies : LiesIn store number place (length file) = record { complete = whole.0; forward = within; within = omega (arith, all) } in
+    let lies : LiesIn store number place (length file) =
+    record { complete = whole.0; forward = within; within = omega (arith, all) } in
     record {
       lies = subst (λ (s : State). IsDueIn store (download_part s)) (sym is) lies;
       octets =

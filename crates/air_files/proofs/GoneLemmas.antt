@@ -5,7 +5,10 @@ use Rattle.std.proofs.Common.{inl, inr}
 use Rattle.std.specs.Prelude.{IfSome, slice_get}
 use Rattle.std.specs.List.{AllByRecursion}
 use Rattle.std.specs.Option.{option_map}
+use Rattle.std.proofs.lemmas.Option.{same_Some}
+use Rattle.ftl0_packets.specs.Layout.{ul_go_resp, upload_cmd}
 use Rattle.file_store.specs.Store.{Store}
+use Rattle.ftl0_server.specs.Entries.{SessionEntry}
 use Rattle.ftl0_job.specs.declared.ending.Ending.{Ending}
 use Rattle.ftl0_job.specs.declared.phases.DownloadPhase.{DownloadPhase}
 use Rattle.ftl0_job.specs.declared.phases.DownloadPhase.TheVariants as fetch
@@ -18,11 +21,8 @@ use Rattle.air_attempt.specs.Lists.{OneIs}
 use Rattle.air_attempt.specs.Party.{Asked, Party, all_over, over, sessions_over}
 use Rattle.air_attempt.specs.Said.{IsAnswer}
 use Rattle.air_attempt.specs.Sides.{ServerSide}
-use Rattle.ftl0_packets.specs.Layout.{ul_go_resp, upload_cmd}
-use Rattle.ftl0_server.specs.Entries.{SessionEntry}
-use Rattle.std.proofs.lemmas.Option.{same_Some}
-use Rattle.air_files.specs.Facts.{AreFirstIfAny, coming_by, got}
-use Rattle.air_files.specs.Facts.{Fetches, FetchesBy, FetchesIn, HasFacts, IsFetching, IsGranted, IsNumbered}
+use Rattle.air_files.specs.Facts.{AreFirstIfAny, Fetches, FetchesBy, FetchesIn, HasFacts, IsFetching, IsGranted}
+use Rattle.air_files.specs.Facts.{IsNumbered, coming_by, got}
 use Rattle.air_files.specs.Laws.{IsSameParty, LookLike, LooksLike, LooksServed, started_with}
 use Rattle.air_files.proofs.ApartLemmas.{HasClientFacts, HasFactsApart, HasSideFacts, apart, together}
 use Rattle.air_files.proofs.LikeLemmas.{attempt-same, like, like-client, like-side, like_attempt, number-like}
@@ -216,7 +216,7 @@ facts-over store files party facts =
     })
     facts
 
-served-itself : (o : Option ServerSide) → LooksServed o o
+pub served-itself : (o : Option ServerSide) → LooksServed o o
 served-itself None = tt
 served-itself (Some side) = record { greeting = refl; entries = refl; state = refl; up = λ is. is }
 

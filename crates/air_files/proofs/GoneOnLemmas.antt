@@ -1,5 +1,6 @@
 -- What a client's facts become where its newest session goes on, over the store after its commands.
-use Rattle.std.proofs.Common.{◌≡◌, inl, inr, ℕ, List, [], ◌∷◌, length, refl, sym, ◌∙◌, subst, arith, false, Option, None, Some}
+use Rattle.std.proofs.Common.{◌≡◌, inl, inr, ℕ, List, [], ◌∷◌, length, refl, sym, ◌∙◌, subst, arith, false, Option}
+use Rattle.std.proofs.Common.{None, Some}
 use Rattle.std.specs.Prelude.{IfSome, slice_get}
 use Rattle.std.specs.List.{AllByRecursion}
 use Rattle.std.proofs.lemmas.Option.{same_Some}
@@ -26,21 +27,25 @@ module _ (files : List Asked) (party : Party) (before now : Store) (moves : Move
   abbrev done : Party
   done = with_attempt party gone_attempt older
 
-  clients-on : (attempts : List Attempt) → AllByRecursion (HasClientFacts party) attempts → AllByRecursion (HasClientFacts done) attempts
+  clients-on : (attempts : List Attempt) → AllByRecursion (HasClientFacts party) attempts
+      → AllByRecursion (HasClientFacts done) attempts
   clients-on [] facts = tt
   clients-on (x ∷ xs) facts = (like-client party done x x facts.0, clients-on xs facts.1)
 
-  sides-on : (attempts : List Attempt) → AreOver attempts → AllByRecursion (λ x. IfSome x.server (GrantsBegun now party x)) attempts
+  sides-on : (attempts : List Attempt) → AreOver attempts
+      → AllByRecursion (λ x. IfSome x.server (GrantsBegun now party x)) attempts
       → AllByRecursion (λ x. IfSome x.server (HasSideFacts before party x)) attempts
       → AllByRecursion (λ x. IfSome x.server (HasSideFacts now done x)) attempts
   sides-on [] all_over own facts = tt
   sides-on (x ∷ xs) all_over own facts = (by x.server all_over.0 own.0 facts.0, sides-on xs all_over.1 own.1 facts.1)
     where
-      by : (o : Option ServerSide) → IfSome o (λ it. it.is_up ≡ false) → IfSome o (GrantsBegun now party x) → IfSome o (HasSideFacts before party x)
+      by : (o : Option ServerSide) → IfSome o (λ it. it.is_up ≡ false) → IfSome o (GrantsBegun now party x)
+          → IfSome o (HasSideFacts before party x)
           → IfSome o (HasSideFacts now done x)
       by None down mine its = tt
       by (Some it) down mine its =
-          like-side now party done x x it it (λ up. up) (side-moved files party before now moves x it (λ up. absurd (cc)) mine its)
+          like-side now party done x x it it (λ up. up)
+          (side-moved files party before now moves x it (λ up. absurd (cc)) mine its)
 
   granted-on : (task number : ℕ) → ((file_length : ℕ) → Grants side number file_length → Grants gone number file_length)
       → OneIs (IsGranted task number) party.attempts → OneIs (IsGranted task number) (gone_attempt ∷ older)
@@ -49,10 +54,18 @@ module _ (files : List Asked) (party : Party) (before now : Store) (moves : Move
       by : OneIs (IsGranted task number) (a ∷ older) → OneIs (IsGranted task number) (gone_attempt ∷ older)
       by (inl here) =
           let same : here.1 ≡ side = same_Some here.1 side (sym here.3 ∙ is_side) in
-          inl (here.0, gone, here.2, refl, more (length here.0) (subst (λ (s : ServerSide). Grants s number (length here.0)) same here.4))
+          inl (
+            here.0,
+            gone,
+            here.2,
+            refl,
+            more (length here.0)
+                (subst (λ (s : ServerSide). Grants s number (length here.0)) same here.4),
+          )
       by (inr there) = inr there
 
-  numbered-on : (task number : ℕ) (file : List ℕ) → ((file_length : ℕ) → Grants side number file_length → Grants gone number file_length)
+  numbered-on : (task number : ℕ) (file : List ℕ)
+      → ((file_length : ℕ) → Grants side number file_length → Grants gone number file_length)
       → HasNumber party task number → IsFileOf files party task file → IsNumbered before party task number file
       → IsNumbered now done task number file
   numbered-on task number file more has is was = record {
@@ -62,8 +75,10 @@ module _ (files : List Asked) (party : Party) (before now : Store) (moves : Move
   }
 
   -- all facts, by those of the session that went on
-  pub facts-gone_on : HasFacts before files party → HasSideFacts now done gone_attempt gone → coming_by a a.server ≡ coming_by gone_attempt (Some gone)
-      → ((number file_length : ℕ) → Grants side number file_length → Grants gone number file_length) → HasFacts now files done
+  pub facts-gone_on : HasFacts before files party → HasSideFacts now done gone_attempt gone
+      → coming_by a a.server ≡ coming_by gone_attempt (Some gone)
+      → ((number file_length : ℕ) → Grants side number file_length → Grants gone number file_length)
+      → HasFacts now files done
   facts-gone_on facts its coming more =
       let each = apart before files party facts in
       let clients = subst (AllByRecursion (HasClientFacts party)) attempts_are each.attempts in
@@ -77,10 +92,12 @@ module _ (files : List Asked) (party : Party) (before now : Store) (moves : Move
             let mine : HasNumber party task number = number-like party done task number has in
             numbered-on task number file (more number) mine is (each.numbered task number file mine is);
         acknowledged = λ task number holds.
-            keeps-task_kept files before now party task number moves.keeps.complete (each.acknowledged task number holds);
+            keeps-task_kept files before now party task number moves.keeps.complete
+            (each.acknowledged task number holds);
         attempts = (like-client party done a gone_attempt clients.0, clients-on older clients.1);
         sides = (its, sides-on older are_over own.1 sides.1);
-        got_front = λ number. keeps-first_any before now number (got party number) moves.keeps.complete (each.got_front number);
+        got_front =
+            λ number. keeps-first_any before now number (got party number) moves.keeps.complete (each.got_front number);
         fetching =
             fetching-as now party a (gone_attempt ∷ older) (Some gone) coming
             (keeps-fetching before now party a moves.keeps.complete fetching);

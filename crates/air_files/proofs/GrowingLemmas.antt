@@ -1,21 +1,26 @@
 -- The store after some of the commands of an upload's row.
-use Rattle.std.proofs.Common.{◌≡◌, ◌≢◌, ◌⊎◌, inl, inr, ℕ, suc, zero, ◌+◌, ◌*◌, ◌/◌, ◌≤◌, ◌<◌, ◌==◌, true, false, List, [], ◌∷◌, ◌++◌, length, take, drop, refl, ap, sym, ◌∙◌, subst, arith, length-append, Option, None, Some}
+use Rattle.std.proofs.Common.{◌≡◌, ◌≢◌, ◌⊎◌, inl, inr, ℕ, suc, zero, ◌+◌, ◌*◌, ◌/◌, ◌≤◌, ◌<◌, ◌==◌, true, false, List}
+use Rattle.std.proofs.Common.{[], ◌∷◌, ◌++◌, length, take, drop, refl, ap, sym, ◌∙◌, subst, arith, length-append}
+use Rattle.std.proofs.Common.{Option, None, Some}
+use Rattle.std.specs.Prelude.{find, IsTrue}
 use Rattle.std.proofs.lemmas.Bool.Decides.{Decides-eqb, nat_tests}
 use Rattle.std.proofs.lemmas.List.{take_all}
-use Rattle.std.specs.Prelude.{find, IsTrue}
 use Rattle.px_base.specs.CallSign.{CallSign}
 use Rattle.pfh_items.specs.Faults.{fault_code}
 use Rattle.file_entries.proofs.Offered.{AreAllowed-append, grows-allowed, last_grow-allowed}
-use Rattle.file_store.proofs.Offered.{after_all-append, find-map-changed, find-map-changed_other, find-push, find_past, grows-after, has_number, last_grow-after}
-use Rattle.file_store.specs.Command.{AreAllowed, Command, after, after_all, begin, grow, grown, grows, is_good, last_grow, passes, seal, sealed, whole_grows, with_holding, with_more}
+use Rattle.file_store.specs.Command.{AreAllowed, Command, after, after_all, begin, grow, grown, grows, is_good}
+use Rattle.file_store.specs.Command.{last_grow, passes, seal, sealed, whole_grows, with_holding, with_more}
 use Rattle.file_store.specs.IsStore.{IsStore}
 use Rattle.file_store.specs.OnDisk.{after_first}
 use Rattle.file_store.specs.Store.{Entry, Holding, Store, entry_of, new_entry, partial}
+use Rattle.file_store.proofs.Offered.{after_all-append, find-map-changed, find-map-changed_other, find-push, find_past}
+use Rattle.file_store.proofs.Offered.{grows-after, has_number, last_grow-after}
 
 -- ---- the first of the commands
 
 -- the first of these commands hold so many of the octets
-take-grows : (number n count : ℕ) (octets : List ℕ) → (j : ℕ) × (take count (grows number n octets) ≡ grows number j octets)
+take-grows : (number n count : ℕ) (octets : List ℕ)
+    → (j : ℕ) × (take count (grows number n octets) ≡ grows number j octets)
 take-grows number zero zero octets = (0, refl)
 take-grows number zero (suc count) octets = (0, refl)
 take-grows number (suc n) zero octets = (0, refl)
@@ -58,9 +63,15 @@ ended-first store number [] moment (suc zero) = inr (ended-store store number []
 ended-first store number [] moment (suc (suc count)) = inr (ended-store store number [] moment)
 ended-first store number (octet ∷ octets) moment zero = inl (512 * 0, with_none store number (octet ∷ octets))
 ended-first store number (octet ∷ octets) moment (suc zero) =
-    inl (length (octet ∷ octets), ap (λ (os : List ℕ). with_holding store number (grown os)) (sym (take_all (length (octet ∷ octets)) (octet ∷ octets) (omega arith))))
-ended-first store number (octet ∷ octets) moment (suc (suc zero)) = inr (ended-store store number (octet ∷ octets) moment)
-ended-first store number (octet ∷ octets) moment (suc (suc (suc count))) = inr (ended-store store number (octet ∷ octets) moment)
+    inl (
+      length (octet ∷ octets),
+      ap (λ (os : List ℕ). with_holding store number (grown os))
+          (sym (take_all (length (octet ∷ octets)) (octet ∷ octets) (omega arith))),
+    )
+ended-first store number (octet ∷ octets) moment (suc (suc zero)) =
+    inr (ended-store store number (octet ∷ octets) moment)
+ended-first store number (octet ∷ octets) moment (suc (suc (suc count))) =
+    inr (ended-store store number (octet ∷ octets) moment)
 
 -- ---- the entries then
 
@@ -68,15 +79,19 @@ ended-first store number (octet ∷ octets) moment (suc (suc (suc count))) = inr
 abbrev pub StayOthers : ℕ → Store → Store → Type 0
 StayOthers number before now = (other : ℕ) → other ≢ number → entry_of now other ≡ entry_of before other
 
-pub front-others : (store : Store) (number : ℕ) (octets : List ℕ) (count : ℕ) → StayOthers number store (with_front store number octets count)
-front-others store number octets count other differs = find-map-changed_other number other (grown (take count octets)) store.entries differs
+pub front-others : (store : Store) (number : ℕ) (octets : List ℕ) (count : ℕ)
+    → StayOthers number store (with_front store number octets count)
+front-others store number octets count other differs =
+    find-map-changed_other number other (grown (take count octets)) store.entries differs
 
-pub sealed-others : (store : Store) (number : ℕ) (rest : List ℕ) (moment : ℕ) → StayOthers number store (sealed_store store number rest moment)
+pub sealed-others : (store : Store) (number : ℕ) (rest : List ℕ) (moment : ℕ)
+    → StayOthers number store (sealed_store store number rest moment)
 sealed-others store number rest moment other differs =
     find-map-changed_other number other (sealed moment) (with_holding store number (grown rest)).entries differs
     ∙ find-map-changed_other number other (grown rest) store.entries differs
 
-find-other : (number : ℕ) (entries : List Entry) (e : Entry) → e.number ≢ number → find (has_number number) (entries ++ e ∷ []) ≡ find (has_number number) entries
+find-other : (number : ℕ) (entries : List Entry) (e : Entry) → e.number ≢ number
+    → find (has_number number) (entries ++ e ∷ []) ≡ find (has_number number) entries
 find-other number [] e differs = let test : (e.number == number) ≡ false = grind (arith, nat_tests) in rw test refl
 find-other number (x ∷ xs) e differs = grind (arith, nat_tests, find-other number xs e differs)
 
@@ -88,38 +103,47 @@ begun-others store number caller file_length moment other differs =
 pub begun-first : (store : Store) (number : ℕ) (caller : CallSign) (file_length moment count : ℕ)
     → StayOthers number store (after_first count store (begin number caller file_length moment ∷ []))
 begun-first store number caller file_length moment zero other differs = refl
-begun-first store number caller file_length moment (suc zero) other differs = begun-others store number caller file_length moment other differs
-begun-first store number caller file_length moment (suc (suc count)) other differs = begun-others store number caller file_length moment other differs
+begun-first store number caller file_length moment (suc zero) other differs =
+    begun-others store number caller file_length moment other differs
+begun-first store number caller file_length moment (suc (suc count)) other differs =
+    begun-others store number caller file_length moment other differs
 
 -- the entry of the next number is the one that was begun
 pub begun-there : (store : Store) (caller : CallSign) (file_length moment : ℕ) → IsStore store
-    → entry_of (after store (begin store.next caller file_length moment)) store.next ≡ Some (new_entry store.next caller file_length moment)
+    → entry_of (after store (begin store.next caller file_length moment)) store.next ≡ Some
+    (new_entry store.next caller file_length moment)
 begun-there store caller file_length moment is =
     find-push (has_number store.next) store.entries (new_entry store.next caller file_length moment)
-    (find_past store.next 1 store.next store.entries is.entries (omega arith)) ((Decides-eqb store.next store.next).1 refl)
+    (find_past store.next 1 store.next store.entries is.entries (omega arith))
+    ((Decides-eqb store.next store.next).1 refl)
 
-module _ (store : Store) (number : ℕ) (entry : Entry) (held : List ℕ) (found : entry_of store number ≡ Some entry) (holds : entry.holding ≡ partial held) where
+module _ (store : Store) (number : ℕ) (entry : Entry) (held : List ℕ) (found : entry_of store number ≡ Some entry)
+    (holds : entry.holding ≡ partial held) where
   pub front-entry : (octets : List ℕ) (count : ℕ)
-      → entry_of (with_front store number octets count) number ≡ Some (record entry { holding = partial (held ++ take count octets) })
+      → entry_of (with_front store number octets count) number ≡ Some
+      (record entry { holding = partial (held ++ take count octets) })
   front-entry octets count =
       find-map-changed number (grown (take count octets)) store.entries entry found
       ∙ ap (λ (h : Holding). Some (record entry { holding = h })) (ap (with_more (take count octets)) holds)
 
   -- what is held with the rest
   grown-entry : (rest : List ℕ)
-      → entry_of (with_holding store number (grown rest)) number ≡ Some (record entry { holding = partial (held ++ rest) })
+      → entry_of (with_holding store number (grown rest)) number ≡ Some
+      (record entry { holding = partial (held ++ rest) })
   grown-entry rest =
       find-map-changed number (grown rest) store.entries entry found
       ∙ ap (λ (h : Holding). Some (record entry { holding = h })) (ap (with_more rest) holds)
 
   -- DATA's commands are allowed
-  pub grows-allowed-here : (octets : List ℕ) → length held + length octets ≤ entry.length → AreAllowed store (whole_grows number octets)
+  pub grows-allowed-here : (octets : List ℕ) → length held + length octets ≤ entry.length
+      → AreAllowed store (whole_grows number octets)
   grows-allowed-here octets room =
       let few : 512 * (length octets / 512) ≤ length octets = omega arith in
       grows-allowed number (length octets / 512) octets store entry held found holds (omega (arith, few, room)) few
 
   -- and so are DATA_END's
-  pub ending-allowed : (rest : List ℕ) (moment : ℕ) → length rest < 512 → length held + length rest ≡ entry.length → fault_code (held ++ rest) ≡ None
+  pub ending-allowed : (rest : List ℕ) (moment : ℕ) → length rest < 512 → length held + length rest ≡ entry.length
+      → fault_code (held ++ rest) ≡ None
       → AreAllowed store (ending_commands number rest moment)
   ending-allowed rest moment few all good =
       let now : Store = after_all store (last_grow number rest) in

@@ -1,15 +1,14 @@
 -- What holds of a client whose job went on by an entry holds of it as it was before, with the newer notes.
-use Rattle.std.proofs.Common.{◌≡◌, ℕ, ◌+◌, List, [], ◌∷◌, ◌++◌, length, drop, Option, None, Some, refl, sym, ◌∙◌, ap, subst, suc, zero}
-use Rattle.ax25_link.specs.declared.state.Why.{Why}
+use Rattle.std.proofs.Common.{◌≡◌, ℕ, ◌+◌, List, [], ◌∷◌, ◌++◌, length, drop, Option, None, Some, refl, sym, ◌∙◌, ap}
+use Rattle.std.proofs.Common.{subst, suc, zero}
 use Rattle.ftl0_packets.specs.Layout.{PacketValue, data_end, data_part, download_cmd, ul_go_resp}
+use Rattle.ax25_link.specs.declared.state.Why.{Why}
 use Rattle.file_store.specs.Store.{Store}
 use Rattle.ftl0_server.specs.Entries as session
 use Rattle.client_notes.specs.Notes.{Lists}
 use Rattle.ftl0_job.specs.declared.ending.Ending.{Ending}
 use Rattle.ftl0_job.specs.declared.ending.Outcome.{Outcome}
 use Rattle.ftl0_job.specs.declared.ending.Outcome.TheVariants as outcome
-use Rattle.ftl0_job.specs.declared.work.Work.{Work}
-use Rattle.ftl0_job.specs.Due.{DuePacket, due_by}
 use Rattle.ftl0_job.specs.Table.{JobState}
 use Rattle.ftl0_client.specs.Attempt.Attempted.{Attempted, outcome_by, outcome_of}
 use Rattle.ftl0_client.specs.declared.attempt.outcome.AttemptOutcome.TheVariants.{LinkDown, Reached}
@@ -19,20 +18,22 @@ use Rattle.air_attempt.specs.Attempt.{Attempt}
 use Rattle.air_attempt.specs.Lists.{Has}
 use Rattle.air_attempt.specs.Party.{Asked, Party}
 use Rattle.air_attempt.specs.Said.{IsTaken, octets_come}
+use Rattle.air_attempt.proofs.Offered.{due-none, one-left}
 use Rattle.air_files.specs.Facts.{HasFacts, HasNumber}
 use Rattle.air_files.specs.Laws.{job_gone, started_with}
 use Rattle.air_files.specs.UploadDialogue.{GoesOnWith}
 use Rattle.air_files.proofs.JobChange.{change}
 use Rattle.air_files.proofs.JobStep.{of_attempts}
 use Rattle.air_files.proofs.JobTook.{whole}
-use Rattle.air_files.proofs.JobUploadSaid.{said-one}
-use Rattle.air_files.proofs.LiftLemmas.{one-left}
+use Rattle.air_files.proofs.JobUploadCame.{said-one}
 
 -- ---- fewer packets
 
-goes-fewer : (file : List ℕ) (packets more : List PacketValue) (place : ℕ) → GoesOnWith file place (packets ++ more) → GoesOnWith file place packets
+goes-fewer : (file : List ℕ) (packets more : List PacketValue) (place : ℕ) → GoesOnWith file place (packets ++ more)
+    → GoesOnWith file place packets
 goes-fewer file [] more place goes = tt
-goes-fewer file (data_part octets ∷ packets) more place goes = (goes.0, goes-fewer file packets more (place + length octets) goes.1)
+goes-fewer file (data_part octets ∷ packets) more place goes =
+    (goes.0, goes-fewer file packets more (place + length octets) goes.1)
 goes-fewer file (data_end ∷ packets) more place goes = (goes.0, none packets goes.1)
   where
     none : (ps : List PacketValue) → ps ++ more ≡ [] → ps ≡ []
@@ -40,7 +41,8 @@ goes-fewer file (data_end ∷ packets) more place goes = (goes.0, none packets g
     none (p ∷ ps) is = absurd (cc is)
 goes-fewer file (packet ∷ packets) more place goes = absurd goes
 
-fewer-behind : (file : List ℕ) (n place : ℕ) (packets more : List PacketValue) → GoesOnWith file place (drop n (packets ++ more)) → GoesOnWith file place (drop n packets)
+fewer-behind : (file : List ℕ) (n place : ℕ) (packets more : List PacketValue)
+    → GoesOnWith file place (drop n (packets ++ more)) → GoesOnWith file place (drop n packets)
 fewer-behind file zero place packets more goes = goes-fewer file packets more place goes
 fewer-behind file (suc n) place [] more goes = tt
 fewer-behind file (suc n) place (packet ∷ packets) more goes = fewer-behind file n place packets more goes
@@ -51,57 +53,80 @@ pub reached-none : (down : Option Why) (reached : Outcome) → outcome_by None d
 reached-none None reached is = cc
 reached-none (Some why) reached is = let no : LinkDown why ≡ Reached reached = cc in cc no
 
-unended : (o : Option Ending) (down : Option Why) (reached : Outcome) → o ≡ None → outcome_by o down ≡ Some (Reached reached) → ⊥
-unended o down reached none is = reached-none down reached (ap (λ (e : Option Ending). outcome_by e down) (sym none) ∙ is)
-
-due-none : (o : Option Ending) (doing : Work) (due : DuePacket JobState) → due_by o doing ≡ Some due → o ≡ None
-due-none None doing due is = refl
-due-none (Some ending) doing due is = absurd (cc is)
+unended : (o : Option Ending) (down : Option Why) (reached : Outcome) → o ≡ None
+    → outcome_by o down ≡ Some (Reached reached) → ⊥
+unended o down reached none is =
+    reached-none down reached (ap (λ (e : Option Ending). outcome_by e down) (sym none) ∙ is)
 
 -- what an entry leads to has the outcome that there was
-pub outcome-stays : (entry : JobEntry) (lists lists_now : Lists) (before now : JobState) (down : Option Why) (reached : Outcome)
-    → GoesBy lists before (entry ∷ []) lists_now now → outcome_by before.ending down ≡ Some (Reached reached) → outcome_by now.ending down ≡ Some (Reached reached)
-outcome-stays (took item row) lists lists_now before now down reached goes is = absurd (unended before.ending down reached goes.0 is)
-outcome-stays (lost item row) lists lists_now before now down reached goes is = absurd (unended before.ending down reached goes.0 is)
-outcome-stays (passed item) lists lists_now before now down reached goes is = ap (λ (j : JobState). outcome_by j.ending down) goes.1.1 ∙ is
+pub outcome-stays : (entry : JobEntry) (lists lists_now : Lists) (before now : JobState) (down : Option Why)
+    (reached : Outcome)
+    → GoesBy lists before (entry ∷ []) lists_now now → outcome_by before.ending down ≡ Some (Reached reached)
+    → outcome_by now.ending down ≡ Some (Reached reached)
+outcome-stays (took item row) lists lists_now before now down reached goes is =
+    absurd (unended before.ending down reached goes.0 is)
+outcome-stays (lost item row) lists lists_now before now down reached goes is =
+    absurd (unended before.ending down reached goes.0 is)
+outcome-stays (passed item) lists lists_now before now down reached goes is =
+    ap (λ (j : JobState). outcome_by j.ending down) goes.1.1 ∙ is
 outcome-stays (queued due) lists lists_now before now down reached goes is =
     absurd (unended before.ending down reached (due-none before.ending before.work due goes.0) is)
 
 -- ---- the client as it was
 
-pub earlier : (store : Store) (files : List Asked) (base : Party) (a : Attempt) (older : List Attempt) (entry : JobEntry) (now : Attempted) (lists : Lists)
-    → ((reached : Outcome) → outcome_of a.client.attempted ≡ Some (Reached reached) → outcome_of now ≡ Some (Reached reached))
-    → HasFacts store files (of_attempts base a older) → HasFacts store files (started_with (of_attempts base (job_gone (entry ∷ []) now a) older) lists)
+pub earlier : (store : Store) (files : List Asked) (base : Party) (a : Attempt) (older : List Attempt)
+    (entry : JobEntry) (now : Attempted) (lists : Lists)
+    → ((reached : Outcome) → outcome_of a.client.attempted ≡ Some (Reached reached)
+    → outcome_of now ≡ Some (Reached reached))
+    → HasFacts store files (of_attempts base a older)
+    → HasFacts store files (started_with (of_attempts base (job_gone (entry ∷ []) now a) older) lists)
     → HasFacts store files (started_with (of_attempts base a older) lists)
 earlier store files base a older entry now lists stays before facts =
-    change store files base lists lists None None None None (job_gone (entry ∷ []) now a) a.client.attempted a.client.entries older facts
+    change store files base lists lists None None None None
+    (job_gone (entry ∷ []) now a) a.client.attempted a.client.entries older facts
     (record {
       numbers = λ task number has. to task number has;
       numbered = λ task number file has is. facts.tasks.numbered task number file (from task number has) is;
       acknowledged = facts.tasks.acknowledged;
-      noted = λ task number file asks took. to task number (facts.tasks.noted.0 task number file asks (one-left (IsTaken (whole (ul_go_resp number 0))) a.client.entries (entry ∷ []) took));
+      noted =
+          λ task number file asks took. to task number
+          (facts.tasks.noted.0 task number file asks
+          (one-left (IsTaken (whole (ul_go_resp number 0))) a.client.entries (entry ∷ []) took));
       receives = λ side number rest is up state r.
           let n : ℕ = length (session.items_in side.entries) in
           let place : ℕ = r.offset + octets_come side in
           fewer-behind r.file n place (job.said_in a.client.entries) (job.packets_said entry)
-          (subst (λ (l : List PacketValue). GoesOnWith r.file place (drop n l)) (said-one a.client.entries entry) r.goes_on);
+          (subst (λ (l : List PacketValue). GoesOnWith r.file place (drop n l))
+          (said-one a.client.entries entry) r.goes_on);
       says = before.sessions.says.0;
       got_front = facts.files_got.got_front;
       fetching = λ is. absurd (cc is);
-      fetched = ((λ number is. facts.files_got.fetched.0 number (stays (outcome.Fetched number) is)), facts.files_got.fetched.1);
+      fetched = (
+        (λ number is. facts.files_got.fetched.0 number (stays (outcome.Fetched number) is)),
+        facts.files_got.fetched.1,
+      );
       asked_within = (
         (λ number offset has.
             facts.files_got.asked_within.0 number offset
-            (subst (λ (l : List PacketValue). Has l (download_cmd number offset 0)) (sym (said-one a.client.entries entry))
-            (one-left (λ (p : PacketValue). p ≡ download_cmd number offset 0) (job.said_in a.client.entries) (job.packets_said entry) has))),
+            (subst (λ (l : List PacketValue). Has l (download_cmd number offset 0))
+            (sym (said-one a.client.entries entry))
+            (one-left (λ (p : PacketValue). p ≡ download_cmd number offset 0) (job.said_in a.client.entries)
+            (job.packets_said entry) has))),
         facts.files_got.asked_within.1,
       );
     })
   where
-    to : (task number : ℕ) → HasNumber (started_with (of_attempts base (job_gone (entry ∷ []) now a) older) lists) task number
+    to : (task number : ℕ)
+        → HasNumber (started_with (of_attempts base (job_gone (entry ∷ []) now a) older) lists) task number
         → HasNumber (started_with (of_attempts base a older) lists) task number
     to task number n = record { entry = n.entry; is_entry = n.is_entry; number_is = n.number_is; some = n.some }
 
     from : (task number : ℕ) → HasNumber (started_with (of_attempts base a older) lists) task number
         → HasNumber (started_with (of_attempts base (job_gone (entry ∷ []) now a) older) lists) task number
     from task number n = record { entry = n.entry; is_entry = n.is_entry; number_is = n.number_is; some = n.some }
+
+-- an outcome that isn't the link's doesn't depend on that
+pub reached-any : (o : Option Ending) (down other : Option Why) (reached : Outcome)
+    → outcome_by o down ≡ Some (Reached reached) → outcome_by o other ≡ Some (Reached reached)
+reached-any None down other reached is = absurd (reached-none down reached is)
+reached-any (Some ending) down other reached is = is

@@ -1,37 +1,20 @@
 -- How a job comes from what was asked to where it is, entry by entry.
-use Rattle.std.proofs.Common.{◌≡◌, ◌≢◌, List, [], ◌∷◌, ◌++◌, Option, None, Some, sym, ◌∙◌, ap, subst, append_assoc, append-nil}
+use Rattle.std.proofs.Common.{◌≡◌, ◌≢◌, List, [], ◌∷◌, ◌++◌, Option, None, Some, sym, ◌∙◌, ap, subst, append_assoc}
+use Rattle.std.proofs.Common.{append-nil}
 use Rattle.ftl0_packets.specs.Items.{kind_of_item}
 use Rattle.ftl0_packets.specs.Layout.{Item}
-use Rattle.client_notes.specs.Laws.{after_all}
 use Rattle.client_notes.specs.Notes.{Lists}
 use Rattle.ftl0_job.specs.declared.ending.Ending.{Ending}
 use Rattle.ftl0_job.specs.declared.work.Work.{Work}
 use Rattle.ftl0_job.specs.Due.{DuePacket, next_due}
 use Rattle.ftl0_job.specs.Row.{Row}
 use Rattle.ftl0_job.specs.Table.{JobState, item_row, job_after, job_row, row_by}
-use Rattle.ftl0_client.specs.Entries.{GoesBy, JobEntry, after_losing, lost, passed, queued, took}
+use Rattle.ftl0_client.specs.Entries.{JobEntry, after_losing, lost, passed, queued, took}
 use Rattle.air_attempt.specs.Sides.{JobReaches}
 
--- by some entries, and then by others
-pub reaches-then : (es fs : List JobEntry) (job mid now : JobState) → JobReaches job es mid → JobReaches mid fs now → JobReaches job (es ++ fs) now
-reaches-then [] fs job mid now is there = subst (λ (j : JobState). JobReaches j fs now) is there
-reaches-then (took item row ∷ es) fs job mid now h there = (h.0, reaches-then es fs (job_after row) mid now h.1 there)
-reaches-then (lost item row ∷ es) fs job mid now h there = (h.0, reaches-then es fs (after_losing (kind_of_item item) row) mid now h.1 there)
-reaches-then (passed item ∷ es) fs job mid now h there = (h.0, reaches-then es fs job mid now h.1 there)
-reaches-then (queued due ∷ es) fs job mid now h there = (h.0, reaches-then es fs due.state mid now h.1 there)
-
--- entries that come over notes lead it there
-pub reaches-by : (es : List JobEntry) (lists now_lists : Lists) (job now : JobState) → GoesBy lists job es now_lists now → JobReaches job es now
-reaches-by [] lists now_lists job now h = h.1
-reaches-by (took item row ∷ es) lists now_lists job now h =
-    ((h.0, (lists, h.1)), reaches-by es (after_all lists row.commands) now_lists (job_after row) now h.2)
-reaches-by (lost item row ∷ es) lists now_lists job now h =
-    ((h.0, (lists, h.1)), reaches-by es (after_all lists row.commands) now_lists (after_losing (kind_of_item item) row) now h.2)
-reaches-by (passed item ∷ es) lists now_lists job now h = (h.0, reaches-by es lists now_lists job now h.1)
-reaches-by (queued due ∷ es) lists now_lists job now h = (h.0, reaches-by es lists now_lists due.state now h.1)
-
 -- before the outcome a packet's row is that of the work
-pub row-of-work : (lists : Lists) (job : JobState) (item : Item) → job.ending ≡ None → job_row lists job item ≡ item_row lists job.work item
+pub row-of-work : (lists : Lists) (job : JobState) (item : Item) → job.ending ≡ None
+    → job_row lists job item ≡ item_row lists job.work item
 unfolding job_row
 row-of-work lists job item none = ap (λ (o : Option Ending). row_by lists job.work item o) none
 
@@ -42,21 +25,29 @@ pub record Stays (P : List JobEntry → JobState → Type 0) : Type 0 where
       → P (es ++ took item (item_row lists job.work item) ∷ []) (job_after (item_row lists job.work item))
   pub losing :
       (es : List JobEntry) (job : JobState) (lists : Lists) (item : Item) → job.ending ≡ None → P es job
-      → P (es ++ lost item (item_row lists job.work item) ∷ []) (after_losing (kind_of_item item) (item_row lists job.work item))
-  pub passing : (es : List JobEntry) (job : JobState) (item : Item) → job.ending ≢ None → P es job → P (es ++ passed item ∷ []) job
-  pub queuing : (es : List JobEntry) (job : JobState) (due : DuePacket JobState) → next_due job ≡ Some due → P es job → P (es ++ queued due ∷ []) due.state
+      → P (es ++ lost item (item_row lists job.work item) ∷ [])
+      (after_losing (kind_of_item item) (item_row lists job.work item))
+  pub passing : (es : List JobEntry) (job : JobState) (item : Item) → job.ending ≢ None → P es job
+      → P (es ++ passed item ∷ []) job
+  pub queuing : (es : List JobEntry) (job : JobState) (due : DuePacket JobState) → next_due job ≡ Some due → P es job
+      → P (es ++ queued due ∷ []) due.state
 
 module _ (P : List JobEntry → JobState → Type 0) (stays : Stays P) where
   go-on : (es fs : List JobEntry) (job now : JobState) → P es job → JobReaches job fs now → P (es ++ fs) now
-  go-on es [] job now holds is = subst (λ (l : List JobEntry). P l now) (sym (append-nil es)) (subst (P es) (sym is) holds)
+  go-on es [] job now holds is =
+      subst (λ (l : List JobEntry). P l now) (sym (append-nil es)) (subst (P es) (sym is) holds)
   go-on es (took item row ∷ fs) job now holds h =
       let row_is : row ≡ item_row h.0.1.0 job.work item = h.0.1.1 ∙ row-of-work h.0.1.0 job item h.0.0 in
-      let next = subst (λ (r : Row Work). P (es ++ took item r ∷ []) (job_after r)) (sym row_is) (stays.taking es job h.0.1.0 item h.0.0 holds) in
-      subst (λ (l : List JobEntry). P l now) (append_assoc es (took item row ∷ []) fs) (go-on (es ++ took item row ∷ []) fs (job_after row) now next h.1)
+      let next = subst (λ (r : Row Work). P (es ++ took item r ∷ []) (job_after r)) (sym row_is)
+      (stays.taking es job h.0.1.0 item h.0.0 holds) in
+      subst (λ (l : List JobEntry). P l now) (append_assoc es (took item row ∷ []) fs)
+      (go-on (es ++ took item row ∷ []) fs (job_after row) now next h.1)
   go-on es (lost item row ∷ fs) job now holds h =
       let row_is : row ≡ item_row h.0.1.0 job.work item = h.0.1.1 ∙ row-of-work h.0.1.0 job item h.0.0 in
-      let next = subst (λ (r : Row Work). P (es ++ lost item r ∷ []) (after_losing (kind_of_item item) r)) (sym row_is) (stays.losing es job h.0.1.0 item h.0.0 holds) in
-      subst (λ (l : List JobEntry). P l now) (append_assoc es (lost item row ∷ []) fs) (go-on (es ++ lost item row ∷ []) fs (after_losing (kind_of_item item) row) now next h.1)
+      let next = subst (λ (r : Row Work). P (es ++ lost item r ∷ []) (after_losing (kind_of_item item) r)) (sym row_is)
+      (stays.losing es job h.0.1.0 item h.0.0 holds) in
+      subst (λ (l : List JobEntry). P l now) (append_assoc es (lost item row ∷ []) fs)
+      (go-on (es ++ lost item row ∷ []) fs (after_losing (kind_of_item item) row) now next h.1)
   go-on es (passed item ∷ fs) job now holds h =
       subst (λ (l : List JobEntry). P l now) (append_assoc es (passed item ∷ []) fs)
       (go-on (es ++ passed item ∷ []) fs job now (stays.passing es job item h.0 holds) h.1)

@@ -1,5 +1,6 @@
 -- The facts of a client once its job went on by some entries, and where it starts again from its notes.
-use Rattle.std.proofs.Common.{◌≡◌, ℕ, ◌+◌, List, ◌∷◌, ◌++◌, length, true, None, Some, refl, sym, ◌∙◌, ap, subst, le_trans, take_all, le_refl}
+use Rattle.std.proofs.Common.{◌≡◌, ℕ, ◌+◌, List, ◌∷◌, ◌++◌, length, true, None, Some, refl, sym, ◌∙◌, ap, subst}
+use Rattle.std.proofs.Common.{le_trans, take_all, le_refl}
 use Rattle.file_store.specs.Store.{Store}
 use Rattle.ftl0_session.specs.Table.{receiving}
 use Rattle.client_notes.specs.Command.{NotesCommand}
@@ -13,11 +14,11 @@ use Rattle.air_attempt.specs.Attempt.{Attempt}
 use Rattle.air_attempt.specs.Party.{Asked, Party}
 use Rattle.air_attempt.specs.Said.{octets_come, said_behind_server}
 use Rattle.air_attempt.specs.Sides.{ServerSide}
+use Rattle.air_attempt.proofs.Offered.{each-weaker}
 use Rattle.air_files.specs.Dialogue.{Says}
 use Rattle.air_files.specs.Facts.{AskedWithin, HasFacts, HasFetched, HasNumber, IsFetching, NotesGrant, Receives}
 use Rattle.air_files.specs.Laws.{JobKeeps, job_gone, started_with, with_job}
 use Rattle.air_files.specs.UploadDialogue.{GoesOnWith}
-use Rattle.air_files.proofs.LiftLemmas.{each-weaker}
 use Rattle.air_files.proofs.JobChange.{change}
 use Rattle.air_files.proofs.JobNotes.{NotesKept, NumberIn}
 
@@ -29,8 +30,10 @@ of_attempts base a older = record base { attempts = a ∷ older }
 pub record JobKept (store : Store) (old new : Party) (a b : Attempt) : Type 0 where
   pub noted : NotesGrant new b
   pub receives :
-      (side : ServerSide) (number : ℕ) (rest : List ℕ) → a.server ≡ Some side → side.is_up ≡ true → side.connected.state ≡ receiving number rest
-      → (r : Receives store old a side number rest) → GoesOnWith r.file (r.offset + octets_come side) (said_behind_server side b.client)
+      (side : ServerSide) (number : ℕ) (rest : List ℕ) → a.server ≡ Some side → side.is_up ≡ true
+      → side.connected.state ≡ receiving number rest
+      → (r : Receives store old a side number rest)
+      → GoesOnWith r.file (r.offset + octets_come side) (said_behind_server side b.client)
   pub says : Says a.client.asked b.client
   pub fetching : IsFetching store new b
   pub fetched : HasFetched new b
@@ -41,39 +44,56 @@ module _ (store : Store) (files : List Asked) (base : Party) (a : Attempt) (olde
   party = of_attempts base a older
 
   module _ (facts : HasFacts store files party) (lists : Lists) (kept : NotesKept store files party lists) where
-    from-has : (task number : ℕ) (p : Party) → p.client.lists ≡ lists → HasNumber p task number → NumberIn lists task number
+    from-has : (task number : ℕ) (p : Party) → p.client.lists ≡ lists → HasNumber p task number
+        → NumberIn lists task number
     from-has task number p same has =
-        subst (λ (l : Lists). NumberIn l task number) same (record { entry = has.entry; is_entry = has.is_entry; number_is = has.number_is; some = has.some })
+        subst (λ (l : Lists). NumberIn l task number) same
+        (record { entry = has.entry; is_entry = has.is_entry; number_is = has.number_is; some = has.some })
 
     kept-number : (task number : ℕ) → HasNumber party task number → NumberIn lists task number
     kept-number task number has =
-        kept.numbers task number (record { entry = has.entry; is_entry = has.is_entry; number_is = has.number_is; some = has.some })
+        kept.numbers task number (record {
+          entry = has.entry;
+          is_entry = has.is_entry;
+          number_is = has.number_is;
+          some = has.some;
+        })
 
     -- the client starts again from the notes
     pub left : HasFacts store files (started_with party lists)
     left =
-        change store files base base.client.lists lists base.client.attempt None base.client.stray None a a.client.attempted a.client.entries older facts
+        change store files base base.client.lists lists base.client.attempt None base.client.stray None a
+        a.client.attempted a.client.entries older facts
         (record {
           numbers = λ task number has. to (kept-number task number has);
-          numbered = λ task number file has is. kept.numbered task number file (from-has task number (started_with party lists) refl has) is;
+          numbered =
+              λ task number file has is. kept.numbered task number file
+              (from-has task number (started_with party lists) refl has) is;
           acknowledged = kept.acknowledged;
-          noted = λ task number file asks took. to (kept-number task number (facts.tasks.noted.0 task number file asks took));
+          noted =
+              λ task number file asks took. to
+              (kept-number task number (facts.tasks.noted.0 task number file asks took));
           receives = λ side number rest is up state r. r.goes_on;
           says = facts.sessions.says.0;
           got_front = kept.front;
           fetching = λ is. absurd (cc is);
-          fetched = each-weaker (a ∷ older) (λ x h number is. kept.fetched number (h number is)) facts.files_got.fetched;
-          asked_within = each-weaker (a ∷ older) (λ x h number offset has. le_trans (h number offset has) (kept.longer number)) facts.files_got.asked_within;
+          fetched =
+              each-weaker (a ∷ older) (λ x h number is. kept.fetched number (h number is)) facts.files_got.fetched;
+          asked_within =
+              each-weaker (a ∷ older) (λ x h number offset has. le_trans (h number offset has) (kept.longer number))
+              facts.files_got.asked_within;
         })
       where
         to : {task number : ℕ} → NumberIn lists task number → HasNumber (started_with party lists) task number
         to n = record { entry = n.entry; is_entry = n.is_entry; number_is = n.number_is; some = n.some }
 
     -- its job went on
-    pub worked : (now : Attempted) (entries : List JobEntry) → JobKept store party (with_job party lists now (job_gone entries now a) older) a (job_gone entries now a)
+    pub worked : (now : Attempted) (entries : List JobEntry)
+        → JobKept store party (with_job party lists now (job_gone entries now a) older) a (job_gone entries now a)
         → HasFacts store files (with_job party lists now (job_gone entries now a) older)
     worked now entries k =
-        change store files base base.client.lists lists base.client.attempt (Some now) base.client.stray base.client.stray a now (a.client.entries ++ entries) older facts
+        change store files base base.client.lists lists base.client.attempt
+        (Some now) base.client.stray base.client.stray a now (a.client.entries ++ entries) older facts
         (record {
           numbers = λ task number has. to (kept-number task number has);
           numbered = λ task number file has is. kept.numbered task number file (from-has task number new refl has) is;
@@ -83,24 +103,37 @@ module _ (store : Store) (files : List Asked) (base : Party) (a : Attempt) (olde
           says = k.says;
           got_front = kept.front;
           fetching = k.fetching;
-          fetched = (k.fetched, each-weaker older (λ x h number is. kept.fetched number (h number is)) facts.files_got.fetched.1);
-          asked_within = (k.asked_within, each-weaker older (λ x h number offset has. le_trans (h number offset has) (kept.longer number)) facts.files_got.asked_within.1);
+          fetched = (
+            k.fetched,
+            each-weaker older (λ x h number is. kept.fetched number (h number is))
+                facts.files_got.fetched.1,
+          );
+          asked_within = (
+            k.asked_within,
+            each-weaker older
+                (λ x h number offset has. le_trans (h number offset has) (kept.longer number))
+                facts.files_got.asked_within.1,
+          );
         })
       where
         new : Party
         new = with_job party lists now (job_gone entries now a) older
 
-        to : {task number : ℕ} → NumberIn lists task number → HasNumber (with_job party lists now (job_gone entries now a) older) task number
+        to : {task number : ℕ} → NumberIn lists task number
+            → HasNumber (with_job party lists now (job_gone entries now a) older) task number
         to n = record { entry = n.entry; is_entry = n.is_entry; number_is = n.number_is; some = n.some }
 
   -- Entries keep the facts where each front of their commands keeps the notes, and what they lead to is so.
   pub keeps-by : HasFacts store files party → (entries : List JobEntry) (lists : Lists) (now : Attempted)
-      → ((count : ℕ) → NotesKept store files party (notes.after_first count party.client.lists (job.commands_in entries)))
+      → ((count : ℕ) → NotesKept store files party
+      (notes.after_first count party.client.lists (job.commands_in entries)))
       → lists ≡ after_all party.client.lists (job.commands_in entries)
       → JobKept store party (with_job party lists now (job_gone entries now a) older) a (job_gone entries now a)
       → JobKeeps store files party (with_job party lists now (job_gone entries now a) older) entries
   keeps-by facts entries lists now fronts is kept = record {
-    facts = worked facts lists (subst (NotesKept store files party) (all ∙ sym is) (fronts (length commands))) now entries kept;
+    facts =
+        worked facts lists (subst (NotesKept store files party) (all ∙ sym is) (fronts (length commands))) now entries
+        kept;
     during = λ count. left facts (notes.after_first count party.client.lists commands) (fronts count);
   }
     where

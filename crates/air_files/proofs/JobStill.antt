@@ -1,10 +1,8 @@
 -- A job that took and queued nothing leaves its client's facts.
 use Rattle.std.proofs.Common.{◌≡◌, ℕ, List, [], ◌++◌, Option, None, Some, refl, sym, ◌∙◌, ap, subst, append-nil}
-use Rattle.ax25_link.specs.declared.state.Why.{Why}
 use Rattle.file_store.specs.Store.{Store}
 use Rattle.client_notes.specs.Notes.{Lists}
 use Rattle.ftl0_job.specs.declared.ending.Ending.{Ending}
-use Rattle.ftl0_job.specs.declared.ending.Outcome.{Outcome}
 use Rattle.ftl0_job.specs.declared.ending.Outcome.TheVariants as outcome
 use Rattle.ftl0_job.specs.declared.phases.DownloadPhase.{DownloadPhase}
 use Rattle.ftl0_job.specs.declared.phases.DownloadPhase.TheVariants as fetch
@@ -12,7 +10,6 @@ use Rattle.ftl0_job.specs.declared.work.Work.{Work}
 use Rattle.ftl0_job.specs.declared.work.Work.TheVariants as work
 use Rattle.ftl0_job.specs.Table.{JobState}
 use Rattle.ftl0_client.specs.Attempt.Attempted.{Attempted, outcome_by}
-use Rattle.ftl0_client.specs.declared.attempt.outcome.AttemptOutcome.TheVariants.{Reached}
 use Rattle.ftl0_client.specs.Entries.{JobEntry}
 use Rattle.air_attempt.specs.Attempt.{Attempt}
 use Rattle.air_attempt.specs.Party.{Asked, Party}
@@ -20,17 +17,13 @@ use Rattle.air_attempt.specs.Sides.{ServerSide}
 use Rattle.air_files.specs.Facts.{AreFirstIfAny, FetchesBy, FetchesIn, HasFacts, coming_by, got}
 use Rattle.air_files.specs.Laws.{JobKeeps, job_gone, with_job}
 use Rattle.air_files.proofs.JobChange.{moved}
-use Rattle.air_files.proofs.JobEarlier.{reached-none}
+use Rattle.air_files.proofs.JobEarlier.{reached-any}
 use Rattle.air_files.proofs.JobSays.{says-still}
 use Rattle.air_files.proofs.JobStep.{JobKept, keeps-by, of_attempts}
 use Rattle.air_files.proofs.JobUploadNotes.{fronts-none}
 
--- an outcome that isn't the link's doesn't depend on that
-pub reached-any : (o : Option Ending) (down other : Option Why) (reached : Outcome) → outcome_by o down ≡ Some (Reached reached) → outcome_by o other ≡ Some (Reached reached)
-reached-any None down other reached is = absurd (reached-none down reached is)
-reached-any (Some ending) down other reached is = is
-
-module _ (store : Store) (files : List Asked) (base : Party) (a : Attempt) (older : List Attempt) (now : Attempted) (same : now.job ≡ a.client.attempted.job) where
+module _ (store : Store) (files : List Asked) (base : Party) (a : Attempt) (older : List Attempt) (now : Attempted)
+    (same : now.job ≡ a.client.attempted.job) where
   abbrev party : Party
   party = of_attempts base a older
 
@@ -56,7 +49,9 @@ module _ (store : Store) (files : List Asked) (base : Party) (a : Attempt) (olde
       by fetch.Login fetches = fetches
       by fetch.Done fetches = fetches
       by fetch.Fetching fetches = record {
-        first = subst (λ (octets : List ℕ). AreFirstIfAny store at.number (got party at.number ++ (at.rest ++ octets))) (coming-same a.server) fetches.first;
+        first =
+            subst (λ (octets : List ℕ). AreFirstIfAny store at.number (got party at.number ++ (at.rest ++ octets)))
+            (coming-same a.server) fetches.first;
         offset = fetches.offset;
         asked = fetches.asked;
         counted = fetches.counted;
@@ -79,14 +74,20 @@ module _ (store : Store) (files : List Asked) (base : Party) (a : Attempt) (olde
     asked_within = facts.files_got.asked_within.0;
   }
 
-  still-here : HasFacts store files party → base.client.attempt ≡ Some a.client.attempted → (lists : Lists) → lists ≡ base.client.lists → (entries : List JobEntry)
-      → entries ≡ a.client.entries → JobKept store party (with_job party lists now (moved a now entries) older) a (moved a now entries)
+  still-here : HasFacts store files party → base.client.attempt ≡ Some a.client.attempted → (lists : Lists)
+      → lists ≡ base.client.lists → (entries : List JobEntry)
+      → entries ≡ a.client.entries → JobKept store party (with_job party lists now (moved a now entries) older) a
+      (moved a now entries)
   still-here facts link lists lists_are entries are =
-      subst (λ (l : Lists). JobKept store party (with_job party l now (moved a now entries) older) a (moved a now entries)) (sym lists_are)
-      (subst (λ (es : List JobEntry). JobKept store party (with_job party base.client.lists now (moved a now es) older) a (moved a now es)) (sym are) (still-kept facts link))
+      subst (λ (l : Lists). JobKept store party (with_job party l now (moved a now entries) older) a
+      (moved a now entries)) (sym lists_are)
+      (subst (λ (es : List JobEntry). JobKept store party
+      (with_job party base.client.lists now (moved a now es) older) a (moved a now es)) (sym are)
+      (still-kept facts link))
 
   -- nothing came
-  pub keeps-none : HasFacts store files party → base.client.attempt ≡ Some a.client.attempted → (lists : Lists) → lists ≡ base.client.lists
+  pub keeps-none : HasFacts store files party → base.client.attempt ≡ Some a.client.attempted → (lists : Lists)
+      → lists ≡ base.client.lists
       → JobKeeps store files party (with_job party lists now (job_gone [] now a) older) []
   keeps-none facts link lists lists_are =
       keeps-by store files base a older facts [] lists now (fronts-none store files party facts) lists_are

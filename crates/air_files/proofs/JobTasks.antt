@@ -1,16 +1,18 @@
 -- What a job's entries leave of its client's tasks: none of their commands is a start, so each task stays but for its
 -- number and how far it has come.
-use Rattle.std.proofs.Common.{◌≡◌, ℕ, ◌-◌, zero, suc, Bool, true, false, List, [], ◌∷◌, length, take, Option, None, Some, Ok, Err, inl, inr, refl, sym, ◌∙◌, ap, subst}
+use Rattle.std.proofs.Common.{◌≡◌, ℕ, ◌-◌, zero, suc, Bool, true, false, List, [], ◌∷◌, length, take, Option, None}
+use Rattle.std.proofs.Common.{Some, Ok, Err, inl, inr, refl, sym, ◌∙◌, ap, subst}
 use Rattle.std.specs.Prelude.{◌==◌, if◌then◌else◌, slice_get, slice_set, ⊤}
 use Rattle.std.specs.List.{AllByRecursion}
 use Rattle.std.proofs.lemmas.Bool.{cases_eq}
 use Rattle.std.proofs.lemmas.List.{length-set}
 use Rattle.std.proofs.lemmas.List.Elements.{All-from_recursion, All-take, recursion_from_All}
 use Rattle.std.proofs.lemmas.Option.{same_Some, slice_get_within}
-use Rattle.ax25_link.proofs.Offered.{slice_get-set_other, slice_get-set_same}
 use Rattle.px_base.specs.CallSign.{CallSign}
 use Rattle.ftl0_packets.specs.Layout.{Item, PacketValue}
-use Rattle.client_notes.specs.Command.{NotesCommand, acked, after, changed_at, forgot, got, numbered, refused, set_some, start, with_task}
+use Rattle.ax25_link.proofs.Offered.{slice_get-set_other, slice_get-set_same}
+use Rattle.client_notes.specs.Command.{NotesCommand, acked, after, changed_at, forgot, got, numbered, refused, set_some}
+use Rattle.client_notes.specs.Command.{start, with_task}
 use Rattle.client_notes.specs.Laws.{after_all}
 use Rattle.client_notes.specs.Notes.{Lists, Task, got_of}
 use Rattle.client_notes.specs.Several as notes
@@ -25,12 +27,12 @@ use Rattle.ftl0_job.specs.Upload.{Upload, upload_row}
 use Rattle.ftl0_client.specs.Entries as job
 use Rattle.ftl0_client.specs.Entries.{GoesBy, JobEntry, lost, passed, queued, took}
 use Rattle.air_attempt.specs.Party.{Asked, Party}
+use Rattle.air_attempt.proofs.Offered.{each-append}
 use Rattle.air_files.specs.Laws.{JobTasksLaw, started_with}
 use Rattle.air_files.specs.Tasks.{AreTasks}
 use Rattle.air_files.proofs.DownloadJobRows.{DownloadCases, download-cases}
 use Rattle.air_files.proofs.JobNotes.{SameTasks}
 use Rattle.air_files.proofs.JobUploadRows.{UploadCases, upload-cases}
-use Rattle.air_files.proofs.LiftLemmas.{each-append}
 use Rattle.air_files.proofs.ListJobSaid.{item-silent}
 
 -- the command begins no task
@@ -55,8 +57,7 @@ same-then : (old mid new : Lists) → SameTasks old mid → SameTasks mid new �
 same-then old mid new one two = record {
   each = λ task entry found.
       let last = two.each task entry found in
-      let first = one.each task last.0 last.1 in
-      (
+      let first = one.each task last.0 last.1 in (
         first.0,
         first.1,
         last.2 ∙ ap (λ (t : Task). record t { number = entry.number; progress = entry.progress }) first.2,
@@ -81,7 +82,9 @@ module _ (change : Task → Task) (same : (t : Task) → IsSame t (change t)) wh
         | inl here ↦
             let there = slice_get-set_same tasks place (change t) (slice_get_within tasks place t is) in
             let it : change t ≡ entry =
-            same_Some (change t) entry (sym there ∙ subst (λ (n : ℕ). slice_get (slice_set tasks place (change t)) n ≡ Some entry) here found) in
+            same_Some (change t) entry
+            (sym there ∙ subst (λ (n : ℕ). slice_get (slice_set tasks place (change t)) n ≡ Some entry) here
+            found) in
             (t, ap (slice_get tasks) here ∙ is, subst (IsSame t) it (same t))
         | inr different ↦ (entry, sym (slice_get-set_other tasks place other (change t) different) ∙ found, refl)
       ]
@@ -98,20 +101,25 @@ module _ (change : Task → Task) (same : (t : Task) → IsSame t (change t)) wh
     where
       by : (other : ℕ) (entry : Task) (b : Bool)
           → (if b then None else slice_get (changed_at (task - 1) change lists.tasks) (other - 1)) ≡ Some entry
-          → (before : Task) × ((if b then None else slice_get lists.tasks (other - 1)) ≡ Some before) × IsSame before entry
+          → (before : Task) × ((if b then None else slice_get lists.tasks (other - 1)) ≡ Some before) × IsSame before
+          entry
       by other entry true found = absurd (cc found)
-      by other entry false found = changed-at lists.tasks (task - 1) (other - 1) (slice_get lists.tasks (task - 1)) refl entry found
+      by other entry false found =
+          changed-at lists.tasks (task - 1) (other - 1) (slice_get lists.tasks (task - 1)) refl entry found
 
 same-one : (lists : Lists) (command : NotesCommand) → IsNoStart command → SameTasks lists (after lists command)
 same-one lists (start task server caller name file_length digest) none = absurd none
 same-one lists (numbered task number) none = same-changed (λ t. record t { number = number }) (λ t. refl) lists task
 same-one lists (acked task) none = same-changed (λ t. record t { progress = progress.Acked }) (λ t. refl) lists task
-same-one lists (refused task code) none = same-changed (λ t. record t { progress = progress.Refused code }) (λ t. refl) lists task
-same-one lists (got server number octets) none = record { each = λ task entry found. (entry, found, refl); as_many = refl }
+same-one lists (refused task code) none =
+    same-changed (λ t. record t { progress = progress.Refused code }) (λ t. refl) lists task
+same-one lists (got server number octets) none =
+    record { each = λ task entry found. (entry, found, refl); as_many = refl }
 same-one lists (forgot server number) none = record { each = λ task entry found. (entry, found, refl); as_many = refl }
 
 -- any commands that begin no task
-pub same-all : (commands : List NotesCommand) (lists : Lists) → AreNoStarts commands → SameTasks lists (after_all lists commands)
+pub same-all : (commands : List NotesCommand) (lists : Lists) → AreNoStarts commands
+    → SameTasks lists (after_all lists commands)
 same-all [] lists none = same-none lists
 same-all (command ∷ commands) lists none =
     same-then lists (after lists command) (after_all (after lists command) commands) (same-one lists command none.0)
@@ -128,7 +136,8 @@ no-number true task number = (tt, tt)
 no-number false task number = tt
 
 upload-starts : (at : Upload) (packet : PacketValue) → AreNoStarts (upload_row at packet).commands
-upload-starts at packet = upload-cases at.task at.known at.file (λ _ _ row. AreNoStarts row.commands) each at.phase packet
+upload-starts at packet =
+    upload-cases at.task at.known at.file (λ _ _ row. AreNoStarts row.commands) each at.phase packet
   where
     each : UploadCases at.task at.known at.file (λ _ _ row. AreNoStarts row.commands)
     each = record {
@@ -154,8 +163,10 @@ no-forgot : (b : Bool) (server : CallSign) (number : ℕ) → AreNoStarts (if b 
 no-forgot true server number = (tt, tt)
 no-forgot false server number = tt
 
-download-starts : (held : List ℕ) (at : Download) (packet : PacketValue) → AreNoStarts (download_row held at packet).commands
-download-starts held at packet = download-cases at.server at.number held at.rest (λ _ _ row. AreNoStarts row.commands) each at.phase packet
+download-starts : (held : List ℕ) (at : Download) (packet : PacketValue)
+    → AreNoStarts (download_row held at packet).commands
+download-starts held at packet =
+    download-cases at.server at.number held at.rest (λ _ _ row. AreNoStarts row.commands) each at.phase packet
   where
     each : DownloadCases at.server at.number held at.rest (λ _ _ row. AreNoStarts row.commands)
     each = record {
@@ -163,7 +174,9 @@ download-starts held at packet = download-cases at.server at.number held at.rest
       login = λ moment flags. tt;
       octets = λ octets. no-gots at.server at.number _ _;
       whole = λ is. no-last at.server at.number at.rest;
-      bad = λ code is. each-append IsNoStart (last_got at.server at.number at.rest) (forgot at.server at.number ∷ []) (no-last at.server at.number at.rest) (tt, tt);
+      bad =
+          λ code is. each-append IsNoStart (last_got at.server at.number at.rest) (forgot at.server at.number ∷ [])
+          (no-last at.server at.number at.rest) (tt, tt);
       refused = λ code. no-forgot (code == 2) at.server at.number;
       done = tt;
     }
@@ -185,10 +198,13 @@ job-starts lists before item = by before.ending
 
 -- ---- the commands of entries
 
-row-starts : (lists : Lists) (before : JobState) (item : Item) (row : Row Work) → row ≡ job_row lists before item → AreNoStarts row.commands
-row-starts lists before item row is = subst (λ (r : Row Work). AreNoStarts r.commands) (sym is) (job-starts lists before item)
+row-starts : (lists : Lists) (before : JobState) (item : Item) (row : Row Work) → row ≡ job_row lists before item
+    → AreNoStarts row.commands
+row-starts lists before item row is =
+    subst (λ (r : Row Work). AreNoStarts r.commands) (sym is) (job-starts lists before item)
 
-pub entries-starts : (entries : List JobEntry) (lists lists_now : Lists) (before now : JobState) → GoesBy lists before entries lists_now now
+pub entries-starts : (entries : List JobEntry) (lists lists_now : Lists) (before now : JobState)
+    → GoesBy lists before entries lists_now now
     → AreNoStarts (job.commands_in entries)
 entries-starts [] lists lists_now before now goes = tt
 entries-starts (took item row ∷ entries) lists lists_now before now goes =
@@ -197,14 +213,18 @@ entries-starts (took item row ∷ entries) lists lists_now before now goes =
 entries-starts (lost item row ∷ entries) lists lists_now before now goes =
     each-append IsNoStart row.commands (job.commands_in entries) (row-starts lists before item row goes.1)
     (entries-starts entries (after_all lists row.commands) lists_now _ now goes.2)
-entries-starts (passed item ∷ entries) lists lists_now before now goes = entries-starts entries lists lists_now before now goes.1
-entries-starts (queued due ∷ entries) lists lists_now before now goes = entries-starts entries lists lists_now due.state now goes.1
+entries-starts (passed item ∷ entries) lists lists_now before now goes =
+    entries-starts entries lists lists_now before now goes.1
+entries-starts (queued due ∷ entries) lists lists_now before now goes =
+    entries-starts entries lists lists_now due.state now goes.1
 
 -- ---- the client's tasks
 
 -- A client's tasks are those of its uploads once its notes have the same tasks.
-pub tasks-same : (files : List Asked) (c : ℕ) (old new : Party) → new.uploads ≡ old.uploads → new.client.server ≡ old.client.server
-    → new.client.me ≡ old.client.me → SameTasks old.client.lists new.client.lists → AreTasks files c old → AreTasks files c new
+pub tasks-same : (files : List Asked) (c : ℕ) (old new : Party) → new.uploads ≡ old.uploads
+    → new.client.server ≡ old.client.server
+    → new.client.me ≡ old.client.me → SameTasks old.client.lists new.client.lists → AreTasks files c old
+    → AreTasks files c new
 tasks-same files c old new uploads server me same tasks = record {
   each = λ task it found.
       let before = same.each task it found in
@@ -223,6 +243,14 @@ tasks-same files c old new uploads server me same tasks = record {
       };
   as_many = ap length uploads ∙ tasks.as_many ∙ sym same.as_many;
 }
+
+-- They are, where its stations, its notes and its uploads are as they were.
+pub tasks-lists : (files : List Asked) (c : ℕ) (one other : Party) → other.client.me ≡ one.client.me
+    → other.client.server ≡ one.client.server → other.client.lists ≡ one.client.lists → other.uploads ≡ one.uploads
+    → AreTasks files c one → AreTasks files c other
+tasks-lists files c one other me server lists uploads tasks =
+    tasks-same files c one other uploads server me
+    (subst (λ (it : Lists). SameTasks one.client.lists it) (sym lists) (same-none one.client.lists)) tasks
 
 pub job-tasks : JobTasksLaw
 job-tasks files c party entries lists_now before now tasks goes count =

@@ -1,7 +1,8 @@
 -- What the packets that one side took tell of what the other one has said.
 use Rattle.std.proofs.Common.{◌≡◌, ◌⊎◌, ℕ, List, [], ◌∷◌, ◌++◌, length, map, Ok, inl, inr, refl, sym, ◌∙◌, subst}
 use Rattle.std.proofs.lemmas.List.Concat.{flat_map-append}
-use Rattle.ftl0_packets.specs.Layout.{Item, PacketValue, data_end, login_resp, ul_ack_resp, ul_error_resp, ul_go_resp, ul_nak_resp, upload_cmd}
+use Rattle.ftl0_packets.specs.Layout.{Item, PacketValue, data_end, login_resp, ul_ack_resp, ul_error_resp, ul_go_resp}
+use Rattle.ftl0_packets.specs.Layout.{ul_nak_resp, upload_cmd}
 use Rattle.ftl0_server.specs.Entries as session
 use Rattle.ftl0_server.specs.Entries.{SessionEntry}
 use Rattle.ftl0_client.specs.Entries as job
@@ -9,10 +10,10 @@ use Rattle.ftl0_client.specs.Entries.{JobEntry}
 use Rattle.air_attempt.specs.Lists.{AreFirstOf, Has, OneIs}
 use Rattle.air_attempt.specs.Said.{Answers, IsTaken}
 use Rattle.air_attempt.specs.Sides.{IsGreeting, ServerSide, said_by_server}
-use Rattle.air_files.specs.UploadDialogue.{AnsweredFirst, IsOfferFor, IsOfferedBy, IsWord, Receiving, ServesUpload, answered_in, data_items}
-use Rattle.air_files.specs.UploadDialogue.{ended, received_items, receives, receiving_said, refused, unasked}
-use Rattle.air_files.proofs.JobUploadSaid.{one-last}
-use Rattle.air_files.proofs.LiftLemmas.{one-left, one-right}
+use Rattle.air_attempt.proofs.Offered.{one-last, one-left, one-right}
+use Rattle.air_files.specs.UploadDialogue.{AnsweredFirst, IsOfferFor, IsOfferedBy, IsWord, Receiving, ServesUpload}
+use Rattle.air_files.specs.UploadDialogue.{answered_in, data_items, ended, received_items, receives, receiving_said}
+use Rattle.air_files.specs.UploadDialogue.{refused, unasked}
 
 -- ---- lists
 
@@ -23,7 +24,8 @@ front-has xs all x front has = subst (λ l. OneIs (λ y. y ≡ x) l) (sym front.
 abbrev pub whole : PacketValue → Item
 whole packet = Ok packet
 
-pub map-ok : (ps : List PacketValue) (item : Item) → Has (map whole ps) item → (p : PacketValue) × (whole p ≡ item) × Has ps p
+pub map-ok : (ps : List PacketValue) (item : Item) → Has (map whole ps) item
+    → (p : PacketValue) × (whole p ≡ item) × Has ps p
 map-ok [] item has = absurd has
 map-ok (p ∷ ps) item (inl same) = (p, same, inl refl)
 map-ok (p ∷ ps) item (inr there) = let found = map-ok ps item there in (found.0, found.1, inr found.2)
@@ -31,17 +33,20 @@ map-ok (p ∷ ps) item (inr there) = let found = map-ok ps item there in (found.
 ok-same : (p q : PacketValue) → whole p ≡ whole q → p ≡ q
 ok-same p q same = cc
 
-pub first-same : (p : PacketValue) (item : Item) (ps : List Item) (items : List Item) → whole p ∷ ps ≡ item ∷ items → (item ≡ whole p) × (ps ≡ items)
+pub first-same : (p : PacketValue) (item : Item) (ps : List Item) (items : List Item) → whole p ∷ ps ≡ item ∷ items
+    → (item ≡ whole p) × (ps ≡ items)
 first-same p item ps items same = (let is : item ≡ whole p = cc in is, let is : ps ≡ items = cc in is)
 
 pub has-ok : (ps : List PacketValue) (p : PacketValue) → Has (map whole ps) (whole p) → Has ps p
 has-ok ps p has = let found = map-ok ps (whole p) has in subst (λ q. Has ps q) (ok-same found.0 p found.1) found.2
 
 -- the packet that the last entry took is one of those that all took
-pub last-item : (es : List JobEntry) (e : JobEntry) (item : Item) → Has (job.items_of e) item → Has (job.items_in (es ++ e ∷ [])) item
+pub last-item : (es : List JobEntry) (e : JobEntry) (item : Item) → Has (job.items_of e) item
+    → Has (job.items_in (es ++ e ∷ [])) item
 last-item es e item has =
     subst (λ (l : List Item). Has l item) (sym (flat_map-append job.items_of es (e ∷ [])))
-    (one-right (λ (y : Item). y ≡ item) (job.items_in es) (job.items_of e ++ []) (one-left (λ (y : Item). y ≡ item) (job.items_of e) [] has))
+    (one-right (λ (y : Item). y ≡ item) (job.items_in es) (job.items_of e ++ [])
+    (one-left (λ (y : Item). y ≡ item) (job.items_of e) [] has))
 
 -- what a job took before its outcome is one of what it took
 pub took-item : (es : List JobEntry) (item : Item) → OneIs (IsTaken item) es → Has (job.items_in es) item
@@ -71,20 +76,26 @@ IsOffer (refused code) number offset = ⊥
 IsOffer (receives n o parts) number offset = (n ≡ number) × (o ≡ offset)
 IsOffer (ended n o parts word) number offset = (n ≡ number) × (o ≡ offset)
 
-module _ (known : ℕ) (file : List ℕ) (side : ServerSide) (greets : IsGreeting side.greeting) (serves : ServesUpload known file side) where
+module _ (known : ℕ) (file : List ℕ) (side : ServerSide) (greets : IsGreeting side.greeting)
+    (serves : ServesUpload known file side) where
   -- but for LOGIN_RESP it has said what its stage has
-  staged : (x : PacketValue) → ((moment flags : ℕ) → login_resp moment flags ≡ x → ⊥) → Has (said_by_server side) x → Has (receiving_said serves.stage) x
+  staged : (x : PacketValue) → ((moment flags : ℕ) → login_resp moment flags ≡ x → ⊥) → Has (said_by_server side) x
+      → Has (receiving_said serves.stage) x
   staged x other (inl same) = absurd (other _ _ (sym greets.2 ∙ same))
   staged x other (inr there) = subst (λ (l : List PacketValue). Has l x) serves.said there
 
-  pub the-offer : (number offset : ℕ) → Has (said_by_server side) (ul_go_resp number offset) → IsOffer serves.stage number offset
-  the-offer number offset has = by serves.stage serves.offered (staged (ul_go_resp number offset) (λ m f same. cc same) has)
+  pub the-offer : (number offset : ℕ) → Has (said_by_server side) (ul_go_resp number offset)
+      → IsOffer serves.stage number offset
+  the-offer number offset has =
+      by serves.stage serves.offered (staged (ul_go_resp number offset) (λ m f same. cc same) has)
     where
       no-word : (word : PacketValue) → IsWord word → word ≡ ul_go_resp number offset → ⊥
       no-word word (inl ack) same = absurd (let no : ul_ack_resp ≡ ul_go_resp number offset = sym ack ∙ same in cc no)
-      no-word word (inr nak) same = absurd (let no : ul_nak_resp nak.0 ≡ ul_go_resp number offset = sym nak.1 ∙ same in cc no)
+      no-word word (inr nak) same =
+          absurd (let no : ul_nak_resp nak.0 ≡ ul_go_resp number offset = sym nak.1 ∙ same in cc no)
 
-      by : (stage : Receiving) → IsOfferedBy known stage → Has (receiving_said stage) (ul_go_resp number offset) → IsOffer stage number offset
+      by : (stage : Receiving) → IsOfferedBy known stage → Has (receiving_said stage) (ul_go_resp number offset)
+          → IsOffer stage number offset
       by unasked offer has = has
       by (refused code) offer (inl same) = absurd (cc same)
       by (refused code) offer (inr there) = there
@@ -95,11 +106,14 @@ module _ (known : ℕ) (file : List ℕ) (side : ServerSide) (greets : IsGreetin
       by (ended n o parts word) offer (inr (inr there)) = absurd there
 
   -- two offers are the same
-  pub one-offer : (number offset that place : ℕ) → Has (said_by_server side) (ul_go_resp number offset) → Has (said_by_server side) (ul_go_resp that place)
+  pub one-offer : (number offset that place : ℕ) → Has (said_by_server side) (ul_go_resp number offset)
+      → Has (said_by_server side) (ul_go_resp that place)
       → (number ≡ that) × (offset ≡ place)
-  one-offer number offset that place has other = by serves.stage (the-offer number offset has) (the-offer that place other)
+  one-offer number offset that place has other =
+      by serves.stage (the-offer number offset has) (the-offer that place other)
     where
-      by : (stage : Receiving) → IsOffer stage number offset → IsOffer stage that place → (number ≡ that) × (offset ≡ place)
+      by : (stage : Receiving) → IsOffer stage number offset → IsOffer stage that place
+          → (number ≡ that) × (offset ≡ place)
       by unasked one two = absurd one
       by (refused code) one two = absurd one
       by (receives n o parts) one two = (sym one.0 ∙ two.0, sym one.1 ∙ two.1)
@@ -110,31 +124,41 @@ module _ (known : ℕ) (file : List ℕ) (side : ServerSide) (greets : IsGreetin
       → Answers side (Ok (upload_cmd known (length file))) (ul_go_resp number offset) × IsOfferFor known number offset
   offer-answers number offset has = by serves.stage serves.first serves.offered (the-offer number offset has)
     where
-      go : (n o : ℕ) → n ≡ number → o ≡ offset → Answers side (Ok (upload_cmd known (length file))) (ul_go_resp n o) → IsOfferFor known n o
-          → Answers side (Ok (upload_cmd known (length file))) (ul_go_resp number offset) × IsOfferFor known number offset
+      go : (n o : ℕ) → n ≡ number → o ≡ offset → Answers side (Ok (upload_cmd known (length file))) (ul_go_resp n o)
+          → IsOfferFor known n o
+          → Answers side (Ok (upload_cmd known (length file)))
+          (ul_go_resp number offset) × IsOfferFor known number offset
       go n o at to answers offer =
-          let first = subst (λ (k : ℕ). Answers side (Ok (upload_cmd known (length file))) (ul_go_resp k o) × IsOfferFor known k o) at (answers, offer) in
-          subst (λ (k : ℕ). Answers side (Ok (upload_cmd known (length file))) (ul_go_resp number k) × IsOfferFor known number k) to first
+          let first = subst (λ (k : ℕ). Answers side (Ok (upload_cmd known (length file)))
+          (ul_go_resp k o) × IsOfferFor known k o) at (answers, offer) in
+          subst (λ (k : ℕ). Answers side (Ok (upload_cmd known (length file)))
+          (ul_go_resp number k) × IsOfferFor known number k) to first
 
-      by : (stage : Receiving) → AnsweredFirst known (length file) side stage → IsOfferedBy known stage → IsOffer stage number offset
-          → Answers side (Ok (upload_cmd known (length file))) (ul_go_resp number offset) × IsOfferFor known number offset
+      by : (stage : Receiving) → AnsweredFirst known (length file) side stage → IsOfferedBy known stage
+          → IsOffer stage number offset
+          → Answers side (Ok (upload_cmd known (length file)))
+          (ul_go_resp number offset) × IsOfferFor known number offset
       by unasked first offer is = absurd is
       by (refused code) first offer is = absurd is
       by (receives n o parts) first offer is = go n o is.0 is.1 first offer
       by (ended n o parts word) first offer is = go n o is.0 is.1 first offer.0
 
   -- a refusal was
-  pub refusal-answers : (code : ℕ) → Has (said_by_server side) (ul_error_resp code) → Answers side (Ok (upload_cmd known (length file))) (ul_error_resp code)
-  refusal-answers code has = by serves.stage serves.first serves.offered (staged (ul_error_resp code) (λ m f same. cc same) has)
+  pub refusal-answers : (code : ℕ) → Has (said_by_server side) (ul_error_resp code)
+      → Answers side (Ok (upload_cmd known (length file))) (ul_error_resp code)
+  refusal-answers code has =
+      by serves.stage serves.first serves.offered (staged (ul_error_resp code) (λ m f same. cc same) has)
     where
       no-word : (word : PacketValue) → IsWord word → word ≡ ul_error_resp code → ⊥
       no-word word (inl ack) same = absurd (let no : ul_ack_resp ≡ ul_error_resp code = sym ack ∙ same in cc no)
       no-word word (inr nak) same = absurd (let no : ul_nak_resp nak.0 ≡ ul_error_resp code = sym nak.1 ∙ same in cc no)
 
-      by : (stage : Receiving) → AnsweredFirst known (length file) side stage → IsOfferedBy known stage → Has (receiving_said stage) (ul_error_resp code)
+      by : (stage : Receiving) → AnsweredFirst known (length file) side stage → IsOfferedBy known stage
+          → Has (receiving_said stage) (ul_error_resp code)
           → Answers side (Ok (upload_cmd known (length file))) (ul_error_resp code)
       by unasked first offer has = absurd has
-      by (refused is) first offer (inl same) = subst (λ (p : PacketValue). Answers side (Ok (upload_cmd known (length file))) p) same first
+      by (refused is) first offer (inl same) =
+          subst (λ (p : PacketValue). Answers side (Ok (upload_cmd known (length file))) p) same first
       by (refused is) first offer (inr there) = absurd there
       by (receives n o parts) first offer (inl same) = absurd (cc same)
       by (receives n o parts) first offer (inr there) = absurd there
@@ -143,37 +167,48 @@ module _ (known : ℕ) (file : List ℕ) (side : ServerSide) (greets : IsGreetin
       by (ended n o parts word) first offer (inr (inr there)) = absurd there
 
   -- its word came behind DATA_END
-  pub word-behind : (word : PacketValue) → IsWord word → Has (said_by_server side) word → Has (session.items_in side.entries) (Ok data_end)
+  pub word-behind : (word : PacketValue) → IsWord word → Has (said_by_server side) word
+      → Has (session.items_in side.entries) (Ok data_end)
   word-behind word is has =
       answered-item side.entries (Ok data_end)
-      (subst (λ (l : List Item). Has l (Ok data_end)) (sym serves.items) (by serves.stage (staged word (no-login word is) has)))
+      (subst (λ (l : List Item). Has l (Ok data_end)) (sym serves.items)
+      (by serves.stage (staged word (no-login word is) has)))
     where
       no-login : (word : PacketValue) → IsWord word → (moment flags : ℕ) → login_resp moment flags ≡ word → ⊥
       no-login word (inl ack) m f same = absurd (let no : login_resp m f ≡ ul_ack_resp = same ∙ ack in cc no)
       no-login word (inr nak) m f same = absurd (let no : login_resp m f ≡ ul_nak_resp nak.0 = same ∙ nak.1 in cc no)
 
-      no-refusal : (word p : PacketValue) (code n o : ℕ) → IsWord word → (p ≡ ul_error_resp code) ⊎ (p ≡ ul_go_resp n o) → p ≡ word → ⊥
-      no-refusal word p code n o (inl ack) (inl is) same = absurd (let no : ul_error_resp code ≡ ul_ack_resp = sym is ∙ same ∙ ack in cc no)
-      no-refusal word p code n o (inl ack) (inr is) same = absurd (let no : ul_go_resp n o ≡ ul_ack_resp = sym is ∙ same ∙ ack in cc no)
-      no-refusal word p code n o (inr nak) (inl is) same = absurd (let no : ul_error_resp code ≡ ul_nak_resp nak.0 = sym is ∙ same ∙ nak.1 in cc no)
-      no-refusal word p code n o (inr nak) (inr is) same = absurd (let no : ul_go_resp n o ≡ ul_nak_resp nak.0 = sym is ∙ same ∙ nak.1 in cc no)
+      no-refusal : (word p : PacketValue) (code n o : ℕ) → IsWord word → (p ≡ ul_error_resp code) ⊎ (p ≡ ul_go_resp n o)
+          → p ≡ word → ⊥
+      no-refusal word p code n o (inl ack) (inl is) same =
+          absurd (let no : ul_error_resp code ≡ ul_ack_resp = sym is ∙ same ∙ ack in cc no)
+      no-refusal word p code n o (inl ack) (inr is) same =
+          absurd (let no : ul_go_resp n o ≡ ul_ack_resp = sym is ∙ same ∙ ack in cc no)
+      no-refusal word p code n o (inr nak) (inl is) same =
+          absurd (let no : ul_error_resp code ≡ ul_nak_resp nak.0 = sym is ∙ same ∙ nak.1 in cc no)
+      no-refusal word p code n o (inr nak) (inr is) same =
+          absurd (let no : ul_go_resp n o ≡ ul_nak_resp nak.0 = sym is ∙ same ∙ nak.1 in cc no)
 
-      by : (stage : Receiving) → Has (receiving_said stage) word → Has (received_items known (length file) stage) (Ok data_end)
+      by : (stage : Receiving) → Has (receiving_said stage) word
+          → Has (received_items known (length file) stage) (Ok data_end)
       by unasked has = absurd has
       by (refused code) (inl same) = absurd (no-refusal word (ul_error_resp code) code 0 0 is (inl refl) same)
       by (refused code) (inr there) = absurd there
       by (receives n o parts) (inl same) = absurd (no-refusal word (ul_go_resp n o) 0 n o is (inr refl) same)
       by (receives n o parts) (inr there) = absurd there
-      by (ended n o parts given) has = inr (one-last (λ (y : Item). y ≡ Ok data_end) (data_items parts) (Ok data_end) refl)
+      by (ended n o parts given) has =
+          inr (one-last (λ (y : Item). y ≡ Ok data_end) (data_items parts) (Ok data_end) refl)
 
   -- an offer came behind UPLOAD_CMD
   pub offer-behind : (number offset : ℕ) → Has (said_by_server side) (ul_go_resp number offset)
       → Has (session.items_in side.entries) (Ok (upload_cmd known (length file)))
   offer-behind number offset has =
       answered-item side.entries (Ok (upload_cmd known (length file)))
-      (subst (λ (l : List Item). Has l (Ok (upload_cmd known (length file)))) (sym serves.items) (by serves.stage (the-offer number offset has)))
+      (subst (λ (l : List Item). Has l (Ok (upload_cmd known (length file)))) (sym serves.items)
+      (by serves.stage (the-offer number offset has)))
     where
-      by : (stage : Receiving) → IsOffer stage number offset → Has (received_items known (length file) stage) (Ok (upload_cmd known (length file)))
+      by : (stage : Receiving) → IsOffer stage number offset
+          → Has (received_items known (length file) stage) (Ok (upload_cmd known (length file)))
       by unasked is = absurd is
       by (refused code) is = absurd is
       by (receives n o parts) is = inl refl

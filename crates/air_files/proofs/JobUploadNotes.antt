@@ -1,5 +1,6 @@
 -- What a packet that a job takes of the upload of a file keeps of its client's notes.
-use Rattle.std.proofs.Common.{◌≡◌, ℕ, ◌≤◌, Bool, true, false, List, [], ◌∷◌, ◌++◌, length, Option, None, Some, Ok, inl, inr, refl, sym, ◌∙◌, ap, subst, suc, zero, arith}
+use Rattle.std.proofs.Common.{◌≡◌, ℕ, ◌≤◌, Bool, true, false, List, [], ◌∷◌, ◌++◌, length, Option, None, Some, Ok, inl}
+use Rattle.std.proofs.Common.{inr, refl, sym, ◌∙◌, ap, subst, suc, zero, arith}
 use Rattle.std.specs.Prelude.{◌==◌, if◌then◌else◌, IsTrue}
 use Rattle.std.proofs.lemmas.Option.{same_Some}
 use Rattle.px_base.specs.CallSign.{CallSign}
@@ -20,13 +21,13 @@ use Rattle.air_attempt.specs.Lists.{Has, OneIs}
 use Rattle.air_attempt.specs.Party.{Asked, IsFileOf, Party}
 use Rattle.air_attempt.specs.Said.{Answers, Grants, IsTaken, Offers, SaysComplete}
 use Rattle.air_attempt.specs.Sides.{IsGreeting, ServerSide, said_by_client, said_by_server}
+use Rattle.air_attempt.proofs.Offered.{some-at}
 use Rattle.air_files.specs.Facts.{HasFacts, HasNumber, IsBegun, IsGrantKept, IsNumbered, IsOfferKept}
 use Rattle.air_files.specs.Kept.{IsFileAt, IsKept, IsTaskKept}
 use Rattle.air_files.specs.UploadDialogue.{ServesUpload}
 use Rattle.air_files.proofs.JobNotes.{NotesKept, kept-same, kept-task}
 use Rattle.air_files.proofs.JobStep.{of_attempts}
 use Rattle.air_files.proofs.JobTook.{offer-answers, whole}
-use Rattle.air_files.proofs.LiftLemmas.{some-at}
 use Rattle.air_files.proofs.JobUploadRows.{upload_at}
 
 -- ---- the first of some commands
@@ -36,7 +37,8 @@ module _ (store : Store) (files : List Asked) (party : Party) (facts : HasFacts 
   fronts-none zero = kept-same store files party facts
   fronts-none (suc count) = kept-same store files party facts
 
-  pub fronts-one : (command : NotesCommand) → NotesKept store files party (after party.client.lists command) → (count : ℕ)
+  pub fronts-one : (command : NotesCommand) → NotesKept store files party (after party.client.lists command)
+      → (count : ℕ)
       → NotesKept store files party (notes.after_first count party.client.lists (command ∷ []))
   fronts-one command kept zero = kept-same store files party facts
   fronts-one command kept (suc zero) = kept
@@ -45,10 +47,13 @@ module _ (store : Store) (files : List Asked) (party : Party) (facts : HasFacts 
 -- ---- a file that is complete is kept
 
 partial-not : (entry : Entry) (held : List ℕ) → entry.holding ≡ partial held → IsTrue (holds_whole entry.holding) → ⊥
-partial-not entry held is whole = let no : IsTrue false = subst (λ (h : Holding). IsTrue (holds_whole h)) is whole in cc no
+partial-not entry held is whole =
+    let no : IsTrue false = subst (λ (h : Holding). IsTrue (holds_whole h)) is whole in cc no
 
-pub kept-whole : (store : Store) (number : ℕ) (file : List ℕ) (caller : CallSign) → IsFileAt store number file caller → IsCompleteIn store number → IsKept store number file caller
-kept-whole store number file caller (inl none) whole = absurd (let no : None ≡ Some whole.0 = sym none ∙ whole.1 in cc no)
+pub kept-whole : (store : Store) (number : ℕ) (file : List ℕ) (caller : CallSign) → IsFileAt store number file caller
+    → IsCompleteIn store number → IsKept store number file caller
+kept-whole store number file caller (inl none) whole =
+    absurd (let no : None ≡ Some whole.0 = sym none ∙ whole.1 in cc no)
 kept-whole store number file caller (inr (inl way)) whole =
     absurd (let same : way.entry ≡ whole.0 = same_Some way.entry whole.0 (sym way.is_entry ∙ whole.1) in
     partial-not whole.0 way.held (ap (λ (e : Entry). e.holding) (sym same) ∙ way.holds) whole.2)
@@ -58,7 +63,8 @@ pub upload-same : (x y : Upload) → work.Upload x ≡ work.Upload y → x ≡ y
 upload-same x y same = cc
 
 -- What is known where a job that uploads takes a packet: what was asked, the task, its file, and the session.
-pub record Uploading (store : Store) (files : List Asked) (base : Party) (a : Attempt) (older : List Attempt) (upload : Upload) (side : ServerSide)
+pub record Uploading (store : Store) (files : List Asked) (base : Party) (a : Attempt) (older : List Attempt)
+    (upload : Upload) (side : ServerSide)
     : Type 0 where
   pub asked : a.client.asked ≡ work.Upload (new_upload upload.task upload.known upload.file)
   pub facts : HasFacts store files (of_attempts base a older)
@@ -66,10 +72,13 @@ pub record Uploading (store : Store) (files : List Asked) (base : Party) (a : At
   pub is_side : a.server ≡ Some side
   pub greets : IsGreeting side.greeting
   pub serves : ServesUpload upload.known upload.file side
-  pub heard : (packet : PacketValue) → OneIs (IsTaken (whole packet)) a.client.entries → Has (said_by_server side) packet
-  pub told : (packet : PacketValue) → Has (session.items_in side.entries) (whole packet) → Has (said_by_client a.client) packet
+  pub heard : (packet : PacketValue) → OneIs (IsTaken (whole packet)) a.client.entries
+      → Has (said_by_server side) packet
+  pub told : (packet : PacketValue) → Has (session.items_in side.entries) (whole packet)
+      → Has (said_by_client a.client) packet
 
-module _ (store : Store) (files : List Asked) (base : Party) (a : Attempt) (older : List Attempt) (upload : Upload) (side : ServerSide)
+module _ (store : Store) (files : List Asked) (base : Party) (a : Attempt) (older : List Attempt) (upload : Upload)
+    (side : ServerSide)
     (it : Uploading store files base a older upload side) where
   abbrev party : Party
   party = of_attempts base a older
@@ -90,24 +99,30 @@ module _ (store : Store) (files : List Asked) (base : Party) (a : Attempt) (olde
 
   pub granted : (number file_length : ℕ) → Grants side number file_length → IsGrantKept store party a number file_length
   granted =
-      some-at (λ side. (number file_length : ℕ) → Grants side number file_length → IsGrantKept store party a number file_length) a.server side it.facts.sessions.granted.0
+      some-at (λ side. (number file_length : ℕ) → Grants side number file_length
+      → IsGrantKept store party a number file_length) a.server side it.facts.sessions.granted.0
       it.is_side
 
   complete_is : (number : ℕ) → SaysComplete side number → IsCompleteIn store number
-  complete_is = some-at (λ side. (number : ℕ) → SaysComplete side number → IsCompleteIn store number) a.server side it.facts.sessions.complete.0 it.is_side
+  complete_is =
+      some-at (λ side. (number : ℕ) → SaysComplete side number → IsCompleteIn store number) a.server side
+      it.facts.sessions.complete.0 it.is_side
 
   offered : (number offset : ℕ) → Offers side number offset → IsOfferKept store number offset
   offered =
-      some-at (λ side. (number offset : ℕ) → Offers side number offset → IsOfferKept store number offset) a.server side it.facts.sessions.offered.0
+      some-at (λ side. (number offset : ℕ) → Offers side number offset → IsOfferKept store number offset) a.server side
+      it.facts.sessions.offered.0
       it.is_side
 
   -- the offer of a new upload is a grant
-  pub new-granted : (number offset : ℕ) → known ≡ 0 → Offers side number offset → Grants side number (length file) × (offset ≡ 0)
+  pub new-granted : (number offset : ℕ) → known ≡ 0 → Offers side number offset
+      → Grants side number (length file) × (offset ≡ 0)
   new-granted number offset new offers =
       let both = offer-answers known file side it.greets it.serves number offset offers in
       let zero_is : offset ≡ 0 = both.1.new new in (
         subst (λ (k : ℕ). Answers side (Ok (upload_cmd k (length file))) (ul_go_resp number 0)) new
-            (subst (λ (k : ℕ). Answers side (Ok (upload_cmd known (length file))) (ul_go_resp number k)) zero_is both.0),
+            (subst (λ (k : ℕ). Answers side (Ok (upload_cmd known (length file))) (ul_go_resp number k)) zero_is
+            both.0),
         zero_is,
       )
 
@@ -119,22 +134,32 @@ module _ (store : Store) (files : List Asked) (base : Party) (a : Attempt) (olde
   one-file other is = same_Some other file (sym is ∙ it.is_file)
 
   -- the number of a new upload, once it is noted
-  numbered-by : (number offset : ℕ) → known ≡ 0 → Offers side number offset → (HasNumber party task number → ⊥) → (other : List ℕ) → IsFileOf files party task other
+  numbered-by : (number offset : ℕ) → known ≡ 0 → Offers side number offset → (HasNumber party task number → ⊥)
+      → (other : List ℕ) → IsFileOf files party task other
       → IsNumbered store party task number other
   numbered-by number offset new offers without other is =
       let grants = (new-granted number offset new offers).0 in
       let grant = granted number (length file) grants in
-      let asks : work.Upload (new_upload grant.task 0 grant.file) ≡ work.Upload (new_upload task known file) = sym grant.asks ∙ it.asked in
+      let asks : work.Upload (new_upload grant.task 0 grant.file) ≡ work.Upload (new_upload task known file) =
+      sym grant.asks ∙ it.asked in
       let same_task : grant.task ≡ task = ap (λ (u : Upload). u.task) (upload-same _ _ asks) in
       let begun = grant.begun (λ has. without (subst (λ (t : ℕ). HasNumber party t number) same_task has)) in
       subst (λ (f : List ℕ). IsNumbered store party task number f) (sym (one-file other is))
       (record {
         below = (offered number offset offers).0;
         stands = by (entry_of store number) refl begun;
-        granted = inl (file, side, subst (λ (k : ℕ). a.client.asked ≡ work.Upload (new_upload task k file)) new it.asked, it.is_side, grants);
+        granted =
+            inl (
+              file,
+              side,
+              subst (λ (k : ℕ). a.client.asked ≡ work.Upload (new_upload task k file)) new it.asked,
+              it.is_side,
+              grants,
+            );
       })
     where
-      by : (o : Option Entry) → entry_of store number ≡ o → ((entry : Entry) → entry_of store number ≡ Some entry → IsBegun party.client.me (length file) entry)
+      by : (o : Option Entry) → entry_of store number ≡ o
+          → ((entry : Entry) → entry_of store number ≡ Some entry → IsBegun party.client.me (length file) entry)
           → IsFileAt store number file party.client.me
       by None none begun = inl none
       by (Some entry) some begun =
@@ -153,40 +178,55 @@ module _ (store : Store) (files : List Asked) (base : Party) (a : Attempt) (olde
 
   module _ (p : UploadPhase) (has : HasTask lists (upload_at task known file p)) where
     -- the number that the notes have of the task is the upload's
-    has-number : (number : ℕ) (other : List ℕ) → 1 ≤ number → has.entry.number ≡ number → IsFileOf files party task other → IsNumbered store party task number other
+    has-number : (number : ℕ) (other : List ℕ) → 1 ≤ number → has.entry.number ≡ number
+        → IsFileOf files party task other → IsNumbered store party task number other
     has-number number other some is of =
-        it.facts.tasks.numbered task number other (record { entry = has.entry; is_entry = has.is_entry; number_is = is; some = some }) of
+        it.facts.tasks.numbered task number other
+        (record { entry = has.entry; is_entry = has.is_entry; number_is = is; some = some }) of
 
     -- it is acknowledged, and its file is complete
-    pub kept-acked : (number : ℕ) → has.entry.number ≡ number → 1 ≤ number → SaysComplete side number → NotesKept store files party (after lists (acked task))
+    pub kept-acked : (number : ℕ) → has.entry.number ≡ number → 1 ≤ number → SaysComplete side number
+        → NotesKept store files party (after lists (acked task))
     kept-acked number is some says =
-        kept-task store files party it.facts task has.entry has.is_entry (λ (t : Task). record t { progress = progress.Acked }) refl (λ least. refl) has-number
+        kept-task store files party it.facts task has.entry has.is_entry
+        (λ (t : Task). record t { progress = progress.Acked }) refl (λ least. refl) has-number
         (λ given acked_is given_is.
         let same : number ≡ given = sym is ∙ given_is in
-        subst (λ (n : ℕ). IsTaskKept files store party task n) same
-        (file, it.is_file, kept-whole store number file party.client.me (has-number number file some is it.is_file).stands (complete_is number says)))
+        subst (λ (n : ℕ). IsTaskKept files store party task n) same (
+          file,
+          it.is_file,
+          kept-whole store number file party.client.me
+              (has-number number file some is it.is_file).stands (complete_is number says),
+        ))
 
     kept-refused : (code : ℕ) → NotesKept store files party (after lists (refused task code))
     kept-refused code =
-        kept-task store files party it.facts task has.entry has.is_entry (λ (t : Task). record t { progress = progress.Refused code }) refl (λ least. refl) has-number
+        kept-task store files party it.facts task has.entry has.is_entry
+        (λ (t : Task). record t { progress = progress.Refused code }) refl (λ least. refl) has-number
         (λ given acked_is given_is. absurd (cc acked_is))
 
-    pub kept-refusal : (code count : ℕ) → NotesKept store files party (notes.after_first count lists (refusal_of task code ++ []))
+    pub kept-refusal : (code count : ℕ)
+        → NotesKept store files party (notes.after_first count lists (refusal_of task code ++ []))
     kept-refusal code count = by (code == 3)
       where
-        by : (b : Bool) → NotesKept store files party (notes.after_first count lists ((if b then [] else refused task code ∷ []) ++ []))
+        by : (b : Bool)
+            → NotesKept store files party
+            (notes.after_first count lists ((if b then [] else refused task code ∷ []) ++ []))
         by true = fronts-none store files party it.facts count
         by false = fronts-one store files party it.facts (refused task code) (kept-refused code) count
 
     -- it has the number that it was offered
-    pub kept-numbered : (number offset : ℕ) → known ≡ 0 → has.entry.number ≡ 0 → Offers side number offset → NotesKept store files party (after lists (numbered task number))
+    pub kept-numbered : (number offset : ℕ) → known ≡ 0 → has.entry.number ≡ 0 → Offers side number offset
+        → NotesKept store files party (after lists (numbered task number))
     kept-numbered number offset new unnumbered offers =
-        kept-task store files party it.facts task has.entry has.is_entry (λ (t : Task). record t { number = number }) refl
+        kept-task store files party it.facts task has.entry has.is_entry
+        (λ (t : Task). record t { number = number }) refl
         (λ some. absurd (omega (arith, unnumbered, some)))
         (λ given other some is of.
         subst (λ (n : ℕ). IsNumbered store party task n other) is
         (numbered-by number offset new offers without other of))
-        (λ given acked_is given_is. absurd (let going = has.going in let no : progress.Going ≡ progress.Acked = sym going ∙ acked_is in cc no))
+        (λ given acked_is given_is. absurd
+        (let going = has.going in let no : progress.Going ≡ progress.Acked = sym going ∙ acked_is in cc no))
       where
         without : HasNumber party task number → ⊥
         without other =

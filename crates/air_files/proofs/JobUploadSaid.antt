@@ -1,16 +1,15 @@
 -- What a job that uploads a file has said, by how far it has come.
-use Rattle.std.proofs.Common.{◌≡◌, ◌≢◌, ℕ, ◌+◌, ◌-◌, ◌≤◌, List, [], ◌∷◌, ◌++◌, Bool, true, false, length, take, drop, min, Option, None, Some, Ok, Err, inl, inr, refl, sym, ◌∙◌, ap, subst, append-nil, arith, suc, zero}
-use Rattle.std.specs.Prelude.{◌==◌, ◌&&◌, nat_le, nat_lt, if◌then◌else◌, ⊤}
+use Rattle.std.proofs.Common.{◌≡◌, ℕ, ◌+◌, ◌-◌, List, [], ◌∷◌, ◌++◌, Bool, true, false, length, take, drop, min, Option}
+use Rattle.std.proofs.Common.{None, Some, Ok, Err, refl, sym, ◌∙◌, ap, subst, arith}
+use Rattle.std.specs.Prelude.{◌==◌, if◌then◌else◌}
 use Rattle.std.specs.Option.{option_map}
 use Rattle.std.proofs.lemmas.Bool.Decides.{nat_tests}
 use Rattle.std.proofs.lemmas.List.{length-drop, length-take}
-use Rattle.std.proofs.lemmas.List.Concat.{flat_map-append}
 use Rattle.std.proofs.lemmas.Option.{same_Some}
 use Rattle.ftl0_packets.specs.Items.{kind_of_item}
 use Rattle.ftl0_packets.specs.Layout.{Item, PacketValue, data_end, data_part, ul_go_resp, upload_cmd}
 use Rattle.client_notes.specs.Notes.{Lists}
 use Rattle.ftl0_job.specs.declared.ending.Ending.{Ending}
-use Rattle.ftl0_job.specs.declared.ending.Outcome.TheVariants as outcome
 use Rattle.ftl0_job.specs.declared.phases.UploadPhase.{UploadPhase}
 use Rattle.ftl0_job.specs.declared.phases.UploadPhase.TheVariants as phase
 use Rattle.ftl0_job.specs.declared.work.Work.{Work}
@@ -19,129 +18,43 @@ use Rattle.ftl0_job.specs.Due.{DuePacket, due_by, due_from, due_in, in_job, in_w
 use Rattle.ftl0_job.specs.Row.{Row}
 use Rattle.ftl0_job.specs.Table.{JobState, item_row, job_after, new_job, row_of}
 use Rattle.ftl0_job.specs.Upload.{Upload, new_upload, upload_row}
-use Rattle.ftl0_client.specs.Entries.{JobEntry, after_losing, lost, packets_said, queued, said_in, took}
-use Rattle.air_attempt.specs.Lists.{Has, OneIs}
+use Rattle.ftl0_client.specs.Entries.{JobEntry, after_losing, lost, queued, took}
 use Rattle.air_attempt.specs.Said.{IsTaken}
 use Rattle.air_attempt.specs.Sides.{JobReaches}
-use Rattle.air_files.specs.UploadDialogue.{GoesOnWith}
+use Rattle.air_attempt.proofs.Offered.{one-last, one-left}
 use Rattle.air_files.proofs.JobReach.{Stays, of-reached}
-use Rattle.air_files.proofs.LiftLemmas.{one-left, one-right}
 use Rattle.air_files.proofs.JobUploadRows.{UploadCases, upload-cases, upload_at}
-
--- ---- packets that go on with a file
-
--- these DATA go on with the file from this place to that one
-abbrev pub GoesTo : List ℕ → ℕ → List PacketValue → ℕ → Type 0
-GoesTo file place [] end = place ≡ end
-GoesTo file place (data_part octets ∷ packets) end = (octets ≡ take (length octets) (drop place file)) × GoesTo file (place + length octets) packets end
-GoesTo file place (packet ∷ packets) end = ⊥
-
-module _ (file : List ℕ) where
-  -- with DATA behind them
-  goes-more : (packets : List PacketValue) (place mid : ℕ) (octets : List ℕ) → GoesTo file place packets mid → octets ≡ take (length octets) (drop mid file)
-      → GoesTo file place (packets ++ data_part octets ∷ []) (mid + length octets)
-  goes-more [] place mid octets goes next =
-      (subst (λ (p : ℕ). octets ≡ take (length octets) (drop p file)) (sym goes) next, ap (λ (p : ℕ). p + length octets) goes)
-  goes-more (data_part more ∷ packets) place mid octets goes next = (goes.0, goes-more packets (place + length more) mid octets goes.1 next)
-  goes-more (packet ∷ packets) place mid octets goes next = absurd goes
-
-  pub goes-on : (packets : List PacketValue) (place end : ℕ) → GoesTo file place packets end → GoesOnWith file place packets
-  goes-on [] place end goes = tt
-  goes-on (data_part more ∷ packets) place end goes = (goes.0, goes-on packets (place + length more) end goes.1)
-  goes-on (packet ∷ packets) place end goes = absurd goes
-
-  -- with DATA_END behind them
-  goes-end : (packets : List PacketValue) (place : ℕ) → GoesTo file place packets (length file) → GoesOnWith file place (packets ++ data_end ∷ [])
-  goes-end [] place goes = (goes, refl)
-  goes-end (data_part more ∷ packets) place goes = (goes.0, goes-end packets (place + length more) goes.1)
-  goes-end (packet ∷ packets) place goes = absurd goes
-
-  pub no-end : (packets : List PacketValue) (place end : ℕ) → GoesTo file place packets end → Has packets data_end → ⊥
-  no-end [] place end goes has = has
-  no-end (data_part more ∷ packets) place end goes (inl same) = absurd (cc same)
-  no-end (data_part more ∷ packets) place end goes (inr has) = no-end packets (place + length more) end goes.1 has
-  no-end (packet ∷ packets) place end goes has = absurd goes
-
--- ---- how far a job has come
-
-pub said-one : (es : List JobEntry) (e : JobEntry) → said_in (es ++ e ∷ []) ≡ said_in es ++ packets_said e
-said-one es e = flat_map-append packets_said es (e ∷ []) ∙ ap (λ (l : List PacketValue). said_in es ++ l) (append-nil (packets_said e))
-
--- the file of this number is sent up to this place
-pub record SendsTo (known : ℕ) (file : List ℕ) (es : List JobEntry) (number place : ℕ) : Type 0 where
-  pub some : 1 ≤ number
-  pub within : place ≤ length file
-  pub offset : ℕ
-  pub packets : List PacketValue
-  pub said : said_in es ≡ upload_cmd known (length file) ∷ packets
-  pub took : OneIs (IsTaken (Ok (ul_go_resp number offset))) es
-  pub goes : GoesTo file offset packets place
-
--- all of it was sent
-pub record SentAll (known : ℕ) (file : List ℕ) (es : List JobEntry) (number : ℕ) : Type 0 where
-  pub some : 1 ≤ number
-  pub offset : ℕ
-  pub packets : List PacketValue
-  pub said : said_in es ≡ upload_cmd known (length file) ∷ packets
-  pub took : OneIs (IsTaken (Ok (ul_go_resp number offset))) es
-  pub goes_on : GoesOnWith file offset packets
-
--- what was said and taken before the outcome
-abbrev pub CameTo : UploadPhase → ℕ → List ℕ → List JobEntry → Type 0
-CameTo phase.Login known file es = said_in es ≡ []
-CameTo phase.Go known file es = said_in es ≡ upload_cmd known (length file) ∷ []
-CameTo (phase.Sending number place) known file es = SendsTo known file es number place
-CameTo (phase.Ack number) known file es = SentAll known file es number
-
--- no outcome is that a file was fetched
-abbrev pub NeverFetched : Option Ending → Type 0
-NeverFetched None = ⊤
-NeverFetched (Some ending) = (number : ℕ) → ending.outcome ≢ outcome.Fetched number
-
--- A job that uploads a file, after these entries.
-pub record DoesUpload (task known : ℕ) (file : List ℕ) (es : List JobEntry) (job : JobState) : Type 0 where
-  pub phase_is : UploadPhase
-  pub work_is : job.work ≡ work.Upload (upload_at task known file phase_is)
-  pub came : job.ending ≡ None → CameTo phase_is known file es
-  pub ended : NeverFetched job.ending
-
-pub one-last : {X : Type 0} (P : X → Type 0) (xs : List X) (x : X) → P x → OneIs P (xs ++ x ∷ [])
-one-last P xs x holds = one-right P xs (x ∷ []) (inl holds)
-
--- an offer that may be taken has a number, and lies within the file
-may-go : (b : Bool) (known number offset len : ℕ) → (if b then nat_lt 0 number && (offset == 0) else (number == known) && nat_le offset len) ≡ true → (b ≡ false → 1 ≤ known)
-    → (1 ≤ number) × (offset ≤ len)
-may-go true known number offset len may some = (grind (arith, nat_tests), grind (arith, nat_tests))
-may-go false known number offset len may some = let least = some refl in (grind (arith, nat_tests), grind (arith, nat_tests))
-
-known-some : (known : ℕ) → (known == 0) ≡ false → 1 ≤ known
-known-some known is = grind (arith, nat_tests)
-
-take-length : (n : ℕ) (xs : List ℕ) → take n xs ≡ take (length (take n xs)) xs
-take-length zero xs = refl
-take-length (suc n) [] = refl
-take-length (suc n) (x ∷ xs) = ap (λ (l : List ℕ). x ∷ l) (take-length n xs)
+use Rattle.air_files.proofs.JobUploadCame.{CameTo, DoesUpload, GoesTo, NeverFetched, SendsTo, goes-end, goes-more}
+use Rattle.air_files.proofs.JobUploadCame.{known-some, may-go, said-one, take-length}
 
 -- ---- what is due
 
 -- what is due of a job that uploads
-pub record IsDueOf (task known : ℕ) (file : List ℕ) (job : JobState) (due : DuePacket JobState) (p : UploadPhase) : Type 0 where
+pub record IsDueOf (task known : ℕ) (file : List ℕ) (job : JobState) (due : DuePacket JobState)
+    (p : UploadPhase) : Type 0 where
   pub none : job.ending ≡ None
   pub number : ℕ
   pub place : ℕ
   pub phase_is : p ≡ phase.Sending number place
   pub due_is : due ≡ in_job (in_work (due_from (upload_at task known file (phase.Sending number place)) number place))
 
-pub due-of : (task known : ℕ) (file : List ℕ) (job : JobState) (due : DuePacket JobState) (p : UploadPhase) → job.work ≡ work.Upload (upload_at task known file p)
+pub due-of : (task known : ℕ) (file : List ℕ) (job : JobState) (due : DuePacket JobState) (p : UploadPhase)
+    → job.work ≡ work.Upload (upload_at task known file p)
     → next_due job ≡ Some due → IsDueOf task known file job due p
-due-of task known file job due p is next = by job.ending refl p is (ap (λ (doing : Work). due_by job.ending doing) (sym is) ∙ next)
+due-of task known file job due p is next =
+    by job.ending refl p is (ap (λ (doing : Work). due_by job.ending doing) (sym is) ∙ next)
   where
     by : (o : Option Ending) → job.ending ≡ o → (p : UploadPhase) → job.work ≡ work.Upload (upload_at task known file p)
         → due_by job.ending (work.Upload (upload_at task known file p)) ≡ Some due → IsDueOf task known file job due p
-    by (Some ending) ended p is next = absurd (let none = ap (λ (o : Option Ending). due_by o (work.Upload (upload_at task known file p))) (sym ended) ∙ next in cc none)
-    by None unended p is next = at p (ap (λ (o : Option Ending). due_by o (work.Upload (upload_at task known file p))) (sym unended) ∙ next)
+    by (Some ending) ended p is next =
+        absurd (let none = ap (λ (o : Option Ending). due_by o (work.Upload (upload_at task known file p))) (sym ended)
+        ∙ next in cc none)
+    by None unended p is next =
+        at p (ap (λ (o : Option Ending). due_by o (work.Upload (upload_at task known file p))) (sym unended) ∙ next)
       where
-        at : (p : UploadPhase) → option_map in_job (option_map in_work (due_in p (upload_at task known file p))) ≡ Some due → IsDueOf task known file job due p
+        at : (p : UploadPhase)
+            → option_map in_job (option_map in_work (due_in p (upload_at task known file p))) ≡ Some due
+            → IsDueOf task known file job due p
         at phase.Login next = absurd (cc next)
         at phase.Go next = absurd (cc next)
         at (phase.Sending number place) next = record {
@@ -149,7 +62,9 @@ due-of task known file job due p is next = by job.ending refl p is (ap (λ (doin
           number = number;
           place = place;
           phase_is = refl;
-          due_is = sym (same_Some (in_job (in_work (due_from (upload_at task known file (phase.Sending number place)) number place))) due next);
+          due_is =
+              sym (same_Some (in_job (in_work (due_from
+              (upload_at task known file (phase.Sending number place)) number place))) due next);
         }
         at (phase.Ack number) next = absurd (cc next)
 
@@ -166,7 +81,8 @@ module _ (task known : ℕ) (file : List ℕ) where
   abbrev IsSame : UploadPhase → PacketValue → Row Upload → Type 0
   IsSame p packet row = (now : UploadPhase) × (row.state ≡ upload_at task known file now) × NeverFetched row.ending
 
-  same-upload : (p : UploadPhase) (packet : PacketValue) → IsSame p packet (upload_row (upload_at task known file p) packet)
+  same-upload : (p : UploadPhase) (packet : PacketValue)
+      → IsSame p packet (upload_row (upload_at task known file p) packet)
   same-upload p packet = upload-cases task known file IsSame cases p packet
     where
       cases : UploadCases task known file IsSame
@@ -182,7 +98,8 @@ module _ (task known : ℕ) (file : List ℕ) where
       }
 
   pub same-item : (lists : Lists) (p : UploadPhase) (item : Item)
-      → (now : UploadPhase) × ((ItemRow lists p item).state ≡ work.Upload (upload_at task known file now)) × NeverFetched (ItemRow lists p item).ending
+      → (now : UploadPhase) × ((ItemRow lists p item).state ≡ work.Upload
+      (upload_at task known file now)) × NeverFetched (ItemRow lists p item).ending
   same-item lists p (Ok packet) = let same = same-upload p packet in (same.0, ap work.Upload same.1, same.2)
   same-item lists p (Err malformed) = (p, refl, λ number is. cc is)
 
@@ -191,12 +108,18 @@ module _ (task known : ℕ) (file : List ℕ) where
     abbrev Comes : UploadPhase → PacketValue → Row Upload → Type 0
     Comes p packet row =
         CameTo p known file es → row.ending ≡ None
-        → (now : UploadPhase) × (row.state ≡ upload_at task known file now) × CameTo now known file (es ++ took (Ok packet) (row_of work.Upload row) ∷ [])
+        → (now : UploadPhase) × (row.state ≡ upload_at task known file now) × CameTo now known file
+        (es ++ took (Ok packet) (row_of work.Upload row) ∷ [])
 
     come-cases : UploadCases task known file Comes
     come-cases = record {
       strange_rows = λ p packet kind none came goes. absurd (cc goes);
-      login = λ moment flags came goes. (phase.Go, refl, (said-one es _ ∙ ap (λ (l : List PacketValue). l ++ upload_cmd known (length file) ∷ []) came));
+      login =
+          λ moment flags came goes. (
+            phase.Go,
+            refl,
+            (said-one es _ ∙ ap (λ (l : List PacketValue). l ++ upload_cmd known (length file) ∷ []) came),
+          );
       go = λ number offset may came goes.
           let is = may-go (known == 0) known number offset (length file) may (known-some known) in (
             phase.Sending number offset,
@@ -221,15 +144,26 @@ module _ (task known : ℕ) (file : List ℕ) where
     comes : (p : UploadPhase) (packet : PacketValue) → Comes p packet (upload_row (upload_at task known file p) packet)
     comes p packet = upload-cases task known file Comes come-cases p packet
 
-    takes : (p : UploadPhase) (o : Option Ending) (lists : Lists) (item : Item) → CameTo p known file es → (ItemRow lists p item).ending ≡ o
+    takes : (p : UploadPhase) (o : Option Ending) (lists : Lists) (item : Item) → CameTo p known file es
+        → (ItemRow lists p item).ending ≡ o
         → Does (es ++ took item (ItemRow lists p item) ∷ []) (job_after (ItemRow lists p item))
     takes p (Some ending) lists item came is =
         let same = same-item lists p item in
-        record { phase_is = same.0; work_is = same.1; came = λ none. absurd (let no : Some ending ≡ None = sym is ∙ none in cc no); ended = same.2 }
+        record {
+          phase_is = same.0;
+          work_is = same.1;
+          came = λ none. absurd (let no : Some ending ≡ None = sym is ∙ none in cc no);
+          ended = same.2;
+        }
     takes p None lists (Err malformed) came is = absurd (cc is)
     takes p None lists (Ok packet) came is =
         let next = comes p packet came is in
-        record { phase_is = next.0; work_is = ap work.Upload next.1; came = λ none. next.2; ended = (same-upload p packet).2 }
+        record {
+          phase_is = next.0;
+          work_is = ap work.Upload next.1;
+          came = λ none. next.2;
+          ended = (same-upload p packet).2;
+        }
 
     -- what is due, by whether octets are left
     abbrev due_by_left : ℕ → ℕ → Bool → DuePacket Upload
@@ -257,15 +191,19 @@ module _ (task known : ℕ) (file : List ℕ) where
             packets = sends.packets ++ data_end ∷ [];
             said = said-one es _ ∙ ap (λ (l : List PacketValue). l ++ data_end ∷ []) sends.said;
             took = one-left (IsTaken (Ok (ul_go_resp number sends.offset))) es _ sends.took;
-            goes_on = goes-end file sends.packets sends.offset (subst (λ (n : ℕ). GoesTo file sends.offset sends.packets n) at_end sends.goes);
+            goes_on =
+                goes-end file sends.packets sends.offset
+                (subst (λ (n : ℕ). GoesTo file sends.offset sends.packets n) at_end sends.goes);
           },
         )
     dues number place false sends some =
         let octets : List ℕ = take most_data (drop place file) in
         let dropped : length (drop place file) ≡ length file - place = length-drop place file in
-        let taken : length octets ≡ min most_data (length (drop place file)) = length-take most_data (drop place file) in
+        let taken : length octets ≡ min most_data (length (drop place file)) =
+        length-take most_data (drop place file) in
         let within = sends.within in
-        let after : place + length octets ≡ place + min most_data (length file - place) = ap (λ (n : ℕ). place + n) (taken ∙ ap (min most_data) dropped) in (
+        let after : place + length octets ≡ place + min most_data (length file - place) =
+        ap (λ (n : ℕ). place + n) (taken ∙ ap (min most_data) dropped) in (
           phase.Sending number (place + min most_data (length file - place)),
           refl,
           record {
@@ -277,7 +215,8 @@ module _ (task known : ℕ) (file : List ℕ) where
             took = one-left (IsTaken (Ok (ul_go_resp number sends.offset))) es _ sends.took;
             goes =
                 subst (λ (n : ℕ). GoesTo file sends.offset (sends.packets ++ data_part octets ∷ []) n) after
-                (goes-more file sends.packets sends.offset place octets sends.goes (take-length most_data (drop place file)));
+                (goes-more file sends.packets sends.offset place octets sends.goes
+                (take-length most_data (drop place file)));
           },
         )
 
@@ -292,17 +231,25 @@ module _ (task known : ℕ) (file : List ℕ) where
         let same = same-item lists does.phase_is item in
         subst (λ (r : Row Work). Does (es ++ lost item r ∷ []) (after_losing (kind_of_item item) r)) (sym is)
         (record { phase_is = same.0; work_is = same.1; came = λ none. absurd (cc none); ended = λ number is. cc is });
-    passing = λ es job item ended does. record { phase_is = does.phase_is; work_is = does.work_is; came = λ none. absurd (ended none); ended = does.ended };
+    passing =
+        λ es job item ended does. record {
+          phase_is = does.phase_is;
+          work_is = does.work_is;
+          came = λ none. absurd (ended none);
+          ended = does.ended;
+        };
     queuing = λ es job due next does.
         let is = due-of task known file job due does.phase_is does.work_is next in
-        let sends : SendsTo known file es is.number is.place = subst (λ (p : UploadPhase). CameTo p known file es) is.phase_is (does.came is.none) in
+        let sends : SendsTo known file es is.number is.place =
+        subst (λ (p : UploadPhase). CameTo p known file es) is.phase_is (does.came is.none) in
         let to = dues es is.number is.place (length (drop is.place file) == 0) sends refl in
         subst (λ (d : DuePacket JobState). Does (es ++ queued d ∷ []) d.state) (sym is.due_is)
         (record { phase_is = to.0; work_is = ap work.Upload to.1; came = λ none. to.2; ended = tt });
   }
 
   -- so far an upload came
-  pub does-upload : (es : List JobEntry) (job : JobState) → JobReaches (new_job (work.Upload (new_upload task known file))) es job → Does es job
+  pub does-upload : (es : List JobEntry) (job : JobState)
+      → JobReaches (new_job (work.Upload (new_upload task known file))) es job → Does es job
   does-upload es job reached =
       of-reached Does stays es (new_job (work.Upload (new_upload task known file))) job
       (record { phase_is = phase.Login; work_is = refl; came = λ none. refl; ended = tt }) reached

@@ -10,6 +10,7 @@ mod DownloadJobRows
 mod DownloadJobSaid
 mod DownloadNext
 mod DownloadQueued
+mod DownloadReached
 mod DownloadRows
 mod DownloadServed
 mod DownloadSession
@@ -32,6 +33,7 @@ mod JobStep
 mod JobStill
 mod JobTasks
 mod JobTook
+mod JobUploadCame
 mod JobUploadCases
 mod JobUploadGoes
 mod JobUploadNotes
@@ -54,6 +56,7 @@ mod OtherLemmas
 mod OwnerLemmas
 mod QuietKeeps
 mod QuietLemmas
+mod ReceivesAs
 mod SessionAll
 mod SessionFirst
 mod SessionOne

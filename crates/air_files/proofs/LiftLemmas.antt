@@ -1,111 +1,11 @@
--- What is so of each attempt, or of each session, of a client: of those at hand, and of a changed list of them.
-use Rattle.std.proofs.Common.{◌≡◌, ◌⊎◌, ℕ, List, [], ◌∷◌, ◌++◌, map, refl, sym, subst, Option, None, Some, inl, inr}
-use Rattle.std.proofs.Common.{zero, suc}
-use Rattle.std.specs.Prelude.{IfSome, slice_get}
-use Rattle.std.specs.List.{AllByRecursion}
-use Rattle.std.proofs.lemmas.Option.{same_Some}
+-- What is so of each session of a client.
+use Rattle.std.proofs.Common.{◌≡◌, Some}
+use Rattle.std.specs.Prelude.{IfSome}
 use Rattle.air_attempt.specs.Attempt.{Attempt}
-use Rattle.air_attempt.specs.Lists.{Has, OneIs}
+use Rattle.air_attempt.specs.Lists.{Has}
 use Rattle.air_attempt.specs.Party.{EachSide, Party}
 use Rattle.air_attempt.specs.Sides.{ServerSide}
-
--- ---- each of a list
-
--- the one that a list has is so, if each of them is
-pub each-at : {X : Type 0} (P : X → Type 0) (xs : List X) (x : X) → AllByRecursion P xs → Has xs x → P x
-each-at P [] x each has = absurd has
-each-at P (y ∷ ys) x each (inl same) = subst P same each.0
-each-at P (y ∷ ys) x each (inr has) = each-at P ys x each.1 has
-
--- and each is, if the one that a list has is, whichever it is
-pub each-from : {X : Type 0} {P : X → Type 0} (xs : List X) → ((x : X) → Has xs x → P x) → AllByRecursion P xs
-each-from [] holds = tt
-each-from (x ∷ xs) holds = (holds x (inl refl), each-from xs (λ y has. holds y (inr has)))
-
-pub each-weaker : {X : Type 0} {P Q : X → Type 0} (xs : List X) → ((x : X) → P x → Q x) → AllByRecursion P xs
-    → AllByRecursion Q xs
-each-weaker [] weaker each = tt
-each-weaker (x ∷ xs) weaker each = (weaker x each.0, each-weaker xs weaker each.1)
-
-pub each-both : {X : Type 0} {P Q R : X → Type 0} (xs : List X) → ((x : X) → P x → Q x → R x) → AllByRecursion P xs
-    → AllByRecursion Q xs
-    → AllByRecursion R xs
-each-both [] both one two = tt
-each-both (x ∷ xs) both one two = (both x one.0 two.0, each-both xs both one.1 two.1)
-
-pub each-map : {X : Type 0} {P : X → Type 0} (Q : X → Type 0) (change : X → X) (xs : List X)
-    → ((x : X) → P x → Q (change x)) → AllByRecursion P xs
-    → AllByRecursion Q (map change xs)
-each-map Q change [] changes each = tt
-each-map Q change (x ∷ xs) changes each = (changes x each.0, each-map Q change xs changes each.1)
-
-pub each-append : {X : Type 0} (P : X → Type 0) (xs ys : List X) → AllByRecursion P xs → AllByRecursion P ys
-    → AllByRecursion P (xs ++ ys)
-each-append P [] ys one two = two
-each-append P (x ∷ xs) ys one two = (one.0, each-append P xs ys one.1 two)
-
--- ---- one of a list
-
-pub one-weaker : {X : Type 0} {P Q : X → Type 0} (xs : List X) → ((x : X) → P x → Q x) → OneIs P xs → OneIs Q xs
-one-weaker [] weaker one = one
-one-weaker (x ∷ xs) weaker (inl here) = inl (weaker x here)
-one-weaker (x ∷ xs) weaker (inr there) = inr (one-weaker xs weaker there)
-
-pub one-map : {X : Type 0} {P : X → Type 0} (Q : X → Type 0) (change : X → X) (xs : List X)
-    → ((x : X) → P x → Q (change x)) → OneIs P xs
-    → OneIs Q (map change xs)
-one-map Q change [] changes one = one
-one-map Q change (x ∷ xs) changes (inl here) = inl (changes x here)
-one-map Q change (x ∷ xs) changes (inr there) = inr (one-map Q change xs changes there)
-
-pub one-left : {X : Type 0} (P : X → Type 0) (xs ys : List X) → OneIs P xs → OneIs P (xs ++ ys)
-one-left P [] ys one = absurd one
-one-left P (x ∷ xs) ys (inl here) = inl here
-one-left P (x ∷ xs) ys (inr there) = inr (one-left P xs ys there)
-
-pub one-right : {X : Type 0} (P : X → Type 0) (xs ys : List X) → OneIs P ys → OneIs P (xs ++ ys)
-one-right P [] ys one = one
-one-right P (x ∷ xs) ys one = inr (one-right P xs ys one)
-
-pub one-cases : {X : Type 0} (P : X → Type 0) (xs ys : List X) → OneIs P (xs ++ ys) → OneIs P xs ⊎ OneIs P ys
-one-cases P [] ys one = inr one
-one-cases P (x ∷ xs) ys (inl here) = inl (inl here)
-one-cases P (x ∷ xs) ys (inr there) = by (one-cases P xs ys there)
-  where
-    by : OneIs P xs ⊎ OneIs P ys → (P x ⊎ OneIs P xs) ⊎ OneIs P ys
-    by (inl left) = inl (inr left)
-    by (inr right) = inr right
-
--- the one that is so
-pub one-at : {X : Type 0} {P : X → Type 0} (xs : List X) → OneIs P xs → (x : X) × Has xs x × P x
-one-at [] one = absurd one
-one-at (x ∷ xs) (inl here) = (x, inl refl, here)
-one-at (x ∷ xs) (inr there) = let found = one-at xs there in (found.0, inr found.1, found.2)
-
-pub one-from : {X : Type 0} (P : X → Type 0) (xs : List X) (x : X) → Has xs x → P x → OneIs P xs
-one-from P [] x has holds = has
-one-from P (y ∷ ys) x (inl same) holds = inl (subst P (sym same) holds)
-one-from P (y ∷ ys) x (inr has) holds = inr (one-from P ys x has holds)
-
--- what stands at a place is one of the list
-pub has-at : {X : Type 0} (xs : List X) (place : ℕ) (x : X) → slice_get xs place ≡ Some x → Has xs x
-has-at [] place x there = absurd (cc)
-has-at (y ∷ ys) zero x there = inl (same_Some y x there)
-has-at (y ∷ ys) (suc place) x there = inr (has-at ys place x there)
-
--- ---- sessions
-
-pub some-at : {X : Type 0} (P : X → Type 0) (o : Option X) (x : X) → IfSome o P → o ≡ Some x → P x
-some-at P None x if is = absurd (cc)
-some-at P (Some y) x if is = subst P (same_Some y x is) if
-
-pub some-from : {X : Type 0} {P : X → Type 0} (o : Option X) → ((x : X) → o ≡ Some x → P x) → IfSome o P
-some-from None holds = tt
-some-from (Some x) holds = holds x refl
-
-pub some-weaker : {X : Type 0} {P Q : X → Type 0} (o : Option X) → ((x : X) → P x → Q x) → IfSome o P → IfSome o Q
-some-weaker None weaker holds = tt
-some-weaker (Some x) weaker holds = weaker x holds
+use Rattle.air_attempt.proofs.Offered.{each-at, each-from, some-at, some-from}
 
 pub side-at : (P : Attempt → ServerSide → Type 0) (party : Party) (a : Attempt) (side : ServerSide) → EachSide party P
     → Has party.attempts a → a.server ≡ Some side → P a side

@@ -1,27 +1,24 @@
 -- What the facts look at of a client, an attempt and a session, put into others in place of theirs: these have the
 -- facts.
 -- Ends of links, transmissions and what else is theirs don't matter, and a session may be over.
-use Rattle.std.proofs.Common.{◌≡◌, ℕ, List, length, ap, sym, ◌∙◌, true, Option, None, Some}
+use Rattle.std.proofs.Common.{◌≡◌, ℕ, List, length, ap, sym, ◌∙◌, true}
 use Rattle.file_store.specs.Store.{Store}
-use Rattle.ftl0_job.specs.declared.ending.Ending.{Ending}
 use Rattle.ftl0_job.specs.declared.work.Work.{Work}
 use Rattle.ftl0_job.specs.declared.work.Work.TheVariants as work
-use Rattle.ftl0_job.specs.declared.ending.Outcome.{Outcome}
 use Rattle.ftl0_job.specs.declared.ending.Outcome.TheVariants as reached
-use Rattle.ax25_link.specs.declared.state.Why.{Why}
-use Rattle.ftl0_client.specs.declared.attempt.outcome.AttemptOutcome.TheVariants.{Reached}
-use Rattle.ftl0_client.specs.Attempt.Attempted.{outcome_by}
 use Rattle.air_attempt.specs.Attempt.{Attempt}
 use Rattle.air_attempt.specs.Party.{Party}
 use Rattle.air_attempt.specs.Sides.{ClientSide, ServerSide}
 use Rattle.air_files.specs.Dialogue.{Says, Serves}
 use Rattle.air_files.specs.DownloadDialogue as download
 use Rattle.air_files.specs.DownloadDialogue.{Fetching, IsFetchingFile}
-use Rattle.air_files.specs.UploadDialogue.{AnsweredFirst, Receiving, ended, receives, refused, unasked}
-use Rattle.air_files.specs.UploadDialogue.{IsSendingFile, Sending, asked, silent, sends as sending}
+use Rattle.air_files.specs.UploadDialogue.{AnsweredFirst, IsSendingFile, Receiving, Sending, asked, ended, receives}
+use Rattle.air_files.specs.UploadDialogue.{refused, sends as sending, silent, unasked}
 use Rattle.air_files.specs.Facts.{HasNumber, IsGrantKept, Receives}
 use Rattle.air_files.specs.Laws.{IsSameParty, LooksLike, LooksLikeSession}
 use Rattle.air_files.proofs.ApartLemmas.{HasClientFacts, HasSideFacts}
+use Rattle.air_files.proofs.JobEarlier.{reached-any}
+use Rattle.air_files.proofs.ReceivesAs.{receives-as}
 
 -- ---- a client, an attempt and a session with what the facts look at of others
 
@@ -118,24 +115,7 @@ like-receives : (store : Store) (party now : Party) (a b : Attempt) (side other 
     (rest : List ℕ)
     → Receives store party a side number rest
     → Receives store (like party now) (like_attempt a b) (like_side side other) number rest
-like-receives store party now a b side other number rest r = record {
-  task = r.task;
-  known = r.known;
-  file = r.file;
-  asks = r.asks;
-  entry = r.entry;
-  is_entry = r.is_entry;
-  held = r.held;
-  holds = r.holds;
-  caller_is = r.caller_is;
-  length_is = r.length_is;
-  few = r.few;
-  offset = r.offset;
-  offers = r.offers;
-  came = r.came;
-  within = r.within;
-  goes_on = r.goes_on;
-}
+like-receives store party now a b side other number rest r = receives-as r r.asks r.is_entry r.caller_is r.offers r.came r.within r.goes_on
 
 like-serves : (store : Store) (asked : Work) (side other : ServerSide) → Serves store asked side
     → Serves store asked (like_side side other)
@@ -173,14 +153,6 @@ like-side store party now a b side other up facts = record {
   serves = like-serves store a.client.asked side other facts.serves;
 }
 
--- what a job reached it reached, whatever became of its link
-reached-by : (ending : Option Ending) (down other : Option Why) (outcome : Outcome)
-    → outcome_by ending down ≡ Some (Reached outcome)
-    → outcome_by ending other ≡ Some (Reached outcome)
-reached-by None None other outcome is = absurd (cc)
-reached-by None (Some why) other outcome is = absurd (cc)
-reached-by (Some ending) down other outcome is = is
-
 like-says : (asked : Work) (side now : ClientSide) → Says asked side → Says asked (like_client side now)
 like-says (work.Upload at) side now s = record {
   stage = s.stage;
@@ -209,7 +181,7 @@ like-client party now a b facts = record {
   says = like-says a.client.asked a.client b.client facts.says;
   fetched = λ number is.
       facts.fetched number
-      (reached-by a.client.attempted.job.ending b.client.attempted.down a.client.attempted.down
+      (reached-any a.client.attempted.job.ending b.client.attempted.down a.client.attempted.down
       (reached.Fetched number) is);
   asked_within = facts.asked_within;
 }

@@ -20,20 +20,23 @@ use Rattle.ftl0_client.specs.Entries.{GoesBy, JobEntry, lost, passed, queued, to
 use Rattle.air_attempt.specs.Attempt.{Attempt}
 use Rattle.air_attempt.specs.Party.{Asked, Party}
 use Rattle.air_attempt.specs.Sides.{JobReaches, said_by_client}
+use Rattle.air_attempt.proofs.Offered.{reaches-by, reaches-then}
 use Rattle.air_files.specs.Dialogue.{Says}
 use Rattle.air_files.specs.Facts.{FetchesBy}
 use Rattle.air_files.specs.Laws.{IsDirectoryOf, job_gone, with_job}
 use Rattle.air_files.proofs.JobNotes.{NotesKept}
 use Rattle.air_files.proofs.JobOne.{OneLaw}
-use Rattle.air_files.proofs.JobReach.{reaches-by, reaches-then, row-of-work}
+use Rattle.air_files.proofs.JobReach.{row-of-work}
 use Rattle.air_files.proofs.JobStep.{of_attempts}
 use Rattle.air_files.proofs.JobUploadNotes.{fronts-none}
 use Rattle.air_files.proofs.JobWorking.{OneKept, Working, never-fetched}
 use Rattle.air_files.proofs.ListJobSaid.{DoesList, directory_at, does-list, item-silent, none-due}
 use Rattle.air_files.proofs.ListServed.{none-asked}
 
-module _ (store : Store) (files : List Asked) (c : ℕ) (base : Party) (a : Attempt) (older : List Attempt) (w : Working store files c base a older)
-    (directory : Directory) (asked_is : a.client.asked ≡ work.Directory directory) (lists_now : Lists) (now : Attempted) where
+module _ (store : Store) (files : List Asked) (c : ℕ) (base : Party) (a : Attempt) (older : List Attempt)
+    (w : Working store files c base a older)
+    (directory : Directory) (asked_is : a.client.asked ≡ work.Directory directory) (lists_now : Lists)
+    (now : Attempted) where
   abbrev party : Party
   party = of_attempts base a older
 
@@ -50,16 +53,21 @@ module _ (store : Store) (files : List Asked) (c : ℕ) (base : Party) (a : Atte
   asked = asked_is ∙ ap work.Directory (subst IsNotBegun asked_is w.begun)
 
   does : DoesList tokens a.client.entries job_is
-  does = does-list tokens a.client.entries job_is (subst (λ (doing : Work). JobReaches (new_job doing) a.client.entries job_is) asked w.reached)
+  does =
+      does-list tokens a.client.entries job_is
+      (subst (λ (doing : Work). JobReaches (new_job doing) a.client.entries job_is) asked w.reached)
 
   -- a packet's row has no command
-  row-silent : (item : Item) (row : Row Work) → job_is.ending ≡ None → row ≡ job_row lists job_is item → row.commands ≡ []
+  row-silent : (item : Item) (row : Row Work) → job_is.ending ≡ None → row ≡ job_row lists job_is item
+      → row.commands ≡ []
   row-silent item row none is =
-      ap (λ (r : Row Work). r.commands) (is ∙ row-of-work lists job_is item none ∙ ap (λ (doing : Work). item_row lists doing item) does.work_is)
+      ap (λ (r : Row Work). r.commands)
+      (is ∙ row-of-work lists job_is item none ∙ ap (λ (doing : Work). item_row lists doing item) does.work_is)
       ∙ item-silent tokens lists does.listing does.phase_is item
 
   -- so an entry has none, and leaves the notes
-  entry-silent : (entry : JobEntry) → GoesBy lists job_is (entry ∷ []) lists_now now.job → (job.commands_of entry ≡ []) × (lists_now ≡ lists)
+  entry-silent : (entry : JobEntry) → GoesBy lists job_is (entry ∷ []) lists_now now.job
+      → (job.commands_of entry ≡ []) × (lists_now ≡ lists)
   entry-silent (took item row) goes =
       let none = row-silent item row goes.0 goes.1 in
       (none, goes.2.0 ∙ ap (after_all lists) none)
@@ -67,7 +75,8 @@ module _ (store : Store) (files : List Asked) (c : ℕ) (base : Party) (a : Atte
       let none = row-silent item row goes.0 goes.1 in
       (none, goes.2.0 ∙ ap (after_all lists) none)
   entry-silent (passed item) goes = (refl, goes.1.0)
-  entry-silent (queued due) goes = absurd (none-due job_is due (directory_at tokens does.listing does.phase_is) does.work_is goes.0)
+  entry-silent (queued due) goes =
+      absurd (none-due job_is due (directory_at tokens does.listing does.phase_is) does.work_is goes.0)
 
   module _ (entry : JobEntry) (goes : GoesBy lists job_is (entry ∷ []) lists_now now.job) where
     abbrev b : Attempt
@@ -83,13 +92,15 @@ module _ (store : Store) (files : List Asked) (c : ℕ) (base : Party) (a : Atte
     does-now =
         does-list tokens b.client.entries now.job
         (subst (λ (doing : Work). JobReaches (new_job doing) b.client.entries now.job) asked
-         (reaches-then a.client.entries (entry ∷ []) (new_job a.client.asked) job_is now.job w.reached (reaches-by (entry ∷ []) lists lists_now job_is now.job goes)))
+        (reaches-then (new_job a.client.asked) job_is now.job a.client.entries (entry ∷ []) w.reached
+        (reaches-by lists lists_now job_is now.job (entry ∷ []) goes)))
 
     -- it is no upload
     no-upload : (upload : Upload) → a.client.asked ≢ work.Upload upload
     no-upload upload is = absurd (let other : work.Directory directory ≡ work.Upload upload = sym asked_is ∙ is in cc)
 
-    nothing : (o : Option Ending) → FetchesBy o (work.Directory (directory_at tokens does-now.listing does-now.phase_is)) store new b
+    nothing : (o : Option Ending)
+        → FetchesBy o (work.Directory (directory_at tokens does-now.listing does-now.phase_is)) store new b
     nothing None = tt
     nothing (Some ending) = tt
 
@@ -97,17 +108,22 @@ module _ (store : Store) (files : List Asked) (c : ℕ) (base : Party) (a : Atte
     list-kept = record {
       lists_are = (entry-silent entry goes).1 ∙ sym (ap (after_all lists) no-commands);
       fronts = λ count.
-          subst (λ (commands : List NotesCommand). NotesKept store files party (notes.after_first count lists commands)) (sym no-commands)
+          subst (λ (commands : List NotesCommand). NotesKept store files party (notes.after_first count lists commands))
+          (sym no-commands)
           (fronts-none store files party w.facts count);
       kept = record {
         noted = λ task number file asks taken. absurd (no-upload (new_upload task 0 file) asks);
         receives = λ side number rest is up state r. absurd (no-upload (new_upload r.task r.known r.file) r.asks);
         says = subst (λ (doing : Work). Says doing b.client) (sym asked_is) does-now.says;
-        fetching = λ is. subst (λ (doing : Work). FetchesBy now.job.ending doing store new b) (sym does-now.work_is) (nothing now.job.ending);
+        fetching =
+            λ is. subst (λ (doing : Work). FetchesBy now.job.ending doing store new b) (sym does-now.work_is)
+            (nothing now.job.ending);
         fetched = λ number is. absurd (never-fetched now.job.ending now.down number does-now.ended is);
-        asked_within = λ number offset has. absurd (none-asked tokens (said_by_client b.client) number offset does-now.says has);
+        asked_within =
+            λ number offset has. absurd (none-asked tokens (said_by_client b.client) number offset does-now.says has);
       };
     }
 
 pub list-one : OneLaw IsDirectoryOf
-list-one store files c base a older w kind entry lists now goes side front = list-kept store files c base a older w kind.0 kind.1 lists now entry goes
+list-one store files c base a older w kind entry lists now goes side front =
+    list-kept store files c base a older w kind.0 kind.1 lists now entry goes

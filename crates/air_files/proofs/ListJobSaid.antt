@@ -1,9 +1,11 @@
 -- What a job that selects and lists has said, by how far it has come.
-use Rattle.std.proofs.Common.{◌≡◌, ◌≢◌, ℕ, ◌==◌, List, [], ◌∷◌, ◌++◌, length, refl, ap, sym, ◌∙◌, subst, Bool, true, false, Option, None, Some, append-nil}
+use Rattle.std.proofs.Common.{◌≡◌, ◌≢◌, ℕ, ◌==◌, List, [], ◌∷◌, ◌++◌, length, refl, ap, sym, ◌∙◌, subst, Bool, true}
+use Rattle.std.proofs.Common.{false, Option, None, Some, append-nil}
 use Rattle.std.specs.Prelude.{Ok, Err, if◌then◌else◌, nat_lt}
 use Rattle.std.specs.List.{AllByRecursion}
 use Rattle.ftl0_packets.specs.Items.{kind_of_item}
-use Rattle.ftl0_packets.specs.Layout.{Item, PacketValue, data_end, data_part, dir_short_cmd, dl_error_resp, kind_of, login_resp, select_cmd, select_resp}
+use Rattle.ftl0_packets.specs.Layout.{Item, PacketValue, data_end, data_part, dir_short_cmd, dl_error_resp, kind_of}
+use Rattle.ftl0_packets.specs.Layout.{login_resp, select_cmd, select_resp}
 use Rattle.client_notes.specs.Notes.{Lists}
 use Rattle.ftl0_job.specs.declared.ending.Ending.{Ending}
 use Rattle.ftl0_job.specs.declared.ending.Outcome.{Outcome}
@@ -19,10 +21,10 @@ use Rattle.ftl0_job.specs.Short.{are_short_headers}
 use Rattle.ftl0_job.specs.Table.{JobState, item_row, job_after, new_job, row_of}
 use Rattle.ftl0_client.specs.Entries.{JobEntry, after_losing, lost, passed, said_in, took}
 use Rattle.air_attempt.specs.Sides.{JobReaches}
+use Rattle.air_attempt.proofs.Offered.{each-append}
 use Rattle.air_files.specs.Dialogue.{IsListSaid}
 use Rattle.air_files.proofs.JobReach.{Stays, of-reached}
-use Rattle.air_files.proofs.JobUploadSaid.{NeverFetched, said-one}
-use Rattle.air_files.proofs.LiftLemmas.{each-append}
+use Rattle.air_files.proofs.JobUploadCame.{NeverFetched, said-one}
 
 -- the list of these tokens' selection, come so far
 abbrev pub directory_at : List ℕ → List ℕ → DirectoryPhase → Directory
@@ -46,7 +48,8 @@ record Comes (tokens : List ℕ) (p : DirectoryPhase) (row : Row Directory) : Ty
   commands : row.commands ≡ []
   never : NeverFetched row.ending
   replies : (said : List PacketValue) → CameTo p tokens said → IsListSaid tokens (said ++ row.replies)
-  came : (said : List PacketValue) → CameTo p tokens said → row.ending ≡ None → CameTo row.state.phase tokens (said ++ row.replies)
+  came : (said : List PacketValue) → CameTo p tokens said → row.ending ≡ None
+      → CameTo row.state.phase tokens (said ++ row.replies)
 
 -- ---- the rows
 
@@ -60,7 +63,8 @@ module _ (tokens : List ℕ) where
   came-said phase.Listing said came = selected-said said came
 
   -- with one DIR_SHORT_CMD more
-  selected-short : (said : List PacketValue) → HasSelected tokens said → HasSelected tokens (said ++ dir_short_cmd 0 ∷ [])
+  selected-short : (said : List PacketValue) → HasSelected tokens said
+      → HasSelected tokens (said ++ dir_short_cmd 0 ∷ [])
   selected-short said has = record {
     more = has.more ++ dir_short_cmd 0 ∷ [];
     said_is = ap (λ (l : List PacketValue). l ++ dir_short_cmd 0 ∷ []) has.said_is;
@@ -93,17 +97,26 @@ module _ (tokens : List ℕ) where
     listed-so : Comes tokens p (ends here [] outcome.Listed)
     listed-so = ends-so outcome.Listed (λ number is. absurd (cc))
 
-  login-so : (listing : List ℕ) → Comes tokens phase.Login (goes_on (directory_at tokens listing phase.Selecting) [] (select_cmd tokens ∷ []))
+  login-so : (listing : List ℕ)
+      → Comes tokens phase.Login (goes_on (directory_at tokens listing phase.Selecting) [] (select_cmd tokens ∷ []))
   login-so listing = record {
     tokens_is = refl;
     commands = refl;
     never = tt;
-    replies = λ said none. subst (λ (l : List PacketValue). IsListSaid tokens (l ++ select_cmd tokens ∷ [])) (sym none) (refl, tt);
-    came = λ said none goes. record { more = []; said_is = ap (λ (l : List PacketValue). l ++ select_cmd tokens ∷ []) none; short = tt };
+    replies =
+        λ said none. subst (λ (l : List PacketValue). IsListSaid tokens (l ++ select_cmd tokens ∷ [])) (sym none)
+        (refl, tt);
+    came =
+        λ said none goes. record {
+          more = [];
+          said_is = ap (λ (l : List PacketValue). l ++ select_cmd tokens ∷ []) none;
+          short = tt;
+        };
   }
 
   -- its first headers, or the next ones, are asked for
-  short-from : (p : DirectoryPhase) (listing : List ℕ) → ((said : List PacketValue) → CameTo p tokens said → HasSelected tokens said)
+  short-from : (p : DirectoryPhase) (listing : List ℕ)
+      → ((said : List PacketValue) → CameTo p tokens said → HasSelected tokens said)
       → Comes tokens p (goes_on (directory_at tokens listing phase.Listing) [] (dir_short_cmd 0 ∷ []))
   short-from p listing has = record {
     tokens_is = refl;
@@ -113,7 +126,8 @@ module _ (tokens : List ℕ) where
     came = λ said came goes. selected-short said (has said came);
   }
 
-  octets-so : (listing : List ℕ) → Comes tokens phase.Listing (goes_on (directory_at tokens listing phase.Listing) [] [])
+  octets-so : (listing : List ℕ)
+      → Comes tokens phase.Listing (goes_on (directory_at tokens listing phase.Listing) [] [])
   octets-so listing = record {
     tokens_is = refl;
     commands = refl;
@@ -126,40 +140,49 @@ module _ (tokens : List ℕ) where
 
   select-by : (listing : List ℕ) (b : Bool)
       → Comes tokens phase.Selecting
-        (if b then ends (directory_at tokens listing phase.Selecting) [] outcome.Listed else goes_on (directory_at tokens listing phase.Listing) [] (dir_short_cmd 0 ∷ []))
+      (if b then ends (directory_at tokens listing phase.Selecting) [] outcome.Listed else goes_on
+      (directory_at tokens listing phase.Listing) [] (dir_short_cmd 0 ∷ []))
   select-by listing true = listed-so listing phase.Selecting
   select-by listing false = short-from phase.Selecting listing (λ said came. came)
 
   data-by : (listing octets : List ℕ) (b : Bool)
-      → Comes tokens phase.Listing (if b then strange (directory_at tokens listing phase.Listing) 0 else goes_on (directory_at tokens (listing ++ octets) phase.Listing) [] [])
+      → Comes tokens phase.Listing
+      (if b then strange (directory_at tokens listing phase.Listing) 0 else goes_on
+      (directory_at tokens (listing ++ octets) phase.Listing) [] [])
   data-by listing octets true = strange-so listing phase.Listing 0
   data-by listing octets false = octets-so (listing ++ octets)
 
   next-by : (listing : List ℕ) (b : Bool)
       → Comes tokens phase.Listing
-        (if b then goes_on (directory_at tokens listing phase.Listing) [] (dir_short_cmd 0 ∷ []) else strange (directory_at tokens listing phase.Listing) 1)
+      (if b then goes_on (directory_at tokens listing phase.Listing) [] (dir_short_cmd 0 ∷ []) else strange
+      (directory_at tokens listing phase.Listing) 1)
   next-by listing true = short-from phase.Listing listing (λ said came. came)
   next-by listing false = strange-so listing phase.Listing 1
 
   whole-by : (listing : List ℕ) (b : Bool)
-      → Comes tokens phase.Listing (if b then ends (directory_at tokens listing phase.Listing) [] outcome.Listed else strange (directory_at tokens listing phase.Listing) 9)
+      → Comes tokens phase.Listing
+      (if b then ends (directory_at tokens listing phase.Listing) [] outcome.Listed else strange
+      (directory_at tokens listing phase.Listing) 9)
   whole-by listing true = listed-so listing phase.Listing
   whole-by listing false = strange-so listing phase.Listing 9
 
   code-by : (listing : List ℕ) (code : ℕ) (b : Bool)
       → Comes tokens phase.Listing
-        (if b then empty_row (directory_at tokens listing phase.Listing) else ends (directory_at tokens listing phase.Listing) [] (outcome.Refused code))
+      (if b then empty_row (directory_at tokens listing phase.Listing) else ends
+      (directory_at tokens listing phase.Listing) [] (outcome.Refused code))
   code-by listing code true = whole-by listing (are_short_headers listing)
   code-by listing code false = refused-so listing phase.Listing code
 
-  list-comes : (listing : List ℕ) (p : DirectoryPhase) (packet : PacketValue) → Comes tokens p (directory_row (directory_at tokens listing p) packet)
+  list-comes : (listing : List ℕ) (p : DirectoryPhase) (packet : PacketValue)
+      → Comes tokens p (directory_row (directory_at tokens listing p) packet)
   unfolding directory_row
   list-comes listing phase.Login (login_resp moment flags) = login-so listing
   list-comes listing phase.Login packet = strange-so listing phase.Login (kind_of packet)
   list-comes listing phase.Selecting (select_resp count) = select-by listing (count == 0)
   list-comes listing phase.Selecting (dl_error_resp code) = refused-so listing phase.Selecting code
   list-comes listing phase.Selecting packet = strange-so listing phase.Selecting (kind_of packet)
-  list-comes listing phase.Listing (data_part octets) = data-by listing octets (nat_lt longest_listing (length (listing ++ octets)))
+  list-comes listing phase.Listing (data_part octets) =
+      data-by listing octets (nat_lt longest_listing (length (listing ++ octets)))
   list-comes listing phase.Listing data_end = next-by listing (are_short_headers listing)
   list-comes listing phase.Listing (dl_error_resp code) = code-by listing code (is_empty_code code)
   list-comes listing phase.Listing packet = strange-so listing phase.Listing (kind_of packet)
@@ -176,7 +199,8 @@ pub record DoesList (tokens : List ℕ) (es : List JobEntry) (job : JobState) : 
   pub ended : NeverFetched job.ending
 
 -- nothing is due of it
-pub none-due : (job : JobState) (due : DuePacket JobState) (directory : Directory) → job.work ≡ work.Directory directory → next_due job ≡ Some due → ⊥
+pub none-due : (job : JobState) (due : DuePacket JobState) (directory : Directory) → job.work ≡ work.Directory directory
+    → next_due job ≡ Some due → ⊥
 none-due job due directory is next = by job.ending (ap (λ (doing : Work). due_by job.ending doing) (sym is) ∙ next)
   where
     by : (o : Option Ending) → due_by o (work.Directory directory) ≡ Some due → ⊥
@@ -191,16 +215,19 @@ module _ (tokens : List ℕ) where
   item_here lists listing p item = item_row lists (work.Directory (directory_at tokens listing p)) item
 
   -- an item's row has no command
-  pub item-silent : (lists : Lists) (listing : List ℕ) (p : DirectoryPhase) (item : Item) → (item_here lists listing p item).commands ≡ []
+  pub item-silent : (lists : Lists) (listing : List ℕ) (p : DirectoryPhase) (item : Item)
+      → (item_here lists listing p item).commands ≡ []
   item-silent lists listing p (Ok packet) = (list-comes tokens listing p packet).commands
   item-silent lists listing p (Err malformed) = refl
 
-  takes : (es : List JobEntry) (lists : Lists) (listing : List ℕ) (p : DirectoryPhase) (item : Item) → CameTo p tokens (said_in es)
+  takes : (es : List JobEntry) (lists : Lists) (listing : List ℕ) (p : DirectoryPhase) (item : Item)
+      → CameTo p tokens (said_in es)
       → Does (es ++ took item (item_here lists listing p item) ∷ []) (job_after (item_here lists listing p item))
   takes es lists listing p (Ok packet) came =
       let row = directory_row (directory_at tokens listing p) packet in
       let it = list-comes tokens listing p packet in
-      let said : said_in (es ++ took (Ok packet) (row_of work.Directory row) ∷ []) ≡ said_in es ++ row.replies = said-one es (took (Ok packet) (row_of work.Directory row)) in
+      let said : said_in (es ++ took (Ok packet) (row_of work.Directory row) ∷ []) ≡ said_in es ++ row.replies =
+      said-one es (took (Ok packet) (row_of work.Directory row)) in
       record {
         phase_is = row.state.phase;
         listing = row.state.listing;
@@ -213,20 +240,28 @@ module _ (tokens : List ℕ) where
     phase_is = p;
     listing = listing;
     work_is = refl;
-    says = subst (IsListSaid tokens) (sym (said-one es (took (Err malformed) (item_here lists listing p (Err malformed))))) (silent tokens listing p (said_in es) came);
+    says =
+        subst (IsListSaid tokens) (sym (said-one es (took (Err malformed) (item_here lists listing p (Err malformed)))))
+        (silent tokens listing p (said_in es) came);
     came = λ none. absurd (cc);
     ended = λ number is. absurd (cc);
   }
 
-  loses : (es : List JobEntry) (lists : Lists) (listing : List ℕ) (p : DirectoryPhase) (item : Item) → CameTo p tokens (said_in es)
-      → Does (es ++ lost item (item_here lists listing p item) ∷ []) (after_losing (kind_of_item item) (item_here lists listing p item))
+  loses : (es : List JobEntry) (lists : Lists) (listing : List ℕ) (p : DirectoryPhase) (item : Item)
+      → CameTo p tokens (said_in es)
+      → Does (es ++ lost item (item_here lists listing p item) ∷ [])
+      (after_losing (kind_of_item item) (item_here lists listing p item))
   loses es lists listing p (Ok packet) came =
       let row = directory_row (directory_at tokens listing p) packet in
       record {
         phase_is = row.state.phase;
         listing = row.state.listing;
-        work_is = ap (λ (t : List ℕ). work.Directory (directory_at t row.state.listing row.state.phase)) (list-comes tokens listing p packet).tokens_is;
-        says = subst (IsListSaid tokens) (sym (said-one es (lost (Ok packet) (row_of work.Directory row)))) (silent tokens listing p (said_in es) came);
+        work_is =
+            ap (λ (t : List ℕ). work.Directory (directory_at t row.state.listing row.state.phase))
+            (list-comes tokens listing p packet).tokens_is;
+        says =
+            subst (IsListSaid tokens) (sym (said-one es (lost (Ok packet) (row_of work.Directory row))))
+            (silent tokens listing p (said_in es) came);
         came = λ none. absurd (cc);
         ended = λ number is. absurd (cc);
       }
@@ -234,7 +269,9 @@ module _ (tokens : List ℕ) where
     phase_is = p;
     listing = listing;
     work_is = refl;
-    says = subst (IsListSaid tokens) (sym (said-one es (lost (Err malformed) (item_here lists listing p (Err malformed))))) (silent tokens listing p (said_in es) came);
+    says =
+        subst (IsListSaid tokens) (sym (said-one es (lost (Err malformed) (item_here lists listing p (Err malformed)))))
+        (silent tokens listing p (said_in es) came);
     came = λ none. absurd (cc);
     ended = λ number is. absurd (cc);
   }
@@ -242,10 +279,12 @@ module _ (tokens : List ℕ) where
   stays : Stays Does
   stays = record {
     taking = λ es job lists item none does.
-        subst (λ (doing : Work). Does (es ++ took item (item_row lists doing item) ∷ []) (job_after (item_row lists doing item))) (sym does.work_is)
+        subst (λ (doing : Work). Does (es ++ took item (item_row lists doing item) ∷ [])
+        (job_after (item_row lists doing item))) (sym does.work_is)
         (takes es lists does.listing does.phase_is item (does.came none));
     losing = λ es job lists item none does.
-        subst (λ (doing : Work). Does (es ++ lost item (item_row lists doing item) ∷ []) (after_losing (kind_of_item item) (item_row lists doing item))) (sym does.work_is)
+        subst (λ (doing : Work). Does (es ++ lost item (item_row lists doing item) ∷ [])
+        (after_losing (kind_of_item item) (item_row lists doing item))) (sym does.work_is)
         (loses es lists does.listing does.phase_is item (does.came none));
     passing = λ es job item ended does.
         record {
@@ -256,11 +295,15 @@ module _ (tokens : List ℕ) where
           came = λ none. absurd (ended none);
           ended = does.ended;
         };
-    queuing = λ es job due next does. absurd (none-due job due (directory_at tokens does.listing does.phase_is) does.work_is next);
+    queuing =
+        λ es job due next does. absurd
+        (none-due job due (directory_at tokens does.listing does.phase_is) does.work_is next);
   }
 
   -- so far a list came
-  pub does-list : (es : List JobEntry) (job : JobState) → JobReaches (new_job (work.Directory (new_directory tokens))) es job → Does es job
+  pub does-list : (es : List JobEntry) (job : JobState)
+      → JobReaches (new_job (work.Directory (new_directory tokens))) es job → Does es job
   does-list es job reached =
       of-reached Does stays es (new_job (work.Directory (new_directory tokens))) job
-      (record { phase_is = phase.Login; listing = []; work_is = refl; says = tt; came = λ none. refl; ended = tt }) reached
+      (record { phase_is = phase.Login; listing = []; work_is = refl; says = tt; came = λ none. refl; ended = tt })
+      reached

@@ -1,5 +1,6 @@
 -- The rows of a session of a list: of SELECT_CMD, and of DIR_SHORT_CMD for what is left of the selection (FTL0 1990).
-use Rattle.std.proofs.Common.{◌≡◌, ◌⊎◌, inl, inr, ℕ, ◌<◌, ◌==◌, List, [], ◌∷◌, length, refl, sym, subst, not, Bool, true, false, Some, arith, append-nil}
+use Rattle.std.proofs.Common.{◌≡◌, ◌⊎◌, inl, inr, ℕ, ◌<◌, ◌==◌, List, [], ◌∷◌, length, refl, sym, subst, not, Bool}
+use Rattle.std.proofs.Common.{true, false, Some, arith, append-nil}
 use Rattle.std.specs.Prelude.{Ok, Err, Result, if◌then◌else◌, nat_lt}
 use Rattle.std.specs.List.{AllByRecursion, flat_map, list_all}
 use Rattle.std.proofs.lemmas.List.Elements.{All-nil}
@@ -14,7 +15,9 @@ use Rattle.ftl0_session.specs.DownloadLaws.{DownloadsLaw}
 use Rattle.ftl0_session.specs.Downloads.Needs.{AreComplete, IsDueIn}
 use Rattle.ftl0_session.specs.Downloads.Sending.{octets_due}
 use Rattle.ftl0_session.specs.Downloads.Table as download
-use Rattle.ftl0_session.specs.Downloads.Table.{DownloadRow, Due, chosen, directory_row, files_row, has_file, listed_files, lists_after, octets_in, refused_row, select_row, short_due, short_octets, tree_row}
+use Rattle.ftl0_session.specs.Downloads.Table.{DownloadRow, Due, chosen, directory_row, files_row, has_file}
+use Rattle.ftl0_session.specs.Downloads.Table.{listed_files, lists_after, octets_in, refused_row, select_row, short_due}
+use Rattle.ftl0_session.specs.Downloads.Table.{short_octets, tree_row}
 use Rattle.ftl0_session.specs.Lists.Lists.{CallerList}
 use Rattle.ftl0_session.specs.Table.{Row, State, by_download, command, download_part, error_row, listing, session_row}
 use Rattle.ftl0_session.proofs.downloads.FileLemmas.{all-complete}
@@ -45,16 +48,19 @@ pub record IsListRow (store : Store) (row : Row) : Type 0 where
 pub waits-command : (store : Store) → IsListed store command
 waits-command store = record { is = inl refl; lies = tt; octets = All-nil _ }
 
-module _ (caller : CallSign) (store : Store) (lists : List CallerList) (sound : IsSoundStore store) (complete : AreComplete store lists) where
+module _ (caller : CallSign) (store : Store) (lists : List CallerList) (sound : IsSoundStore store)
+    (complete : AreComplete store lists) where
   abbrev IsIn : DownloadRow → Type 0
   IsIn row = IsListRow store (by_download row)
 
-  either : (b : Bool) (first second : DownloadRow) → IsIn first → (b ≡ false → IsIn second) → IsIn (if b then first else second)
+  either : (b : Bool) (first second : DownloadRow) → IsIn first → (b ≡ false → IsIn second)
+      → IsIn (if b then first else second)
   either true first second one other = one
   either false first second one other = other refl
 
   refused-row : (code : ℕ) → code < 256 → IsIn (refused_row lists code)
-  refused-row code few = record { commands = refl; lists = complete; replies = ((tt, few), tt); listed = waits-command store }
+  refused-row code few =
+      record { commands = refl; lists = complete; replies = ((tt, few), tt); listed = waits-command store }
 
   -- ---- SELECT_CMD
 
@@ -62,20 +68,27 @@ module _ (caller : CallSign) (store : Store) (lists : List CallerList) (sound : 
   tree-row (Err fault) = refused-row 8 (omega arith)
   tree-row (Ok tree) = record {
     commands = refl;
-    lists = selected-files store lists caller (chosen tree store.entries) complete (chosen-files store tree sound.is_store);
+    lists =
+        selected-files store lists caller (chosen tree store.entries) complete (chosen-files store tree sound.is_store);
     replies = ((tt, omega (arith, chosen-few store tree store.entries, sound.is_store.count)), tt);
     listed = waits-command store;
   }
 
   selects : (tokens : List ℕ) → IsIn (select_row caller store lists tokens false)
   selects tokens =
-      either (nat_lt 2047 (length tokens)) (refused_row lists 8) (tree_row caller store lists false (tree_in tokens)) (refused-row 8 (omega arith))
+      either (nat_lt 2047 (length tokens)) (refused_row lists 8) (tree_row caller store lists false (tree_in tokens))
+      (refused-row 8 (omega arith))
       (λ few. tree-row (tree_in tokens))
 
   -- ---- DIR_SHORT_CMD
 
   abbrev short_row : List ℕ → DownloadRow
-  short_row numbers = record { state = download.listing (short_due store numbers); lists = lists_after lists caller 0 (length numbers); replies = [] }
+  short_row numbers =
+      record {
+        state = download.listing (short_due store numbers);
+        lists = lists_after lists caller 0 (length numbers);
+        replies = [];
+      }
 
   short-row : (numbers : List ℕ) → not (list_all (has_file store) numbers) ≡ false → IsIn (short_row numbers)
   short-row numbers not_all =
@@ -102,52 +115,82 @@ module _ (caller : CallSign) (store : Store) (lists : List CallerList) (sound : 
   lists-short =
       let numbers = listed_files lists caller 0 in
       either (length numbers == 0) (refused_row lists 11) _ (refused-row 11 (omega arith))
-      (λ some. either (not (list_all (has_file store) numbers)) (refused_row lists 4) (short_row numbers) (refused-row 4 (omega arith)) (short-row numbers))
+      (λ some. either (not (list_all (has_file store) numbers)) (refused_row lists 4) (short_row numbers)
+      (refused-row 4 (omega arith)) (short-row numbers))
 
 -- ---- by the whole table
 
-module _ (law : DownloadsLaw) (caller : CallSign) (moment : ℕ) (store : Store) (lists : List CallerList) (sound : IsSoundStore store) (complete : AreComplete store lists) where
+module _ (law : DownloadsLaw) (caller : CallSign) (moment : ℕ) (store : Store) (lists : List CallerList)
+    (sound : IsSoundStore store) (complete : AreComplete store lists) where
   abbrev row_here : State → PacketValue → Row
   row_here state packet = session_row caller moment store lists state (Ok packet) false
 
-  select-is : (tokens : List ℕ) → download.download_row caller store lists download.ready (select_cmd tokens) false ≡ Some (select_row caller store lists tokens false)
+  select-is : (tokens : List ℕ)
+      → download.download_row caller store lists download.ready (select_cmd tokens) false ≡ Some
+      (select_row caller store lists tokens false)
   unfolding download.download_row download.command_row
   select-is tokens = refl
 
-  short-is : download.download_row caller store lists download.ready (dir_short_cmd 0) false ≡ Some (directory_row caller store lists 0 short_due false)
+  short-is : download.download_row caller store lists download.ready (dir_short_cmd 0) false ≡ Some
+      (directory_row caller store lists 0 short_due false)
   unfolding download.download_row download.command_row
   short-is = refl
 
   -- a command while headers are sent: error 1
-  listing-select : (tokens : List ℕ) (dues : List Due) → row_here (listing dues) (select_cmd tokens) ≡ error_row lists (listing dues) (Ok (select_cmd tokens))
+  listing-select : (tokens : List ℕ) (dues : List Due)
+      → row_here (listing dues) (select_cmd tokens) ≡ error_row lists (listing dues) (Ok (select_cmd tokens))
   unfolding session_row download.download_row
   listing-select tokens dues = refl
 
-  listing-short : (dues : List Due) → row_here (listing dues) (dir_short_cmd 0) ≡ error_row lists (listing dues) (Ok (dir_short_cmd 0))
+  listing-short : (dues : List Due)
+      → row_here (listing dues) (dir_short_cmd 0) ≡ error_row lists (listing dues) (Ok (dir_short_cmd 0))
   unfolding session_row download.download_row
   listing-short dues = refl
 
-  error-row : (state : State) (row : Row) → row ≡ record { state = state; lists = lists; commands = []; replies = dl_error_resp 1 ∷ [] } → IsListed store state → IsListRow store row
+  error-row : (state : State) (row : Row)
+      → row ≡ record { state = state; lists = lists; commands = []; replies = dl_error_resp 1 ∷ [] }
+      → IsListed store state → IsListRow store row
   error-row state row is listed =
-      subst (IsListRow store) (sym is) (record { commands = refl; lists = complete; replies = ((tt, omega arith), tt); listed = listed })
+      subst (IsListRow store) (sym is)
+      (record { commands = refl; lists = complete; replies = ((tt, omega arith), tt); listed = listed })
 
-  select-row : (tokens : List ℕ) (state : State) → IsListed store state → (state ≡ command) ⊎ ((dues : List Due) × (state ≡ listing dues)) → IsListRow store (row_here state (select_cmd tokens))
+  select-row : (tokens : List ℕ) (state : State) → IsListed store state
+      → (state ≡ command) ⊎ ((dues : List Due) × (state ≡ listing dues))
+      → IsListRow store (row_here state (select_cmd tokens))
   select-row tokens state listed (inl is) =
       subst (λ (s : State). IsListRow store (row_here s (select_cmd tokens))) (sym is)
-      (subst (IsListRow store) (sym (law caller moment store lists download.ready (select_cmd tokens) false _ (select-is tokens))) (selects caller store lists sound complete tokens))
+      (subst (IsListRow store) (sym (law caller moment store lists download.ready (select_cmd tokens) false _
+      (select-is tokens))) (selects caller store lists sound complete tokens))
   select-row tokens state listed (inr (dues, is)) =
       error-row state (row_here state (select_cmd tokens))
-      (subst (λ (s : State). row_here s (select_cmd tokens) ≡ record { state = s; lists = lists; commands = []; replies = dl_error_resp 1 ∷ [] }) (sym is) (listing-select tokens dues)) listed
+      (subst (λ (s : State). row_here s (select_cmd tokens) ≡ record {
+        state = s;
+        lists = lists;
+        commands = [];
+        replies = dl_error_resp 1 ∷ [];
+      }) (sym is) (listing-select tokens dues)) listed
 
-  short-row-of : (state : State) → IsListed store state → (state ≡ command) ⊎ ((dues : List Due) × (state ≡ listing dues)) → IsListRow store (row_here state (dir_short_cmd 0))
+  short-row-of : (state : State) → IsListed store state
+      → (state ≡ command) ⊎ ((dues : List Due) × (state ≡ listing dues))
+      → IsListRow store (row_here state (dir_short_cmd 0))
   short-row-of state listed (inl is) =
       subst (λ (s : State). IsListRow store (row_here s (dir_short_cmd 0))) (sym is)
-      (subst (IsListRow store) (sym (law caller moment store lists download.ready (dir_short_cmd 0) false _ short-is)) (lists-short caller store lists sound complete))
+      (subst (IsListRow store) (sym (law caller moment store lists download.ready (dir_short_cmd 0) false _ short-is))
+      (lists-short caller store lists sound complete))
   short-row-of state listed (inr (dues, is)) =
       error-row state (row_here state (dir_short_cmd 0))
-      (subst (λ (s : State). row_here s (dir_short_cmd 0) ≡ record { state = s; lists = lists; commands = []; replies = dl_error_resp 1 ∷ [] }) (sym is) (listing-short dues)) listed
+      (subst (λ (s : State). row_here s (dir_short_cmd 0) ≡ record {
+        state = s;
+        lists = lists;
+        commands = [];
+        replies = dl_error_resp 1 ∷ [];
+      }) (sym is) (listing-short dues)) listed
 
   -- the row of a packet of a client of a list
-  pub list-row : (tokens : List ℕ) (state : State) (packet : PacketValue) → IsListed store state → (packet ≡ select_cmd tokens) ⊎ (packet ≡ dir_short_cmd 0) → IsListRow store (row_here state packet)
-  list-row tokens state packet listed (inl is) = subst (λ (p : PacketValue). IsListRow store (row_here state p)) (sym is) (select-row tokens state listed listed.is)
-  list-row tokens state packet listed (inr is) = subst (λ (p : PacketValue). IsListRow store (row_here state p)) (sym is) (short-row-of state listed listed.is)
+  pub list-row : (tokens : List ℕ) (state : State) (packet : PacketValue) → IsListed store state
+      → (packet ≡ select_cmd tokens) ⊎ (packet ≡ dir_short_cmd 0) → IsListRow store (row_here state packet)
+  list-row tokens state packet listed (inl is) =
+      subst (λ (p : PacketValue). IsListRow store (row_here state p)) (sym is)
+      (select-row tokens state listed listed.is)
+  list-row tokens state packet listed (inr is) =
+      subst (λ (p : PacketValue). IsListRow store (row_here state p)) (sym is) (short-row-of state listed listed.is)

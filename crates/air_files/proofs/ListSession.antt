@@ -1,5 +1,6 @@
 -- One entry of a session that selects and lists keeps its client's facts.
-use Rattle.std.proofs.Common.{◌≡◌, ◌≢◌, ◌⊎◌, inl, inr, ℕ, List, [], ◌∷◌, ◌++◌, refl, ap, sym, ◌∙◌, subst, Bool, true, false, Option, append-nil}
+use Rattle.std.proofs.Common.{◌≡◌, ◌≢◌, ◌⊎◌, inl, inr, ℕ, List, [], ◌∷◌, ◌++◌, refl, ap, sym, ◌∙◌, subst, Bool, true}
+use Rattle.std.proofs.Common.{false, Option, append-nil}
 use Rattle.std.specs.Prelude.{IfSome}
 use Rattle.std.specs.List.{AllByRecursion}
 use Rattle.ftl0_packets.specs.Layout.{Fits, Item, PacketValue, data_end, data_part, dl_error_resp, select_resp}
@@ -18,11 +19,12 @@ use Rattle.air_attempt.specs.Attempt.{Attempt}
 use Rattle.air_attempt.specs.Laws.{ServerTookFront}
 use Rattle.air_attempt.specs.Party.{Asked, EachAttempt, Party}
 use Rattle.air_attempt.specs.Sides.{ServerSide, said_by_client}
+use Rattle.air_attempt.proofs.Offered.{each-append, each-weaker, flat_map-one}
 use Rattle.air_files.specs.Dialogue.{IsDueNow, IsListSaid, IsOfListing, Says, Serves, ServesList}
-use Rattle.air_files.specs.Laws.{IsDirectoryOf, IsOne, IsServed, SessionGoes, SessionKeeps, SessionLawOf, session_gone, with_attempt}
-use Rattle.air_files.proofs.FetchesOn.{ComesOn, fetching-on, flat_map-one}
+use Rattle.air_files.specs.Laws.{IsDirectoryOf, IsOne, IsServed, SessionGoes, SessionKeeps, SessionLawOf, session_gone}
+use Rattle.air_files.specs.Laws.{with_attempt}
+use Rattle.air_files.proofs.FetchesOn.{ComesOn, fetching-on}
 use Rattle.air_files.proofs.GoneLemmas.{facts-over}
-use Rattle.air_files.proofs.LiftLemmas.{each-append, each-weaker}
 use Rattle.air_files.proofs.ListRows.{IsListReply, IsListRow, IsListed, list-row}
 use Rattle.air_files.proofs.ListServed.{due-listed, front-last, list-packet, none-asked}
 use Rattle.air_files.proofs.QuietKeeps.{StaysQuiet, gone_side, keeps-quiet}
@@ -36,11 +38,14 @@ list-other (dl_error_resp code) is = tt
 list-other (select_resp count) is = tt
 list-other packet is = absurd is
 
-other-state : (state : State) (number : ℕ) (rest : List ℕ) → (state ≡ command) ⊎ ((dues : List Due) × (state ≡ listing dues)) → state ≢ receiving number rest
+other-state : (state : State) (number : ℕ) (rest : List ℕ)
+    → (state ≡ command) ⊎ ((dues : List Due) × (state ≡ listing dues)) → state ≢ receiving number rest
 other-state state number rest (inl is) same = absurd (let no : command ≡ receiving number rest = sym is ∙ same in cc)
-other-state state number rest (inr (dues, is)) same = absurd (let no : listing dues ≡ receiving number rest = sym is ∙ same in cc)
+other-state state number rest (inr (dues, is)) same =
+    absurd (let no : listing dues ≡ receiving number rest = sym is ∙ same in cc)
 
-module _ (files : List Asked) (c : ℕ) (party : Party) (before : Session) (served : IsServed files c party before) (at : Directory)
+module _ (files : List Asked) (c : ℕ) (party : Party) (before : Session) (served : IsServed files c party before)
+    (at : Directory)
     (asked : served.attempt.client.asked ≡ work.Directory at) where
   -- what holds of each attempt holds of the current one
   here : (P : Attempt → Type 0) → EachAttempt party P → P served.attempt
@@ -53,15 +58,21 @@ module _ (files : List Asked) (c : ℕ) (party : Party) (before : Session) (serv
       (here (λ a. IfSome a.server (Serves before.store a.client.asked)) served.facts.sessions.serves))
 
   says : IsListSaid at.tokens (said_by_client served.attempt.client)
-  says = subst (λ (w : Work). Says w served.attempt.client) asked (here (λ a. Says a.client.asked a.client) served.facts.sessions.says)
+  says =
+      subst (λ (w : Work). Says w served.attempt.client) asked
+      (here (λ a. Says a.client.asked a.client) served.facts.sessions.says)
 
   due : IsDueNow before.store served.side
   due =
-      subst (λ (o : Option ServerSide). IfSome o (λ side. side.is_up ≡ true → IsDueNow before.store side)) served.is_side
-      (here (λ a. IfSome a.server (λ side. side.is_up ≡ true → IsDueNow before.store side)) served.facts.sessions.due) served.is_up
+      subst (λ (o : Option ServerSide). IfSome o (λ side. side.is_up ≡ true → IsDueNow before.store side))
+      served.is_side
+      (here (λ a. IfSome a.server (λ side. side.is_up ≡ true → IsDueNow before.store side)) served.facts.sessions.due)
+      served.is_up
 
   listed : IsListed before.store before.state
-  listed = subst (IsListed before.store) (sym served.state_is) (record { is = serves.state; lies = due.lies; octets = due.octets })
+  listed =
+      subst (IsListed before.store) (sym served.state_is)
+      (record { is = serves.state; lies = due.lies; octets = due.octets })
 
   -- What an entry leaves of it.
   record KeepsList (now : Session) (entry : SessionEntry) : Type 0 where
@@ -95,7 +106,9 @@ module _ (files : List Asked) (c : ℕ) (party : Party) (before : Session) (serv
 
     -- its client fetches nothing
     comes : ComesOn before.store party served.attempt served.side new_side
-    comes fetched fetches first = absurd (none-asked at.tokens (said_by_client served.attempt.client) fetched.number fetches.offset says fetches.asked)
+    comes fetched fetches first =
+        absurd (none-asked at.tokens (said_by_client served.attempt.client) fetched.number fetches.offset says
+        fetches.asked)
 
     stays-quiet : StaysQuiet before.store party served.attempt served.side new_side served.older (entry ∷ []) now
     stays-quiet = record {
@@ -107,7 +120,8 @@ module _ (files : List Asked) (c : ℕ) (party : Party) (before : Session) (serv
       lists = keeps.lists;
       quiet = quiet;
       fetching =
-          fetching-on before.store party served.attempt served.older served.side new_side served.is_side comes served.attempts_are
+          fetching-on before.store party served.attempt served.older served.side new_side served.is_side comes
+          served.attempts_are
           served.facts.files_got.fetching;
     }
 
@@ -115,20 +129,27 @@ module _ (files : List Asked) (c : ℕ) (party : Party) (before : Session) (serv
 
   module _ (law : DownloadsLaw) (moment : ℕ) where
     -- the row of a packet that its client said
-    row-here : (entry : SessionEntry) (item : Item) (row : Row) → row ≡ row_of party.client.me moment before item → session.items_of entry ≡ item ∷ []
-        → ServerTookFront served.attempt (record served.side { entries = served.side.entries ++ entry ∷ [] }) → IsListRow before.store row
+    row-here : (entry : SessionEntry) (item : Item) (row : Row) → row ≡ row_of party.client.me moment before item
+        → session.items_of entry ≡ item ∷ []
+        → ServerTookFront served.attempt (record served.side { entries = served.side.entries ++ entry ∷ [] })
+        → IsListRow before.store row
     row-here entry item row is taken front =
-        let items : session.items_in (served.side.entries ++ entry ∷ []) ≡ session.items_in served.side.entries ++ item ∷ [] =
-        flat_map-one session.items_of served.side.entries entry ∙ ap (λ (l : List Item). session.items_in served.side.entries ++ l) taken in
+        let items : session.items_in (served.side.entries ++ entry ∷ []) ≡ session.items_in
+        served.side.entries ++ item ∷ [] =
+        flat_map-one session.items_of served.side.entries entry
+        ∙ ap (λ (l : List Item). session.items_in served.side.entries ++ l) taken in
         let last = front-last (session.items_in served.side.entries) item (said_by_client served.attempt.client)
         (front.0, front.1 ∙ ap (λ (l : List Item). l ++ front.0) items) in
         let packet = list-packet at.tokens (said_by_client served.attempt.client) last.0 says last.2 in
         subst (IsListRow before.store)
-        (sym (is ∙ ap (λ (i : Item). session_row party.client.me moment before.store before.lists before.state i false) last.1))
-        (list-row law party.client.me moment before.store before.lists served.store served.lists at.tokens before.state last.0 listed packet)
+        (sym (is ∙ ap (λ (i : Item). session_row party.client.me moment before.store before.lists before.state i false)
+        last.1))
+        (list-row law party.client.me moment before.store before.lists served.store served.lists at.tokens before.state
+        last.0 listed packet)
 
     keeps-entry : (entry : SessionEntry) (now : Session) → GoesBy party.client.me moment before (entry ∷ []) now
-        → ServerTookFront served.attempt (record served.side { entries = served.side.entries ++ entry ∷ [] }) → KeepsList now entry
+        → ServerTookFront served.attempt (record served.side { entries = served.side.entries ++ entry ∷ [] })
+        → KeepsList now entry
     keeps-entry (session.took item row) now goes front =
         let it = row-here (session.took item row) item row goes.0 refl front in
         subst (λ (n : Session). KeepsList n (session.took item row)) (sym goes.1)
@@ -154,8 +175,11 @@ module _ (files : List Asked) (c : ℕ) (party : Party) (before : Session) (serv
         subst (λ (n : Session). KeepsList n (session.queued due)) (sym goes.1)
         (record { stays = refl; commands = refl; replies = (it.0, tt); lists = served.lists; listed_now = it.1 })
 
-    pub one-keeps : (entry : SessionEntry) (now : Session) (up : Bool) → SessionGoes party moment before now (entry ∷ []) up served.attempt served.side
-        → SessionKeeps files party (with_attempt party (session_gone (entry ∷ []) now.state up served.attempt served.side) served.older) before now (entry ∷ []) served.side
+    pub one-keeps : (entry : SessionEntry) (now : Session) (up : Bool)
+        → SessionGoes party moment before now (entry ∷ []) up served.attempt served.side
+        → SessionKeeps files party
+        (with_attempt party (session_gone (entry ∷ []) now.state up served.attempt served.side) served.older) before
+        now (entry ∷ []) served.side
     one-keeps entry now up goes =
         keeps-quiet facts-over files c party before now (entry ∷ []) up served
         (λ other is. absurd (let no : work.Directory at ≡ work.Upload other = sym asked ∙ is in cc))
@@ -166,5 +190,7 @@ session-of-list law files c party moment before now entries up served (at, asked
     subst
     (λ (l : List SessionEntry).
     SessionGoes party moment before now l up served.attempt served.side
-    → SessionKeeps files party (with_attempt party (session_gone l now.state up served.attempt served.side) served.older) before now l served.side)
+    → SessionKeeps files party
+    (with_attempt party (session_gone l now.state up served.attempt served.side) served.older) before now l
+    served.side)
     (sym is) (one-keeps files c party before served at asked law moment entry now up) goes

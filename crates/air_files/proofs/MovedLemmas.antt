@@ -1,13 +1,13 @@
 -- What a client's facts become where commands change one entry of the store: over the store then, with the sessions over,
 -- and with the newest one gone on.
-use Rattle.std.proofs.Common.{◌≡◌, inl, inr, ℕ, List, [], ◌∷◌, ◌++◌, refl, ap, sym, ◌∙◌, subst, arith, true, Option, None, Some}
+use Rattle.std.proofs.Common.{◌≡◌, inl, inr, ℕ, List, [], ◌∷◌, ◌++◌, refl, ap, sym, ◌∙◌, subst, arith, true, Option}
+use Rattle.std.proofs.Common.{None, Some}
 use Rattle.std.specs.Prelude.{IfSome, slice_get}
 use Rattle.std.specs.List.{AllByRecursion}
 use Rattle.std.specs.Option.{option_map}
 use Rattle.std.proofs.lemmas.Bool.Decides.{eqb_tells}
 use Rattle.px_base.specs.CallSign.{CallSign}
 use Rattle.file_entries.specs.Follows.{KeepsEntries}
-use Rattle.file_store.specs.EntriesKept.{KeepsComplete}
 use Rattle.file_store.specs.Store.{Store, entry_of}
 use Rattle.ftl0_job.specs.declared.ending.Ending.{Ending}
 use Rattle.ftl0_job.specs.declared.phases.DownloadPhase.{DownloadPhase}
@@ -20,18 +20,21 @@ use Rattle.air_attempt.specs.Attempt.{Attempt}
 use Rattle.air_attempt.specs.Party.{Asked, IsFileOf, Party, all_over, over, sessions_over}
 use Rattle.air_attempt.specs.Said.{AsksUpload, Grants}
 use Rattle.air_attempt.specs.Sides.{ServerSide}
-use Rattle.air_files.specs.Facts.{AreFirstIfAny, Fetches, FetchesBy, FetchesIn, HasFacts, HasNumber, IsBegun, IsFetching, IsGrantKept, IsGranted, IsNumbered, coming_by, got}
+use Rattle.air_attempt.proofs.Offered.{one-map}
+use Rattle.air_files.specs.Facts.{AreFirstIfAny, Fetches, FetchesBy, FetchesIn, HasFacts, HasNumber, IsBegun}
+use Rattle.air_files.specs.Facts.{IsFetching, IsGrantKept, IsGranted, IsNumbered, coming_by, got}
 use Rattle.air_files.specs.Kept.{IsFileAt, WhereStands}
 use Rattle.air_files.proofs.ApartLemmas.{GrantFact, HasClientFacts, HasFactsApart, HasSideFacts, apart, together}
 use Rattle.air_files.proofs.GrowingLemmas.{StayOthers}
-use Rattle.air_files.proofs.LiftLemmas.{one-map}
 use Rattle.air_files.proofs.LikeLemmas.{like-client, like-side, number-like}
-use Rattle.air_files.proofs.StableLemmas.{keeps-complete, keeps-fetching, keeps-first_any, keeps-offer, keeps-serves, keeps-task_kept}
+use Rattle.air_files.proofs.StableLemmas.{keeps-complete, keeps-fetching_some, keeps-first_any, keeps-offer}
+use Rattle.air_files.proofs.StableLemmas.{keeps-serves, keeps-task_kept}
 
 -- a session that gave this number to a new upload did so for a task that has it
 abbrev pub OwnGrants : Party → ℕ → Attempt → ServerSide → Type 0
 OwnGrants party n a side =
-    (file_length task : ℕ) (file : List ℕ) → Grants side n file_length → AsksUpload a task 0 file → HasNumber party task n
+    (file_length task : ℕ) (file : List ℕ) → Grants side n file_length → AsksUpload a task 0 file
+    → HasNumber party task n
 
 -- of a number that it gave to a new upload nothing is held, as long as the task hasn't it
 abbrev pub GrantsBegun : Store → Party → Attempt → ServerSide → Type 0
@@ -44,7 +47,8 @@ GrantsBegun now party a side =
 pub record MovesAt (files : List Asked) (party : Party) (before now : Store) (n : ℕ) : Type 0 where
   pub keeps : KeepsEntries before now
   pub others : StayOthers n before now
-  pub file : (task : ℕ) (file : List ℕ) → HasNumber party task n → IsFileOf files party task file → IsFileAt now n file party.client.me
+  pub file : (task : ℕ) (file : List ℕ) → HasNumber party task n → IsFileOf files party task file
+      → IsFileAt now n file party.client.me
   pub own : AllByRecursion (λ a. IfSome a.server (OwnGrants party n a)) party.attempts
 
 -- The store came to another one, in which the entries of the client's tasks are on the way to their files, and nothing is
@@ -57,7 +61,8 @@ pub record MovesTo (files : List Asked) (party : Party) (before now : Store) : T
   pub begun : AllByRecursion (λ a. IfSome a.server (GrantsBegun now party a)) party.attempts
 
 -- an attempt is of one task
-pub same-task : (a : Attempt) (task other : ℕ) (file that : List ℕ) → AsksUpload a task 0 file → AsksUpload a other 0 that → task ≡ other
+pub same-task : (a : Attempt) (task other : ℕ) (file that : List ℕ) → AsksUpload a task 0 file
+    → AsksUpload a other 0 that → task ≡ other
 same-task a task other file that one two =
     let both : work.Upload (new_upload task 0 file) ≡ work.Upload (new_upload other 0 that) = sym one ∙ two in
     let uploads : new_upload task 0 file ≡ new_upload other 0 that = cc in
@@ -65,7 +70,8 @@ same-task a task other file that one two =
 
 -- ---- entries that stay
 
-pub file-stays : (before now : Store) (number : ℕ) (file : List ℕ) (caller : CallSign) → entry_of now number ≡ entry_of before number
+pub file-stays : (before now : Store) (number : ℕ) (file : List ℕ) (caller : CallSign)
+    → entry_of now number ≡ entry_of before number
     → IsFileAt before number file caller → IsFileAt now number file caller
 file-stays before now number file caller same (inl gone) = inl (same ∙ gone)
 file-stays before now number file caller same (inr (inl w)) =
@@ -98,10 +104,12 @@ module _ (files : List Asked) (party : Party) (before now : Store) (n : ℕ) (mo
             subst (λ (k : ℕ). IsFileAt now k file party.client.me) (sym w.1)
             (moves.file task file (subst (HasNumber party task) w.1 has) is)
         | inr w ↦
-            file-stays before now number file party.client.me (moves.others number w.1) (facts.tasks.numbered task number file has is).stands
+            file-stays before now number file party.client.me (moves.others number w.1)
+            (facts.tasks.numbered task number file has is).stands
       ]
 
-  begun-moved : (a : Attempt) (side : ServerSide) → GrantFact before party a side → OwnGrants party n a side → GrantsBegun now party a side
+  begun-moved : (a : Attempt) (side : ServerSide) → GrantFact before party a side → OwnGrants party n a side
+      → GrantsBegun now party a side
   begun-moved a side kept own number file_length task file grants asks none =
       elim (eqb_tells number n) [
         | inl w ↦
@@ -112,15 +120,18 @@ module _ (files : List Asked) (party : Party) (before now : Store) (n : ℕ) (mo
         | inr w ↦ λ entry there.
             let it = kept number file_length grants in
             let same : it.task ≡ task = same-task a it.task task it.file file it.asks asks in
-            it.begun (λ has. none (subst (λ (t : ℕ). HasNumber party t number) same has)) entry (sym (moves.others number w.1) ∙ there)
+            it.begun (λ has. none (subst (λ (t : ℕ). HasNumber party t number) same has)) entry
+            (sym (moves.others number w.1) ∙ there)
       ]
 
   begun-each : (attempts : List Attempt) → AllByRecursion (λ a. IfSome a.server (GrantFact before party a)) attempts
-      → AllByRecursion (λ a. IfSome a.server (OwnGrants party n a)) attempts → AllByRecursion (λ a. IfSome a.server (GrantsBegun now party a)) attempts
+      → AllByRecursion (λ a. IfSome a.server (OwnGrants party n a)) attempts
+      → AllByRecursion (λ a. IfSome a.server (GrantsBegun now party a)) attempts
   begun-each [] kept own = tt
   begun-each (a ∷ older) kept own = (by a.server kept.0 own.0, begun-each older kept.1 own.1)
     where
-      by : (o : Option ServerSide) → IfSome o (GrantFact before party a) → IfSome o (OwnGrants party n a) → IfSome o (GrantsBegun now party a)
+      by : (o : Option ServerSide) → IfSome o (GrantFact before party a) → IfSome o (OwnGrants party n a)
+          → IfSome o (GrantsBegun now party a)
       by None its mine = tt
       by (Some side) its mine = begun-moved a side its mine
 
@@ -133,7 +144,8 @@ module _ (files : List Asked) (party : Party) (before now : Store) (n : ℕ) (mo
   }
 
 module _ (files : List Asked) (party : Party) (before now : Store) (moves : MovesTo files party before now) where
-  grant-moved : (a : Attempt) (side : ServerSide) (number file_length : ℕ) → GrantsBegun now party a side → Grants side number file_length
+  grant-moved : (a : Attempt) (side : ServerSide) (number file_length : ℕ) → GrantsBegun now party a side
+      → Grants side number file_length
       → IsGrantKept before party a number file_length → IsGrantKept now party a number file_length
   grant-moved a side number file_length begun grants kept = record {
     some = kept.some;
@@ -149,9 +161,12 @@ module _ (files : List Asked) (party : Party) (before now : Store) (moves : Move
   pub side-moved : (a : Attempt) (side : ServerSide) → (side.is_up ≡ true → ⊥) → GrantsBegun now party a side
       → HasSideFacts before party a side → HasSideFacts now party a side
   side-moved a side up begun facts = record {
-    granted = λ number file_length grants. grant-moved a side number file_length begun grants (facts.granted number file_length grants);
+    granted =
+        λ number file_length grants. grant-moved a side number file_length begun grants
+        (facts.granted number file_length grants);
     complete = λ number says. keeps-complete before now number moves.keeps.complete (facts.complete number says);
-    offered = λ number offset offers. keeps-offer before now number offset moves.keeps (facts.offered number offset offers);
+    offered =
+        λ number offset offers. keeps-offer before now number offset moves.keeps (facts.offered number offset offers);
     receives = λ number rest is. absurd (up is);
     due = λ is. absurd (up is);
     serves = keeps-serves before now a.client.asked side moves.keeps.complete facts.serves;
@@ -169,7 +184,8 @@ module _ (files : List Asked) (party : Party) (before now : Store) (moves : Move
       like-side before party party a (over_attempt a) side (over side) (λ is. absurd (cc)) facts in
       let now_over : HasSideFacts now party (over_attempt a) (over side) =
       side-moved (over_attempt a) (over side) (λ is. absurd (cc)) own before_over in
-      like-side now party (sessions_over party) (over_attempt a) (over_attempt a) (over side) (over side) (λ is. is) now_over
+      like-side now party (sessions_over party) (over_attempt a) (over_attempt a) (over side) (over side)
+      (λ is. is) now_over
 
   sides-over : (attempts : List Attempt) → AllByRecursion (λ a. IfSome a.server (GrantsBegun now party a)) attempts
       → AllByRecursion (λ a. IfSome a.server (HasSideFacts before party a)) attempts
@@ -185,12 +201,14 @@ module _ (files : List Asked) (party : Party) (before now : Store) (moves : Move
   clients-over : (attempts : List Attempt) → AllByRecursion (HasClientFacts party) attempts
       → AllByRecursion (HasClientFacts (sessions_over party)) (all_over attempts)
   clients-over [] facts = tt
-  clients-over (a ∷ older) facts = (like-client party (sessions_over party) a (over_attempt a) facts.0, clients-over older facts.1)
+  clients-over (a ∷ older) facts =
+      (like-client party (sessions_over party) a (over_attempt a) facts.0, clients-over older facts.1)
 
   granted-over : (task number : ℕ) (a : Attempt) → IsGranted task number a → IsGranted task number (over_attempt a)
   granted-over task number a granted = (granted.0, over granted.1, granted.2, ap (option_map over) granted.3, granted.4)
 
-  numbered-over : (facts : HasFactsApart before files party) (task number : ℕ) (file : List ℕ) → HasNumber (sessions_over party) task number
+  numbered-over : (facts : HasFactsApart before files party) (task number : ℕ) (file : List ℕ)
+      → HasNumber (sessions_over party) task number
       → IsFileOf files party task file → IsNumbered now (sessions_over party) task number file
   numbered-over facts task number file has is =
       let mine : HasNumber party task number = number-like party (sessions_over party) task number has in
@@ -206,9 +224,12 @@ module _ (files : List Asked) (party : Party) (before now : Store) (moves : Move
 -- what a download looks at of the client and its current attempt stays, as long as the same comes
 module _ (store : Store) (party : Party) (a : Attempt) (attempts : List Attempt) (o : Option ServerSide)
     (coming : coming_by a a.server ≡ coming_by (record a { server = o }) o) where
-  fetches-as : (at : Download) → Fetches store party a at → Fetches store (record party { attempts = attempts }) (record a { server = o }) at
+  fetches-as : (at : Download) → Fetches store party a at
+      → Fetches store (record party { attempts = attempts }) (record a { server = o }) at
   fetches-as at f = record {
-    first = subst (λ (octets : List ℕ). AreFirstIfAny store at.number (got party at.number ++ (at.rest ++ octets))) coming f.first;
+    first =
+        subst (λ (octets : List ℕ). AreFirstIfAny store at.number (got party at.number ++ (at.rest ++ octets))) coming
+        f.first;
     offset = f.offset;
     asked = f.asked;
     counted = f.counted;
@@ -229,22 +250,21 @@ module _ (store : Store) (party : Party) (a : Attempt) (attempts : List Attempt)
   fetches_by-as None (work.Directory at) f = tt
   fetches_by-as (Some ending) (work.Directory at) f = tt
 
-  pub fetching-as : IsFetching store party a → IsFetching store (record party { attempts = attempts }) (record a { server = o })
+  pub fetching-as : IsFetching store party a
+      → IsFetching store (record party { attempts = attempts }) (record a { server = o })
   fetching-as f link = fetches_by-as a.client.attempted.job.ending a.client.attempted.job.work (f link)
 
-coming-over : (a : Attempt) (o : Option ServerSide) → coming_by a o ≡ coming_by (record a { server = option_map over o }) (option_map over o)
+coming-over : (a : Attempt) (o : Option ServerSide)
+    → coming_by a o ≡ coming_by (record a { server = option_map over o }) (option_map over o)
 coming-over a None = refl
 coming-over a (Some side) = refl
 
-fetching-over : (store : Store) (party : Party) (attempts all : List Attempt) → IfSome (slice_get attempts 0) (IsFetching store party)
+fetching-over : (store : Store) (party : Party) (attempts all : List Attempt)
+    → IfSome (slice_get attempts 0) (IsFetching store party)
     → IfSome (slice_get (all_over attempts) 0) (IsFetching store (record party { attempts = all }))
 fetching-over store party [] all f = tt
-fetching-over store party (a ∷ older) all f = fetching-as store party a all (option_map over a.server) (coming-over a a.server) f
-
-fetching-moved : (before now : Store) (party : Party) (o : Option Attempt) → KeepsComplete before now → IfSome o (IsFetching before party)
-    → IfSome o (IsFetching now party)
-fetching-moved before now party None keeps f = tt
-fetching-moved before now party (Some a) keeps f = keeps-fetching before now party a keeps f
+fetching-over store party (a ∷ older) all f =
+    fetching-as store party a all (option_map over a.server) (coming-over a a.server) f
 
 -- ---- all facts
 
@@ -260,8 +280,9 @@ facts-left files party before now moves facts =
           keeps-task_kept files before now party task number moves.keeps.complete (each.acknowledged task number holds);
       attempts = clients-over files party before now moves party.attempts each.attempts;
       sides = sides-over files party before now moves party.attempts moves.begun each.sides;
-      got_front = λ number. keeps-first_any before now number (got party number) moves.keeps.complete (each.got_front number);
+      got_front =
+          λ number. keeps-first_any before now number (got party number) moves.keeps.complete (each.got_front number);
       fetching =
           fetching-over now party party.attempts (all_over party.attempts)
-          (fetching-moved before now party (slice_get party.attempts 0) moves.keeps.complete each.fetching);
+          (keeps-fetching_some before now party (slice_get party.attempts 0) moves.keeps.complete each.fetching);
     })

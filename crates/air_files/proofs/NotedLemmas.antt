@@ -16,6 +16,7 @@ use Rattle.air_files.specs.Facts.{AreFirstIfAny, Fetches, FetchesBy, FetchesIn, 
 use Rattle.air_files.specs.Facts.{Receives, coming_by, got}
 use Rattle.air_files.specs.Kept.{WhereStands}
 use Rattle.air_files.proofs.ApartLemmas.{HasClientFacts, HasSideFacts}
+use Rattle.air_files.proofs.ReceivesAs.{receives-as}
 
 -- the notes of the client keep what was noted before
 pub record KeepsNoted (party now : Party) : Type 0 where
@@ -39,24 +40,7 @@ grant-noted store party now a number file_length keeps kept = record {
 receives-noted : (store : Store) (party now : Party) (a : Attempt) (side : ServerSide) (number : ℕ) (rest : List ℕ)
     → KeepsNoted party now
     → Receives store party a side number rest → Receives store now a side number rest
-receives-noted store party now a side number rest keeps r = record {
-  task = r.task;
-  known = r.known;
-  file = r.file;
-  asks = r.asks;
-  entry = r.entry;
-  is_entry = r.is_entry;
-  held = r.held;
-  holds = r.holds;
-  caller_is = r.caller_is ∙ sym keeps.me;
-  length_is = r.length_is;
-  few = r.few;
-  offset = r.offset;
-  offers = r.offers;
-  came = r.came;
-  within = r.within;
-  goes_on = r.goes_on;
-}
+receives-noted store party now a side number rest keeps r = receives-as r r.asks r.is_entry (r.caller_is ∙ sym keeps.me) r.offers r.came r.within r.goes_on
 
 pub side-noted : (store : Store) (party now : Party) (a : Attempt) (side : ServerSide) → KeepsNoted party now
     → HasSideFacts store party a side

@@ -20,9 +20,9 @@ use Rattle.air_files.specs.SoundStore.{IsSoundStore}
 use Rattle.air_files.proofs.ApartLemmas.{HasFactsApart, HasSideFacts, ReceiveFact, apart, together}
 use Rattle.air_files.proofs.LiftLemmas.{each-side, side-at}
 use Rattle.air_files.proofs.StableLemmas.{keeps-complete, keeps-due, keeps-fetching_some, keeps-first_any, keeps-kept}
-use Rattle.air_files.proofs.StableLemmas.{keeps-offer}
-use Rattle.air_files.proofs.StableLemmas.{keeps-serves, keeps-task_kept}
+use Rattle.air_files.proofs.StableLemmas.{keeps-offer, keeps-serves, keeps-task_kept}
 use Rattle.air_files.proofs.StoreLemmas.{drop-keeps, dropped-none}
+use Rattle.air_files.proofs.ReceivesAs.{receives-as}
 
 -- the entry stands as it did
 abbrev pub StandsStill : Store → Store → ℕ → Type 0
@@ -107,24 +107,7 @@ grant-moved before now party a number file_length leaves kept = record {
 pub receives-still : (before now : Store) (party : Party) (a : Attempt) (side : ServerSide) (number : ℕ) (rest : List ℕ)
     → StandsStill before now number
     → Receives before party a side number rest → Receives now party a side number rest
-receives-still before now party a side number rest still r = record {
-  task = r.task;
-  known = r.known;
-  file = r.file;
-  asks = r.asks;
-  entry = r.entry;
-  is_entry = still r.entry r.is_entry;
-  held = r.held;
-  holds = r.holds;
-  caller_is = r.caller_is;
-  length_is = r.length_is;
-  few = r.few;
-  offset = r.offset;
-  offers = r.offers;
-  came = r.came;
-  within = r.within;
-  goes_on = r.goes_on;
-}
+receives-still before now party a side number rest still r = receives-as r r.asks (still r.entry r.is_entry) r.caller_is r.offers r.came r.within r.goes_on
 
 side-moved : (before now : Store) (party : Party) (a : Attempt) (side : ServerSide) → DueStaysLaw
     → LeavesOwn before now party.client.me

@@ -1,55 +1,48 @@
 -- A number is that of one task alone, and was given for it alone.
-use Rattle.std.proofs.Common.{◌≡◌, inl, inr, ℕ, suc, zero, List, [], ◌∷◌, length, refl, ap, sym, ◌∙◌, subst, arith, Some}
+use Rattle.std.proofs.Common.{◌≡◌, ℕ, List, length, ap, sym, ◌∙◌, subst, arith, Some}
 use Rattle.std.specs.Prelude.{IfSome, slice_get}
 use Rattle.std.specs.List.{AllByRecursion}
 use Rattle.std.proofs.lemmas.Option.{same_Some}
 use Rattle.file_store.specs.Store.{Store}
 use Rattle.air_attempt.specs.Attempt.{Attempt}
-use Rattle.air_attempt.specs.Lists.{OneIs}
 use Rattle.air_attempt.specs.Party.{Asked, IsFileOf, Party}
 use Rattle.air_attempt.specs.Said.{AsksUpload, Grants}
 use Rattle.air_attempt.specs.Sides.{ServerSide}
+use Rattle.air_attempt.proofs.Offered.{all-by, one-placed, some-from}
 use Rattle.air_files.specs.Facts.{HasFacts, HasNumber, IsGranted}
 use Rattle.air_files.specs.Laws.{GrantedAt, GrantsOnce}
 use Rattle.air_files.proofs.ApartLemmas.{GrantFact}
-use Rattle.air_files.proofs.LiftLemmas.{each-side, side-at, some-from}
+use Rattle.air_files.proofs.LiftLemmas.{each-side, side-at}
 use Rattle.air_files.proofs.MovedLemmas.{OwnGrants, same-task}
 
 -- ---- places of a list
 
--- each is so, if what stands at any place is
-each-placed : {X : Type 0} (P : X → Type 0) (xs : List X) → ((place : ℕ) (x : X) → slice_get xs place ≡ Some x → P x) → AllByRecursion P xs
-each-placed P [] holds = tt
-each-placed P (x ∷ xs) holds = (holds zero x refl, each-placed P xs (λ place y there. holds (suc place) y there))
-
--- the place of one that is so
-one-placed : {X : Type 0} (P : X → Type 0) (xs : List X) → OneIs P xs → (place : ℕ) × (x : X) × (slice_get xs place ≡ Some x) × P x
-one-placed P [] one = absurd one
-one-placed P (x ∷ xs) (inl here) = (zero, x, refl, here)
-one-placed P (x ∷ xs) (inr there) = let later = one-placed P xs there in (suc later.0, later.1, later.2, later.3)
-
 -- ---- the task of a number
 
-module _ (store : Store) (files : List Asked) (party : Party) (facts : HasFacts store files party) (once : GrantsOnce party) where
+module _ (store : Store) (files : List Asked) (party : Party) (facts : HasFacts store files party)
+    (once : GrantsOnce party) where
   granted-place : (task number : ℕ) (file : List ℕ) → HasNumber party task number → IsFileOf files party task file
       → (place : ℕ) × (a : Attempt) × (slice_get party.attempts place ≡ Some a) × IsGranted task number a
   granted-place task number file has is =
       one-placed (IsGranted task number) party.attempts (facts.tasks.numbered task number file has is).granted
 
-  granted-at : (number place : ℕ) (a : Attempt) (side : ServerSide) (file_length : ℕ) → slice_get party.attempts place ≡ Some a
+  granted-at : (number place : ℕ) (a : Attempt) (side : ServerSide) (file_length : ℕ)
+      → slice_get party.attempts place ≡ Some a
       → a.server ≡ Some side → Grants side number file_length → GrantedAt party place number
   granted-at number place a side file_length there is grants =
       record { attempt = a; is_attempt = there; side = side; is_side = is; file_length = file_length; grants = grants }
 
   -- two attempts at which one number was given are one
-  same-attempt : (number place that : ℕ) (a b : Attempt) → slice_get party.attempts place ≡ Some a → slice_get party.attempts that ≡ Some b
+  same-attempt : (number place that : ℕ) (a b : Attempt) → slice_get party.attempts place ≡ Some a
+      → slice_get party.attempts that ≡ Some b
       → GrantedAt party place number → GrantedAt party that number → a ≡ b
   same-attempt number place that a b one two granted again =
       let same : place ≡ that = once place that number granted again in
       same_Some a b (sym one ∙ (ap (slice_get party.attempts) same ∙ two))
 
   -- no two tasks have one number
-  pub one-task : (task other number : ℕ) (file that : List ℕ) → HasNumber party task number → IsFileOf files party task file
+  pub one-task : (task other number : ℕ) (file that : List ℕ) → HasNumber party task number
+      → IsFileOf files party task file
       → HasNumber party other number → IsFileOf files party other that → task ≡ other
   one-task task other number file that has is has_that is_that =
       let one = granted-place task number file has is in
@@ -57,10 +50,12 @@ module _ (store : Store) (files : List Asked) (party : Party) (facts : HasFacts 
       let at_one = granted-at number one.0 one.1 one.3.1 (length one.3.0) one.2 one.3.3 one.3.4 in
       let at_two = granted-at number two.0 two.1 two.3.1 (length two.3.0) two.2 two.3.3 two.3.4 in
       let same = same-attempt number one.0 two.0 one.1 two.1 one.2 two.2 at_one at_two in
-      same-task two.1 task other one.3.0 two.3.0 (subst (λ (a : Attempt). AsksUpload a task 0 one.3.0) same one.3.2) two.3.2
+      same-task two.1 task other one.3.0 two.3.0
+      (subst (λ (a : Attempt). AsksUpload a task 0 one.3.0) same one.3.2) two.3.2
 
   -- and so no two files
-  pub one-file : (task other number : ℕ) (file that : List ℕ) → HasNumber party task number → IsFileOf files party task file
+  pub one-file : (task other number : ℕ) (file that : List ℕ) → HasNumber party task number
+      → IsFileOf files party task file
       → HasNumber party other number → IsFileOf files party other that → file ≡ that
   one-file task other number file that has is has_that is_that =
       let same : task ≡ other = one-task task other number file that has is has_that is_that in
@@ -71,24 +66,27 @@ module _ (store : Store) (files : List Asked) (party : Party) (facts : HasFacts 
   pub own-number : (task number : ℕ) (file : List ℕ) → HasNumber party task number → IsFileOf files party task file
       → AllByRecursion (λ a. IfSome a.server (OwnGrants party number a)) party.attempts
   own-number task number file has is =
-      each-placed (λ a. IfSome a.server (OwnGrants party number a)) party.attempts
+      all-by (λ a. IfSome a.server (OwnGrants party number a)) party.attempts
       (λ place a there. some-from a.server
       (λ side is_side file_length other that grants asks.
       let one = granted-place task number file has is in
       let at_one = granted-at number one.0 one.1 one.3.1 (length one.3.0) one.2 one.3.3 one.3.4 in
       let at_two = granted-at number place a side file_length there is_side grants in
       let same = same-attempt number one.0 place one.1 a one.2 there at_one at_two in
-      let same_one = same-task a task other one.3.0 that (subst (λ (b : Attempt). AsksUpload b task 0 one.3.0) same one.3.2) asks in
+      let same_one = same-task a task other one.3.0 that
+      (subst (λ (b : Attempt). AsksUpload b task 0 one.3.0) same one.3.2) asks in
       subst (λ (t : ℕ). HasNumber party t number) same_one has))
 
   -- ---- the next number is none's yet
 
   pub next-none : (task : ℕ) (file : List ℕ) → HasNumber party task store.next → IsFileOf files party task file → ⊥
-  next-none task file has is = let below = (facts.tasks.numbered task store.next file has is).below in omega (arith, below)
+  next-none task file has is =
+      let below = (facts.tasks.numbered task store.next file has is).below in omega (arith, below)
 
   pub own-next : AllByRecursion (λ a. IfSome a.server (OwnGrants party store.next a)) party.attempts
   own-next =
       each-side party
       (λ a side has is file_length task file grants asks.
-      let kept = side-at (GrantFact store party) party a side facts.sessions.granted has is store.next file_length grants in
+      let kept = side-at (GrantFact store party) party a side facts.sessions.granted has is store.next file_length
+      grants in
       absurd (let x : ⊥ = omega (arith, kept.below) in x))

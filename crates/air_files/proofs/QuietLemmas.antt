@@ -16,10 +16,11 @@ use Rattle.air_attempt.specs.Lists.{Has, OneIs}
 use Rattle.air_attempt.specs.Party.{Asked, EachAttempt, Party}
 use Rattle.air_attempt.specs.Said.{Grants, IsAnswer, Offers, SaysComplete}
 use Rattle.air_attempt.specs.Sides.{ServerSide}
+use Rattle.air_attempt.proofs.Offered.{each-at, each-weaker, one-left, one-right}
 use Rattle.air_files.specs.Dialogue.{IsDueNow, Says, Serves}
-use Rattle.air_files.specs.Facts.{AskedWithin, GoesOnWithTask, HasFacts, HasFetched, HasNumber, HasSessionFacts, HasTaskFacts, IsFetching, IsGrantKept, IsGranted, IsOfferKept, NotesGrant, Receives}
+use Rattle.air_files.specs.Facts.{AskedWithin, GoesOnWithTask, HasFacts, HasFetched, HasNumber, HasSessionFacts}
+use Rattle.air_files.specs.Facts.{HasTaskFacts, IsFetching, IsGrantKept, IsGranted, IsOfferKept, NotesGrant, Receives}
 use Rattle.air_files.specs.Laws.{with_attempt}
-use Rattle.air_files.proofs.LiftLemmas.{each-at, each-weaker, one-left, one-right}
 
 -- ---- what was said of uploading
 
@@ -35,11 +36,13 @@ answer-said : (entries : List SessionEntry) (item : Item) (answer : PacketValue)
     → Has (session.said_in entries) answer
 answer-said [] item answer one = one
 answer-said (session.took taken row ∷ entries) item answer (inl is) =
-    one-left (λ packet. packet ≡ answer) row.replies (session.said_in entries) (subst (λ (l : List PacketValue). Has l answer) (sym is.1) (inl refl))
+    one-left (λ packet. packet ≡ answer) row.replies (session.said_in entries)
+    (subst (λ (l : List PacketValue). Has l answer) (sym is.1) (inl refl))
 answer-said (session.lost taken row ∷ entries) item answer (inl is) = absurd is
 answer-said (session.queued due ∷ entries) item answer (inl is) = absurd is
 answer-said (entry ∷ entries) item answer (inr one) =
-    one-right (λ packet. packet ≡ answer) (session.packets_said entry) (session.said_in entries) (answer-said entries item answer one)
+    one-right (λ packet. packet ≡ answer) (session.packets_said entry) (session.said_in entries)
+    (answer-said entries item answer one)
 
 -- A session that says nothing of uploading.
 module _ (side : ServerSide) (none : AllByRecursion IsNoUpload (session.said_in side.entries)) where
@@ -50,7 +53,8 @@ module _ (side : ServerSide) (none : AllByRecursion IsNoUpload (session.said_in 
   -- but by its greeting
   pub offers-none : (number offset : ℕ) → Offers side number offset → side.greeting ≡ ul_go_resp number offset
   offers-none number offset (inl is) = is
-  offers-none number offset (inr has) = absurd (each-at IsNoUpload (session.said_in side.entries) (ul_go_resp number offset) none has)
+  offers-none number offset (inr has) =
+      absurd (each-at IsNoUpload (session.said_in side.entries) (ul_go_resp number offset) none has)
 
 -- ---- the same client with other attempts
 
@@ -59,10 +63,12 @@ module _ (party : Party) (attempts : List Attempt) where
   with_attempts = record party { attempts = attempts }
 
   has-number : (task number : ℕ) → HasNumber party task number → HasNumber with_attempts task number
-  has-number task number has = record { entry = has.entry; is_entry = has.is_entry; number_is = has.number_is; some = has.some }
+  has-number task number has =
+      record { entry = has.entry; is_entry = has.is_entry; number_is = has.number_is; some = has.some }
 
   had-number : (task number : ℕ) → HasNumber with_attempts task number → HasNumber party task number
-  had-number task number has = record { entry = has.entry; is_entry = has.is_entry; number_is = has.number_is; some = has.some }
+  had-number task number has =
+      record { entry = has.entry; is_entry = has.is_entry; number_is = has.number_is; some = has.some }
 
   notes-grant : (a : Attempt) → NotesGrant party a → NotesGrant with_attempts a
   notes-grant a notes task number file asks took = has-number task number (notes task number file asks took)
@@ -82,7 +88,8 @@ module _ (party : Party) (attempts : List Attempt) where
     begun = λ none. kept.begun (λ has. none (has-number kept.task number has));
   }
 
-  receives-kept : (store : Store) (a : Attempt) (side : ServerSide) (number : ℕ) (rest : List ℕ) → Receives store party a side number rest
+  receives-kept : (store : Store) (a : Attempt) (side : ServerSide) (number : ℕ) (rest : List ℕ)
+      → Receives store party a side number rest
       → Receives store with_attempts a side number rest
   receives-kept store a side number rest it = record {
     task = it.task;
@@ -114,7 +121,8 @@ pub record IsQuiet (store : Store) (asked : Work) (old new : ServerSide) : Type 
   pub due : new.is_up ≡ true → IsDueNow store new
   pub receives : (number : ℕ) (rest : List ℕ) → new.is_up ≡ true → new.connected.state ≢ receiving number rest
 
-module _ (store : Store) (files : List Asked) (party : Party) (a : Attempt) (older : List Attempt) (old new : ServerSide)
+module _ (store : Store) (files : List Asked) (party : Party) (a : Attempt) (older : List Attempt)
+    (old new : ServerSide)
     (attempts_are : party.attempts ≡ a ∷ older) (is_side : a.server ≡ Some old) (facts : HasFacts store files party)
     (other : (at : Upload) → a.client.asked ≢ work.Upload at) (quiet : IsQuiet store a.client.asked old new) where
   abbrev now_is : Attempt
@@ -129,9 +137,11 @@ module _ (store : Store) (files : List Asked) (party : Party) (a : Attempt) (old
 
   -- and of each session, of the newest one
   newest-side : (R : Attempt → ServerSide → Type 0) → EachAttempt party (λ b. IfSome b.server (R b)) → R a old
-  newest-side R all = subst (λ (o : Option ServerSide). IfSome o (R a)) is_side (each (λ b. IfSome b.server (R b)) all).0
+  newest-side R all =
+      subst (λ (o : Option ServerSide). IfSome o (R a)) is_side (each (λ b. IfSome b.server (R b)) all).0
 
-  side-weaker : (R S : Attempt → ServerSide → Type 0) → ((b : Attempt) (side : ServerSide) → R b side → S b side) → (b : Attempt) → IfSome b.server (R b) → IfSome b.server (S b)
+  side-weaker : (R S : Attempt → ServerSide → Type 0) → ((b : Attempt) (side : ServerSide) → R b side → S b side)
+      → (b : Attempt) → IfSome b.server (R b) → IfSome b.server (S b)
   side-weaker R S weaker b = by b.server
     where
       by : (o : Option ServerSide) → IfSome o (R b) → IfSome o (S b)
@@ -139,12 +149,14 @@ module _ (store : Store) (files : List Asked) (party : Party) (a : Attempt) (old
       by (Some side) holds = weaker b side holds
 
   -- of each session, where it holds of the new one, and of the others as it did
-  sides : (R S : Attempt → ServerSide → Type 0) → ((b : Attempt) (side : ServerSide) → R b side → S b side) → EachAttempt party (λ b. IfSome b.server (R b)) → S now_is new
+  sides : (R S : Attempt → ServerSide → Type 0) → ((b : Attempt) (side : ServerSide) → R b side → S b side)
+      → EachAttempt party (λ b. IfSome b.server (R b)) → S now_is new
       → EachAttempt done (λ b. IfSome b.server (S b))
   sides R S weaker all here =
       (here, each-weaker older (side-weaker R S weaker) (each (λ b. IfSome b.server (R b)) all).1)
 
-  granted : (task number : ℕ) → OneIs (IsGranted task number) (a ∷ older) → OneIs (IsGranted task number) (now_is ∷ older)
+  granted : (task number : ℕ) → OneIs (IsGranted task number) (a ∷ older)
+      → OneIs (IsGranted task number) (now_is ∷ older)
   granted task number (inl is) = absurd (other (new_upload task 0 is.0) is.2)
   granted task number (inr there) = inr there
 
@@ -155,12 +167,17 @@ module _ (store : Store) (files : List Asked) (party : Party) (a : Attempt) (old
         record {
           below = was.below;
           stands = was.stands;
-          granted = granted task number (subst (λ (l : List Attempt). OneIs (IsGranted task number) l) attempts_are was.granted);
+          granted =
+              granted task number (subst (λ (l : List Attempt). OneIs (IsGranted task number) l) attempts_are
+              was.granted);
         };
     acknowledged = facts.tasks.acknowledged;
     noted =
-        let were = each (NotesGrant party) facts.tasks.noted in
-        (notes-grant party (now_is ∷ older) now_is were.0, each-weaker older (notes-grant party (now_is ∷ older)) were.1);
+        let were = each (NotesGrant party) facts.tasks.noted in (
+          notes-grant party (now_is ∷ older) now_is were.0,
+          each-weaker older
+              (notes-grant party (now_is ∷ older)) were.1,
+        );
     goes_on =
         let were = each (GoesOnWithTask party) facts.tasks.goes_on in
         (goes-on party (now_is ∷ older) now_is were.0, each-weaker older (goes-on party (now_is ∷ older)) were.1);
@@ -172,41 +189,55 @@ module _ (store : Store) (files : List Asked) (party : Party) (a : Attempt) (old
 
   complete : (number : ℕ) → ¬ SaysComplete new number
   complete number (inl ((offset, offers), (inl is))) =
-      absurd (let it = offers-none new quiet.none number offset offers in let no : ul_go_resp number offset ≡ ul_ack_resp = sym it ∙ is in cc)
-  complete number (inl ((offset, offers), (inr has))) = each-at IsNoUpload (session.said_in new.entries) ul_ack_resp quiet.none has
+      absurd (let it = offers-none new quiet.none number offset offers in
+      let no : ul_go_resp number offset ≡ ul_ack_resp = sym it ∙ is in cc)
+  complete number (inl ((offset, offers), (inr has))) =
+      each-at IsNoUpload (session.said_in new.entries) ul_ack_resp quiet.none has
   complete number (inr (file_length, answers)) =
-      each-at IsNoUpload (session.said_in new.entries) (ul_error_resp 12) quiet.none (answer-said new.entries _ _ answers)
+      each-at IsNoUpload (session.said_in new.entries) (ul_error_resp 12) quiet.none
+      (answer-said new.entries _ _ answers)
 
   sessions : HasSessionFacts store done
   sessions =
       let were = facts.sessions in
       record {
         granted =
-            sides (λ b side. (number file_length : ℕ) → Grants side number file_length → IsGrantKept store party b number file_length)
-            (λ b side. (number file_length : ℕ) → Grants side number file_length → IsGrantKept store done b number file_length)
-            (λ b side kept number file_length grants. grant-kept party (now_is ∷ older) store b number file_length (kept number file_length grants))
+            sides (λ b side. (number file_length : ℕ) → Grants side number file_length
+            → IsGrantKept store party b number file_length)
+            (λ b side. (number file_length : ℕ) → Grants side number file_length
+            → IsGrantKept store done b number file_length)
+            (λ b side kept number file_length grants. grant-kept party (now_is ∷ older) store b number file_length
+            (kept number file_length grants))
             were.granted (λ number file_length grants. absurd (grants-none new quiet.none number file_length grants));
         complete =
             sides (λ _ side. (number : ℕ) → SaysComplete side number → IsCompleteIn store number)
-            (λ _ side. (number : ℕ) → SaysComplete side number → IsCompleteIn store number) (λ b side holds. holds) were.complete
+            (λ _ side. (number : ℕ) → SaysComplete side number → IsCompleteIn store number)
+            (λ b side holds. holds) were.complete
             (λ number says. absurd (complete number says));
         offered =
             sides (λ _ side. (number offset : ℕ) → Offers side number offset → IsOfferKept store number offset)
-            (λ _ side. (number offset : ℕ) → Offers side number offset → IsOfferKept store number offset) (λ b side holds. holds) were.offered
+            (λ _ side. (number offset : ℕ) → Offers side number offset → IsOfferKept store number offset)
+            (λ b side holds. holds) were.offered
             (λ number offset offers.
-            newest-side (λ _ side. (number offset : ℕ) → Offers side number offset → IsOfferKept store number offset) were.offered number offset
+            newest-side (λ _ side. (number offset : ℕ) → Offers side number offset → IsOfferKept store number offset)
+            were.offered number offset
             (offered number offset offers));
         receives =
             sides
-            (λ b side. (number : ℕ) (rest : List ℕ) → side.is_up ≡ true → side.connected.state ≡ receiving number rest → Receives store party b side number rest)
-            (λ b side. (number : ℕ) (rest : List ℕ) → side.is_up ≡ true → side.connected.state ≡ receiving number rest → Receives store done b side number rest)
-            (λ b side it number rest up is. receives-kept party (now_is ∷ older) store b side number rest (it number rest up is)) were.receives
+            (λ b side. (number : ℕ) (rest : List ℕ) → side.is_up ≡ true → side.connected.state ≡ receiving number rest
+            → Receives store party b side number rest)
+            (λ b side. (number : ℕ) (rest : List ℕ) → side.is_up ≡ true → side.connected.state ≡ receiving number rest
+            → Receives store done b side number rest)
+            (λ b side it number rest up is. receives-kept party (now_is ∷ older) store b side number rest
+            (it number rest up is)) were.receives
             (λ number rest up is. absurd (quiet.receives number rest up is));
         due =
-            sides (λ _ side. side.is_up ≡ true → IsDueNow store side) (λ _ side. side.is_up ≡ true → IsDueNow store side) (λ b side holds. holds) were.due
+            sides (λ _ side. side.is_up ≡ true → IsDueNow store side)
+            (λ _ side. side.is_up ≡ true → IsDueNow store side) (λ b side holds. holds) were.due
             quiet.due;
         serves =
-            sides (λ b side. Serves store b.client.asked side) (λ b side. Serves store b.client.asked side) (λ b side holds. holds) were.serves quiet.serves;
+            sides (λ b side. Serves store b.client.asked side) (λ b side. Serves store b.client.asked side)
+            (λ b side holds. holds) were.serves quiet.serves;
         says = each (λ b. Says b.client.asked b.client) were.says;
       }
 

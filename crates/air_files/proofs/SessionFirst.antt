@@ -1,5 +1,6 @@
 -- Entries of a session one after another: the first one, and the client behind it.
-use Rattle.std.proofs.Common.{◌≡◌, ◌⊎◌, inl, inr, ℕ, suc, zero, ◌≤◌, ◌<◌, List, [], ◌∷◌, ◌++◌, map, refl, ap, sym, ◌∙◌, subst, arith, append_assoc, true}
+use Rattle.std.proofs.Common.{◌≡◌, ◌⊎◌, inl, inr, ℕ, suc, zero, ◌≤◌, ◌<◌, List, [], ◌∷◌, ◌++◌, map, refl, ap, sym, ◌∙◌}
+use Rattle.std.proofs.Common.{subst, arith, append_assoc, true}
 use Rattle.std.specs.Prelude.{Ok, slice_get}
 use Rattle.std.specs.List.{AllByRecursion}
 use Rattle.std.proofs.lemmas.List.{map-append}
@@ -8,25 +9,27 @@ use Rattle.std.proofs.lemmas.Option.{same_Some}
 use Rattle.px_base.specs.CallSign.{CallSign}
 use Rattle.ftl0_packets.specs.Layout.{Item, PacketValue}
 use Rattle.file_store.specs.Command.{after_all}
-use Rattle.client_notes.specs.Notes.{Task}
 use Rattle.ftl0_session.specs.Run.{Session}
 use Rattle.ftl0_server.specs.Entries as session
 use Rattle.ftl0_server.specs.Entries.{SessionEntry, after_row}
+use Rattle.client_notes.specs.Notes.{Task}
 use Rattle.air_attempt.specs.Attempt.{Attempt}
 use Rattle.air_attempt.specs.Laws.{ClientTookFront, ServerTookFront}
 use Rattle.air_attempt.specs.Party.{Asked, Party}
 use Rattle.air_attempt.specs.Said.{Grants}
 use Rattle.air_attempt.specs.Sides.{ServerSide, said_by_server}
+use Rattle.air_attempt.proofs.Offered.{each-append, has-at}
 use Rattle.air_files.specs.Laws.{GrantedAt, GrantsOnce, IsServed, SessionKeeps, Stands, session_gone, with_attempt}
 use Rattle.air_files.specs.Tasks.{IsTaskFor, IsWork}
 use Rattle.air_files.proofs.ApartLemmas.{GrantFact}
 use Rattle.air_files.proofs.EntryLemmas.{said-gone, with_entry}
-use Rattle.air_files.proofs.LiftLemmas.{each-append, has-at, side-at}
+use Rattle.air_files.proofs.LiftLemmas.{side-at}
 
 -- ---- the first entry
 
 -- The first of some entries, which others follow: the session behind it, to which it leads, and its commands.
-pub record FirstGoes (caller : CallSign) (moment : ℕ) (before now : Session) (x : SessionEntry) (later : List SessionEntry) : Type 0 where
+pub record FirstGoes (caller : CallSign) (moment : ℕ) (before now : Session) (x : SessionEntry)
+    (later : List SessionEntry) : Type 0 where
   pub mid : Session
   pub first : session.GoesBy caller moment before (x ∷ []) mid
   pub others : session.GoesBy caller moment mid later now
@@ -39,22 +42,32 @@ first-goes caller moment before now (session.took item row) y ys goes =
     record { mid = after_row before row; first = (goes.0, refl); others = goes.1; kept = tt; store_is = refl }
 first-goes caller moment before now (session.lost item row) y ys goes = absurd (let none : y ∷ ys ≡ [] = goes.1 in cc)
 first-goes caller moment before now (session.queued due) y ys goes =
-    record { mid = record before { state = due.state }; first = (goes.0, refl); others = goes.1; kept = tt; store_is = refl }
+    record {
+      mid = record before { state = due.state };
+      first = (goes.0, refl);
+      others = goes.1;
+      kept = tt;
+      store_is = refl;
+    }
 
 -- what was taken of more entries was taken of fewer
 pub front-first : (a : Attempt) (side : ServerSide) (x : SessionEntry) (later : List SessionEntry)
-    → ServerTookFront a (record side { entries = side.entries ++ x ∷ later }) → ServerTookFront a (record side { entries = side.entries ++ x ∷ [] })
+    → ServerTookFront a (record side { entries = side.entries ++ x ∷ later })
+    → ServerTookFront a (record side { entries = side.entries ++ x ∷ [] })
 front-first a side x later front =
-    let split : side.entries ++ x ∷ later ≡ (side.entries ++ x ∷ []) ++ later = sym (append_assoc side.entries (x ∷ []) later) in (
+    let split : side.entries ++ x ∷ later ≡ (side.entries ++ x ∷ []) ++ later =
+    sym (append_assoc side.entries (x ∷ []) later) in (
       session.items_in later ++ front.0,
       front.1 ∙ ap (λ (entries : List SessionEntry). session.items_in entries ++ front.0) split
-          ∙ ap (λ (items : List Item). items ++ front.0) (flat_map-append session.items_of (side.entries ++ x ∷ []) later)
+          ∙ ap (λ (items : List Item). items ++ front.0)
+          (flat_map-append session.items_of (side.entries ++ x ∷ []) later)
           ∙ append_assoc (session.items_in (side.entries ++ x ∷ [])) (session.items_in later) front.0,
     )
 
 -- ---- the client behind it
 
-module _ (files : List Asked) (c : ℕ) (party : Party) (moment : ℕ) (before : Session) (served : IsServed files c party before)
+module _ (files : List Asked) (c : ℕ) (party : Party) (moment : ℕ) (before : Session)
+    (served : IsServed files c party before)
     (x : SessionEntry) (kept : session.IsNotLost x) (mid : Session) where
   abbrev pub side_mid : ServerSide
   side_mid = with_entry served.side x mid.state true
@@ -95,7 +108,8 @@ module _ (files : List Asked) (c : ℕ) (party : Party) (moment : ℕ) (before :
     served.heard.0 ++ map Ok (session.packets_said x),
     ap (λ (packets : List PacketValue). map Ok packets) (said-gone served.side x mid.state true)
         ∙ map-append (λ (p : PacketValue). Ok p) (said_by_server served.side) (session.packets_said x)
-        ∙ ap (λ (items : List Item). items ++ map Ok (session.packets_said x)) served.heard.1 ∙ append_assoc _ served.heard.0 (map Ok (session.packets_said x)),
+        ∙ ap (λ (items : List Item). items ++ map Ok (session.packets_said x)) served.heard.1
+        ∙ append_assoc _ served.heard.0 (map Ok (session.packets_said x)),
   )
 
   pub none_lost-mid : AllByRecursion session.IsNotLost side_mid.entries
@@ -105,14 +119,18 @@ module _ (files : List Asked) (c : ℕ) (party : Party) (moment : ℕ) (before :
     granted-below : (at number : ℕ) → GrantedAt party at number → number < before.store.next
     granted-below at number granted =
         let has = has-at party.attempts at granted.attempt granted.is_attempt in
-        (side-at (GrantFact before.store party) party granted.attempt granted.side served.facts.sessions.granted has granted.is_side number granted.file_length
+        (side-at (GrantFact before.store party) party granted.attempt granted.side served.facts.sessions.granted has
+        granted.is_side number granted.file_length
         granted.grants).below
 
-    was-granted : (at number : ℕ) → GrantedAt party_mid at number → GrantedAt party at number ⊎ ((at ≡ zero) × (before.store.next ≤ number))
+    was-granted : (at number : ℕ) → GrantedAt party_mid at number
+        → GrantedAt party at number ⊎ ((at ≡ zero) × (before.store.next ≤ number))
     was-granted zero number granted =
         let mine : attempt_mid ≡ granted.attempt = same_Some attempt_mid granted.attempt granted.is_attempt in
-        let side_is : side_mid ≡ granted.side = same_Some side_mid granted.side (ap (λ (a : Attempt). a.server) mine ∙ granted.is_side) in
-        let given : Grants side_mid number granted.file_length = subst (λ (s : ServerSide). Grants s number granted.file_length) (sym side_is) granted.grants in
+        let side_is : side_mid ≡ granted.side = same_Some side_mid granted.side
+        (ap (λ (a : Attempt). a.server) mine ∙ granted.is_side) in
+        let given : Grants side_mid number granted.file_length =
+        subst (λ (s : ServerSide). Grants s number granted.file_length) (sym side_is) granted.grants in
         elim (keeps.grants number granted.file_length given) [
           | inl were ↦
               inl (record {
@@ -128,7 +146,8 @@ module _ (files : List Asked) (c : ℕ) (party : Party) (moment : ℕ) (before :
     was-granted (suc at) number granted =
         inl (record {
           attempt = granted.attempt;
-          is_attempt = ap (λ (attempts : List Attempt). slice_get attempts (suc at)) served.attempts_are ∙ granted.is_attempt;
+          is_attempt =
+              ap (λ (attempts : List Attempt). slice_get attempts (suc at)) served.attempts_are ∙ granted.is_attempt;
           side = granted.side;
           is_side = granted.is_side;
           file_length = granted.file_length;
@@ -141,11 +160,13 @@ module _ (files : List Asked) (c : ℕ) (party : Party) (moment : ℕ) (before :
           | inl first ↦
               elim (was-granted that number two) [
                 | inl second ↦ served.once at that number first second
-                | inr second ↦ absurd (let below = granted-below at number first in let no : ⊥ = omega (arith, below, second.1) in no)
+                | inr second ↦ absurd (let below = granted-below at number first in
+                    let no : ⊥ = omega (arith, below, second.1) in no)
               ]
           | inr first ↦
               elim (was-granted that number two) [
-                | inl second ↦ absurd (let below = granted-below that number second in let no : ⊥ = omega (arith, below, first.1) in no)
+                | inl second ↦ absurd (let below = granted-below that number second in
+                    let no : ⊥ = omega (arith, below, first.1) in no)
                 | inr second ↦ first.0 ∙ sym second.0
               ]
         ]

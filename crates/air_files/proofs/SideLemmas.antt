@@ -1,13 +1,13 @@
 -- The facts of a session with one more entry, and what an entry's row has to do that the client keeps its facts.
-use Rattle.std.proofs.Common.{◌≡◌, ◌⊎◌, inl, inr, ℕ, zero, suc, ◌≤◌, List, [], ◌∷◌, length, refl, ap, subst, Bool, Some}
+use Rattle.std.proofs.Common.{◌≡◌, ◌⊎◌, inl, inr, ℕ, ◌≤◌, List, [], ◌∷◌, length, refl, ap, subst, Bool, Some}
 use Rattle.std.specs.Prelude.{IfSome, Ok}
 use Rattle.std.specs.List.{AllByRecursion}
 use Rattle.ftl0_packets.specs.Layout.{Fits, Item, PacketValue, ul_ack_resp, ul_error_resp, ul_go_resp, upload_cmd}
-use Rattle.file_store.proofs.Offered.{after_first-all}
 use Rattle.file_store.specs.Command.{after_all}
 use Rattle.file_store.specs.Info.{IsCompleteIn}
 use Rattle.file_store.specs.OnDisk.{after_first}
 use Rattle.file_store.specs.Store.{Store, entry_of}
+use Rattle.file_store.proofs.Offered.{after_first-all}
 use Rattle.ftl0_session.specs.Run.{Session}
 use Rattle.ftl0_session.specs.Table.{Row, State}
 use Rattle.ftl0_server.specs.Entries as session
@@ -17,17 +17,19 @@ use Rattle.air_attempt.specs.Lists.{Has}
 use Rattle.air_attempt.specs.Party.{Asked, EachAttempt, EachSide, IsFileOf, Party, over}
 use Rattle.air_attempt.specs.Said.{Acknowledges, IsAnswer, octets_of_data}
 use Rattle.air_attempt.specs.Sides.{ServerSide, said_by_server}
+use Rattle.air_attempt.proofs.Offered.{some-at}
 use Rattle.air_files.specs.Dialogue.{Serves}
 use Rattle.air_files.specs.Facts.{HasNumber, IsGrantKept, IsOfferKept}
 use Rattle.air_files.specs.Kept.{IsFileAt}
 use Rattle.air_files.specs.Laws.{IsServed, LeftIn, with_attempt}
 use Rattle.air_files.proofs.ApartLemmas.{DueFact, HasSideFacts, ReceiveFact, apart}
-use Rattle.air_files.proofs.EntryLemmas.{AreRowCommands, answers-cases, row-follows, row-keeps, row-sound, says-cases, with_entry}
+use Rattle.air_files.proofs.EntryLemmas.{AreRowCommands, answers-cases, row-follows, row-keeps, row-sound, says-cases}
+use Rattle.air_files.proofs.EntryLemmas.{with_entry}
 use Rattle.air_files.proofs.GrowingLemmas.{StayOthers}
-use Rattle.air_files.proofs.LiftLemmas.{some-at}
 use Rattle.air_files.proofs.LikeLemmas.{like-side}
 use Rattle.air_files.proofs.MovedLemmas.{GrantsBegun, MovesTo, OwnGrants, facts-left, moves-to, side-moved}
 use Rattle.air_files.proofs.OwnerLemmas.{next-none, own-next}
+use Rattle.air_files.proofs.QuietKeeps.{first-none}
 
 -- ---- what the row of an entry does
 
@@ -71,7 +73,8 @@ module _ (files : List Asked) (c : ℕ) (party : Party) (before : Session) (serv
     row-moves count =
         moves-to files party before.store (after_first count before.store row.commands) does.n
         (record {
-          keeps = row-keeps party.client.me before.store row.commands served.stands.call served.store does.commands count;
+          keeps =
+              row-keeps party.client.me before.store row.commands served.stands.call served.store does.commands count;
           others = does.others count;
           file = does.file count;
           own = does.own;
@@ -81,9 +84,12 @@ module _ (files : List Asked) (c : ℕ) (party : Party) (before : Session) (serv
     -- what a power cut leaves behind some of its commands
     pub row-left : (count : ℕ) → LeftIn files party before.store (after_first count before.store row.commands)
     row-left count = record {
-      facts = facts-left files party before.store (after_first count before.store row.commands) (row-moves count) served.facts;
+      facts =
+          facts-left files party before.store (after_first count before.store row.commands)
+          (row-moves count) served.facts;
       store = row-sound party.client.me before.store row.commands served.stands.call served.store does.commands count;
-      follows = row-follows party.client.me before.store row.commands served.stands.call served.store does.commands count;
+      follows =
+          row-follows party.client.me before.store row.commands served.stands.call served.store does.commands count;
     }
 
     abbrev store_then : Store
@@ -96,7 +102,8 @@ module _ (files : List Asked) (c : ℕ) (party : Party) (before : Session) (serv
 
     pub left-all : LeftIn files party before.store store_then
     left-all =
-        subst (LeftIn files party before.store) (after_first-all row.commands before.store) (row-left (length row.commands))
+        subst (LeftIn files party before.store) (after_first-all row.commands before.store)
+        (row-left (length row.commands))
 
     -- the facts of the session as it was, over the store then
     module _ (gone : ServerSide) where
@@ -104,18 +111,16 @@ module _ (files : List Asked) (c : ℕ) (party : Party) (before : Session) (serv
       side-kept =
           let a : Attempt = served.attempt in
           let side : ServerSide = served.side in
-          let facts = newest-side (HasSideFacts before.store party) (apart before.store files party served.facts).sides in
+          let facts = newest-side (HasSideFacts before.store party)
+          (apart before.store files party served.facts).sides in
           let begun = newest-side (GrantsBegun store_then party) row-all.begun in
-          let before_over : HasSideFacts before.store party a (over side) = like-side before.store party party a a side (over side) (λ is. absurd (cc)) facts in
+          let before_over : HasSideFacts before.store party a (over side) =
+          like-side before.store party party a a side (over side) (λ is. absurd (cc)) facts in
           let now_over : HasSideFacts store_then party a (over side) =
           side-moved files party before.store store_then row-all a (over side) (λ is. absurd (cc)) begun before_over in
           like-side store_then party (done gone) a (gone_attempt gone) (over side) (over side) (λ is. is) now_over
 
 -- ---- a row without commands
-
-none-first : (count : ℕ) (store : Store) → after_first count store [] ≡ store
-none-first zero store = refl
-none-first (suc count) store = refl
 
 -- the row of a packet at which only the state changes, and something is said
 abbrev pub idle_row : Session → State → List PacketValue → Row
@@ -124,7 +129,8 @@ idle_row before state replies = record { state = state; lists = before.lists; co
 module _ (files : List Asked) (c : ℕ) (party : Party) (before : Session) (served : IsServed files c party before) where
   pub idle-does : (item : Item) (state : State) (replies : List PacketValue) → AllByRecursion Fits replies
       → AllByRecursion (λ p. octets_of_data p ≡ []) replies
-      → ((number file_length : ℕ) → item ≡ Ok (upload_cmd 0 file_length) → replies ≡ ul_go_resp number 0 ∷ [] → before.store.next ≤ number)
+      → ((number file_length : ℕ) → item ≡ Ok (upload_cmd 0 file_length) → replies ≡ ul_go_resp number 0 ∷ []
+      → before.store.next ≤ number)
       → RowDoes files party before item (idle_row before state replies)
   idle-does item state replies fits quiet new = record {
     commands = record { own = tt; allowed = tt; brings = tt };
@@ -132,8 +138,9 @@ module _ (files : List Asked) (c : ℕ) (party : Party) (before : Session) (serv
     fits = fits;
     quiet = quiet;
     n = before.store.next;
-    others = λ count other differs. ap (λ (s : Store). entry_of s other) (none-first count before.store);
-    file = λ count task file has is. absurd (next-none before.store files party served.facts served.once task file has is);
+    others = λ count other differs. ap (λ (s : Store). entry_of s other) (first-none count before.store);
+    file =
+        λ count task file has is. absurd (next-none before.store files party served.facts served.once task file has is);
     own = own-next before.store files party served.facts served.once;
     new = λ number file_length is. new number file_length is.0 is.1;
   }
@@ -151,34 +158,47 @@ module _ (files : List Asked) (c : ℕ) (party : Party) (before : Session) (serv
 -- ---- the facts of a session with one more entry
 
 -- What an entry says is so in the store: a number that it gives, an offer, and that a file is complete.
-pub record SaysTrue (store : Store) (party : Party) (a : Attempt) (side : ServerSide) (x : SessionEntry) (state : State) (up : Bool)
+pub record SaysTrue (store : Store) (party : Party) (a : Attempt) (side : ServerSide) (x : SessionEntry) (state : State)
+    (up : Bool)
     : Type 0 where
   pub grants :
       (number file_length : ℕ) → IsAnswer (Ok (upload_cmd 0 file_length)) (ul_go_resp number 0) x
       → IsGrantKept store party a number file_length
-  pub offers : (number offset : ℕ) → Has (session.packets_said x) (ul_go_resp number offset) → IsOfferKept store number offset
+  pub offers : (number offset : ℕ) → Has (session.packets_said x) (ul_go_resp number offset)
+      → IsOfferKept store number offset
   pub acks :
-      (number : ℕ) → Acknowledges (with_entry side x state up) number → Acknowledges side number ⊎ IsCompleteIn store number
+      (number : ℕ) → Acknowledges (with_entry side x state up) number
+      → Acknowledges side number ⊎ IsCompleteIn store number
   pub tells :
-      (number file_length : ℕ) → IsAnswer (Ok (upload_cmd number file_length)) (ul_error_resp 12) x → IsCompleteIn store number
+      (number file_length : ℕ) → IsAnswer (Ok (upload_cmd number file_length)) (ul_error_resp 12) x
+      → IsCompleteIn store number
 
-module _ (store : Store) (party : Party) (a : Attempt) (side : ServerSide) (x : SessionEntry) (state : State) (up : Bool) where
+module _ (store : Store) (party : Party) (a : Attempt) (side : ServerSide) (x : SessionEntry) (state : State)
+    (up : Bool) where
   -- an entry that neither offers nor acknowledges
-  pub acks-still : ((number offset : ℕ) → Has (session.packets_said x) (ul_go_resp number offset) → ⊥) → (Has (session.packets_said x) ul_ack_resp → ⊥)
-      → (number : ℕ) → Acknowledges (with_entry side x state up) number → Acknowledges side number ⊎ IsCompleteIn store number
+  pub acks-still : ((number offset : ℕ) → Has (session.packets_said x) (ul_go_resp number offset) → ⊥)
+      → (Has (session.packets_said x) ul_ack_resp → ⊥)
+      → (number : ℕ) → Acknowledges (with_entry side x state up) number
+      → Acknowledges side number ⊎ IsCompleteIn store number
   acks-still no_go no_ack number acks = inl (
-    (acks.0.0, by (ul_go_resp number acks.0.0) (says-cases side x state up (ul_go_resp number acks.0.0) acks.0.1) (no_go number acks.0.0)),
+    (
+      acks.0.0,
+      by (ul_go_resp number acks.0.0) (says-cases side x state up (ul_go_resp number acks.0.0) acks.0.1)
+          (no_go number acks.0.0),
+    ),
     by ul_ack_resp (says-cases side x state up ul_ack_resp acks.1) no_ack,
   )
     where
-      by : (packet : PacketValue) → Has (said_by_server side) packet ⊎ Has (session.packets_said x) packet → (Has (session.packets_said x) packet → ⊥)
+      by : (packet : PacketValue) → Has (said_by_server side) packet ⊎ Has (session.packets_said x) packet
+          → (Has (session.packets_said x) packet → ⊥)
           → Has (said_by_server side) packet
       by packet (inl before) none = before
       by packet (inr now) none = absurd (none now)
 
   pub side-new : HasSideFacts store party a (over side) → SaysTrue store party a side x state up
       → ReceiveFact store party a (with_entry side x state up) → DueFact store (with_entry side x state up)
-      → Serves store a.client.asked (with_entry side x state up) → HasSideFacts store party a (with_entry side x state up)
+      → Serves store a.client.asked (with_entry side x state up)
+      → HasSideFacts store party a (with_entry side x state up)
   side-new old new receives due serves = record {
     granted = λ number file_length grants.
         elim (answers-cases side x state up (Ok (upload_cmd 0 file_length)) (ul_go_resp number 0) grants) [

@@ -1,6 +1,8 @@
 -- What a store that follows another keeps of a client's facts.
 use Rattle.std.proofs.Common.{◌≡◌, ℕ, List, refl, ap, sym, ◌∙◌, subst, arith, Option, None, Some}
 use Rattle.std.specs.Prelude.{IfSome, IsTrue, option_and_then}
+use Rattle.px_base.specs.CallSign.{CallSign}
+use Rattle.px_base.specs.Octets.{IsOctets}
 use Rattle.file_entries.specs.Follows.{KeepsEntries}
 use Rattle.file_store.specs.EntriesKept.{KeepsComplete}
 use Rattle.file_store.specs.Info.{IsCompleteIn, is_complete}
@@ -14,8 +16,6 @@ use Rattle.ftl0_job.specs.declared.phases.DownloadPhase.TheVariants as fetch
 use Rattle.ftl0_job.specs.declared.work.Work.{Work}
 use Rattle.ftl0_job.specs.declared.work.Work.TheVariants as work
 use Rattle.ftl0_job.specs.Download.{Download}
-use Rattle.px_base.specs.CallSign.{CallSign}
-use Rattle.px_base.specs.Octets.{IsOctets}
 use Rattle.air_attempt.specs.Attempt.{Attempt}
 use Rattle.air_attempt.specs.Party.{Asked, Party, newest}
 use Rattle.air_attempt.specs.Sides.{ServerSide}

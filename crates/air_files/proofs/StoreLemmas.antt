@@ -1,5 +1,6 @@
 -- A sound store stays sound by commands that bring octets; and what it has of an entry that is dropped.
 use Rattle.std.proofs.Common.{◌≡◌, ℕ, ◌+◌, ◌≤◌, not, List, [], ◌∷◌, filter, refl, sym, subst, arith, None, Some, ◌==◌}
+use Rattle.std.proofs.Common.{Bool, true, false, cond}
 use Rattle.std.specs.Prelude.{find, IsTrue}
 use Rattle.std.specs.List.{AllByRecursion}
 use Rattle.std.proofs.lemmas.Bool.Decides.{nat_tests}
@@ -12,11 +13,15 @@ use Rattle.file_store.specs.Store.{Entry, Store, entry_of, octets_of, partial}
 use Rattle.file_store.proofs.Offered.{has_number}
 use Rattle.air_files.specs.SoundStore.{IsSoundStore}
 
--- an entry that is found is so, if each one is
-pub found-so : (P : Entry → Type 0) (number : ℕ) (entries : List Entry) (entry : Entry) → AllByRecursion P entries
-    → find (has_number number) entries ≡ Some entry → P entry
-found-so P number [] entry each found = absurd (cc)
-found-so P number (x ∷ xs) entry each found = grind (arith, nat_tests, found-so P number xs entry each.1)
+-- what is found is such as all are
+pub found-such : {X : Type 0} (P : X → Type 0) (test : X → Bool) (xs : List X) (x : X) → find test xs ≡ Some x
+    → AllByRecursion P xs → P x
+found-such P test [] x found all = absurd (cc)
+found-such P test (y ∷ ys) x found all = by (λ there. found-such P test ys x there all.1) (test y) found
+  where
+    by : (find test ys ≡ Some x → P x) → (b : Bool) → cond b (Some y) (find test ys) ≡ Some x → P x
+    by later true is = let same : y ≡ x = cc in subst P same all.0
+    by later false is = later is
 
 -- the numbers rise
 pub later-number : (number low next : ℕ) (entries : List Entry) (entry : Entry) → AreEntries low entries next
@@ -46,8 +51,9 @@ each-found P low next (x ∷ xs) are holds = (
 
 pub sound-files : (store : Store) → IsSoundStore store → HaveFiles store
 sound-files store sound number entry found = record {
-  octets = found-so (λ it. IsOctets (octets_of it.holding)) number store.entries entry sound.octets found;
-  rules = found-so (λ it. KeepsRules it.holding) number store.entries entry sound.keeps_rules found;
+  octets =
+      found-such (λ it. IsOctets (octets_of it.holding)) (has_number number) store.entries entry found sound.octets;
+  rules = found-such (λ it. KeepsRules it.holding) (has_number number) store.entries entry found sound.keeps_rules;
 }
 
 pub files-sound : (store : Store) → IsStore store → HaveFiles store → IsSoundStore store

@@ -1,6 +1,7 @@
 -- The facts of a client with a further upload of its own, whose task is noted.
 use Rattle.std.proofs.Common.{◌≡◌, ◌⊎◌, ⊎_elim, ℕ, ◌-◌, List, [], ◌∷◌, ◌++◌, length, refl, ap, sym, ◌∙◌, arith, Option}
 use Rattle.std.proofs.Common.{None, Some, inl, inr}
+use Rattle.sha2.specs.Sha256.{sha256}
 use Rattle.std.specs.Prelude.{slice_get}
 use Rattle.std.specs.Option.{option_and_then, option_map}
 use Rattle.std.proofs.lemmas.Bool.Decides.{eqb_tells}
@@ -10,13 +11,12 @@ use Rattle.client_notes.specs.Command.{new_task}
 use Rattle.client_notes.specs.Notes.{Lists, Task, task_of}
 use Rattle.client_notes.specs.declared.answers.Noted.TheVariants as noted
 use Rattle.client_notes.proofs.Offered.{task-at, task-more}
-use Rattle.sha2.specs.Sha256.{sha256}
 use Rattle.air_attempt.specs.Party.{Asked, IsFileOf, Party, newest, upload_of}
+use Rattle.air_attempt.proofs.Offered.{each-weaker, some-weaker}
 use Rattle.air_files.specs.Facts.{HasFacts, HasNumber, IsNumbered}
 use Rattle.air_files.specs.Kept.{HoldsAck}
 use Rattle.air_files.specs.Laws.{Stands}
 use Rattle.air_files.proofs.ApartLemmas.{HasFactsApart, apart, together}
-use Rattle.air_files.proofs.LiftLemmas.{each-weaker, some-weaker}
 use Rattle.air_files.proofs.LongerLemmas.{acked-task, facts-longer, file-more, place-last, place-more, task-file}
 use Rattle.air_files.proofs.LongerLemmas.{task-some}
 use Rattle.air_files.proofs.NotedLemmas.{KeepsNoted, client-noted, fetches_by-noted, side-noted}
@@ -65,7 +65,8 @@ tasked-number party place it task number has =
     (task-last party.client.lists (task_for party it) task has.entry has.is_entry)
 
 -- and it isn't acknowledged
-pub tasked-acked : (party : Party) (place : ℕ) (it : Asked) (task number : ℕ) → HoldsAck (tasked party place it) task number
+pub tasked-acked : (party : Party) (place : ℕ) (it : Asked) (task number : ℕ)
+    → HoldsAck (tasked party place it) task number
     → HoldsAck party task number
 tasked-acked party place it task number holds =
     let acked = acked-task (tasked party place it).client.lists task number holds in

@@ -1,5 +1,6 @@
 -- UPLOAD_CMD to a session of an upload: the file is refused, begun, or goes on.
-use Rattle.std.proofs.Common.{◌≡◌, inl, inr, ℕ, ◌+◌, ◌<◌, List, [], ◌∷◌, ◌++◌, length, drop, take, append-nil, length-append, refl, ap, sym, ◌∙◌, subst, arith, Bool, true, Some}
+use Rattle.std.proofs.Common.{◌≡◌, inl, inr, ℕ, ◌+◌, ◌<◌, List, [], ◌∷◌, ◌++◌, length, drop, take, append-nil}
+use Rattle.std.proofs.Common.{length-append, refl, ap, sym, ◌∙◌, subst, arith, Bool, true, Some}
 use Rattle.std.specs.Prelude.{Ok}
 use Rattle.std.proofs.lemmas.Bool.Decides.{Decides-eqb, nat_tests}
 use Rattle.std.proofs.lemmas.List.{take_at}
@@ -24,15 +25,18 @@ use Rattle.air_attempt.specs.Sides.{IsGreeting, ServerSide, said_by_client, said
 use Rattle.air_files.specs.Dialogue.{IsDueNow, Serves}
 use Rattle.air_files.specs.Laws.{IsServed}
 use Rattle.air_files.specs.Facts.{IsBegun, IsGrantKept, Receives}
-use Rattle.air_files.specs.UploadDialogue.{GoesOnWith, IsOfferFor, ServesUpload, answered_in, receives, receiving_said, received_items, refused, unasked}
+use Rattle.air_files.specs.UploadDialogue.{GoesOnWith, IsOfferFor, ServesUpload, answered_in, received_items, receives}
+use Rattle.air_files.specs.UploadDialogue.{receiving_said, refused, unasked}
 use Rattle.air_files.proofs.EntryLemmas.{answered-more, answers-now, items-more, said-more, with_entry}
 use Rattle.air_files.proofs.GrowingLemmas.{begun-first, begun-there}
 use Rattle.air_files.proofs.OwnerLemmas.{next-none, own-next}
-use Rattle.air_files.proofs.SideLemmas.{EntryDoes, RowDoes, acks-still, done, gone_attempt, idle-does, idle_row, side-kept, side-new}
+use Rattle.air_files.proofs.SideLemmas.{EntryDoes, RowDoes, acks-still, done, gone_attempt, idle-does, idle_row}
+use Rattle.air_files.proofs.SideLemmas.{side-kept, side-new}
 use Rattle.air_files.proofs.UploadServed.{Stage, asks-upload, items-taken, serves-upload, unasked-alone}
 
 -- a side in command, or in receiving, has nothing due
-pub due-command : (store : Store) (side : ServerSide) (x : SessionEntry) (up : Bool) → IsDueNow store (with_entry side x command up)
+pub due-command : (store : Store) (side : ServerSide) (x : SessionEntry) (up : Bool)
+    → IsDueNow store (with_entry side x command up)
 due-command store side x up = record { lies = tt; octets = All-nil _ }
 
 pub due-receiving : (store : Store) (side : ServerSide) (x : SessionEntry) (number : ℕ) (rest : List ℕ) (up : Bool)
@@ -45,17 +49,20 @@ alone-is answer packet (inl is) = is
 alone-is answer packet (inr none) = absurd none
 
 -- UPLOAD_CMD of one number is of no other
-pub cmd-number : (item : Item) (number other file_length that : ℕ) → item ≡ Ok (upload_cmd number file_length) → item ≡ Ok (upload_cmd other that)
+pub cmd-number : (item : Item) (number other file_length that : ℕ) → item ≡ Ok (upload_cmd number file_length)
+    → item ≡ Ok (upload_cmd other that)
     → (number ≡ other) × (file_length ≡ that)
 cmd-number item number other file_length that one two = (cc, cc)
 
 -- LOGIN_RESP and an offer acknowledge nothing
-no-ack : (greeting : PacketValue) (number offset : ℕ) → IsGreeting greeting → Has (greeting ∷ ul_go_resp number offset ∷ []) ul_ack_resp → ⊥
+no-ack : (greeting : PacketValue) (number offset : ℕ) → IsGreeting greeting
+    → Has (greeting ∷ ul_go_resp number offset ∷ []) ul_ack_resp → ⊥
 no-ack greeting number offset greets (inl is) = let both = sym greets.2 ∙ is in cc
 no-ack greeting number offset greets (inr (inl is)) = cc
 no-ack greeting number offset greets (inr (inr none)) = none
 
-front-take : (held file : List ℕ) (more : ℕ) → more ≡ 0 → IsFront held file → held ++ [] ≡ take (length held + more) file
+front-take : (held file : List ℕ) (more : ℕ) → more ≡ 0 → IsFront held file
+    → held ++ [] ≡ take (length held + more) file
 front-take held file more none front =
     append-nil held ∙ sym (take_at held front.0 (length held + more) (omega (arith, none)))
     ∙ ap (take (length held + more)) (sym front.1)
@@ -80,10 +87,14 @@ module _ (files : List Asked) (c : ℕ) (party : Party) (before : Session) (serv
     gone = with_entry served.side (session.took asking row) state up
 
     pub one-answered : answered_in gone.entries ≡ asking ∷ []
-    one-answered = answered-more served.side.entries (session.took asking row) ∙ ap (λ (items : List Item). items ++ asking ∷ []) none-answered
+    one-answered =
+        answered-more served.side.entries (session.took asking row)
+        ∙ ap (λ (items : List Item). items ++ asking ∷ []) none-answered
 
     pub one-said : session.said_in gone.entries ≡ row.replies
-    one-said = said-more served.side.entries (session.took asking row) ∙ ap (λ (packets : List PacketValue). packets ++ row.replies) none-said
+    one-said =
+        said-more served.side.entries (session.took asking row)
+        ∙ ap (λ (packets : List PacketValue). packets ++ row.replies) none-said
 
     pub serves-as : (store : Store) → ServesUpload at.known at.file gone → Serves store served.attempt.client.asked gone
     serves-as store those = subst (λ (doing : Work). Serves store doing gone) (sym asked_is) those
@@ -95,7 +106,9 @@ module _ (files : List Asked) (c : ℕ) (party : Party) (before : Session) (serv
     refused_row = idle_row before command (ul_error_resp code ∷ [])
 
     refused-does : RowDoes files party before asking refused_row
-    refused-does = idle-does files c party before served asking command (ul_error_resp code ∷ []) (small, tt) (refl, tt) (λ number file_length item says. absurd (cc))
+    refused-does =
+        idle-does files c party before served asking command (ul_error_resp code ∷ []) (small, tt) (refl, tt)
+        (λ number file_length item says. absurd (cc))
 
     pub asked-refused : EntryDoes files c party before served asking refused_row
     asked-refused = record {
@@ -109,7 +122,9 @@ module _ (files : List Asked) (c : ℕ) (party : Party) (before : Session) (serv
           (side-kept files c party before served asking refused_row refused-does now)
           (record {
             grants = λ number file_length answer. absurd (let no = answer.1 in cc);
-            offers = λ number offset has. absurd (let same = alone-is (ul_error_resp code) (ul_go_resp number offset) has in cc);
+            offers =
+                λ number offset has. absurd
+                (let same = alone-is (ul_error_resp code) (ul_go_resp number offset) has in cc);
             acks =
                 acks-still before.store party served.attempt served.side x command up
                 (λ number offset has. let same = alone-is (ul_error_resp code) (ul_go_resp number offset) has in cc)
@@ -141,10 +156,13 @@ module _ (files : List Asked) (c : ℕ) (party : Party) (before : Session) (serv
     offering = with_entry served.side (session.took asking row) (receiving number []) up
 
     said-offer : said_by_server offering ≡ served.side.greeting ∷ ul_go_resp number offset ∷ []
-    said-offer = ap (λ (packets : List PacketValue). served.side.greeting ∷ packets) (one-said row (receiving number []) up ∙ replies_are)
+    said-offer =
+        ap (λ (packets : List PacketValue). served.side.greeting ∷ packets)
+        (one-said row (receiving number []) up ∙ replies_are)
 
     offers-it : Offers offering number offset
-    offers-it = subst (λ (packets : List PacketValue). Has packets (ul_go_resp number offset)) (sym said-offer) (inr (inl refl))
+    offers-it =
+        subst (λ (packets : List PacketValue). Has packets (ul_go_resp number offset)) (sym said-offer) (inr (inl refl))
 
     pub none-acked : (n : ℕ) → Acknowledges offering n → ⊥
     none-acked n acks =
@@ -173,12 +191,16 @@ module _ (files : List Asked) (c : ℕ) (party : Party) (before : Session) (serv
       said = one-said row (receiving number []) up ∙ replies_are;
       state = λ all. ([], refl);
       offered = offer;
-      first = answers-now served.side (session.took asking row) (receiving number []) up asking (ul_go_resp number offset) (refl, replies_are);
+      first =
+          answers-now served.side (session.took asking row) (receiving number []) up asking (ul_go_resp number offset)
+          (refl, replies_are);
     }
 
-    pub receives-offer : (store : Store) (entry : Entry) (held : List ℕ) → entry_of store number ≡ Some entry → entry.holding ≡ partial held
+    pub receives-offer : (store : Store) (entry : Entry) (held : List ℕ) → entry_of store number ≡ Some entry
+        → entry.holding ≡ partial held
         → entry.caller ≡ party.client.me → entry.length ≡ length at.file → length held ≡ offset → IsFront held at.file
-        → Receives store (done files c party before served offering) (gone_attempt files c party before served offering) offering number []
+        → Receives store (done files c party before served offering)
+        (gone_attempt files c party before served offering) offering number []
     receives-offer store entry held found holds by long count front = record {
       task = at.task;
       known = at.known;
@@ -193,7 +215,9 @@ module _ (files : List Asked) (c : ℕ) (party : Party) (before : Session) (serv
       few = omega arith;
       offset = offset;
       offers = offers-it;
-      came = front-take held at.file (octets_come offering) none-come front ∙ ap (λ (n : ℕ). take (n + octets_come offering) at.file) count;
+      came =
+          front-take held at.file (octets_come offering) none-come front
+          ∙ ap (λ (n : ℕ). take (n + octets_come offering) at.file) count;
       within =
           let split : length at.file ≡ length held + length front.0 = ap length front.1 ∙ length-append held front.0 in
           omega (arith, none-come, count, split);
@@ -226,13 +250,16 @@ module _ (files : List Asked) (c : ℕ) (party : Party) (before : Session) (serv
 
     begun-does : RowDoes files party before asking begun_row
     begun-does = record {
-      commands = record { own = (refl, tt); allowed = (rw ((Decides-eqb next next).1 refl, may) refl, tt); brings = (tt, tt) };
+      commands =
+          record { own = (refl, tt); allowed = (rw ((Decides-eqb next next).1 refl, may) refl, tt); brings = (tt, tt) };
       lists = refl;
       fits = ((omega (arith, few-numbers), omega arith), tt);
       quiet = (refl, tt);
       n = next;
       others = begun-first before.store next party.client.me (length at.file) moment;
-      file = λ count task file has is. absurd (next-none before.store files party served.facts served.once task file has is);
+      file =
+          λ count task file has is. absurd
+          (next-none before.store files party served.facts served.once task file has is);
       own = own-next before.store files party served.facts served.once;
       new = λ number file_length answer. let same = answer.1 in let it : next ≡ number = cc in omega (arith, it);
     }
@@ -245,18 +272,24 @@ module _ (files : List Asked) (c : ℕ) (party : Party) (before : Session) (serv
 
     -- the number that it gives
     begun-grant : (up : Bool) (number file_length : ℕ) → number ≡ next → file_length ≡ length at.file
-        → IsGrantKept store_begun (done files c party before served (now_begun up)) (gone_attempt files c party before served (now_begun up)) number file_length
+        → IsGrantKept store_begun (done files c party before served (now_begun up))
+        (gone_attempt files c party before served (now_begun up)) number file_length
     begun-grant up number file_length same long = record {
       some = omega (arith, same, served.store.is_store.next);
       below = omega (arith, same);
       task = at.task;
       file = at.file;
-      asks = subst (λ (known : ℕ). AsksUpload served.attempt at.task known at.file) new (asks-upload files c party before served at asked_is);
+      asks =
+          subst (λ (known : ℕ). AsksUpload served.attempt at.task known at.file) new
+          (asks-upload files c party before served at asked_is);
       length_is = long;
       begun = λ none entry there.
-          let found : entry_of store_begun next ≡ Some entry = subst (λ (n : ℕ). entry_of store_begun n ≡ Some entry) same there in
-          let is_new = same_Some (new_entry next party.client.me (length at.file) moment) entry (sym begun-entry ∙ found) in
-          subst (IsBegun party.client.me file_length) is_new (record { caller_is = refl; length_is = sym long; nothing = refl });
+          let found : entry_of store_begun next ≡ Some entry =
+          subst (λ (n : ℕ). entry_of store_begun n ≡ Some entry) same there in
+          let is_new = same_Some (new_entry next party.client.me (length at.file) moment) entry
+          (sym begun-entry ∙ found) in
+          subst (IsBegun party.client.me file_length) is_new
+          (record { caller_is = refl; length_is = sym long; nothing = refl });
     }
 
     pub asked-begun : EntryDoes files c party before served asking begun_row
@@ -265,13 +298,15 @@ module _ (files : List Asked) (c : ℕ) (party : Party) (before : Session) (serv
       sides = λ up.
           let x : SessionEntry = session.took asking begun_row in
           let now : ServerSide = now_begun up in
-          side-new store_begun (done files c party before served now) (gone_attempt files c party before served now) served.side x (receiving next []) up
+          side-new store_begun (done files c party before served now)
+          (gone_attempt files c party before served now) served.side x (receiving next []) up
           (side-kept files c party before served asking begun_row begun-does now)
           (record {
             grants = λ number file_length answer.
                 let same = answer.1 in
                 let it : number ≡ next = cc in
-                begun-grant up number file_length it (sym (cmd-number asking at.known 0 (length at.file) file_length refl answer.0).1);
+                begun-grant up number file_length it
+                (sym (cmd-number asking at.known 0 (length at.file) file_length refl answer.0).1);
             offers = λ number offset has.
                 let same = alone-is (ul_go_resp next 0) (ul_go_resp number offset) has in
                 let it : next ≡ number = cc in
@@ -283,9 +318,12 @@ module _ (files : List Asked) (c : ℕ) (party : Party) (before : Session) (serv
           (λ number rest is_up state.
           let it : next ≡ number = cc in
           let none : [] ≡ rest = cc in
-          subst (λ (r : List ℕ). Receives store_begun (done files c party before served now) (gone_attempt files c party before served now) now number r) none
-          (subst (λ (n : ℕ). Receives store_begun (done files c party before served now) (gone_attempt files c party before served now) now n []) it
-          (receives-offer next 0 begun_row up refl store_begun (new_entry next party.client.me (length at.file) moment) [] begun-entry refl refl refl refl
+          subst (λ (r : List ℕ). Receives store_begun (done files c party before served now)
+          (gone_attempt files c party before served now) now number r) none
+          (subst (λ (n : ℕ). Receives store_begun (done files c party before served now)
+          (gone_attempt files c party before served now) now n []) it
+          (receives-offer next 0 begun_row up refl store_begun
+          (new_entry next party.client.me (length at.file) moment) [] begun-entry refl refl refl refl
           (at.file, refl))))
           (λ is_up. due-receiving store_begun served.side x next [] up)
           (serves-as begun_row (receiving next []) up store_begun (serves-offer next 0 begun_row up refl

@@ -1,5 +1,6 @@
 -- Whatever comes next to a session of an upload, its entry does what it has to.
-use Rattle.std.proofs.Common.{◌≡◌, inl, inr, ℕ, suc, zero, ◌<◌, ◌^◌, List, [], ◌∷◌, ◌++◌, length, drop, refl, ap, sym, ◌∙◌, subst, false, None}
+use Rattle.std.proofs.Common.{◌≡◌, inl, inr, ℕ, suc, zero, ◌<◌, ◌^◌, List, [], ◌∷◌, ◌++◌, length, drop, refl, ap, sym}
+use Rattle.std.proofs.Common.{◌∙◌, subst, false, None}
 use Rattle.std.specs.Prelude.{Ok}
 use Rattle.std.specs.List.{AllByRecursion}
 use Rattle.ftl0_packets.specs.Layout.{Fits, Item, PacketValue, data_end, data_part, upload_cmd}
@@ -32,7 +33,8 @@ fits-behind zero (p ∷ said) fits = fits
 fits-behind (suc n) (p ∷ said) fits = fits-behind n said fits.1
 
 module _ (uploads_law : UploadsLaw) (acknowledged_law : AcknowledgedLaw) (caller_law : CallerLaw)
-    (files : List Asked) (c : ℕ) (party : Party) (moment : ℕ) (before : Session) (served : IsServed files c party before)
+    (files : List Asked) (c : ℕ) (party : Party) (moment : ℕ) (before : Session)
+    (served : IsServed files c party before)
     (at : Upload) (asked_is : served.attempt.client.asked ≡ work.Upload at) where
   abbrev IsStage : Receiving → Type 0
   IsStage stage = Stage files c party before served at asked_is stage
@@ -51,8 +53,10 @@ module _ (uploads_law : UploadsLaw) (acknowledged_law : AcknowledgedLaw) (caller
   pub none-due : (stage : Receiving) → IsStage stage → next_due before.store before.state false ≡ None
   none-due unasked is = ap (λ (s : State). next_due before.store s false) (state-in unasked is)
   none-due (refused code) is = ap (λ (s : State). next_due before.store s false) (state-in (refused code) is)
-  none-due (receives number offset parts) is = ap (λ (s : State). next_due before.store s false) (state-in (receives number offset parts) is).1
-  none-due (ended number offset parts word) is = ap (λ (s : State). next_due before.store s false) (state-in (ended number offset parts word) is)
+  none-due (receives number offset parts) is =
+      ap (λ (s : State). next_due before.store s false) (state-in (receives number offset parts) is).1
+  none-due (ended number offset parts word) is =
+      ap (λ (s : State). next_due before.store s false) (state-in (ended number offset parts word) is)
 
   module _ (x : SessionEntry) (item : Item) (takes_it : session.items_of x ≡ item ∷ [])
       (front : ServerTookFront served.attempt (record served.side { entries = served.side.entries ++ x ∷ [] }))
@@ -62,7 +66,8 @@ module _ (uploads_law : UploadsLaw) (acknowledged_law : AcknowledgedLaw) (caller
 
     next : (stage : Receiving) → IsStage stage → IsNextIn at.known (length at.file) stage item
     next stage is =
-        subst (λ s. IsNextIn at.known (length at.file) s item) is (upload-next files c party before served at asked_is x item takes_it front)
+        subst (λ s. IsNextIn at.known (length at.file) s item) is
+        (upload-next files c party before served at asked_is x item takes_it front)
 
     -- UPLOAD_CMD
     known-small : item ≡ Ok (upload_cmd at.known (length at.file)) → at.known < 2 ^ 32
@@ -80,8 +85,10 @@ module _ (uploads_law : UploadsLaw) (acknowledged_law : AcknowledgedLaw) (caller
         (subst
         (λ (s : State).
         EntryDoes files c party before served (Ok (upload_cmd at.known (length at.file)))
-        (session_row party.client.me moment before.store before.lists s (Ok (upload_cmd at.known (length at.file))) false))
-        (sym (state-in unasked is)) (asked-does files c party before served at asked_is is uploads_law moment (known-small item_is)))
+        (session_row party.client.me moment before.store before.lists s
+        (Ok (upload_cmd at.known (length at.file))) false))
+        (sym (state-in unasked is))
+        (asked-does files c party before served at asked_is is uploads_law moment (known-small item_is)))
 
     -- DATA and DATA_END
     module _ (number offset : ℕ) (parts : List (List ℕ)) (is : IsStage (receives number offset parts)) where
@@ -89,7 +96,8 @@ module _ (uploads_law : UploadsLaw) (acknowledged_law : AcknowledgedLaw) (caller
       rest = (receiving-state files c party before served at asked_is number offset parts is).0
 
       receiving-now : before.state ≡ receiving number rest
-      receiving-now = served.state_is ∙ (receiving-state files c party before served at asked_is number offset parts is).1
+      receiving-now =
+          served.state_is ∙ (receiving-state files c party before served at asked_is number offset parts is).1
 
       has-number : HasNumber party at.task number
       has-number = received-number files c party before served at asked_is number offset parts is x item takes_it front
@@ -98,26 +106,41 @@ module _ (uploads_law : UploadsLaw) (acknowledged_law : AcknowledgedLaw) (caller
       from = place_come files c party before served at asked_is number offset parts is
 
       goes : GoesOnWith at.file from (said.packet ∷ said.rest)
-      goes = subst (GoesOnWith at.file from) said.here (takes files c party before served at asked_is number offset parts is).goes_on
+      goes =
+          subst (GoesOnWith at.file from) said.here
+          (takes files c party before served at asked_is number offset parts is).goes_on
 
       -- by the row of the state, and of the packet
       by-row : (it : Item) → item ≡ it
-          → EntryDoes files c party before served it (session_row party.client.me moment before.store before.lists (receiving number rest) it false) → Does item
+          → EntryDoes files c party before served it
+          (session_row party.client.me moment before.store before.lists (receiving number rest) it false)
+          → Does item
       by-row it same does =
           subst (λ (i : Item). Does i) (sym same)
-          (subst (λ (s : State). EntryDoes files c party before served it (session_row party.client.me moment before.store before.lists s it false))
+          (subst (λ (s : State). EntryDoes files c party before served it
+          (session_row party.client.me moment before.store before.lists s it false))
           (sym receiving-now) does)
 
       takes-data : (octets : List ℕ) → said.packet ≡ data_part octets → Does item
       takes-data octets is_data =
           let same : item ≡ Ok (data_part octets) = said.is_item ∙ ap (λ (p : PacketValue). Ok p) is_data in
           let on = subst (λ (p : PacketValue). GoesOnWith at.file from (p ∷ said.rest)) is_data goes in
-          let those : SaidNext (session.items_in served.side.entries) front.0 (Ok (data_part octets)) (said_by_client served.attempt.client) =
-          record { packet = said.packet; is_item = sym same ∙ said.is_item; rest = said.rest; here = said.here; behind = said.behind; others = said.others } in
+          let those : SaidNext (session.items_in served.side.entries) front.0 (Ok (data_part octets))
+          (said_by_client served.attempt.client) =
+          record {
+            packet = said.packet;
+            is_item = sym same ∙ said.is_item;
+            rest = said.rest;
+            here = said.here;
+            behind = said.behind;
+            others = said.others;
+          } in
           by-row (Ok (data_part octets)) same
           (subst (EntryDoes files c party before served (Ok (data_part octets)))
-          (sym (data_lemmas.row-is files c party before served at asked_is number offset parts is has-number octets on.0 uploads_law moment))
-          (data_lemmas.data-entry files c party before served at asked_is number offset parts is has-number octets on.0 front.0 those on.1 uploads_law caller_law
+          (sym (data_lemmas.row-is files c party before served at asked_is number offset parts is has-number octets on.0
+          uploads_law moment))
+          (data_lemmas.data-entry files c party before served at asked_is number offset parts is has-number octets on.0
+          front.0 those on.1 uploads_law caller_law
           moment (is-good files c party before served at asked_is number offset parts is).octets))
 
       takes-end : said.packet ≡ data_end → Does item
@@ -126,8 +149,10 @@ module _ (uploads_law : UploadsLaw) (acknowledged_law : AcknowledgedLaw) (caller
           let on = subst (λ (p : PacketValue). GoesOnWith at.file from (p ∷ said.rest)) is_end goes in
           by-row (Ok data_end) same
           (subst (EntryDoes files c party before served (Ok data_end))
-          (sym (end_lemmas.row-is files c party before served at asked_is number offset parts is has-number moment on.0 uploads_law caller_law acknowledged_law))
-          (end_lemmas.end-entry files c party before served at asked_is number offset parts is has-number moment on.0 uploads_law caller_law acknowledged_law))
+          (sym (end_lemmas.row-is files c party before served at asked_is number offset parts is has-number moment on.0
+          uploads_law caller_law acknowledged_law))
+          (end_lemmas.end-entry files c party before served at asked_is number offset parts is has-number moment on.0
+          uploads_law caller_law acknowledged_law))
 
       takes-next : Does item
       takes-next =

@@ -1,5 +1,6 @@
 -- Which packet comes next to a session of an upload, and what the session has offered.
-use Rattle.std.proofs.Common.{◌≡◌, ◌⊎◌, inl, inr, ℕ, suc, ◌+◌, List, [], ◌∷◌, ◌++◌, length, map, drop, refl, ap, sym, ◌∙◌, subst, append_assoc}
+use Rattle.std.proofs.Common.{◌≡◌, ◌⊎◌, inl, inr, ℕ, suc, ◌+◌, List, [], ◌∷◌, ◌++◌, length, map, drop, refl, ap, sym}
+use Rattle.std.proofs.Common.{◌∙◌, subst, append_assoc}
 use Rattle.std.specs.Prelude.{Ok, ⊤}
 use Rattle.std.specs.List.{AllByRecursion}
 use Rattle.ftl0_packets.specs.Layout.{Item, PacketValue, data_end, data_part, ul_go_resp, upload_cmd}
@@ -12,15 +13,20 @@ use Rattle.air_attempt.specs.Laws.{ClientTookFront}
 use Rattle.air_attempt.specs.Lists.{Has, OneIs}
 use Rattle.air_attempt.specs.Said.{IsTaken, Took}
 use Rattle.air_attempt.specs.Sides.{ClientSide, IsGreeting, ServerSide, said_by_server}
-use Rattle.air_files.proofs.LiftLemmas.{one-left, one-right}
-use Rattle.air_files.specs.UploadDialogue.{GoesOnWith, IsOfferedBy, IsSendingFile, IsWord, Receiving, Sending, answered_in, asked, data_items, ended, received_items, receives, receiving_said, refused, sending_said, sends, silent, unasked}
+use Rattle.air_attempt.proofs.Offered.{one-left, one-right}
+use Rattle.air_files.specs.UploadDialogue.{GoesOnWith, IsOfferedBy, IsSendingFile, IsWord, Receiving, Sending}
+use Rattle.air_files.specs.UploadDialogue.{answered_in, asked, data_items, ended, received_items, receives}
+use Rattle.air_files.specs.UploadDialogue.{receiving_said, refused, sending_said, sends, silent, unasked}
+use Rattle.air_files.proofs.JobTook.{IsOffer, has-ok}
 
 -- ---- what was taken
 
 -- where no reply was lost each packet that was taken was answered
-pub answered-all : (entries : List SessionEntry) → AllByRecursion session.IsNotLost entries → answered_in entries ≡ session.items_in entries
+pub answered-all : (entries : List SessionEntry) → AllByRecursion session.IsNotLost entries
+    → answered_in entries ≡ session.items_in entries
 answered-all [] all = refl
-answered-all (session.took item row ∷ entries) all = ap (λ (items : List Item). item ∷ items) (answered-all entries all.1)
+answered-all (session.took item row ∷ entries) all =
+    ap (λ (items : List Item). item ∷ items) (answered-all entries all.1)
 answered-all (session.lost item row ∷ entries) all = absurd all.0
 answered-all (session.queued due ∷ entries) all = answered-all entries all.1
 
@@ -33,26 +39,36 @@ pub record SaidNext (items more : List Item) (item : Item) (said : List PacketVa
   pub behind : drop (suc (length items)) said ≡ rest
   pub others : map Ok rest ≡ more
 
-pub next-said : (items more : List Item) (item : Item) (said : List PacketValue) → map Ok said ≡ items ++ item ∷ more → SaidNext items more item said
+pub next-said : (items more : List Item) (item : Item) (said : List PacketValue) → map Ok said ≡ items ++ item ∷ more
+    → SaidNext items more item said
 next-said [] more item [] front = absurd (cc)
 next-said [] more item (packet ∷ said) front =
     record { packet = packet; is_item = cc; rest = said; here = refl; behind = refl; others = cc }
 next-said (first ∷ items) more item [] front = absurd (cc)
 next-said (first ∷ items) more item (packet ∷ said) front =
     let later = next-said items more item said (cc) in
-    record { packet = later.packet; is_item = later.is_item; rest = later.rest; here = later.here; behind = later.behind; others = later.others }
+    record {
+      packet = later.packet;
+      is_item = later.is_item;
+      rest = later.rest;
+      here = later.here;
+      behind = later.behind;
+      others = later.others;
+    }
 
 -- ---- what a client that sends has said
 
 -- a packet that goes on with a file is DATA or DATA_END
-pub goes-first : (file : List ℕ) (place : ℕ) (packet : PacketValue) (packets : List PacketValue) → GoesOnWith file place (packet ∷ packets)
+pub goes-first : (file : List ℕ) (place : ℕ) (packet : PacketValue) (packets : List PacketValue)
+    → GoesOnWith file place (packet ∷ packets)
     → ((octets : List ℕ) × (packet ≡ data_part octets)) ⊎ (packet ≡ data_end)
 goes-first file place (data_part octets) packets goes = inl (octets, refl)
 goes-first file place data_end packets goes = inr refl
 goes-first file place packet packets goes = absurd goes
 
 -- nothing goes on with a file behind DATA_END
-pub goes-past : (file : List ℕ) (place : ℕ) (packets : List PacketValue) (parts : List (List ℕ)) (item : Item) (more : List Item)
+pub goes-past : (file : List ℕ) (place : ℕ) (packets : List PacketValue) (parts : List (List ℕ)) (item : Item)
+    (more : List Item)
     → GoesOnWith file place packets → map Ok packets ≡ data_items parts ++ Ok data_end ∷ item ∷ more → ⊥
 goes-past file place [] [] item more goes front = cc
 goes-past file place [] (part ∷ parts) item more goes front = cc
@@ -70,52 +86,47 @@ goes-past file place (packet ∷ packets) (part ∷ parts) item more goes front 
 
 -- ---- what a client took of its session
 
-taken-item : (entries : List JobEntry) (packet : PacketValue) → OneIs (IsTaken (Ok packet)) entries → Has (job.items_in entries) (Ok packet)
+taken-item : (entries : List JobEntry) (packet : PacketValue) → OneIs (IsTaken (Ok packet)) entries
+    → Has (job.items_in entries) (Ok packet)
 taken-item [] packet one = one
 taken-item (job.took item row ∷ entries) packet (inl is) = inl is
 taken-item (job.lost item row ∷ entries) packet (inl is) = absurd is
 taken-item (job.passed item ∷ entries) packet (inl is) = absurd is
 taken-item (job.queued due ∷ entries) packet (inl is) = absurd is
-taken-item (entry ∷ entries) packet (inr one) = one-right (λ item. item ≡ Ok packet) (job.items_of entry) (job.items_in entries) (taken-item entries packet one)
-
-has-ok : (said : List PacketValue) (packet : PacketValue) → Has {X = Item} (map Ok said) (Ok packet) → Has said packet
-has-ok [] packet has = has
-has-ok (first ∷ said) packet (inl is) = inl (cc)
-has-ok (first ∷ said) packet (inr has) = inr (has-ok said packet has)
+taken-item (entry ∷ entries) packet (inr one) =
+    one-right (λ item. item ≡ Ok packet) (job.items_of entry) (job.items_in entries) (taken-item entries packet one)
 
 -- a packet that the client took is one that its session said
 pub took-said : (a : Attempt) (side : ServerSide) (packet : PacketValue) → ClientTookFront a side → Took a.client packet
     → Has (said_by_server side) packet
 took-said a side packet heard took =
-    let front = one-left (λ item. item ≡ Ok packet) (job.items_in a.client.entries) heard.0 (taken-item a.client.entries packet took) in
+    let front = one-left (λ item. item ≡ Ok packet) (job.items_in a.client.entries) heard.0
+    (taken-item a.client.entries packet took) in
     has-ok (said_by_server side) packet (subst (λ (items : List Item). Has items (Ok packet)) (sym heard.1) front)
 
 -- ---- what a session has offered
 
--- the number and offset that a session has offered
-abbrev pub IsOfferIn : Receiving → ℕ → ℕ → Type 0
-IsOfferIn unasked number offset = ⊥
-IsOfferIn (refused code) number offset = ⊥
-IsOfferIn (receives own from parts) number offset = (own ≡ number) × (from ≡ offset)
-IsOfferIn (ended own from parts word) number offset = (own ≡ number) × (from ≡ offset)
-
-no-greeting : (greeting packet : PacketValue) (number offset : ℕ) → IsGreeting greeting → greeting ≡ ul_go_resp number offset → ⊥
+no-greeting : (greeting packet : PacketValue) (number offset : ℕ) → IsGreeting greeting
+    → greeting ≡ ul_go_resp number offset → ⊥
 no-greeting greeting packet number offset greets is = let both = sym greets.2 ∙ is in cc
 
 no-word : (word : PacketValue) (number offset : ℕ) → IsWord word → word ≡ ul_go_resp number offset → ⊥
 no-word word number offset (inl acks) is = cc
 no-word word number offset (inr refuses) is = let both = sym refuses.1 ∙ is in cc
 
-pub offers-in : (known : ℕ) (stage : Receiving) (greeting : PacketValue) (number offset : ℕ) → IsGreeting greeting → IsOfferedBy known stage
-    → Has (greeting ∷ receiving_said stage) (ul_go_resp number offset) → IsOfferIn stage number offset
-offers-in known stage greeting number offset greets offered (inl is) = absurd (no-greeting greeting greeting number offset greets is)
+pub offers-in : (known : ℕ) (stage : Receiving) (greeting : PacketValue) (number offset : ℕ) → IsGreeting greeting
+    → IsOfferedBy known stage
+    → Has (greeting ∷ receiving_said stage) (ul_go_resp number offset) → IsOffer stage number offset
+offers-in known stage greeting number offset greets offered (inl is) =
+    absurd (no-greeting greeting greeting number offset greets is)
 offers-in known unasked greeting number offset greets offered (inr has) = has
 offers-in known (refused code) greeting number offset greets offered (inr (inl is)) = absurd (cc)
 offers-in known (refused code) greeting number offset greets offered (inr (inr has)) = has
 offers-in known (receives own from parts) greeting number offset greets offered (inr (inl is)) = (cc, cc)
 offers-in known (receives own from parts) greeting number offset greets offered (inr (inr has)) = absurd has
 offers-in known (ended own from parts word) greeting number offset greets offered (inr (inl is)) = (cc, cc)
-offers-in known (ended own from parts word) greeting number offset greets offered (inr (inr (inl is))) = absurd (no-word word number offset offered.1 is)
+offers-in known (ended own from parts word) greeting number offset greets offered (inr (inr (inl is))) =
+    absurd (no-word word number offset offered.1 is)
 offers-in known (ended own from parts word) greeting number offset greets offered (inr (inr (inr has))) = absurd has
 
 -- ---- the next packet, by how far the session has come
@@ -129,9 +140,10 @@ IsNextIn known file_length (ended number offset parts word) item = ⊥
 
 -- the client took an offer only where one was made
 abbrev pub TookOffered : ClientSide → Receiving → Type 0
-TookOffered side stage = (number offset : ℕ) → Took side (ul_go_resp number offset) → IsOfferIn stage number offset
+TookOffered side stage = (number offset : ℕ) → Took side (ul_go_resp number offset) → IsOffer stage number offset
 
-pub next-in : (known : ℕ) (file : List ℕ) (side : ClientSide) (stage : Receiving) (sending : Sending) (item : Item) (more : List Item)
+pub next-in : (known : ℕ) (file : List ℕ) (side : ClientSide) (stage : Receiving) (sending : Sending) (item : Item)
+    (more : List Item)
     → TookOffered side stage → IsSendingFile file side sending
     → map Ok (sending_said known (length file) sending) ≡ received_items known (length file) stage ++ item ∷ more
     → IsNextIn known (length file) stage item
@@ -142,7 +154,8 @@ next-in known file side (refused code) silent item more took sends_file front = 
 next-in known file side (refused code) asked item more took sends_file front =
     let none : [] ≡ item ∷ more = cc in
     cc
-next-in known file side (refused code) (sends number offset packets) item more took sends_file front = took number offset sends_file.0
+next-in known file side (refused code) (sends number offset packets) item more took sends_file front =
+    took number offset sends_file.0
 next-in known file side (receives own from parts) sending item more took sends_file front = tt
 next-in known file side (ended own from parts word) silent item more took sends_file front = cc
 next-in known file side (ended own from parts word) asked item more took sends_file front =

@@ -1,5 +1,6 @@
 -- A file that a session receives, by the upload of its attempt, and the packet that comes next of it.
-use Rattle.std.proofs.Common.{◌≡◌, ℕ, suc, ◌+◌, ◌≤◌, ◌<◌, List, [], ◌∷◌, ◌++◌, length, take, drop, refl, ap, sym, ◌∙◌, subst, arith, append-nil, length-append, slice_get, Bool, Option, None, Some}
+use Rattle.std.proofs.Common.{◌≡◌, ℕ, suc, ◌+◌, ◌≤◌, ◌<◌, List, [], ◌∷◌, ◌++◌, length, take, drop, refl, ap, sym, ◌∙◌}
+use Rattle.std.proofs.Common.{subst, arith, append-nil, length-append, slice_get, Bool, Option, None, Some}
 use Rattle.std.specs.List.{AllByRecursion}
 use Rattle.std.specs.Option.{option_and_then, option_map}
 use Rattle.std.proofs.lemmas.List.Concat.{flat_map-append}
@@ -16,20 +17,21 @@ use Rattle.air_attempt.specs.Attempt.{Attempt}
 use Rattle.air_attempt.specs.Party.{Asked, IsFileOf, Party, upload_of}
 use Rattle.air_attempt.specs.Said.{AsksUpload, Offers, octets_come, octets_of_item, octets_taken, said_behind_server}
 use Rattle.air_attempt.specs.Sides.{ServerSide, said_by_client}
+use Rattle.air_attempt.proofs.Offered.{each-at, has-at}
 use Rattle.air_files.specs.Facts.{Receives}
 use Rattle.air_files.specs.Laws.{IsServed}
 use Rattle.air_files.specs.UploadDialogue.{GoesOnWith, IsReceivingState, receives}
 use Rattle.air_files.specs.Uploads.{IsGoodFile}
 use Rattle.air_files.proofs.ApartLemmas.{ReceiveFact}
 use Rattle.air_files.proofs.EntryLemmas.{items-more, with_entry}
-use Rattle.air_files.proofs.LiftLemmas.{each-at, has-at}
 use Rattle.air_files.proofs.SideLemmas.{newest-side}
 use Rattle.air_files.proofs.UploadNext.{SaidNext}
 use Rattle.air_files.proofs.UploadServed.{Stage, asks-upload, file-of-upload, serves-upload}
 
 -- The session receives this file under this number: what is held and what waits is its front, up to this place, and what
 -- the client has said behind goes on with it.
-pub record TakesFile (store : Store) (me : CallSign) (a : Attempt) (side : ServerSide) (file : List ℕ) (number place : ℕ) (rest : List ℕ)
+pub record TakesFile (store : Store) (me : CallSign) (a : Attempt) (side : ServerSide) (file : List ℕ)
+    (number place : ℕ) (rest : List ℕ)
     : Type 0 where
   pub entry : Entry
   pub is_entry : entry_of store number ≡ Some entry
@@ -45,14 +47,16 @@ pub record TakesFile (store : Store) (me : CallSign) (a : Attempt) (side : Serve
   pub within : place ≤ length file
   pub goes_on : GoesOnWith file place (said_behind_server side a.client)
 
-same-upload : (a : Attempt) (task known other that : ℕ) (file those : List ℕ) → AsksUpload a task known file → AsksUpload a other that those
+same-upload : (a : Attempt) (task known other that : ℕ) (file those : List ℕ) → AsksUpload a task known file
+    → AsksUpload a other that those
     → those ≡ file
 same-upload a task known other that file those one two =
     let both : work.Upload (new_upload other that those) ≡ work.Upload (new_upload task known file) = sym two ∙ one in
     let uploads : new_upload other that those ≡ new_upload task known file = cc in
     ap (λ (at : Upload). at.file) uploads
 
-takes-file : (store : Store) (party : Party) (a : Attempt) (side : ServerSide) (file : List ℕ) (number : ℕ) (rest : List ℕ)
+takes-file : (store : Store) (party : Party) (a : Attempt) (side : ServerSide) (file : List ℕ) (number : ℕ)
+    (rest : List ℕ)
     → (r : Receives store party a side number rest) → r.file ≡ file
     → TakesFile store party.client.me a side file number (r.offset + octets_come side) rest
 takes-file store party a side file number rest r same =
@@ -74,23 +78,27 @@ takes-file store party a side file number rest r same =
     })
 
 -- the file of a task is one of those that were asked
-pub good-file : (files : List Asked) (party : Party) (task : ℕ) (file : List ℕ) → AllByRecursion (λ asked. IsGoodFile asked.file) files
+pub good-file : (files : List Asked) (party : Party) (task : ℕ) (file : List ℕ)
+    → AllByRecursion (λ asked. IsGoodFile asked.file) files
     → IsFileOf files party task file → IsGoodFile file
 good-file files party task file good is = by (upload_of party task) refl is
   where
-    at : (place : ℕ) (o : Option Asked) → slice_get files place ≡ o → option_map (λ (asked : Asked). asked.file) o ≡ Some file → IsGoodFile file
+    at : (place : ℕ) (o : Option Asked) → slice_get files place ≡ o
+        → option_map (λ (asked : Asked). asked.file) o ≡ Some file → IsGoodFile file
     at place None there is_file = absurd (cc)
     at place (Some asked) there is_file =
         let same : asked.file ≡ file = cc in
         subst IsGoodFile same (each-at (λ it. IsGoodFile it.file) files asked good (has-at files place asked there))
 
-    by : (o : Option ℕ) → upload_of party task ≡ o → option_map (λ (asked : Asked). asked.file) (option_and_then (slice_get files) o) ≡ Some file → IsGoodFile file
+    by : (o : Option ℕ) → upload_of party task ≡ o
+        → option_map (λ (asked : Asked). asked.file) (option_and_then (slice_get files) o) ≡ Some file → IsGoodFile file
     by None there is_file = absurd (cc)
     by (Some place) there is_file = at place (slice_get files place) refl is_file
 
 -- ---- how far it is behind one more packet
 
-module _ (a : Attempt) (side : ServerSide) (item : Item) (x : SessionEntry) (takes : session.items_of x ≡ item ∷ []) (state : State) (up : Bool) where
+module _ (a : Attempt) (side : ServerSide) (item : Item) (x : SessionEntry) (takes : session.items_of x ≡ item ∷ [])
+    (state : State) (up : Bool) where
   items-then : session.items_in (with_entry side x state up).entries ≡ session.items_in side.entries ++ item ∷ []
   items-then = items-more side.entries x ∙ ap (λ (items : List Item). session.items_in side.entries ++ items) takes
 
@@ -101,7 +109,8 @@ module _ (a : Attempt) (side : ServerSide) (item : Item) (x : SessionEntry) (tak
       ∙ length-append (octets_taken (session.items_in side.entries)) (octets_of_item item ++ [])
       ∙ ap (λ (octets : List ℕ). octets_come side + length octets) (append-nil (octets_of_item item))
 
-  pub behind-then : (more : List Item) (said : SaidNext (session.items_in side.entries) more item (said_by_client a.client))
+  pub behind-then : (more : List Item)
+      (said : SaidNext (session.items_in side.entries) more item (said_by_client a.client))
       → said_behind_server (with_entry side x state up) a.client ≡ said.rest
   behind-then more said =
       let count : length (session.items_in side.entries ++ item ∷ []) ≡ suc (length (session.items_in side.entries)) =
@@ -124,7 +133,8 @@ module _ (files : List Asked) (c : ℕ) (party : Party) (before : Session) (serv
 
   pub received : Receives before.store party served.attempt served.side number waiting
   received =
-      newest-side files c party before served (ReceiveFact before.store party) served.facts.sessions.receives number waiting served.is_up receiving-state.1
+      newest-side files c party before served (ReceiveFact before.store party) served.facts.sessions.receives number
+      waiting served.is_up receiving-state.1
 
   abbrev pub place_come : ℕ
   place_come = received.offset + octets_come served.side
@@ -136,4 +146,5 @@ module _ (files : List Asked) (c : ℕ) (party : Party) (before : Session) (serv
       (asks-upload files c party before served at asked_is) received.asks)
 
   pub is-good : IsGoodFile at.file
-  is-good = good-file files party at.task at.file served.stands.good (file-of-upload files c party before served at asked_is)
+  is-good =
+      good-file files party at.task at.file served.stands.good (file-of-upload files c party before served at asked_is)

@@ -1,5 +1,6 @@
 -- A session of an upload with the packet that comes next, and whose the file is that it receives.
-use Rattle.std.proofs.Common.{◌≡◌, ℕ, suc, zero, ◌≤◌, List, [], ◌∷◌, ◌++◌, length, map, drop, refl, ap, sym, ◌∙◌, subst, arith, append_assoc}
+use Rattle.std.proofs.Common.{◌≡◌, ℕ, suc, zero, ◌≤◌, List, [], ◌∷◌, ◌++◌, length, map, drop, refl, ap, sym, ◌∙◌, subst}
+use Rattle.std.proofs.Common.{arith, append_assoc}
 use Rattle.std.specs.Prelude.{Ok}
 use Rattle.ftl0_packets.specs.Layout.{Item, PacketValue, ul_go_resp, upload_cmd}
 use Rattle.ftl0_session.specs.Run.{Session}
@@ -19,10 +20,14 @@ use Rattle.air_files.specs.Dialogue.{Says, Serves}
 use Rattle.air_files.specs.Facts.{GoesOnWithTask, HasNumber, NotesGrant}
 use Rattle.air_files.specs.Laws.{IsServed}
 use Rattle.air_files.specs.Tasks.{IsWork}
-use Rattle.air_files.specs.UploadDialogue.{IsOfferFor, IsOfferedBy, IsSendingFile, Receiving, SaysUpload, Sending, ServesUpload, asked, data_items, received_items, receives, sending_said, sends, silent, unasked}
+use Rattle.air_files.specs.UploadDialogue.{IsOfferFor, IsOfferedBy, IsSendingFile, Receiving, SaysUpload, Sending}
+use Rattle.air_files.specs.UploadDialogue.{ServesUpload, asked, data_items, received_items, receives, sending_said}
+use Rattle.air_files.specs.UploadDialogue.{sends, silent, unasked}
 use Rattle.air_files.proofs.EntryLemmas.{items-more}
 use Rattle.air_files.proofs.SideLemmas.{newest-client, newest-side}
-use Rattle.air_files.proofs.UploadNext.{IsNextIn, IsOfferIn, SaidNext, TookOffered, answered-all, next-in, next-said, offers-in, took-said}
+use Rattle.air_files.proofs.UploadNext.{IsNextIn, SaidNext, TookOffered, answered-all, next-in, next-said, offers-in}
+use Rattle.air_files.proofs.UploadNext.{took-said}
+use Rattle.air_files.proofs.JobTook.{IsOffer}
 
 -- ---- the exchange so far
 
@@ -31,7 +36,8 @@ module _ (files : List Asked) (c : ℕ) (party : Party) (before : Session) (serv
   pub serves-upload : ServesUpload at.known at.file served.side
   serves-upload =
       subst (λ (doing : Work). Serves before.store doing served.side) asked_is
-      (newest-side files c party before served (λ a side. Serves before.store a.client.asked side) served.facts.sessions.serves)
+      (newest-side files c party before served
+      (λ a side. Serves before.store a.client.asked side) served.facts.sessions.serves)
 
   pub says-upload : SaysUpload at.known at.file served.attempt.client
   says-upload =
@@ -43,12 +49,15 @@ module _ (files : List Asked) (c : ℕ) (party : Party) (before : Session) (serv
   asks-upload = asked_is ∙ ap work.Upload (subst IsNotBegun asked_is served.begun)
 
   pub file-of-upload : IsFileOf files party at.task at.file
-  file-of-upload = subst (IsWork files party) asked_is (newest-client files c party before served (λ a. IsWork files party a.client.asked) served.stands.works)
+  file-of-upload =
+      subst (IsWork files party) asked_is
+      (newest-client files c party before served (λ a. IsWork files party a.client.asked) served.stands.works)
 
   pub took-offered : TookOffered served.attempt.client serves-upload.stage
   took-offered number offset took =
       offers-in at.known serves-upload.stage served.side.greeting number offset served.greets serves-upload.offered
-      (subst (λ (said : List PacketValue). Has (served.side.greeting ∷ said) (ul_go_resp number offset)) serves-upload.said
+      (subst (λ (said : List PacketValue). Has (served.side.greeting ∷ said) (ul_go_resp number offset))
+      serves-upload.said
       (took-said served.attempt served.side (ul_go_resp number offset) served.heard took))
 
   -- what was taken
@@ -69,7 +78,8 @@ module _ (files : List Asked) (c : ℕ) (party : Party) (before : Session) (serv
       → ServerTookFront served.attempt (record served.side { entries = served.side.entries ++ x ∷ [] })
       → IsNextIn at.known (length at.file) serves-upload.stage item
   upload-next x item is front =
-      next-in at.known at.file served.attempt.client serves-upload.stage says-upload.stage item front.0 took-offered says-upload.sends_file
+      next-in at.known at.file served.attempt.client serves-upload.stage says-upload.stage item front.0 took-offered
+      says-upload.sends_file
       (ap (λ (said : List PacketValue). map Ok said) (sym says-upload.said) ∙ front-next x item is front
       ∙ ap (λ (items : List Item). items ++ item ∷ front.0) items-taken)
 
@@ -77,28 +87,35 @@ module _ (files : List Asked) (c : ℕ) (party : Party) (before : Session) (serv
       → (front : ServerTookFront served.attempt (record served.side { entries = served.side.entries ++ x ∷ [] }))
       → SaidNext (session.items_in served.side.entries) front.0 item (said_by_client served.attempt.client)
   upload-said x item is front =
-      next-said (session.items_in served.side.entries) front.0 item (said_by_client served.attempt.client) (front-next x item is front)
+      next-said (session.items_in served.side.entries) front.0 item (said_by_client served.attempt.client)
+      (front-next x item is front)
 
 -- a client to which nothing was offered has said nothing behind UPLOAD_CMD
-nothing-behind : (known : ℕ) (file : List ℕ) (side : ClientSide) (sending : Sending) → TookOffered side unasked → IsSendingFile file side sending
+nothing-behind : (known : ℕ) (file : List ℕ) (side : ClientSide) (sending : Sending) → TookOffered side unasked
+    → IsSendingFile file side sending
     → drop 1 (sending_said known (length file) sending) ≡ []
 nothing-behind known file side silent took sends_file = refl
 nothing-behind known file side asked took sends_file = refl
 nothing-behind known file side (sends number offset packets) took sends_file = absurd (took number offset sends_file.0)
 
 -- one that has said something behind UPLOAD_CMD took an offer
-took-some : (known : ℕ) (file : List ℕ) (side : ClientSide) (sending : Sending) (parts : List (List ℕ)) (item : Item) (more : List Item)
+took-some : (known : ℕ) (file : List ℕ) (side : ClientSide) (sending : Sending) (parts : List (List ℕ)) (item : Item)
+    (more : List Item)
     → IsSendingFile file side sending
-    → map Ok (sending_said known (length file) sending) ≡ (Ok (upload_cmd known (length file)) ∷ data_items parts) ++ item ∷ more
+    → map Ok (sending_said known (length file) sending) ≡ (Ok
+    (upload_cmd known (length file)) ∷ data_items parts) ++ item ∷ more
     → (number : ℕ) × (offset : ℕ) × Took side (ul_go_resp number offset)
 took-some known file side silent parts item more sends_file front = absurd (cc)
 took-some known file side asked [] item more sends_file front = absurd (cc)
 took-some known file side asked (part ∷ parts) item more sends_file front = absurd (cc)
-took-some known file side (sends number offset packets) parts item more sends_file front = (number, offset, sends_file.0)
+took-some known file side (sends number offset packets) parts item more sends_file front =
+    (number, offset, sends_file.0)
 
 -- the task has the number that was offered, once the client took the offer
-number-noted : (known task number offset : ℕ) (file : List ℕ) (party : Party) (a : Attempt) → NotesGrant party a → GoesOnWithTask party a
-    → AsksUpload a task known file → IsOfferFor known number offset → Took a.client (ul_go_resp number offset) → HasNumber party task number
+number-noted : (known task number offset : ℕ) (file : List ℕ) (party : Party) (a : Attempt) → NotesGrant party a
+    → GoesOnWithTask party a
+    → AsksUpload a task known file → IsOfferFor known number offset → Took a.client (ul_go_resp number offset)
+    → HasNumber party task number
 number-noted zero task number offset file party a noted goes_on asks offer took =
     noted task number file asks (subst (λ (o : ℕ). Took a.client (ul_go_resp number o)) (offer.new refl) took)
 number-noted (suc known) task number offset file party a noted goes_on asks offer took =
@@ -115,23 +132,28 @@ module _ (files : List Asked) (c : ℕ) (party : Party) (before : Session) (serv
       let says = says-upload files c party before served at asked_is in
       ap (λ (said : List PacketValue). drop 1 said) says.said
       ∙ nothing-behind at.known at.file served.attempt.client says.stage
-      (subst (TookOffered served.attempt.client) is (took-offered files c party before served at asked_is)) says.sends_file
+      (subst (TookOffered served.attempt.client) is (took-offered files c party before served at asked_is))
+      says.sends_file
 
   -- while a file is received the task has its number
-  pub received-number : (number offset : ℕ) (parts : List (List ℕ)) → Stage (receives number offset parts) → (x : SessionEntry) (item : Item)
-      → session.items_of x ≡ item ∷ [] → ServerTookFront served.attempt (record served.side { entries = served.side.entries ++ x ∷ [] })
+  pub received-number : (number offset : ℕ) (parts : List (List ℕ)) → Stage (receives number offset parts)
+      → (x : SessionEntry) (item : Item)
+      → session.items_of x ≡ item ∷ [] → ServerTookFront served.attempt
+      (record served.side { entries = served.side.entries ++ x ∷ [] })
       → HasNumber party at.task number
   received-number number offset parts is x item takes front =
       let says = says-upload files c party before served at asked_is in
       let serves = serves-upload files c party before served at asked_is in
       let whole : map Ok (sending_said at.known (length at.file) says.stage)
       ≡ (Ok (upload_cmd at.known (length at.file)) ∷ data_items parts) ++ item ∷ front.0 =
-      ap (λ (said : List PacketValue). map Ok said) (sym says.said) ∙ front-next files c party before served at asked_is x item takes front
+      ap (λ (said : List PacketValue). map Ok said) (sym says.said)
+      ∙ front-next files c party before served at asked_is x item takes front
       ∙ ap (λ (items : List Item). items ++ item ∷ front.0)
       (items-taken files c party before served at asked_is ∙ ap (received_items at.known (length at.file)) is) in
       let took = took-some at.known at.file served.attempt.client says.stage parts item front.0 says.sends_file whole in
-      let same : IsOfferIn (receives number offset parts) took.0 took.1 =
-      subst (TookOffered served.attempt.client) is (took-offered files c party before served at asked_is) took.0 took.1 took.2 in
+      let same : IsOffer (receives number offset parts) took.0 took.1 =
+      subst (TookOffered served.attempt.client) is
+      (took-offered files c party before served at asked_is) took.0 took.1 took.2 in
       let offer : IsOfferFor at.known number offset = subst (IsOfferedBy at.known) is serves.offered in
       let mine : Took served.attempt.client (ul_go_resp number offset) =
       subst (λ (o : ℕ). Took served.attempt.client (ul_go_resp number o)) (sym same.1)

@@ -1,5 +1,5 @@
--- Laws of what one client's tasks, attempts and files that it got have of the store: what each thing that a session or a
--- job does keeps of it, between its commands too.
+-- Laws of what one client's tasks, attempts and files that it got have of the store: what each thing that a session or
+-- a job does keeps of it, between its commands too.
 use Rattle.std.specs.Prelude.{◌≡◌, ◌≢◌, ◌⊎◌, ℕ, ◌<◌, ◌≤◌, List, [], ◌∷◌, ◌++◌, length, Bool, true, Option, None, Some}
 use Rattle.std.specs.Prelude.{slice_get, ⊤}
 use Rattle.std.specs.List.{AllByRecursion}
@@ -44,7 +44,8 @@ use Rattle.air_files.specs.SoundStore.{IsSoundStore}
 use Rattle.air_files.specs.Tasks.{AreTasks, IsWork, StandsBy}
 use Rattle.air_files.specs.Uploads.{IsGoodFile}
 
--- What stands of a client beside its facts: its call; the files of all uploads; its tasks, and the works of its attempts.
+-- What stands of a client beside its facts: its call; the files of all uploads; its tasks, and the works of its
+-- attempts.
 pub record Stands (files : List Asked) (c : ℕ) (party : Party) : Type 0 where
   pub call : IsCall party.client.me
   pub good : AllByRecursion (λ asked. IsGoodFile asked.file) files
@@ -244,8 +245,8 @@ JobLawOf IsKind AreSuch =
 abbrev pub JobLaw : Type 0
 JobLaw = JobLawOf (λ asked. ⊤) (λ entries. ⊤)
 
--- Entries of a job leave the client's tasks as tasks of its uploads, also where it starts again from its notes after the
--- first of their commands.
+-- Entries of a job leave the client's tasks as tasks of its uploads, also where it starts again from its notes after
+-- the first of their commands.
 abbrev pub JobTasksLaw : Type 0
 JobTasksLaw =
     (files : List Asked) (c : ℕ) (party : Party) (entries : List JobEntry) (lists_now : Lists) (before now : JobState)
@@ -334,7 +335,8 @@ pub record IsGreeted (side : ServerSide) : Type 0 where
 -- The facts of a client of which nothing was asked; behind an attempt that begins; behind a session that does; with a
 -- further upload, of whichever client; and with its task.
 pub record BeginLaw : Type 0 where
-  pub first : (server me : CallSign) (w : Window) (limit : ℕ) → HasFacts (empty_store limit) [] (first_party server w me)
+  pub first : (server me : CallSign) (w : Window) (limit : ℕ)
+      → HasFacts (empty_store limit) [] (first_party server w me)
   pub called :
       (store : Store) (files : List Asked) (party : Party) (a : Attempt) → HasFacts store files party → IsBeginning a
       → GoesOnWithTask party a

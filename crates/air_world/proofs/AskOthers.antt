@@ -1,7 +1,6 @@
 -- A list and a download may be asked of a client.
 use Rattle.std.proofs.Common.{◌≡◌, ℕ, ◌≤◌, List, [], ◌∷◌, length, Some, refl, sym, subst, arith, append-nil}
 use Rattle.std.proofs.Common.{length-append}
-use Rattle.std.specs.List.{AllByRecursion}
 use Rattle.file_store.specs.IsStore.{FitsLength}
 use Rattle.file_store.specs.Limits.{longest_file}
 use Rattle.file_store.specs.Store.{Holding, Store, complete, entry_of, partial}
@@ -13,16 +12,15 @@ use Rattle.ftl0_job.specs.JobState.{GoWith, IsNotBegun}
 use Rattle.ftl0_job.specs.Upload.{new_upload}
 use Rattle.ftl0_job.specs.declared.work.Work.{Work}
 use Rattle.ftl0_job.specs.declared.work.Work.TheVariants as work
-use Rattle.air_attempt.specs.Attempt.{Attempt}
-use Rattle.air_attempt.specs.Party.{Party}
 use Rattle.air_schedule.specs.Schedule.{AreTokens, IsFileNumber}
-use Rattle.air_files.specs.Facts.{AreFirstIfAny, HasFacts, HasNumber, got}
+use Rattle.air_attempt.specs.Party.{Party}
+use Rattle.air_files.specs.Facts.{AreFirstIfAny, HasNumber, got}
 use Rattle.air_files.specs.SoundStore.{IsSoundStore}
-use Rattle.air_files.specs.Tasks.{AreTasks, IsWork}
+use Rattle.air_files.specs.Tasks.{IsWork}
 use Rattle.air_files.proofs.Offered.{complete-entry}
 use Rattle.air_world.specs.Sound.{IsParty, Sound}
 use Rattle.air_world.specs.World.{PartyAt, World}
-use Rattle.air_world.proofs.Asked.{MayBeAsked}
+use Rattle.air_world.proofs.Asked.{MayBeAsked, same-base}
 
 -- what a work goes on with is a task of the client that has its number
 abbrev pub GoesOnWell : Party → Work → Type 0
@@ -35,21 +33,11 @@ pub ask-again : (old : World) (c : ℕ) (party : Party) (wanted : Work) → Soun
     → IsNotBegun wanted → GoWith party.client.lists wanted → GoesOnWell party wanted → IsWork old.files party wanted
     → MayBeAsked old c party party [] wanted
 ask-again old c party wanted sound is begun go_with goes_on work_is =
-    let it : IsParty old c party = sound.parties c party is in
     let same = sym (append-nil old.files) in
     record {
-      me = refl;
-      server = refl;
-      window = refl;
+      base_is = same-base old c party sound is;
       link = refl;
       stray = refl;
-      attempts = refl;
-      facts = subst (λ files. HasFacts old.server.store files party) same it.facts;
-      tasks = subst (λ files. AreTasks files c party) same it.tasks;
-      works =
-          subst (λ files. AllByRecursion (λ (a : Attempt). IsWork files party a.client.asked) party.attempts) same
-          it.works;
-      good = tt;
       begun = begun;
       go_with = go_with;
       goes_on = goes_on;
@@ -88,8 +76,8 @@ short-got store number (octet ∷ octets) sound first =
     let it = first (λ none. absurd (cc)) in
     let short = short-file store number it.0 sound it.1 in
     let whole : length (octet ∷ octets) ≤ length it.0 =
-        subst (λ file. length (octet ∷ octets) ≤ length file) (sym it.2.1)
-        (omega (arith, length-append (octet ∷ octets) it.2.0)) in
+    subst (λ file. length (octet ∷ octets) ≤ length file) (sym it.2.1)
+    (omega (arith, length-append (octet ∷ octets) it.2.0)) in
     omega (arith, short, whole)
 
 -- the file of this number

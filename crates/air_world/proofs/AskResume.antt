@@ -1,6 +1,6 @@
 -- The last unfinished upload of a client may be asked again.
-use Rattle.std.proofs.Common.{◌≡◌, ℕ, ◌-◌, ◌<◌, List, [], length, reverse, get_or, refl, sym, ap, ◌∙◌, subst}
-use Rattle.std.proofs.Common.{arith, Bool, true, Option, None, Some}
+use Rattle.std.proofs.Common.{◌≡◌, ℕ, ◌-◌, ◌<◌, List, [], length, reverse, get_or, refl, sym, ap, ◌∙◌, subst, arith}
+use Rattle.std.proofs.Common.{Bool, true, Option, None, Some}
 use Rattle.std.specs.List.{position}
 use Rattle.std.specs.Option.{option_map}
 use Rattle.std.proofs.lemmas.List.{get_or-reverse, length-reverse}
@@ -8,9 +8,9 @@ use Rattle.std.proofs.lemmas.List.Quantifiers.{position-Some}
 use Rattle.std.proofs.lemmas.Option.{get_or_from_slice_get, same_Some}
 use Rattle.client_notes.specs.Command.{is_going}
 use Rattle.client_notes.specs.Notes.{Lists, Task, task_count, task_of}
-use Rattle.client_notes.proofs.Offered.{task-at}
 use Rattle.client_notes.specs.declared.progress.Progress.{Progress}
 use Rattle.client_notes.specs.declared.progress.Progress.TheVariants as progress
+use Rattle.client_notes.proofs.Offered.{task-at}
 use Rattle.ftl0_job.specs.Upload.{Upload, new_upload}
 use Rattle.ftl0_job.specs.declared.work.Work.TheVariants as work
 use Rattle.air_attempt.specs.Party.{Asked, IsFileOf, Party}
@@ -42,8 +42,8 @@ last-going lists task entry last found = by (position unfinished (reverse lists.
     there place same below passes =
         let before : length lists.tasks - 1 - place ≡ task - 1 = omega (arith, same, below) in
         let is : get_or (reverse lists.tasks) place entry ≡ entry =
-            get_or-reverse lists.tasks place entry below ∙ ap (λ i. get_or lists.tasks i entry) before
-            ∙ get_or_from_slice_get lists.tasks (task - 1) entry entry (task-at lists task entry found) in
+        get_or-reverse lists.tasks place entry below ∙ ap (λ i. get_or lists.tasks i entry) before
+        ∙ get_or_from_slice_get lists.tasks (task - 1) entry entry (task-at lists task entry found) in
         going-is entry.progress (sym (ap unfinished is) ∙ passes)
 
     by : (o : Option ℕ) → position unfinished (reverse lists.tasks) ≡ o

@@ -1,35 +1,32 @@
 -- A new file may be asked of a client: it has its task then.
 use Rattle.std.proofs.Common.{◌≡◌, ◌⊎◌, ⊎_elim, ℕ, zero, suc, ◌+◌, ◌-◌, ◌==◌, ◌<◌, ◌≤◌, false, List, [], ◌∷◌, ◌++◌}
-use Rattle.std.proofs.Common.{length, refl, sym, ap}
-use Rattle.std.proofs.Common.{◌∙◌, subst, arith, Option, None, Some, inl, inr, length-append}
+use Rattle.std.proofs.Common.{length, refl, sym, ap, ◌∙◌, subst, arith, Option, None, Some, inl, inr, length-append}
+use Rattle.sha2.specs.Sha256.{sha256}
 use Rattle.std.specs.Option.{option_and_then, option_map}
 use Rattle.std.specs.Prelude.{slice_get}
 use Rattle.std.proofs.lemmas.Bool.Decides.{eqb_tells}
 use Rattle.std.proofs.lemmas.Option.{same_Some}
 use Rattle.client_notes.specs.Answers.{fresh_task}
-use Rattle.client_notes.specs.Command.{new_task}
 use Rattle.client_notes.specs.Laws.{after_all}
 use Rattle.client_notes.specs.Limits.{most_tasks}
 use Rattle.client_notes.specs.Notes.{Task, task_count, task_of}
-use Rattle.client_notes.specs.declared.progress.Progress.TheVariants as progress
 use Rattle.client_notes.proofs.Offered.{task-at}
-use Rattle.sha2.specs.Sha256.{sha256}
 use Rattle.ftl0_job.specs.Upload.{Upload, new_upload}
 use Rattle.ftl0_job.specs.declared.work.Work.{Work}
 use Rattle.ftl0_job.specs.declared.work.Work.TheVariants as work
 use Rattle.air_attempt.specs.Attempt.{Attempt}
 use Rattle.air_attempt.specs.Party.{Asked, IsFileOf, Party, upload_of}
+use Rattle.air_attempt.proofs.Offered.{each-weaker}
 use Rattle.air_files.specs.Laws.{BeginLaw}
 use Rattle.air_files.specs.Tasks.{AreTasks, IsTaskFor, IsWork}
 use Rattle.air_files.specs.Uploads.{IsGoodFile}
-use Rattle.air_files.proofs.Offered.{file-more, place-more, task-some}
+use Rattle.air_files.proofs.Offered.{file-more, place-more, task-some, task_for}
 use Rattle.air_world.specs.Events.{next_upload}
 use Rattle.air_world.specs.Sound.{Sound}
 use Rattle.air_world.specs.World.{PartyAt, World}
 use Rattle.air_world.proofs.Asked.{MayBeAsked}
 use Rattle.air_world.proofs.GoodFile.{good-upload}
 use Rattle.air_world.proofs.Served.{stands}
-use Rattle.air_world.proofs.WorldLists.{all-map}
 
 -- ---- one more at the end of a list
 
@@ -85,10 +82,6 @@ tasked world it party =
       uploads = party.uploads ++ length world.files ∷ [];
     }
 
--- the task that is noted
-abbrev task-for : Party → Asked → Task
-task-for party it = new_task party.client.server party.client.me it.name (length it.file) (sha256 it.file)
-
 module _ (old : World) (c : ℕ) (party : Party) (it : Asked) (sound : Sound old) (is : PartyAt old c party)
     (whose : it.client ≡ c) where
   abbrev base : Party
@@ -112,13 +105,13 @@ module _ (old : World) (c : ℕ) (party : Party) (it : Asked) (sound : Sound old
         (place-new party.uploads (length old.files)))
   ]
 
-  last-task : task_of base.client.lists last ≡ Some (task-for party it)
+  last-task : task_of base.client.lists last ≡ Some (task_for party it)
   last-task = elim (eqb_tells last 0) [
     | inl w ↦ absurd (let none = w.1 in omega arith)
     | inr w ↦ rw w.0
-        (subst (λ place. slice_get base.client.lists.tasks place ≡ Some (task-for party it))
+        (subst (λ place. slice_get base.client.lists.tasks place ≡ Some (task_for party it))
         (let same : length party.client.lists.tasks ≡ last - 1 = omega arith in same)
-        (place-new party.client.lists.tasks (task-for party it)))
+        (place-new party.client.lists.tasks (task_for party it)))
   ]
 
   last-file : IsFileOf files base last it.file
@@ -127,35 +120,35 @@ module _ (old : World) (c : ℕ) (party : Party) (it : Asked) (sound : Sound old
       ∙ ap (option_map (λ (asked : Asked). asked.file)) (place-new old.files it)
 
   -- the new task is such as it should be
-  new-task-for : IsTaskFor files c base last (task-for party it)
+  new-task-for : IsTaskFor files c base last (task_for party it)
   new-task-for = record {
-      upload = length old.files;
-      is_upload = last-upload;
-      asked = it;
-      is_asked = place-new old.files it;
-      whose = whose;
-      server_is = refl;
-      caller_is = refl;
-      name_is = refl;
-      length_is = refl;
-      digest_is = refl;
-    }
+    upload = length old.files;
+    is_upload = last-upload;
+    asked = it;
+    is_asked = place-new old.files it;
+    whose = whose;
+    server_is = refl;
+    caller_is = refl;
+    name_is = refl;
+    length_is = refl;
+    digest_is = refl;
+  }
 
   -- and a task that was there is so still
   old-task-for : (task : ℕ) (entry : Task) → IsTaskFor old.files c party task entry
       → IsTaskFor files c base task entry
   old-task-for task entry was = record {
-      upload = was.upload;
-      is_upload = upload-more party base (length old.files ∷ []) task was.upload refl was.is_upload;
-      asked = was.asked;
-      is_asked = place-more old.files (it ∷ []) was.upload was.asked was.is_asked;
-      whose = was.whose;
-      server_is = was.server_is;
-      caller_is = was.caller_is;
-      name_is = was.name_is;
-      length_is = was.length_is;
-      digest_is = was.digest_is;
-    }
+    upload = was.upload;
+    is_upload = upload-more party base (length old.files ∷ []) task was.upload refl was.is_upload;
+    asked = was.asked;
+    is_asked = place-more old.files (it ∷ []) was.upload was.asked was.is_asked;
+    whose = was.whose;
+    server_is = was.server_is;
+    caller_is = was.caller_is;
+    name_is = was.name_is;
+    length_is = was.length_is;
+    digest_is = was.digest_is;
+  }
 
   each-task : (task : ℕ) (entry : Task) → task_of base.client.lists task ≡ Some entry
       → IsTaskFor files c base task entry
@@ -164,12 +157,12 @@ module _ (old : World) (c : ℕ) (party : Party) (it : Asked) (sound : Sound old
       ⊎_elim
       (λ (was : slice_get party.client.lists.tasks (task - 1) ≡ Some entry).
       old-task-for task entry (tasks.each task entry (rw some was)))
-      (λ (new : (task - 1 ≡ length party.client.lists.tasks) × (entry ≡ task-for party it)).
+      (λ (new : (task - 1 ≡ length party.client.lists.tasks) × (entry ≡ task_for party it)).
       by some new.0 new.1)
-      (place-before party.client.lists.tasks (task-for party it) (task - 1) entry
+      (place-before party.client.lists.tasks (task_for party it) (task - 1) entry
       (task-at base.client.lists task entry found))
     where
-      by : (task == 0) ≡ false → task - 1 ≡ length party.client.lists.tasks → entry ≡ task-for party it
+      by : (task == 0) ≡ false → task - 1 ≡ length party.client.lists.tasks → entry ≡ task_for party it
           → IsTaskFor files c base task entry
       by some place entry_is = elim (eqb_tells task 0) [
         | inl w ↦ absurd (let is = w.0 in let x : ⊥ = cc in x)
@@ -182,15 +175,15 @@ module _ (old : World) (c : ℕ) (party : Party) (it : Asked) (sound : Sound old
 
   tasks-now : AreTasks files c base
   tasks-now = record {
-      each = each-task;
-      as_many =
-          let many = tasks.as_many in
-          omega (
-            arith,
-            length-append party.uploads (length old.files ∷ []),
-            length-append party.client.lists.tasks (task-for party it ∷ []),
-          );
-    }
+    each = each-task;
+    as_many =
+        let many = tasks.as_many in
+        omega (
+          arith,
+          length-append party.uploads (length old.files ∷ []),
+          length-append party.client.lists.tasks (task_for party it ∷ []),
+        );
+  }
 
   work-now : (asked : Work) → IsWork old.files party asked → IsWork files base asked
   work-now (work.Upload at) work_is =
@@ -203,25 +196,28 @@ module _ (old : World) (c : ℕ) (party : Party) (it : Asked) (sound : Sound old
       → MayBeAsked old c party base (it ∷ []) (work.Upload (new_upload last 0 it.file))
   ask-file begin few good =
       record {
-        me = refl;
-        server = refl;
-        window = refl;
+        base_is =
+            record {
+              me = refl;
+              server = refl;
+              window = refl;
+              attempts = refl;
+              facts =
+                  begin.begun old.server.store old.files c party it (stands old sound c party is) few
+                  (sound.parties c party is).facts;
+              tasks = tasks-now;
+              works =
+                  each-weaker {P = (λ (a : Attempt). IsWork old.files party a.client.asked)} {Q =
+                  (λ a. IsWork files base a.client.asked)} party.attempts
+                  (λ a works. work-now a.client.asked works) (sound.parties c party is).works;
+              good = (good, tt);
+            };
         link = refl;
         stray = refl;
-        attempts = refl;
-        facts =
-            begin.begun old.server.store old.files c party it (stands old sound c party is) few
-            (sound.parties c party is).facts;
-        tasks = tasks-now;
-        works =
-            all-map (λ (a : Attempt). IsWork old.files party a.client.asked)
-            (λ a. IsWork files base a.client.asked) party.attempts
-            (λ a works. work-now a.client.asked works) (sound.parties c party is).works;
-        good = (good, tt);
         begun = refl;
         go_with =
             record {
-              entry = task-for party it;
+              entry = task_for party it;
               is_entry = last-task;
               going = refl;
               number = refl;

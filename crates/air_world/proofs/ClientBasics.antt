@@ -1,51 +1,41 @@
 -- What a client of a sound world brings to its events.
-use Rattle.std.proofs.Common.{◌≡◌, ◌≢◌, ◌⊎◌, ℕ, zero, suc, List, [], ◌∷◌, ◌++◌, Bool, true, false, Option, None, Some, refl, sym, ap, subst, ◌∙◌, inl, inr, append-nil}
-use Rattle.std.specs.Prelude.{slice_get, map, IfSome}
-use Rattle.std.specs.List.{AllByRecursion}
-use Rattle.std.proofs.lemmas.Option.{same_Some}
-use Rattle.px_base.specs.CallSign.{CallSign}
-use Rattle.ax25_frames.specs.FrameText.{FrameValue}
-use Rattle.ax25_link.specs.Air.{IsLawful, Transmission}
+use Rattle.std.proofs.Common.{◌≡◌, ◌⊎◌, ℕ, List, ◌∷◌, Option, None, Some, refl, sym, ap, subst, ◌∙◌, inl, inr}
+use Rattle.std.specs.Prelude.{slice_get}
 use Rattle.ax25_link.specs.declared.state.LinkState.TheVariants.{Calling, Down, Up}
 use Rattle.ax25_link.specs.Window.{IsWindow}
-use Rattle.file_store.specs.Store.{Store}
-use Rattle.client_notes.specs.Laws.{after_all}
 use Rattle.client_notes.specs.Notes.{Lists}
 use Rattle.ftl0_job.specs.Promises.{JobStands}
 use Rattle.ftl0_job.specs.declared.work.Work.{Work}
-use Rattle.ftl0_job.specs.Table.{JobState, new_job}
-use Rattle.ftl0_client.specs.Attempt.Attempted.{Attempted, outcome_of}
+use Rattle.ftl0_client.specs.Attempt.Attempted.{Attempted}
 use Rattle.ftl0_client.specs.Attempt.Laws.{AttemptStands}
-use Rattle.ftl0_client.specs.Client.{Client}
-use Rattle.ftl0_client.specs.Entries.{JobEntry}
-use Rattle.air_attempt.specs.Attempt.{Attempt, IsAnsweredBy, IsAttempt, IsFromTo}
-use Rattle.air_attempt.specs.Laws.{AreAttempts, DeliversToClient, FrontLaw, GoesWith}
-use Rattle.air_attempt.specs.Party.{IsLinkOf, Party, newest, to_client_delivered, with_newest}
-use Rattle.air_attempt.specs.Sides.{ClientSide, IsJob, JobReaches, ServerSide}
-use Rattle.air_files.specs.Laws.{IsWorking, JobTookFront, TookFront, job_gone}
+use Rattle.air_attempt.specs.Attempt.{Attempt, IsAttempt}
+use Rattle.air_attempt.specs.Laws.{AreAttempts, GoesWith}
+use Rattle.air_attempt.specs.Party.{IsLinkOf, Party, newest}
+use Rattle.air_attempt.specs.Sides.{ClientSide, IsJob}
+use Rattle.air_attempt.proofs.Offered.{all-at}
+use Rattle.air_files.specs.Laws.{IsWorking}
 use Rattle.air_files.specs.Tasks.{StandsBy}
 use Rattle.air_world.specs.Sound.{IsParty, Sound}
 use Rattle.air_world.specs.World.{PartyAt, World}
-use Rattle.air_world.proofs.Seats.{calls}
 use Rattle.air_world.proofs.Served.{stands}
-use Rattle.air_world.proofs.ServerHeard.{first-of}
-use Rattle.air_world.proofs.ServerTicked.{its-session}
-use Rattle.air_world.proofs.WorldLists.{all-at}
+use Rattle.air_world.proofs.HeardMade.{first-of}
 
 -- ---- links
 
 -- the link is that of the current attempt
-link-of : (o : Option Attempt) (it : Attempted) → IsLinkOf o (Some it) → (a : Attempt) × (o ≡ Some a) × (a.client.attempted ≡ it)
+link-of : (o : Option Attempt) (it : Attempted) → IsLinkOf o (Some it)
+    → (a : Attempt) × (o ≡ Some a) × (a.client.attempted ≡ it)
 link-of None it is = absurd is
 link-of (Some a) it is = (a, refl, is)
 
 -- the notes go with the job, where its own is such
-pub stands-job : (asked : Work) (lists : Lists) (side : ClientSide) → IsJob side → JobStands asked lists side.attempted.job → AttemptStands asked lists side.attempted
+pub stands-job : (asked : Work) (lists : Lists) (side : ClientSide) → IsJob side
+    → JobStands asked lists side.attempted.job → AttemptStands asked lists side.attempted
 stands-job asked lists side job stands = record {
-    job = stands;
-    told_down = job.told_down;
-    down_told = λ down none. by (job.working none) down;
-  }
+  job = stands;
+  told_down = job.told_down;
+  down_told = λ down none. by (job.working none) down;
+}
   where
     by : (side.attempted.end.state ≡ Calling) ⊎ (side.attempted.end.state ≡ Up) → side.attempted.end.state ≡ Down → ⊥
     by (inl calling) down = absurd (let same : Calling ≡ Down = sym calling ∙ down in cc)
@@ -59,12 +49,14 @@ module _ (world : World) (sound : Sound world) (c : ℕ) (party : Party) (is : P
 
   pub goes-with : GoesWith party.client party.attempts
   goes-with = record {
-      window = subst IsWindow (sym (all-at (λ (p : Party). p.client.window ≡ world.server.window) world.parties c party sound.stations.windows is)) sound.stations.window;
-      attempts_are = it.attempts;
-      windows = it.windows;
-      link = it.link;
-      may_step = it.may_step;
-    }
+    window =
+        subst IsWindow (sym (all-at (λ (p : Party). p.client.window ≡ world.server.window) world.parties c party
+        sound.stations.windows is)) sound.stations.window;
+    attempts_are = it.attempts;
+    windows = it.windows;
+    link = it.link;
+    may_step = it.may_step;
+  }
 
   -- the link is that of the current attempt, whose job works
   pub record HasLink (link : Attempted) : Type 0 where
@@ -84,18 +76,21 @@ module _ (world : World) (sound : Sound world) (c : ℕ) (party : Party) (is : P
     linked = has-link link has
 
     pub its-attempt : IsAttempt party.client.me party.client.server linked.attempt
-    its-attempt = (subst (λ attempts. AreAttempts party.client.me party.client.server attempts) linked.attempts_are it.attempts).0
+    its-attempt =
+        (subst (λ attempts. AreAttempts party.client.me party.client.server attempts) linked.attempts_are it.attempts).0
 
     abbrev pub working : IsWorking world.server.store world.files c party
     working = record {
-        stands = stands world sound c party is;
-        attempt = linked.attempt;
-        older = linked.older;
-        attempts_are = linked.attempts_are;
-        link = has ∙ ap Some (sym linked.attempted_is);
-        job = subst (λ (o : Option Attempt). StandsBy party o) (ap (λ (attempts : List Attempt). slice_get attempts 0) linked.attempts_are) it.job;
-        begun = its-attempt.job.begun;
-        reached = its-attempt.job.reached;
-        sound = sound.store;
-        facts = it.facts;
-      }
+      stands = stands world sound c party is;
+      attempt = linked.attempt;
+      older = linked.older;
+      attempts_are = linked.attempts_are;
+      link = has ∙ ap Some (sym linked.attempted_is);
+      job =
+          subst (λ (o : Option Attempt). StandsBy party o)
+          (ap (λ (attempts : List Attempt). slice_get attempts 0) linked.attempts_are) it.job;
+      begun = its-attempt.job.begun;
+      reached = its-attempt.job.reached;
+      sound = sound.store;
+      facts = it.facts;
+    }

@@ -1,9 +1,8 @@
 -- Each event of a client's keeps a sound world.
-use Rattle.std.proofs.Common.{◌≡◌, ◌≢◌, ◌⊎◌, ℕ, zero, suc, take, ◌+◌, ◌≤◌, ◌<◌, List, [], ◌∷◌, ◌++◌, Bool, true, false, Option, None, Some, length, refl, sym, ap, subst, ◌∙◌, append-nil}
-use Rattle.std.specs.Prelude.{map, slice_get}
+use Rattle.std.proofs.Common.{◌≡◌, ℕ, zero, suc, take, ◌+◌, List, [], ◌∷◌, ◌++◌, Bool, true, false, length, refl, sym}
+use Rattle.std.proofs.Common.{ap, subst, ◌∙◌, append-nil}
 use Rattle.std.specs.List.{AllByRecursion}
-use Rattle.std.proofs.lemmas.Option.{same_Some}
-use Rattle.ax25_link.specs.Air.{IsAt, IsLawful, Transmission}
+use Rattle.ax25_link.specs.Air.{Transmission}
 use Rattle.client_notes.specs.Command.{NotesCommand}
 use Rattle.client_notes.specs.Laws.{after_all}
 use Rattle.client_notes.specs.Notes.{Lists, task_count}
@@ -14,62 +13,65 @@ use Rattle.ftl0_job.specs.Upload.{new_upload}
 use Rattle.ftl0_job.specs.Table.{new_job}
 use Rattle.ftl0_client.specs.Client as client
 use Rattle.ftl0_client.specs.Client.{Client}
-use Rattle.ftl0_client.specs.ClientStep as step
 use Rattle.ftl0_client.specs.ClientStep.{ClientStep}
-use Rattle.ftl0_client.specs.Laws.{HasStep, SomeStepLaw}
+use Rattle.ftl0_client.specs.Laws.{SomeStepLaw}
 use Rattle.air_attempt.specs.Attempt.{Attempt}
 use Rattle.air_attempt.specs.Laws.{AreAttempts}
-use Rattle.air_attempt.specs.Lists.{Placed}
-use Rattle.air_attempt.specs.Party.{Asked, Party, newest, to_client_delivered}
+use Rattle.air_attempt.specs.Party.{Asked, Party, to_client_delivered}
 use Rattle.air_attempt.specs.Transfers.{ClientDid, after_event}
+use Rattle.air_attempt.proofs.Offered.{each-weaker}
 use Rattle.air_files.specs.Facts.{HasFacts}
 use Rattle.air_files.specs.Laws.{started_with}
 use Rattle.air_files.specs.Tasks.{AreTasks, IsWork}
-use Rattle.air_files.specs.Uploads.{IsGoodFile}
-use Rattle.air_world.specs.Cuts.{broken, ClientDoes, ClientEvent, ClientIsCut, client_commands, party_cut}
-use Rattle.air_world.specs.Events.{ClientPart, ClientTakes, asking, asking_file, DeliversToClient, IsPartOf, part_with, with_current}
-use Rattle.air_world.specs.Lawful.{HasParty, IsAllowed, MayCome}
-use Rattle.air_world.specs.Schedule.{Event, tick_client, to_client}
+use Rattle.air_files.proofs.Offered.{tasks-lists}
+use Rattle.air_world.specs.Cuts.{broken, ClientDoes, ClientIsCut, party_cut}
+use Rattle.air_world.specs.Events.{ClientPart, asking, asking_file, part_with, with_current}
 use Rattle.air_world.specs.Sound.{Sound}
 use Rattle.air_world.specs.Step.{ClientGoes, client_started, party_after, with_asked}
 use Rattle.air_world.specs.World.{PartyAt, World, counted, with_party}
 use Rattle.air_world.proofs.ClientBasics.{goes-with}
 use Rattle.air_world.proofs.CutWorld.{take-none}
 use Rattle.air_world.proofs.Alike.{made-alike}
-use Rattle.air_world.proofs.ClientHeard.{IsReceiving, did-of, heard-client, heard-facts, heard-tasks, nothing-noted, received, receives}
+use Rattle.air_world.proofs.ClientHeard.{IsReceiving, did-of, heard-client, heard-facts, heard-tasks, nothing-noted}
+use Rattle.air_world.proofs.ClientHeard.{received, receives}
 use Rattle.air_world.proofs.Asked.{MayBeAsked}
 use Rattle.air_world.proofs.ClientAsked.{asked-client, asked-party}
 use Rattle.air_world.proofs.ClientMade.{IsClientMade, tasks-more, then-sound, work-more}
 use Rattle.air_world.proofs.Served.{stands}
-use Rattle.air_world.proofs.WorldLists.{all-map}
 use Rattle.air_world.proofs.ClientQuiet.{IsStill, quiet-made, started-made, still-delivered, still-itself}
 use Rattle.air_world.proofs.ClientTicked.{ticked-client}
-use Rattle.air_world.proofs.JobWent.{ClientLaws, tasks-lists}
+use Rattle.air_world.proofs.JobWent.{ClientLaws}
 
 module _ (laws : ClientLaws) (some_step : SomeStepLaw) (old new : World) (sound : Sound old) where
-  asked-sound : (c : ℕ) (was now : Party) (asked : List Asked) (part : ClientPart) → PartyAt old c was → part.asked ≡ asked → IsClientMade old c was now asked → new ≡ with_asked old c part now → Sound new
+  asked-sound : (c : ℕ) (was now : Party) (asked : List Asked) (part : ClientPart) → PartyAt old c was
+      → part.asked ≡ asked → IsClientMade old c was now asked → new ≡ with_asked old c part now → Sound new
   asked-sound c was now asked part is asked_is made new_is =
       let made_asked = subst (λ asked. IsClientMade old c was now asked) (sym asked_is) made in
       subst Sound (sym new_is) (then-sound laws.begin old sound c was now is part.asked made_asked)
 
-  did-is : (did : ClientDid) (it : Client) → did.old ≡ it → did ≡ record { old = it; now = did.now; frames = did.frames }
+  did-is : (did : ClientDid) (it : Client) → did.old ≡ it
+      → did ≡ record { old = it; now = did.now; frames = did.frames }
   did-is did it is = ap (λ (o : Client). record { old = o; now = did.now; frames = did.frames }) is
 
   none-more : (count : ℕ) (uploads : List ℕ) → uploads ++ take count [] ≡ uploads
   none-more count uploads = ap (λ (more : List ℕ). uploads ++ more) (take-none count) ∙ append-nil uploads
 
   -- the client starts again from these notes, of which it has the facts and the tasks
-  module _ (c : ℕ) (party : Party) (is : PartyAt old c party) (attempts : List Attempt) (still : IsStill party.attempts attempts)
+  module _ (c : ℕ) (party : Party) (is : PartyAt old c party) (attempts : List Attempt)
+      (still : IsStill party.attempts attempts)
       (attempts_are : AreAttempts party.client.me party.client.server attempts) (lists : Lists)
-      (facts : HasFacts old.server.store old.files (started_with party lists)) (tasks : AreTasks old.files c (started_with party lists)) where
-    cut-made : (that : Party) → that.client ≡ (started_with party lists).client → that.uploads ≡ party.uploads → that.attempts ≡ attempts → IsClientMade old c party that []
+      (facts : HasFacts old.server.store old.files (started_with party lists))
+      (tasks : AreTasks old.files c (started_with party lists)) where
+    cut-made : (that : Party) → that.client ≡ (started_with party lists).client → that.uploads ≡ party.uploads
+        → that.attempts ≡ attempts → IsClientMade old c party that []
     cut-made that client uploads attempts_is =
         let files = sym (append-nil old.files) in
         made-alike laws.stay old c party (record (started_with party lists) { attempts = attempts }) []
         (started-made laws.stay old sound c party is attempts still attempts_are [] party lists refl refl refl refl
-         (subst (λ files. AllByRecursion (λ (a : Attempt). IsWork files party a.client.asked) party.attempts) files (sound.parties c party is).works)
-         (subst (λ files. AreTasks files c (started_with party lists)) files tasks)
-         (subst (λ files. HasFacts old.server.store files (started_with party lists)) files facts) tt)
+        (subst (λ files. AllByRecursion (λ (a : Attempt). IsWork files party a.client.asked) party.attempts) files
+        (sound.parties c party is).works)
+        (subst (λ files. AreTasks files c (started_with party lists)) files tasks)
+        (subst (λ files. HasFacts old.server.store files (started_with party lists)) files facts) tt)
         that client uploads attempts_is
 
   -- ---- a delivery
@@ -81,13 +83,21 @@ module _ (laws : ClientLaws) (some_step : SomeStepLaw) (old new : World) (sound 
     frame-goes : ClientGoes old c part new → Sound new
     frame-goes goes =
         let did = goes.did in
-        let step = subst (λ (o : Client). ClientStep o (client.hears t.frame) goes.noted did.frames did.now) goes.old_is goes.step in
+        let step = subst (λ (o : Client). ClientStep o (client.hears t.frame) goes.noted did.frames did.now) goes.old_is
+        goes.step in
         let made = heard-client laws old sound c party place t coming goes.noted did.frames did.now step in
         let that = party_after part did in
         asked-sound c party that [] part coming.is refl
-        (made-alike laws.stay old c party (record party { client = did.now; attempts = after_event (client.hears t.frame) (did-of laws old sound c party did.now did.frames) (received laws old sound c party place t coming) }) [] made that refl
-         (append-nil party.uploads)
-         (ap (λ (d : ClientDid). after_event (client.hears t.frame) d (received laws old sound c party place t coming)) (did-is did party.client goes.old_is)))
+        (made-alike laws.stay old c party
+        (record party {
+          client = did.now;
+          attempts = after_event (client.hears t.frame)
+              (did-of laws old sound c party did.now did.frames) (received laws old sound c party place t coming);
+        }) []
+        made that refl
+        (append-nil party.uploads)
+        (ap (λ (d : ClientDid). after_event (client.hears t.frame) d (received laws old sound c party place t coming))
+        (did-is did party.client goes.old_is)))
         goes.new_is
 
     frame-cut : ClientIsCut old c part new → Sound new
@@ -99,11 +109,13 @@ module _ (laws : ClientLaws) (some_step : SomeStepLaw) (old new : World) (sound 
         let that = party_cut part is_cut.count in
         asked-sound c party that [] part coming.is refl
         (cut-made c party coming.is attempts (still-delivered place t party.attempts)
-         (laws.left.to_client party.client.me party.client.server party.attempts attempts t.frame it.attempts (receives laws old sound c party place t coming)) lists
-         (heard-facts laws old sound c party place t coming has.noted has.frames has.new has.step is_cut.count)
-         (heard-tasks laws old sound c party place t coming has.noted has.frames has.new has.step is_cut.count) that
-         (ap (λ (commands : List NotesCommand). (started_with party (notes.after_first is_cut.count party.client.lists commands)).client) (sym has.step.noted_is))
-         (none-more is_cut.count party.uploads) refl)
+        (laws.left.to_client party.client.me party.client.server party.attempts attempts t.frame it.attempts
+        (receives laws old sound c party place t coming)) lists
+        (heard-facts laws old sound c party place t coming has.noted has.frames has.new has.step is_cut.count)
+        (heard-tasks laws old sound c party place t coming has.noted has.frames has.new has.step is_cut.count) that
+        (ap (λ (commands : List NotesCommand). (started_with party
+        (notes.after_first is_cut.count party.client.lists commands)).client) (sym has.step.noted_is))
+        (none-more is_cut.count party.uploads) refl)
         is_cut.new_is
 
     pub frame-does : (cut : Bool) → ClientDoes cut old c part new → Sound new
@@ -119,16 +131,24 @@ module _ (laws : ClientLaws) (some_step : SomeStepLaw) (old new : World) (sound 
     tick-goes : ClientGoes old c tick-part new → Sound new
     tick-goes goes =
         let did = goes.did in
-        let step = subst (λ (o : Client). ClientStep o client.ticks goes.noted did.frames did.now) goes.old_is goes.step in
+        let step = subst (λ (o : Client). ClientStep o client.ticks goes.noted did.frames did.now) goes.old_is
+        goes.step in
         let made = ticked-client laws old sound c party is goes.noted did.frames did.now step in
         let that = party_after tick-part did in
         asked-sound c party that [] tick-part is refl
-        (made-alike laws.stay old c party (record party { client = did.now; attempts = after_event client.ticks (did-of laws old sound c party did.now did.frames) party.attempts }) [] made that refl
-         (append-nil party.uploads) (ap (λ (d : ClientDid). after_event client.ticks d party.attempts) (did-is did party.client goes.old_is)))
+        (made-alike laws.stay old c party
+        (record party {
+          client = did.now;
+          attempts = after_event client.ticks
+              (did-of laws old sound c party did.now did.frames) party.attempts;
+        }) [] made that refl
+        (append-nil party.uploads)
+        (ap (λ (d : ClientDid). after_event client.ticks d party.attempts) (did-is did party.client goes.old_is)))
         goes.new_is
 
     -- the client starts again from its notes as they are
-    stays-made : (that : Party) → that.client ≡ (started_with party party.client.lists).client → that.uploads ≡ party.uploads → that.attempts ≡ party.attempts → IsClientMade old c party that []
+    stays-made : (that : Party) → that.client ≡ (started_with party party.client.lists).client
+        → that.uploads ≡ party.uploads → that.attempts ≡ party.attempts → IsClientMade old c party that []
     stays-made =
         let it = sound.parties c party is in
         cut-made c party is party.attempts (still-itself party.attempts) it.attempts party.client.lists
@@ -139,7 +159,8 @@ module _ (laws : ClientLaws) (some_step : SomeStepLaw) (old new : World) (sound 
     tick-cut is_cut =
         let that = party_cut tick-part is_cut.count in
         asked-sound c party that [] tick-part is refl
-        (stays-made that (ap (λ (lists : Lists). (started_with party lists).client) (nothing-noted is_cut.count party.client.lists [] refl)) (none-more is_cut.count party.uploads) refl)
+        (stays-made that (ap (λ (lists : Lists). (started_with party lists).client)
+        (nothing-noted is_cut.count party.client.lists [] refl)) (none-more is_cut.count party.uploads) refl)
         is_cut.new_is
 
     pub tick-does : (cut : Bool) → ClientDoes cut old c tick-part new → Sound new
@@ -151,7 +172,8 @@ module _ (laws : ClientLaws) (some_step : SomeStepLaw) (old new : World) (sound 
     same-sound : (that : Party) → IsClientMade old c party that [] → new ≡ counted (with_party old c that) → Sound new
     same-sound that made new_is =
         subst Sound
-        (sym (new_is ∙ ap (λ (files : List Asked). counted (record (with_party old c that) { files = files })) (sym (append-nil old.files))))
+        (sym (new_is ∙ ap (λ (files : List Asked). counted (record (with_party old c that) { files = files }))
+        (sym (append-nil old.files))))
         (then-sound laws.begin old sound c party that is [] made)
 
     pub break-kept : new ≡ counted (with_party old c (broken party)) → Sound new
@@ -161,7 +183,8 @@ module _ (laws : ClientLaws) (some_step : SomeStepLaw) (old new : World) (sound 
     flag-kept new_is =
         same-sound (record party { is_cut = true })
         (made-alike laws.stay old c party (record party { attempts = party.attempts }) []
-         (quiet-made laws.stay old sound c party is party.attempts (still-itself party.attempts) (goes-with old sound c party is)) (record party { is_cut = true }) refl refl refl)
+        (quiet-made laws.stay old sound c party is party.attempts (still-itself party.attempts)
+        (goes-with old sound c party is)) (record party { is_cut = true }) refl refl refl)
         new_is
 
   -- ---- an asking
@@ -175,19 +198,25 @@ module _ (laws : ClientLaws) (some_step : SomeStepLaw) (old new : World) (sound 
       ask-goes : ClientGoes old c ask-part new → Sound new
       ask-goes goes =
           let did = goes.did in
-          let step = subst (λ (o : Client). ClientStep o (client.asks (new_job wanted)) goes.noted did.frames did.now) goes.old_is goes.step in
+          let step = subst (λ (o : Client). ClientStep o (client.asks (new_job wanted)) goes.noted did.frames did.now)
+          goes.old_is goes.step in
           let made = asked-client laws old sound c party is party [] wanted may goes.noted did.frames did.now step in
           let that = party_after ask-part did in
           asked-sound c party that [] ask-part is refl
-          (made-alike laws.stay old c party (asked-party laws old sound c party is party [] wanted may goes.noted did.frames did.now step) [] made that refl (append-nil party.uploads)
-           (ap (λ (d : ClientDid). after_event (client.asks (new_job wanted)) d party.attempts) (did-is did party.client goes.old_is)))
+          (made-alike laws.stay old c party
+          (asked-party laws old sound c party is party [] wanted may goes.noted did.frames did.now step) [] made
+          that refl (append-nil party.uploads)
+          (ap (λ (d : ClientDid). after_event (client.asks (new_job wanted)) d party.attempts)
+          (did-is did party.client goes.old_is)))
           goes.new_is
 
       ask-cut : ClientIsCut old c ask-part new → Sound new
       ask-cut is_cut =
           let that = party_cut ask-part is_cut.count in
           asked-sound c party that [] ask-part is refl
-          (stays-made c party is that (ap (λ (lists : Lists). (started_with party lists).client) (nothing-noted is_cut.count party.client.lists [] refl)) (none-more is_cut.count party.uploads) refl)
+          (stays-made c party is that
+          (ap (λ (lists : Lists). (started_with party lists).client)
+          (nothing-noted is_cut.count party.client.lists [] refl)) (none-more is_cut.count party.uploads) refl)
           is_cut.new_is
 
       pub ask-does : (cut : Bool) → ClientDoes cut old c ask-part new → Sound new
@@ -210,39 +239,55 @@ module _ (laws : ClientLaws) (some_step : SomeStepLaw) (old new : World) (sound 
       begin-goes : ClientGoes old c begin-part new → Sound new
       begin-goes goes =
           let did = goes.did in
-          let step = subst (λ (o : Client). ClientStep o (client.asks (new_job sending)) goes.noted did.frames did.now) goes.old_is goes.step in
-          let made = asked-client laws old sound c party is tasked-party (it ∷ []) sending may goes.noted did.frames did.now step in
+          let step = subst (λ (o : Client). ClientStep o (client.asks (new_job sending)) goes.noted did.frames did.now)
+          goes.old_is goes.step in
+          let made = asked-client laws old sound c party is tasked-party
+          (it ∷ []) sending may goes.noted did.frames did.now step in
           let that = party_after begin-part did in
           asked-sound c party that (it ∷ []) begin-part is refl
-          (made-alike laws.stay old c party (asked-party laws old sound c party is tasked-party (it ∷ []) sending may goes.noted did.frames did.now step) (it ∷ []) made that refl refl
-           (ap (λ (d : ClientDid). after_event (client.asks (new_job sending)) d party.attempts) (did-is did tasked-party.client goes.old_is)))
+          (made-alike laws.stay old c party
+          (asked-party laws old sound c party is tasked-party
+          (it ∷ []) sending may goes.noted did.frames did.now step) (it ∷ []) made that refl refl
+          (ap (λ (d : ClientDid). after_event (client.asks (new_job sending)) d party.attempts)
+          (did-is did tasked-party.client goes.old_is)))
           goes.new_is
 
       -- the start of the task stands, or it doesn't
       begin-cut-made : (count : ℕ) → IsClientMade old c party (party_cut begin-part count) (it ∷ [])
       begin-cut-made zero =
           let own = sound.parties c party is in
-          let longer = laws.begin.longer old.server.store old.files c party (it ∷ []) (stands old sound c party is) own.facts in
-          made-alike laws.stay old c party (record (started_with party party.client.lists) { attempts = party.attempts }) (it ∷ [])
-          (started-made laws.stay old sound c party is party.attempts (still-itself party.attempts) own.attempts (it ∷ []) party party.client.lists refl refl refl refl
-           (all-map (λ (a : Attempt). IsWork old.files party a.client.asked) (λ a. IsWork (old.files ++ it ∷ []) party a.client.asked) party.attempts
-            (λ a work. work-more old.files (it ∷ []) party a.client.asked work) own.works)
-           (tasks-lists (old.files ++ it ∷ []) c party (started_with party party.client.lists) refl refl refl refl (tasks-more old.files (it ∷ []) c party own.tasks))
-           (laws.stay.started old.server.store (old.files ++ it ∷ []) party longer) may.good)
+          let longer = laws.begin.longer old.server.store old.files c party (it ∷ [])
+          (stands old sound c party is) own.facts in
+          made-alike laws.stay old c party
+          (record (started_with party party.client.lists) { attempts = party.attempts }) (it ∷ [])
+          (started-made laws.stay old sound c party is party.attempts (still-itself party.attempts) own.attempts
+          (it ∷ []) party party.client.lists refl refl refl refl
+          (each-weaker {P = (λ (a : Attempt). IsWork old.files party a.client.asked)} {Q =
+          (λ a. IsWork (old.files ++ it ∷ []) party a.client.asked)} party.attempts
+          (λ a work. work-more old.files (it ∷ []) party a.client.asked work) own.works)
+          (tasks-lists (old.files ++ it ∷ []) c party (started_with party party.client.lists) refl refl refl refl
+          (tasks-more old.files (it ∷ []) c party own.tasks))
+          (laws.stay.started old.server.store (old.files ++ it ∷ []) party longer) may.base_is.good)
           (party_cut begin-part zero) refl (append-nil party.uploads) refl
       begin-cut-made (suc count) =
           let own = sound.parties c party is in
           let lists = tasked-party.client.lists in
-          made-alike laws.stay old c party (record (started_with tasked-party lists) { attempts = party.attempts }) (it ∷ [])
-          (started-made laws.stay old sound c party is party.attempts (still-itself party.attempts) own.attempts (it ∷ []) tasked-party lists refl refl refl refl may.works
-           (tasks-lists (old.files ++ it ∷ []) c tasked-party (started_with tasked-party lists) refl refl refl refl may.tasks)
-           (laws.stay.started old.server.store (old.files ++ it ∷ []) tasked-party may.facts) may.good)
+          made-alike laws.stay old c party (record (started_with tasked-party lists) { attempts = party.attempts })
+          (it ∷ [])
+          (started-made laws.stay old sound c party is party.attempts (still-itself party.attempts) own.attempts
+          (it ∷ []) tasked-party lists refl refl refl refl may.base_is.works
+          (tasks-lists (old.files ++ it ∷ []) c tasked-party
+          (started_with tasked-party lists) refl refl refl refl may.base_is.tasks)
+          (laws.stay.started old.server.store (old.files ++ it ∷ []) tasked-party may.base_is.facts) may.base_is.good)
           (party_cut begin-part (suc count))
-          (ap (λ (commands : List NotesCommand). (started_with party (after_all lists commands)).client) (take-none count))
+          (ap (λ (commands : List NotesCommand). (started_with party (after_all lists commands)).client)
+          (take-none count))
           (ap (λ (more : List ℕ). party.uploads ++ length old.files ∷ more) (take-none count)) refl
 
       begin-cut : ClientIsCut old c begin-part new → Sound new
-      begin-cut is_cut = asked-sound c party (party_cut begin-part is_cut.count) (it ∷ []) begin-part is refl (begin-cut-made is_cut.count) is_cut.new_is
+      begin-cut is_cut =
+          asked-sound c party (party_cut begin-part is_cut.count) (it ∷ []) begin-part is refl
+          (begin-cut-made is_cut.count) is_cut.new_is
 
       pub begin-does : (cut : Bool) → ClientDoes cut old c begin-part new → Sound new
       begin-does true does = begin-cut does

@@ -1,137 +1,59 @@
 -- A world that a client's event made of a sound one is sound where that client is as it should be.
-use Rattle.std.proofs.Common.{◌≡◌, ◌≢◌, ◌⊎◌, ℕ, zero, suc, ◌<◌, ◌≤◌, List, [], ◌∷◌, ◌++◌, drop, length, Bool, true, false, Option, None, Some, refl, sym, ap, subst, ◌∙◌, inl, inr}
-use Rattle.std.specs.Prelude.{map, slice_get, IfSome, MatchOption, ⊤}
+use Rattle.std.proofs.Common.{◌≡◌, ◌≢◌, ◌⊎◌, ℕ, zero, suc, ◌≤◌, List, [], ◌∷◌, ◌++◌, drop, Option, None, Some, refl}
+use Rattle.std.proofs.Common.{sym, ap, subst, ◌∙◌, inl, inr}
+use Rattle.std.specs.Prelude.{slice_get}
 use Rattle.std.specs.List.{AllByRecursion}
-use Rattle.std.specs.Option.{option_or}
 use Rattle.std.proofs.lemmas.Bool.{cases_eq}
 use Rattle.std.proofs.lemmas.Option.{same_Some}
-use Rattle.px_base.specs.CallSign.{CallSign, IsCall}
-use Rattle.ftl0_server.specs.Connection.Connected.{Connected, caller_of}
-use Rattle.ftl0_server.specs.Server.{Server}
-use Rattle.ftl0_server.specs.Slots.{place_of}
+use Rattle.std.proofs.lemmas.List.{length-set}
+use Rattle.px_base.specs.CallSign.{IsCall}
+use Rattle.ax25_link.proofs.Offered.{slice_get-set_other}
 use Rattle.ftl0_job.specs.declared.work.Work.{Work}
 use Rattle.ftl0_job.specs.declared.work.Work.TheVariants as work
-use Rattle.ftl0_client.specs.Client.{Client}
 use Rattle.air_attempt.specs.Attempt.{Attempt}
-use Rattle.air_attempt.specs.Laws.{Calls, GoesWith, IsBetween, IsNewestSession, IsSeatedIn, SitsBy}
-use Rattle.air_attempt.specs.Party.{AreOver, Asked, EachAttempt, IsFileOf, OnlyNewestUp, Party, newest, newest_side}
+use Rattle.air_attempt.specs.Laws.{GoesWith, SitsBy}
+use Rattle.air_attempt.specs.Party.{Asked, EachAttempt, Party, newest}
 use Rattle.air_attempt.specs.Sides.{ServerSide}
+use Rattle.air_attempt.proofs.Offered.{all-at, all-by, each-append, each-weaker, set-at}
 use Rattle.air_files.specs.Facts.{HasFacts}
 use Rattle.air_files.specs.Laws.{BeginLaw}
-use Rattle.air_files.specs.Tasks.{AreTasks, IsTaskFor, IsWork, StandsBy}
+use Rattle.air_files.specs.Tasks.{AreTasks, IsWork, StandsBy}
 use Rattle.air_files.specs.Uploads.{IsGoodFile}
-use Rattle.air_files.proofs.Offered.{each-append, file-more, place-more}
+use Rattle.air_files.proofs.Offered.{file-more, place-more}
 use Rattle.air_world.specs.Sound.{AreGrantedOnce, AreStationsOf, GrantedAt, IsParty, IsSideAt, Sound}
 use Rattle.air_world.specs.World.{PartyAt, World, counted, with_party}
-use Rattle.air_world.proofs.Marked.{length-set-slice}
 use Rattle.air_world.proofs.Seats.{AreSeatsKnown, between, calls, together}
 use Rattle.air_world.proofs.Served.{stands}
-use Rattle.air_world.proofs.WorldLists.{all-at, all-by, all-map, at-map, at-set, map-at, set-at, set-other}
-
--- ---- the sessions of attempts
-
-abbrev pub sessions_of : List Attempt → List (Option ServerSide)
-sessions_of attempts = map (λ (a : Attempt). a.server) attempts
-
--- the sessions are the same; or an attempt without one came
-abbrev pub SessionsStay : List Attempt → List Attempt → Type 0
-SessionsStay olds news = (sessions_of news ≡ sessions_of olds) ⊎ (sessions_of news ≡ None ∷ sessions_of olds)
-
--- by the sessions alone
-abbrev AreDown : List (Option ServerSide) → Type 0
-AreDown sessions = AllByRecursion (λ o. IfSome o (λ side. side.is_up ≡ false)) sessions
-
-over-down : (attempts : List Attempt) → AreOver attempts → AreDown (sessions_of attempts)
-over-down [] all = tt
-over-down (a ∷ older) all = (all.0, over-down older all.1)
-
-down-over : (attempts : List Attempt) → AreDown (sessions_of attempts) → AreOver attempts
-down-over [] all = tt
-down-over (a ∷ older) all = (all.0, down-over older all.1)
-
-abbrev first_session : List (Option ServerSide) → Option ServerSide
-first_session [] = None
-first_session (o ∷ sessions) = option_or o (first_session sessions)
-
-newest-first : (attempts : List Attempt) → newest_side attempts ≡ first_session (sessions_of attempts)
-newest-first [] = refl
-newest-first (a ∷ older) = ap (λ (o : Option ServerSide). option_or a.server o) (newest-first older)
-
-abbrev IsOnlyFirst : List (Option ServerSide) → Type 0
-IsOnlyFirst [] = ⊤
-IsOnlyFirst (o ∷ sessions) = MatchOption o (IsOnlyFirst sessions) (λ _. AreDown sessions)
-
-only-first : (attempts : List Attempt) → OnlyNewestUp attempts → IsOnlyFirst (sessions_of attempts)
-only-first [] only = tt
-only-first (a ∷ older) only = by a.server only (only-first older)
-  where
-    by : (o : Option ServerSide) → MatchOption o (OnlyNewestUp older) (λ _. AreOver older) → (OnlyNewestUp older → IsOnlyFirst (sessions_of older))
-        → MatchOption o (IsOnlyFirst (sessions_of older)) (λ _. AreDown (sessions_of older))
-    by None only later = later only
-    by (Some side) only later = over-down older only
-
-first-only : (attempts : List Attempt) → IsOnlyFirst (sessions_of attempts) → OnlyNewestUp attempts
-first-only [] only = tt
-first-only (a ∷ older) only = by a.server only (first-only older)
-  where
-    by : (o : Option ServerSide) → MatchOption o (IsOnlyFirst (sessions_of older)) (λ _. AreDown (sessions_of older)) → (IsOnlyFirst (sessions_of older) → OnlyNewestUp older)
-        → MatchOption o (OnlyNewestUp older) (λ _. AreOver older)
-    by None only later = later only
-    by (Some side) only later = down-over older only
-
--- what is said by the sessions stays where a session that isn't there comes
-module _ (olds news : List Attempt) where
-  over-stays : SessionsStay olds news → AreOver olds → AreOver news
-  over-stays (inl same) all = down-over news (subst AreDown (sym same) (over-down olds all))
-  over-stays (inr one) all = down-over news (subst AreDown (sym one) (tt, over-down olds all))
-
-  newest-stays : SessionsStay olds news → newest_side news ≡ newest_side olds
-  newest-stays (inl same) = newest-first news ∙ ap first_session same ∙ sym (newest-first olds)
-  newest-stays (inr one) = newest-first news ∙ ap first_session one ∙ sym (newest-first olds)
-
-  only-stays : SessionsStay olds news → OnlyNewestUp olds → OnlyNewestUp news
-  only-stays (inl same) only = first-only news (subst IsOnlyFirst (sym same) (only-first olds only))
-  only-stays (inr one) only = first-only news (subst IsOnlyFirst (sym one) (only-first olds only))
-
-sits-stays : (server : Server) (me : CallSign) (olds news : List Attempt) → SessionsStay olds news → SitsBy server me olds → SitsBy server me news
-sits-stays server me olds news stay sits = record {
-    none = λ none. over-stays olds news stay (sits.none none);
-    some = λ place c found seat.
-        let session = sits.some place c found seat in
-        record {
-          side = session.side;
-          is_newest = newest-stays olds news stay ∙ session.is_newest;
-          connected_is = session.connected_is;
-          is_up = session.is_up;
-        };
-    newest_up = only-stays olds news stay sits.newest_up;
-  }
+use Rattle.air_world.proofs.WorldLists.{at-map, at-set, map-at}
+use Rattle.air_world.proofs.SessionsStay.{SessionsStay, sessions_of, sits-stays}
 
 -- ---- more uploads
 
-pub work-more : (files more : List Asked) (party : Party) (asked : Work) → IsWork files party asked → IsWork (files ++ more) party asked
+pub work-more : (files more : List Asked) (party : Party) (asked : Work) → IsWork files party asked
+    → IsWork (files ++ more) party asked
 work-more files more party (work.Upload at) is = file-more files more party at.task at.file is
 work-more files more party (work.Directory at) is = is
 work-more files more party (work.Download at) is = is
 
-pub tasks-more : (files more : List Asked) (c : ℕ) (party : Party) → AreTasks files c party → AreTasks (files ++ more) c party
+pub tasks-more : (files more : List Asked) (c : ℕ) (party : Party) → AreTasks files c party
+    → AreTasks (files ++ more) c party
 tasks-more files more c party tasks = record {
-    each = λ task entry is.
-        let was = tasks.each task entry is in
-        record {
-          upload = was.upload;
-          is_upload = was.is_upload;
-          asked = was.asked;
-          is_asked = place-more files more was.upload was.asked was.is_asked;
-          whose = was.whose;
-          server_is = was.server_is;
-          caller_is = was.caller_is;
-          name_is = was.name_is;
-          length_is = was.length_is;
-          digest_is = was.digest_is;
-        };
-    as_many = tasks.as_many;
-  }
+  each = λ task entry is.
+      let was = tasks.each task entry is in
+      record {
+        upload = was.upload;
+        is_upload = was.is_upload;
+        asked = was.asked;
+        is_asked = place-more files more was.upload was.asked was.is_asked;
+        whose = was.whose;
+        server_is = was.server_is;
+        caller_is = was.caller_is;
+        name_is = was.name_is;
+        length_is = was.length_is;
+        digest_is = was.digest_is;
+      };
+  as_many = tasks.as_many;
+}
 
 -- ---- the client of the event
 
@@ -148,7 +70,8 @@ pub record IsClientMade (old : World) (c : ℕ) (was now : Party) (asked : List 
   pub sessions : SessionsStay was.attempts now.attempts
   pub good : AllByRecursion (λ (it : Asked). IsGoodFile it.file) asked
 
-module _ (begin_law : BeginLaw) (old : World) (sound : Sound old) (c : ℕ) (was now : Party) (is : PartyAt old c was) (asked : List Asked)
+module _ (begin_law : BeginLaw) (old : World) (sound : Sound old) (c : ℕ) (was now : Party) (is : PartyAt old c was)
+    (asked : List Asked)
     (made : IsClientMade old c was now asked) where
   abbrev pub then : World
   then = counted (record (with_party old c now) { files = old.files ++ asked })
@@ -161,59 +84,75 @@ module _ (begin_law : BeginLaw) (old : World) (sound : Sound old) (c : ℕ) (was
   then-is : (number : ℕ) (that : Party) → PartyAt then number that → IsClientThen number that
   then-is number that there = by (set-at old.parties c number now that there)
     where
-      by : ((number ≡ c) × (that ≡ now)) ⊎ ((number ≡ c → ⊥) × (slice_get old.parties number ≡ Some that)) → IsClientThen number that
+      by : ((number ≡ c) × (that ≡ now)) ⊎ ((number ≡ c → ⊥) × (slice_get old.parties number ≡ Some that))
+          → IsClientThen number that
       by (inl it) = own it.0 it.1
       by (inr it) = other it.0 it.1
 
   -- each client is there, with its stations
   before : (number : ℕ) (that : Party) → IsClientThen number that
-      → (it : Party) × PartyAt old number it × (that.client.me ≡ it.client.me) × (that.client.server ≡ it.client.server) × (that.client.window ≡ it.client.window)
-  before number that (own number_is that_is) =
-      (
-        was,
-        ap (λ i. slice_get old.parties i) number_is ∙ is,
-        ap (λ (p : Party). p.client.me) that_is ∙ made.me,
-        ap (λ (p : Party). p.client.server) that_is ∙ made.server,
-        ap (λ (p : Party). p.client.window) that_is ∙ made.window,
-      )
+      → (it : Party) × PartyAt old number
+      it × (that.client.me ≡ it.client.me) × (that.client.server ≡ it.client.server) × (that.client.window ≡ it.client.window)
+  before number that (own number_is that_is) = (
+    was,
+    ap (λ i. slice_get old.parties i) number_is ∙ is,
+    ap (λ (p : Party). p.client.me) that_is ∙ made.me,
+    ap (λ (p : Party). p.client.server) that_is ∙ made.server,
+    ap (λ (p : Party). p.client.window) that_is ∙ made.window,
+  )
   before number that (other number_is there) = (that, there, refl, refl, refl)
 
-  still : (number : ℕ) (that : Party) → PartyAt old number that → (it : Party) × PartyAt then number it × (it.client.me ≡ that.client.me)
+  still : (number : ℕ) (that : Party) → PartyAt old number that
+      → (it : Party) × PartyAt then number it × (it.client.me ≡ that.client.me)
   still number that there = by (cases_eq number c)
     where
       by : (number ≡ c) ⊎ (number ≢ c) → (it : Party) × PartyAt then number it × (it.client.me ≡ that.client.me)
       by (inl number_is) =
-          let same = same_Some was that (sym is ∙ ap (λ i. slice_get old.parties i) (sym number_is) ∙ there) in
-          (now, ap (λ i. slice_get then.parties i) number_is ∙ at-set old.parties c now was is, made.me ∙ ap (λ (p : Party). p.client.me) same)
-      by (inr differs) = (that, set-other old.parties c number now differs ∙ there, refl)
+          let same = same_Some was that (sym is ∙ ap (λ i. slice_get old.parties i) (sym number_is) ∙ there) in (
+            now,
+            ap (λ i. slice_get then.parties i) number_is ∙ at-set old.parties c now was is,
+            made.me
+                ∙ ap (λ (p : Party). p.client.me) same,
+          )
+      by (inr differs) = (that, slice_get-set_other old.parties c number now differs ∙ there, refl)
 
-  each-station : (P : Party → Type 0) → ((number : ℕ) (that it : Party) → PartyAt old number it → that.client.me ≡ it.client.me → that.client.server ≡ it.client.server → that.client.window ≡ it.client.window → P that)
+  each-station : (P : Party → Type 0)
+      → ((number : ℕ) (that it : Party) → PartyAt old number it → that.client.me ≡ it.client.me
+      → that.client.server ≡ it.client.server → that.client.window ≡ it.client.window → P that)
       → AllByRecursion P then.parties
   each-station P each =
       all-by P then.parties
-      (λ number that there. let it = before number that (then-is number that there) in each number that it.0 it.1 it.2 it.3 it.4)
+      (λ number that there. let it = before number that (then-is number that there) in
+      each number that it.0 it.1 it.2 it.3 it.4)
 
   stations : AreStationsOf then
   stations = record {
-      server = sound.stations.server;
-      window = sound.stations.window;
-      most = subst (λ n. n ≤ 8) (sym (length-set-slice old.parties c now)) sound.stations.most;
-      are_calls = each-station (λ (p : Party). IsCall p.client.me)
-          (λ number that it there me server window. subst IsCall (sym me) (all-at (λ (p : Party). IsCall p.client.me) old.parties number it sound.stations.are_calls there));
-      distinct = λ one two party that at_one at_two same.
-          let first = before one party (then-is one party at_one) in
-          let second = before two that (then-is two that at_two) in
-          sound.stations.distinct one two first.0 second.0 first.1 second.1 (sym first.2 ∙ same ∙ second.2);
-      servers = each-station (λ (p : Party). p.client.server ≡ old.server.me)
-          (λ number that it there me server window. server ∙ all-at (λ (p : Party). p.client.server ≡ old.server.me) old.parties number it sound.stations.servers there);
-      windows = each-station (λ (p : Party). p.client.window ≡ old.server.window)
-          (λ number that it there me server window. window ∙ all-at (λ (p : Party). p.client.window ≡ old.server.window) old.parties number it sound.stations.windows there);
-    }
+    server = sound.stations.server;
+    window = sound.stations.window;
+    most = subst (λ n. n ≤ 8) (sym (length-set old.parties c now)) sound.stations.most;
+    are_calls = each-station (λ (p : Party). IsCall p.client.me)
+        (λ number that it there me server window. subst IsCall (sym me)
+        (all-at (λ (p : Party). IsCall p.client.me) old.parties number it sound.stations.are_calls there));
+    distinct = λ one two party that at_one at_two same.
+        let first = before one party (then-is one party at_one) in
+        let second = before two that (then-is two that at_two) in
+        sound.stations.distinct one two first.0 second.0 first.1 second.1 (sym first.2 ∙ same ∙ second.2);
+    servers = each-station (λ (p : Party). p.client.server ≡ old.server.me)
+        (λ number that it there me server window. server
+        ∙ all-at (λ (p : Party). p.client.server ≡ old.server.me) old.parties number it sound.stations.servers
+        there);
+    windows = each-station (λ (p : Party). p.client.window ≡ old.server.window)
+        (λ number that it there me server window. window
+        ∙ all-at (λ (p : Party). p.client.window ≡ old.server.window) old.parties number it sound.stations.windows
+        there);
+  }
 
   sits-then : (number : ℕ) (that : Party) → IsClientThen number that → SitsBy old.server that.client.me that.attempts
   sits-then number that (own number_is that_is) =
-      let sits = sits-stays old.server was.client.me was.attempts now.attempts made.sessions (calls old sound c was is).sits in
-      subst (λ (p : Party). SitsBy old.server p.client.me p.attempts) (sym that_is) (subst (λ me. SitsBy old.server me now.attempts) (sym made.me) sits)
+      let sits = sits-stays old.server was.client.me was.attempts now.attempts made.sessions
+      (calls old sound c was is).sits in
+      subst (λ (p : Party). SitsBy old.server p.client.me p.attempts) (sym that_is)
+      (subst (λ me. SitsBy old.server me now.attempts) (sym made.me) sits)
   sits-then number that (other number_is there) = (calls old sound number that there).sits
 
   known : AreSeatsKnown then
@@ -224,37 +163,42 @@ module _ (begin_law : BeginLaw) (old : World) (sound : Sound old) (c : ℕ) (was
 
   own-then : IsParty then c now
   own-then = record {
-      attempts = made.goes.attempts_are;
-      windows = made.goes.windows;
-      works = made.works;
-      link = made.goes.link;
-      may_step = made.goes.may_step;
-      tasks = made.tasks;
-      job = made.job;
-      facts = made.facts;
-    }
+    attempts = made.goes.attempts_are;
+    windows = made.goes.windows;
+    works = made.works;
+    link = made.goes.link;
+    may_step = made.goes.may_step;
+    tasks = made.tasks;
+    job = made.job;
+    facts = made.facts;
+  }
 
   party-then : (number : ℕ) (that : Party) → IsClientThen number that → IsParty then number that
   party-then number that (own number_is that_is) =
-      subst (λ (p : Party). IsParty then number p) (sym that_is) (subst (λ n. IsParty then n now) (sym number_is) own-then)
+      subst (λ (p : Party). IsParty then number p) (sym that_is)
+      (subst (λ n. IsParty then n now) (sym number_is) own-then)
   party-then number that (other number_is there) =
       let it = sound.parties number that there in
       record {
         attempts = it.attempts;
         windows = it.windows;
-        works = all-map (λ (a : Attempt). IsWork old.files that a.client.asked) (λ a. IsWork then.files that a.client.asked) that.attempts
+        works =
+            each-weaker {P = (λ (a : Attempt). IsWork old.files that a.client.asked)} {Q =
+            (λ a. IsWork then.files that a.client.asked)} that.attempts
             (λ a works. work-more old.files asked that a.client.asked works) it.works;
         link = it.link;
         may_step = it.may_step;
         tasks = tasks-more old.files asked number that it.tasks;
         job = it.job;
-        facts = begin_law.longer old.server.store old.files number that asked (stands old sound number that there) it.facts;
+        facts =
+            begin_law.longer old.server.store old.files number that asked (stands old sound number that there) it.facts;
       }
 
   -- ---- numbers
 
   -- the session at a place was there, at this one or at the one before
-  session-at : (olds news : List Attempt) (at : ℕ) (b : Attempt) (side : ServerSide) → sessions_of news ≡ sessions_of olds → slice_get news at ≡ Some b → b.server ≡ Some side
+  session-at : (olds news : List Attempt) (at : ℕ) (b : Attempt) (side : ServerSide)
+      → sessions_of news ≡ sessions_of olds → slice_get news at ≡ Some b → b.server ≡ Some side
       → (a : Attempt) × (slice_get olds at ≡ Some a) × (a.server ≡ Some side)
   session-at olds news at b side same there is_side =
       let in_news = at-map (λ (a : Attempt). a.server) news at b there in
@@ -275,19 +219,27 @@ module _ (begin_law : BeginLaw) (old : World) (sound : Sound old) (c : ℕ) (was
     pub other : number ≢ c → at ≡ earlier
 
   -- the session at a place of the client's was there
-  own-session : (stay : SessionsStay was.attempts now.attempts) (at : ℕ) (b : Attempt) (side : ServerSide) → slice_get now.attempts at ≡ Some b → b.server ≡ Some side
-      → (earlier : ℕ) × (a : Attempt) × (slice_get was.attempts earlier ≡ Some a) × (a.server ≡ Some side) × (at ≡ shifted stay earlier)
-  own-session (inl same) at b side there is_side = let it = session-at was.attempts now.attempts at b side same there is_side in (at, it.0, it.1, it.2, refl)
+  own-session : (stay : SessionsStay was.attempts now.attempts) (at : ℕ) (b : Attempt) (side : ServerSide)
+      → slice_get now.attempts at ≡ Some b → b.server ≡ Some side
+      → (earlier : ℕ) × (a : Attempt) × (slice_get was.attempts earlier ≡ Some a) × (a.server ≡ Some
+      side) × (at ≡ shifted stay earlier)
+  own-session (inl same) at b side there is_side =
+      let it = session-at was.attempts now.attempts at b side same there is_side in (at, it.0, it.1, it.2, refl)
   own-session (inr one) at b side there is_side = by now.attempts one at there
     where
-      by : (attempts : List Attempt) → sessions_of attempts ≡ None ∷ sessions_of was.attempts → (at : ℕ) → slice_get attempts at ≡ Some b
-          → (earlier : ℕ) × (a : Attempt) × (slice_get was.attempts earlier ≡ Some a) × (a.server ≡ Some side) × (at ≡ suc earlier)
+      by : (attempts : List Attempt) → sessions_of attempts ≡ None ∷ sessions_of was.attempts → (at : ℕ)
+          → slice_get attempts at ≡ Some b
+          → (earlier : ℕ) × (a : Attempt) × (slice_get was.attempts earlier ≡ Some a) × (a.server ≡ Some
+          side) × (at ≡ suc earlier)
       by [] one at there = absurd cc
       by (first ∷ rest) one zero there =
-          let none : first.server ≡ None = same_Some first.server None (ap (λ (s : List (Option ServerSide)). slice_get s 0) one) in
-          absurd (let some : None ≡ Some side = sym none ∙ ap (λ (it : Attempt). it.server) (same_Some first b there) ∙ is_side in cc)
+          let none : first.server ≡ None = same_Some first.server None
+          (ap (λ (s : List (Option ServerSide)). slice_get s 0) one) in
+          absurd (let some : None ≡ Some side = sym none ∙ ap (λ (it : Attempt). it.server) (same_Some first b there)
+          ∙ is_side in cc)
       by (first ∷ rest) one (suc at) there =
-          let same : sessions_of rest ≡ sessions_of was.attempts = ap (λ (s : List (Option ServerSide)). drop 1 s) one in
+          let same : sessions_of rest ≡ sessions_of was.attempts =
+          ap (λ (s : List (Option ServerSide)). drop 1 s) one in
           let it = session-at was.attempts rest at b side same there is_side in (at, it.0, it.1, it.2, refl)
 
   was-granted : (number at grant : ℕ) → GrantedAt then number at grant → WasGranted number at grant
@@ -331,10 +283,12 @@ module _ (begin_law : BeginLaw) (old : World) (sound : Sound old) (c : ℕ) (was
   granted-once one at two that grant first second =
       let before_one = was-granted one at grant first in
       let before_two = was-granted two that grant second in
-      let same = sound.granted one before_one.earlier two before_two.earlier grant before_one.granted before_two.granted in
+      let same = sound.granted one before_one.earlier two before_two.earlier grant before_one.granted
+      before_two.granted in
       (same.0, by before_one before_two same.0 same.1 (cases_eq one c))
     where
-      by : (before_one : WasGranted one at grant) (before_two : WasGranted two that grant) → one ≡ two → before_one.earlier ≡ before_two.earlier → (one ≡ c) ⊎ (one ≢ c) → at ≡ that
+      by : (before_one : WasGranted one at grant) (before_two : WasGranted two that grant) → one ≡ two
+          → before_one.earlier ≡ before_two.earlier → (one ≡ c) ⊎ (one ≢ c) → at ≡ that
       by before_one before_two numbers earlier (inl own_is) =
           before_one.own own_is ∙ ap (shifted made.sessions) earlier ∙ sym (before_two.own (sym numbers ∙ own_is))
       by before_one before_two numbers earlier (inr differs) =
@@ -342,12 +296,14 @@ module _ (begin_law : BeginLaw) (old : World) (sound : Sound old) (c : ℕ) (was
 
   pub then-sound : Sound then
   then-sound = record {
-      stations = stations;
-      store = sound.store;
-      may_step = sound.may_step;
-      places = together then (between old sound) known (λ number that there. sits-then number that (then-is number that there));
-      lists = sound.lists;
-      files = each-append (λ (it : Asked). IsGoodFile it.file) old.files asked sound.files made.good;
-      parties = λ number that there. party-then number that (then-is number that there);
-      granted = granted-once;
-    }
+    stations = stations;
+    store = sound.store;
+    may_step = sound.may_step;
+    places =
+        together then (between old sound) known
+        (λ number that there. sits-then number that (then-is number that there));
+    lists = sound.lists;
+    files = each-append (λ (it : Asked). IsGoodFile it.file) old.files asked sound.files made.good;
+    parties = λ number that there. party-then number that (then-is number that there);
+    granted = granted-once;
+  }

@@ -1,13 +1,11 @@
 -- A tick of a client: the client is then as it should be.
-use Rattle.std.proofs.Common.{◌≡◌, ◌≢◌, ◌⊎◌, ℕ, ◌≤◌, List, [], ◌∷◌, ◌++◌, Bool, true, false, Option, None, Some, refl, sym, ap, subst, ◌∙◌, inl, inr, append-nil}
-use Rattle.std.specs.Prelude.{slice_get, map, if◌then◌else◌}
+use Rattle.std.proofs.Common.{◌≡◌, ℕ, List, [], ◌∷◌, Bool, true, false, Option, None, Some, refl, sym, ap, subst, ◌∙◌}
+use Rattle.std.proofs.Common.{append-nil}
+use Rattle.std.specs.Prelude.{if◌then◌else◌}
 use Rattle.std.specs.List.{AllByRecursion}
-use Rattle.std.proofs.lemmas.Option.{same_Some}
 use Rattle.ax25_frames.specs.FrameText.{FrameValue}
 use Rattle.ax25_link.specs.LinkStep.{tick as coming_tick}
-use Rattle.client_laws.specs.Steps.{StepsBy, StepsQuietly, sabm_of}
 use Rattle.client_notes.specs.Command.{NotesCommand}
-use Rattle.ftl0_job.specs.Table.{new_job}
 use Rattle.ftl0_client.specs.Attempt.Attempted.{Attempted}
 use Rattle.ftl0_client.specs.Attempt.Hearing.{ticking, with_end}
 use Rattle.ftl0_client.specs.Attempt.Laws.{AttemptStands}
@@ -16,12 +14,14 @@ use Rattle.ftl0_client.specs.Client.{Client, ticks}
 use Rattle.ftl0_client.specs.ClientStep.{ClientStep}
 use Rattle.ftl0_client.specs.Entries as job
 use Rattle.ftl0_client.specs.Entries.{JobEntry}
+use Rattle.client_laws.specs.Steps.{StepsBy, StepsQuietly, sabm_of}
 use Rattle.air_attempt.specs.Attempt.{Attempt}
 use Rattle.air_attempt.specs.Laws.{GoesWith}
-use Rattle.air_attempt.specs.Party.{EachAttempt, Party, newest, with_newest}
-use Rattle.air_attempt.specs.Transfers.{ClientDid, after_client_tick, after_event, beginning, called_again, did_by, has_call, job_gone_on}
-use Rattle.air_files.specs.Facts.{GoesOnWithTask, HasFacts}
-use Rattle.air_files.specs.Tasks.{AreTasks, IsWork}
+use Rattle.air_attempt.specs.Party.{Party, with_newest}
+use Rattle.air_attempt.specs.Transfers.{ClientDid, after_client_tick, after_event, beginning, called_again, did_by}
+use Rattle.air_attempt.specs.Transfers.{has_call, job_gone_on}
+use Rattle.air_files.specs.Facts.{GoesOnWithTask}
+use Rattle.air_files.specs.Tasks.{IsWork}
 use Rattle.air_world.specs.Sound.{Sound}
 use Rattle.air_world.specs.World.{PartyAt, World}
 use Rattle.air_world.proofs.ClientBasics.{HasLink, goes-with, has-link, its-attempt}
@@ -31,8 +31,10 @@ use Rattle.air_world.proofs.ClientMade.{IsClientMade}
 use Rattle.air_world.proofs.ClientQuiet.{quiet-made, still-itself}
 use Rattle.air_world.proofs.JobWent.{ClientLaws, Went, client-made}
 use Rattle.air_world.proofs.SayLemmas.{may-say-at}
+use Rattle.air_world.proofs.Asked.{same-base}
 
-module _ (laws : ClientLaws) (old : World) (sound : Sound old) (c : ℕ) (party : Party) (is : PartyAt old c party) (noted : List NotesCommand) (frames : List FrameValue) (now : Client)
+module _ (laws : ClientLaws) (old : World) (sound : Sound old) (c : ℕ) (party : Party) (is : PartyAt old c party)
+    (noted : List NotesCommand) (frames : List FrameValue) (now : Client)
     (step : ClientStep party.client ticks noted frames now) where
   abbrev did : ClientDid
   did = did-of laws old sound c party now frames
@@ -41,7 +43,9 @@ module _ (laws : ClientLaws) (old : World) (sound : Sound old) (c : ℕ) (party 
   ticked-party = record party { client = now; attempts = after_event ticks did party.attempts }
 
   goes : GoesWith now (after_event ticks did party.attempts)
-  goes = laws.client party.client now ticks noted frames party.attempts party.attempts (goes-with old sound c party is) (may-say-at old c party ticks sound is) refl step
+  goes =
+      laws.client party.client now ticks noted frames party.attempts party.attempts (goes-with old sound c party is)
+      (may-say-at old c party ticks sound is) refl step
 
   -- it has no link
   module _ (none : party.client.attempt ≡ None) where
@@ -53,10 +57,13 @@ module _ (laws : ClientLaws) (old : World) (sound : Sound old) (c : ℕ) (party 
 
     idle-made : IsClientMade old c party ticked-party []
     idle-made =
-        let with-old = subst (λ (it : Client). GoesWith it party.attempts) quiet.new_is (subst (λ attempts. GoesWith now attempts) these-are goes) in
+        let with-old = subst (λ (it : Client). GoesWith it party.attempts) quiet.new_is
+        (subst (λ attempts. GoesWith now attempts) these-are goes) in
         let made = quiet-made laws.stay old sound c party is party.attempts (still-itself party.attempts) with-old in
-        subst (λ attempts. IsClientMade old c party (record party { client = now; attempts = attempts }) []) (sym these-are)
-        (subst (λ (it : Client). IsClientMade old c party (record party { client = it; attempts = party.attempts }) []) (sym quiet.new_is) made)
+        subst (λ attempts. IsClientMade old c party (record party { client = now; attempts = attempts }) [])
+        (sym these-are)
+        (subst (λ (it : Client). IsClientMade old c party (record party { client = it; attempts = party.attempts }) [])
+        (sym quiet.new_is) made)
 
   -- its link ticks
   module _ (link : Attempted) (has : party.client.attempt ≡ Some link) where
@@ -70,19 +77,24 @@ module _ (laws : ClientLaws) (old : World) (sound : Sound old) (c : ℕ) (party 
     attempted = with_end (ticking link) steps.last
 
     stands : AttemptStands linked.attempt.client.asked party.client.lists (ticking link)
-    stands = (laws.stands linked.attempt.client.asked party.client.window party.client.lists link (sabm_of party.client) (its-stands laws old sound c party is link has)).1
+    stands =
+        (laws.stands linked.attempt.client.asked party.client.window party.client.lists link (sabm_of party.client)
+        (its-stands laws old sound c party is link has)).1
 
     ticked-are : (call : Bool) → has_call frames ≡ call
-        → after_event ticks did party.attempts ≡ (if call then called_again did attempted (linked.attempt ∷ linked.older) else with_newest (job_gone_on did attempted (job.entries_ticked link)) (linked.attempt ∷ linked.older))
+        → after_event ticks did party.attempts ≡ (if call then called_again did attempted
+        (linked.attempt ∷ linked.older) else with_newest (job_gone_on did attempted (job.entries_ticked link))
+        (linked.attempt ∷ linked.older))
     ticked-are call is_call =
         ap (λ (before : Option Attempted). did_by ticks before now.attempt did party.attempts) has
-        ∙ ap (λ (after : Option Attempted). did_by ticks (Some link) after did party.attempts) (ap (λ (it : Client). it.attempt) steps.new_is)
+        ∙ ap (λ (after : Option Attempted). did_by ticks (Some link) after did party.attempts)
+        (ap (λ (it : Client). it.attempt) steps.new_is)
         ∙ ap (λ (attempts : List Attempt). after_client_tick did link attempted attempts) linked.attempts_are
         ∙ ap
-          (λ (call : Bool).
-          if call
-          then called_again did attempted (linked.attempt ∷ linked.older)
-          else with_newest (job_gone_on did attempted (job.entries_ticked link)) (linked.attempt ∷ linked.older)) is_call
+        (λ (call : Bool).
+        if call
+        then called_again did attempted (linked.attempt ∷ linked.older)
+        else with_newest (job_gone_on did attempted (job.entries_ticked link)) (linked.attempt ∷ linked.older)) is_call
 
     -- its job goes on
     module _ (no_call : has_call frames ≡ false) where
@@ -109,7 +121,8 @@ module _ (laws : ClientLaws) (old : World) (sound : Sound old) (c : ℕ) (party 
       went-made : IsClientMade old c party ticked-party []
       unfolding went-ticked
       went-made =
-          subst (λ attempts. IsClientMade old c party (record party { client = now; attempts = attempts }) []) (sym (ticked-are false no_call))
+          subst (λ attempts. IsClientMade old c party (record party { client = now; attempts = attempts }) [])
+          (sym (ticked-are false no_call))
           (client-made laws old sound c party is link has now went-ticked)
 
     -- it calls again
@@ -128,14 +141,7 @@ module _ (laws : ClientLaws) (old : World) (sound : Sound old) (c : ℕ) (party 
           let it = sound.parties c party is in
           let files = sym (append-nil old.files) in
           record {
-            me = refl;
-            server = refl;
-            window = refl;
-            attempts = refl;
-            facts = subst (λ files. HasFacts old.server.store files party) files it.facts;
-            tasks = subst (λ files. AreTasks files c party) files it.tasks;
-            works = subst (λ files. AllByRecursion (λ (a : Attempt). IsWork files party a.client.asked) party.attempts) files it.works;
-            good = tt;
+            base_is = same-base old c party sound is;
             begins =
                 record {
                   asked = (its-attempt old sound c party is link has).job.begun;
@@ -144,10 +150,12 @@ module _ (laws : ClientLaws) (old : World) (sound : Sound old) (c : ℕ) (party 
                   unserved = refl;
                 };
             goes_on =
-                (subst (λ attempts. AllByRecursion (GoesOnWithTask party) attempts) linked.attempts_are it.facts.tasks.goes_on).0;
+                (subst (λ attempts. AllByRecursion (GoesOnWithTask party) attempts) linked.attempts_are
+                it.facts.tasks.goes_on).0;
             work =
                 subst (λ files. IsWork files party linked.attempt.client.asked) files
-                (subst (λ attempts. AllByRecursion (λ (a : Attempt). IsWork old.files party a.client.asked) attempts) linked.attempts_are it.works).0;
+                (subst (λ attempts. AllByRecursion (λ (a : Attempt). IsWork old.files party a.client.asked) attempts)
+                linked.attempts_are it.works).0;
             stands = stands.job;
             now_is = steps.new_is;
             goes = goes-again;
@@ -155,7 +163,8 @@ module _ (laws : ClientLaws) (old : World) (sound : Sound old) (c : ℕ) (party 
 
       again-made : IsClientMade old c party ticked-party []
       again-made =
-          subst (λ attempts. IsClientMade old c party (record party { client = now; attempts = attempts }) []) (sym again-are)
+          subst (λ attempts. IsClientMade old c party (record party { client = now; attempts = attempts }) [])
+          (sym again-are)
           (begun-made laws old c party party [] again now begins)
 
     linked-made : IsClientMade old c party ticked-party []

@@ -1,21 +1,21 @@
 -- What the server does leaves the clients' sides of attempts as they are.
-use Rattle.std.proofs.Common.{◌≡◌, ℕ, List, [], ◌∷◌, Bool, true, false, Option, None, Some, refl, sym, ap, subst, ◌∙◌}
+use Rattle.std.proofs.Common.{◌≡◌, List, [], ◌∷◌, Bool, true, false, Option, None, Some, refl, sym, ap, subst, ◌∙◌}
 use Rattle.std.specs.Prelude.{slice_get, ⊤}
 use Rattle.std.specs.List.{AllByRecursion}
-use Rattle.std.specs.Option.{option_map, option_map_or}
+use Rattle.std.specs.Option.{option_map_or}
 use Rattle.std.proofs.lemmas.Option.{same_Some}
 use Rattle.px_base.specs.CallSign.{CallSign}
 use Rattle.ax25_frames.specs.FrameText.{FrameValue}
-use Rattle.ax25_link.specs.Air.{Transmission}
 use Rattle.ax25_link.specs.Rows.{is_call}
 use Rattle.ax25_link.specs.Window.{Window}
 use Rattle.ftl0_server.specs.Connection.Connected.{Connected}
 use Rattle.ftl0_server.specs.Entries as session
 use Rattle.ftl0_client.specs.Attempt.Attempted.{Attempted}
 use Rattle.air_attempt.specs.Attempt.{Attempt}
-use Rattle.air_attempt.specs.Party.{IsLinkOf, all_over, over, server_sends, to_server_delivered, with_answered, with_newest}
+use Rattle.air_attempt.specs.Party.{IsLinkOf, all_over, server_sends, with_answered, with_newest}
 use Rattle.air_attempt.specs.Sides.{ClientSide, ServerSide}
-use Rattle.air_attempt.specs.Transfers.{ServerDid, after_hearing, after_tick, begun, connection_of, did_to, heard_by, opened, served, ticked_by}
+use Rattle.air_attempt.specs.Transfers.{ServerDid, after_hearing, after_tick, connection_of, did_to, heard_by, opened}
+use Rattle.air_attempt.specs.Transfers.{served, ticked_by}
 
 -- the client's side and the window
 pub record StaysClient (old new : Attempt) : Type 0 where
@@ -41,14 +41,18 @@ stay-trans [] [] (c ∷ cs) one other = absurd other
 stay-trans [] (b ∷ news) cs one other = absurd one
 stay-trans (a ∷ olds) [] cs one other = absurd one
 stay-trans (a ∷ olds) (b ∷ news) [] one other = absurd other
-stay-trans (a ∷ olds) (b ∷ news) (c ∷ cs) one other =
-    (record { client = other.0.client ∙ one.0.client; window = other.0.window ∙ one.0.window }, stay-trans olds news cs one.1 other.1)
+stay-trans (a ∷ olds) (b ∷ news) (c ∷ cs) one other = (
+  record { client = other.0.client ∙ one.0.client; window = other.0.window ∙ one.0.window },
+  stay-trans olds news cs one.1 other.1,
+)
 
-pub newest-stays : (change : Attempt → Attempt) (attempts : List Attempt) → ((a : Attempt) → StaysClient a (change a)) → ClientsStay attempts (with_newest change attempts)
+pub newest-stays : (change : Attempt → Attempt) (attempts : List Attempt) → ((a : Attempt) → StaysClient a (change a))
+    → ClientsStay attempts (with_newest change attempts)
 newest-stays change [] each = tt
 newest-stays change (a ∷ older) each = (each a, stay-refl older)
 
-answered-stays : (change : Attempt → ServerSide → Attempt) (attempts : List Attempt) → ((a : Attempt) (side : ServerSide) → StaysClient a (change a side))
+answered-stays : (change : Attempt → ServerSide → Attempt) (attempts : List Attempt)
+    → ((a : Attempt) (side : ServerSide) → StaysClient a (change a side))
     → ClientsStay attempts (with_answered change attempts)
 answered-stays change [] each = tt
 answered-stays change (a ∷ older) each = by a.server (answered-stays change older each)
@@ -62,17 +66,22 @@ pub over-stays : (attempts : List Attempt) → ClientsStay attempts (all_over at
 over-stays [] = tt
 over-stays (a ∷ older) = (record { client = refl; window = refl }, over-stays older)
 
-opened-stays : (did : ServerDid) (c : Connected) (attempts : List Attempt) → ClientsStay attempts (opened did c attempts)
+opened-stays : (did : ServerDid) (c : Connected) (attempts : List Attempt)
+    → ClientsStay attempts (opened did c attempts)
 opened-stays did c [] = tt
 opened-stays did c (a ∷ older) = (record { client = refl; window = refl }, over-stays older)
 
-sends-stay : (frames : List FrameValue) (attempts : List Attempt) → ClientsStay attempts (with_newest (server_sends frames) attempts)
+sends-stay : (frames : List FrameValue) (attempts : List Attempt)
+    → ClientsStay attempts (with_newest (server_sends frames) attempts)
 sends-stay frames attempts = newest-stays (server_sends frames) attempts (λ a. record { client = refl; window = refl })
 
-pub hearing-stays : (did : ServerDid) (frame : FrameValue) (attempts : List Attempt) → ClientsStay attempts (after_hearing did frame attempts)
-hearing-stays did frame attempts = by (is_call frame.kind.control) (connection_of did.old frame.src) (connection_of did.last frame.src)
+pub hearing-stays : (did : ServerDid) (frame : FrameValue) (attempts : List Attempt)
+    → ClientsStay attempts (after_hearing did frame attempts)
+hearing-stays did frame attempts =
+    by (is_call frame.kind.control) (connection_of did.old frame.src) (connection_of did.last frame.src)
   where
-    by : (call : Bool) (before after : Option Connected) → ClientsStay attempts (heard_by call before after did frame attempts)
+    by : (call : Bool) (before after : Option Connected)
+        → ClientsStay attempts (heard_by call before after did frame attempts)
     by true before (Some now) = opened-stays did now attempts
     by true before None = sends-stay did.frames attempts
     by false (Some c) (Some now) =
@@ -82,25 +91,29 @@ hearing-stays did frame attempts = by (is_call frame.kind.control) (connection_o
     by false (Some c) None = sends-stay did.frames attempts
     by false None now = sends-stay did.frames attempts
 
-pub tick-stays : (did : ServerDid) (caller : CallSign) (attempts : List Attempt) → ClientsStay attempts (after_tick did caller attempts)
+pub tick-stays : (did : ServerDid) (caller : CallSign) (attempts : List Attempt)
+    → ClientsStay attempts (after_tick did caller attempts)
 tick-stays did caller attempts = by (connection_of did.old caller) (connection_of did.last caller)
   where
     by : (before after : Option Connected) → ClientsStay attempts (ticked_by before after (did_to caller did) attempts)
-    by (Some c) (Some now) = answered-stays (served (did_to caller did) now []) attempts (λ a side. record { client = refl; window = refl })
+    by (Some c) (Some now) =
+        answered-stays (served (did_to caller did) now []) attempts (λ a side. record { client = refl; window = refl })
     by (Some c) None = stay-refl attempts
     by None now = stay-refl attempts
 
 -- ---- what follows
 
 module _ (P : ClientSide → Type 0) where
-  pub stay-each : (olds news : List Attempt) → ClientsStay olds news → AllByRecursion (λ (a : Attempt). P a.client) olds → AllByRecursion (λ (b : Attempt). P b.client) news
+  pub stay-each : (olds news : List Attempt) → ClientsStay olds news → AllByRecursion (λ (a : Attempt). P a.client) olds
+      → AllByRecursion (λ (b : Attempt). P b.client) news
   stay-each [] [] stays all = tt
   stay-each [] (b ∷ news) stays all = absurd stays
   stay-each (a ∷ olds) [] stays all = absurd stays
   stay-each (a ∷ olds) (b ∷ news) stays all = (subst P (sym stays.0.client) all.0, stay-each olds news stays.1 all.1)
 
   -- what holds of the current one's side
-  pub stay-newest : (olds news : List Attempt) → ClientsStay olds news → ((a : Attempt) → slice_get olds 0 ≡ Some a → P a.client)
+  pub stay-newest : (olds news : List Attempt) → ClientsStay olds news
+      → ((a : Attempt) → slice_get olds 0 ≡ Some a → P a.client)
       → (b : Attempt) → slice_get news 0 ≡ Some b → P b.client
   stay-newest [] [] stays each b is = absurd cc
   stay-newest [] (b' ∷ news) stays each b is = absurd stays
@@ -108,14 +121,16 @@ module _ (P : ClientSide → Type 0) where
   stay-newest (a ∷ olds) (b' ∷ news) stays each b is =
       subst P (sym stays.0.client ∙ ap (λ (it : Attempt). it.client) (same_Some b' b is)) (each a refl)
 
-pub stay-link : (olds news : List Attempt) (link : Option Attempted) → ClientsStay olds news → IsLinkOf (slice_get olds 0) link → IsLinkOf (slice_get news 0) link
+pub stay-link : (olds news : List Attempt) (link : Option Attempted) → ClientsStay olds news
+    → IsLinkOf (slice_get olds 0) link → IsLinkOf (slice_get news 0) link
 stay-link olds news None stays is = tt
 stay-link [] [] (Some a) stays is = is
 stay-link [] (b ∷ news) (Some a) stays is = absurd stays
 stay-link (a ∷ olds) [] (Some it) stays is = absurd stays
 stay-link (a ∷ olds) (b ∷ news) (Some it) stays is = ap (λ (c : ClientSide). c.attempted) stays.0.client ∙ is
 
-pub stay-windows : (w : Window) (olds news : List Attempt) → ClientsStay olds news → AllByRecursion (λ (a : Attempt). a.window ≡ w) olds → AllByRecursion (λ (b : Attempt). b.window ≡ w) news
+pub stay-windows : (w : Window) (olds news : List Attempt) → ClientsStay olds news
+    → AllByRecursion (λ (a : Attempt). a.window ≡ w) olds → AllByRecursion (λ (b : Attempt). b.window ≡ w) news
 stay-windows w [] [] stays all = tt
 stay-windows w [] (b ∷ news) stays all = absurd stays
 stay-windows w (a ∷ olds) [] stays all = absurd stays

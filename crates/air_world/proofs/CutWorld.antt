@@ -1,11 +1,12 @@
 -- An event of the server's that is cut keeps a sound world.
-use Rattle.std.proofs.Common.{◌≡◌, ◌≢◌, ◌⊎◌, ℕ, zero, suc, take, ◌<◌, ◌^◌, List, [], Bool, true, false, Option, None, Some, refl, sym, ap, subst, ◌∙◌, inl, inr}
+use Rattle.std.proofs.Common.{◌≡◌, ◌≢◌, ◌⊎◌, ℕ, zero, suc, take, ◌<◌, ◌^◌, List, [], Bool, true, false, Option, None}
+use Rattle.std.proofs.Common.{Some, refl, sym, ap, subst, ◌∙◌, inl, inr}
 use Rattle.std.specs.Prelude.{slice_get}
 use Rattle.std.proofs.lemmas.Bool.{cases_eq}
 use Rattle.std.proofs.lemmas.Option.{same_Some}
 use Rattle.ax25_link.specs.Air.{Transmission}
 use Rattle.ax25_link.specs.Rows.{is_call}
-use Rattle.node.specs.Events.{hears as frame_comes, ticks as tick_comes}
+use Rattle.node.specs.Events.{hears as frame_comes}
 use Rattle.file_store.specs.Command.{Command, after_all}
 use Rattle.file_store.specs.OnDisk.{after_first}
 use Rattle.file_store.specs.Store.{Store}
@@ -20,11 +21,12 @@ use Rattle.air_files.specs.SoundStore.{IsSoundStore}
 use Rattle.air_world.specs.Cuts.{server_commands}
 use Rattle.air_world.specs.Sound.{Sound}
 use Rattle.air_world.specs.World.{PartyAt, World}
-use Rattle.air_world.proofs.Marked.{IsComing, are-marked, delivered, from-client, none-marked}
+use Rattle.air_world.proofs.Marked.{IsComing, are-marked, delivered, none-marked}
 use Rattle.air_world.proofs.Seats.{between, connection-none}
 use Rattle.air_world.proofs.Served.{done-are, keeps, stands}
-use Rattle.air_world.proofs.ServerCut.{AreMarked, cut, cut-sound}
-use Rattle.air_world.proofs.ServerHeard.{HearingLaws, seat-found}
+use Rattle.air_world.proofs.ServerCut.{cut, cut-sound}
+use Rattle.air_world.proofs.ServerHeard.{seat-found}
+use Rattle.air_world.proofs.HeardMade.{HearingLaws}
 
 pub take-none : {X : Type 0} (count : ℕ) → take {A = X} count [] ≡ []
 take-none zero = refl
@@ -33,15 +35,18 @@ take-none (suc count) = refl
 -- ---- a tick
 
 module _ (left_law : LeftLaw) (stay_law : StayLaw) (old : World) (sound : Sound old) where
-  pub tick-cut-sound : (left : Store) → left ≡ old.server.store → Sound (cut left_law old old sound (none-marked old sound) left)
+  pub tick-cut-sound : (left : Store) → left ≡ old.server.store
+      → Sound (cut left_law old old sound (none-marked old sound) left)
   tick-cut-sound left same =
       cut-sound left_law old old sound (none-marked old sound) left (subst IsSoundStore (sym same) sound.store)
-      (λ c was is. subst (λ store. HasFacts store old.files (sessions_over was)) (sym same) (stay_law.over old.server.store old.files was (sound.parties c was is).facts))
+      (λ c was is. subst (λ store. HasFacts store old.files (sessions_over was)) (sym same)
+      (stay_law.over old.server.store old.files was (sound.parties c was is).facts))
       stay_law
 
 -- ---- a frame
 
-module _ (laws : HearingLaws) (some_step : SomeStepLaw) (left_law : LeftLaw) (old : World) (sound : Sound old) (c : ℕ) (party : Party) (place : ℕ) (t : Transmission)
+module _ (laws : HearingLaws) (some_step : SomeStepLaw) (left_law : LeftLaw) (old : World) (sound : Sound old) (c : ℕ)
+    (party : Party) (place : ℕ) (t : Transmission)
     (coming : IsComing old c party place t) (moment : ℕ) (soon : moment < 2 ^ 32) (count : ℕ) where
   has : HasStep old.server (frame_comes t.frame moment) []
   has = some_step old.server (frame_comes t.frame moment) [] sound.may_step
@@ -53,7 +58,9 @@ module _ (laws : HearingLaws) (some_step : SomeStepLaw) (left_law : LeftLaw) (ol
   left = after_first count old.server.store (server_commands old (frame_comes t.frame moment))
 
   quiet : (commands : List Command) → commands ≡ [] → after_first count old.server.store commands ≡ old.server.store
-  quiet commands none = ap (λ commands. after_first count old.server.store commands) none ∙ ap (λ these. after_all old.server.store these) (take-none count)
+  quiet commands none =
+      ap (λ commands. after_first count old.server.store commands) none
+      ∙ ap (λ these. after_all old.server.store these) (take-none count)
 
   quiet-left : has.gives.done ≡ [] → LeftIn old.files party old.server.store left
   quiet-left none =
@@ -68,16 +75,23 @@ module _ (laws : HearingLaws) (some_step : SomeStepLaw) (left_law : LeftLaw) (ol
   pub own-left : LeftIn old.files party old.server.store left
   own-left = by (is_call t.frame.kind.control) refl (connection_of old.server t.frame.src) refl
     where
-      by : (call : Bool) → is_call t.frame.kind.control ≡ call → (o : Option Connected) → connection_of old.server t.frame.src ≡ o → LeftIn old.files party old.server.store left
-      by true calls o was = quiet-left (laws.heard.unheard old.server t.frame moment has.gives (between old sound) (inl calls) has.step).0
+      by : (call : Bool) → is_call t.frame.kind.control ≡ call → (o : Option Connected)
+          → connection_of old.server t.frame.src ≡ o → LeftIn old.files party old.server.store left
+      by true calls o was =
+          quiet-left (laws.heard.unheard old.server t.frame moment has.gives (between old sound) (inl calls) has.step).0
       by false is_packet None was =
-          quiet-left (laws.heard.unheard old.server t.frame moment has.gives (between old sound) (inr (connection-none old.server t.frame.src was)) has.step).0
+          quiet-left (laws.heard.unheard old.server t.frame moment has.gives (between old sound)
+          (inr (connection-none old.server t.frame.src (between old sound) was)) has.step).0
       by false is_packet (Some seat) was =
           let sits = seat-found laws old sound c party place t coming moment soon has.gives has.step seat was in
-          let hears = laws.heard.heard old.server t.frame moment has.gives sits.0 seat (between old sound) is_packet sits.1 sits.2 has.step in
-          let done = done-are laws.sessions old sound c party place t coming moment is_packet sits.0 seat sits.1 sits.2 in
-          let kept = keeps laws.sessions old sound c party place t coming moment is_packet sits.0 seat sits.1 sits.2 false (λ up. absurd cc) in
-          subst (λ commands. LeftIn old.files party old.server.store (after_first count old.server.store commands)) (sym (commands-are ∙ hears.done_is ∙ done)) (kept.during count)
+          let hears = laws.heard.heard old.server t.frame moment has.gives sits.0 seat
+          (between old sound) is_packet sits.1 sits.2 has.step in
+          let done = done-are laws.sessions old sound c party place t coming moment is_packet sits.0 seat sits.1
+          sits.2 in
+          let kept = keeps laws.sessions old sound c party place t coming moment is_packet sits.0 seat sits.1 sits.2
+          false (λ up. absurd cc) in
+          subst (λ commands. LeftIn old.files party old.server.store (after_first count old.server.store commands))
+          (sym (commands-are ∙ hears.done_is ∙ done)) (kept.during count)
 
   facts-left : (number : ℕ) (was : Party) → PartyAt old number was → HasFacts left old.files (sessions_over was)
   facts-left number was is = by (cases_eq number c)
@@ -87,11 +101,16 @@ module _ (laws : HearingLaws) (some_step : SomeStepLaw) (left_law : LeftLaw) (ol
           let same = same_Some party was (sym coming.is ∙ ap (λ i. slice_get old.parties i) (sym own) ∙ is) in
           subst (λ (p : Party). HasFacts left old.files (sessions_over p)) same own-left.facts
       by (inr other) =
-          let differs : was.client.me ≢ party.client.me = λ same. other (sound.stations.distinct number c was party is coming.is same) in
+          let differs : was.client.me ≢ party.client.me =
+          λ same. other (sound.stations.distinct number c was party is coming.is same) in
           laws.stay.over left old.files was
-          (laws.stay.other old.files number was party.client.me old.server.store left (stands old sound number was is) (stands old sound c party coming.is).call differs
-           sound.store own-left.follows (sound.parties number was is).facts)
+          (laws.stay.other old.files number was party.client.me old.server.store left (stands old sound number was is)
+          (stands old sound c party coming.is).call differs
+          sound.store own-left.follows (sound.parties number was is).facts)
 
-  pub frame-cut-sound : Sound (cut left_law old (delivered old sound c party place t coming) sound (are-marked old sound c party place t coming left_law) left)
+  pub frame-cut-sound : Sound
+      (cut left_law old (delivered old sound c party place t coming) sound
+      (are-marked old sound c party place t coming left_law) left)
   frame-cut-sound =
-      cut-sound left_law old (delivered old sound c party place t coming) sound (are-marked old sound c party place t coming left_law) left own-left.store facts-left laws.stay
+      cut-sound left_law old (delivered old sound c party place t coming) sound
+      (are-marked old sound c party place t coming left_law) left own-left.store facts-left laws.stay

@@ -1,13 +1,13 @@
 -- What is promised of a sound world holds also while its next event is under way.
 use Rattle.pfh_items.specs.Laws.{HasNoFault, HasNoFront}
 use Rattle.file_entries.specs.Follows.{FollowsLaw}
-use Rattle.ftl0_client.specs.Laws as client
 use Rattle.ftl0_server.specs.Laws as server
+use Rattle.ftl0_client.specs.Laws as client
 use Rattle.air_world.specs.Laws.{PrefixesLaw}
 use Rattle.air_world.proofs.DuringClient.{during-client}
 use Rattle.air_world.proofs.DuringServer.{during-server}
 use Rattle.air_world.proofs.JobWent.{ClientLaws}
-use Rattle.air_world.proofs.ServerHeard.{HearingLaws}
+use Rattle.air_world.proofs.HeardMade.{HearingLaws}
 
 -- by the laws of both stations' events, of the store and of file headers
 pub record DuringLaws : Type 0 where

@@ -1,9 +1,10 @@
 -- What is promised holds while an event of a client's is under way, with its notes after the first of its commands.
 use Rattle.std.proofs.Common.{◌≡◌, ℕ, zero, suc, List, [], ◌∷◌, length, Some, refl, sym, ap, subst}
+use Rattle.sha2.specs.Sha256.{sha256}
 use Rattle.std.specs.Prelude.{slice_get}
 use Rattle.std.proofs.lemmas.Option.{same_Some}
-use Rattle.ax25_link.specs.Air.{Transmission}
 use Rattle.pfh_items.specs.Laws.{HasNoFault, HasNoFront}
+use Rattle.ax25_link.specs.Air.{Transmission}
 use Rattle.client_notes.specs.Answers.{fresh_task}
 use Rattle.client_notes.specs.Command.{NotesCommand}
 use Rattle.client_notes.specs.Laws.{after_all}
@@ -18,21 +19,19 @@ use Rattle.ftl0_job.specs.declared.work.Work.TheVariants as work
 use Rattle.ftl0_client.specs.Client as client
 use Rattle.ftl0_client.specs.Client.{ClientEvent, asks}
 use Rattle.ftl0_client.specs.Laws.{SomeStepLaw}
-use Rattle.sha2.specs.Sha256.{sha256}
 use Rattle.air_attempt.specs.Attempt.{Attempt}
 use Rattle.air_attempt.specs.Lists.{Placed}
 use Rattle.air_attempt.specs.Party.{Asked, Party, to_client_delivered, with_newest}
 use Rattle.air_files.specs.Facts.{HasFacts}
 use Rattle.air_files.specs.Laws.{started_with}
 use Rattle.air_world.specs.Cuts.{client_commands}
-use Rattle.air_world.specs.Events.{ClientPart, ClientTakes, DeliversToClient, IsPartOf, IsResuming, asking}
-use Rattle.air_world.specs.Events.{asking_file, next_upload, part_with}
-use Rattle.air_world.specs.Events.{with_current}
+use Rattle.air_world.specs.Events.{ClientPart, ClientTakes, DeliversToClient, IsPartOf, IsResuming, asking, asking_file}
+use Rattle.air_world.specs.Events.{next_upload, part_with, with_current}
 use Rattle.air_world.specs.Headline.{HeadlineIn}
 use Rattle.air_world.specs.Laws.{noted_first}
 use Rattle.air_world.specs.Lawful.{HasParty, IsPossible, MayCome}
-use Rattle.air_world.specs.Schedule.{Event, ask_download, ask_list, ask_resume, ask_upload, break_client}
-use Rattle.air_world.specs.Schedule.{cut_client, cut_server, tick_client, tick_server, to_client, to_server}
+use Rattle.air_world.specs.Schedule.{Event, ask_download, ask_list, ask_resume, ask_upload, break_client, cut_client}
+use Rattle.air_world.specs.Schedule.{cut_server, tick_client, tick_server, to_client, to_server}
 use Rattle.air_world.specs.Sound.{Sound}
 use Rattle.air_world.specs.World.{PartyAt, World}
 use Rattle.air_world.proofs.ClientHeard.{IsReceiving, heard-facts, nothing-noted}

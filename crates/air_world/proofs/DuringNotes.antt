@@ -16,13 +16,13 @@ use Rattle.air_attempt.specs.Attempt.{Attempt}
 use Rattle.air_attempt.specs.Party.{Asked, IsFileOf, Party, newest}
 use Rattle.air_attempt.specs.Said.{Offers}
 use Rattle.air_attempt.specs.Sides.{ClientSide, ServerSide}
+use Rattle.air_attempt.proofs.Offered.{set-at}
 use Rattle.air_files.specs.Kept.{HoldsAck, IsKept, IsTaskKept}
 use Rattle.air_world.specs.Headline.{HasWhole, HeadlineIn}
 use Rattle.air_world.specs.Offered.{Offered}
 use Rattle.air_world.specs.Sound.{Sound}
 use Rattle.air_world.specs.World.{PartyAt, World, with_party}
 use Rattle.air_world.proofs.PartsLemmas.{are-offered, fetched-current, has-headline}
-use Rattle.air_world.proofs.WorldLists.{set-at}
 
 -- The client is that one, but for its notes, and for what is marked as delivered of its transmissions.
 pub record StaysBut (party now : Party) : Type 0 where

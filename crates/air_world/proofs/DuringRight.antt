@@ -1,11 +1,12 @@
 -- Notes of a client that are right: those that it has, with a fresh task, and those by which the facts hold.
 use Rattle.std.proofs.Common.{ℕ, [], ◌∷◌, length}
+use Rattle.sha2.specs.Sha256.{sha256}
 use Rattle.pfh_items.specs.Laws.{HasNoFault, HasNoFront}
 use Rattle.client_notes.specs.Answers.{fresh_task}
 use Rattle.client_notes.specs.Laws.{after_all}
 use Rattle.client_notes.specs.Notes.{Lists, got_of}
-use Rattle.sha2.specs.Sha256.{sha256}
 use Rattle.air_attempt.specs.Party.{Asked, Party}
+use Rattle.air_attempt.proofs.Offered.{all-at}
 use Rattle.air_files.specs.Facts.{HasFacts, HasFetched}
 use Rattle.air_files.specs.Laws.{started_with}
 use Rattle.air_files.proofs.Offered.{tasked-acked}
@@ -14,7 +15,6 @@ use Rattle.air_world.specs.World.{PartyAt, World}
 use Rattle.air_world.proofs.DuringNotes.{AreRight}
 use Rattle.air_world.proofs.PartsLemmas.{has-headline}
 use Rattle.air_world.proofs.WholeLemmas.{whole-got}
-use Rattle.air_world.proofs.WorldLists.{all-at}
 
 module _ (fault : HasNoFault) (front : HasNoFront) (world : World) (sound : Sound world) (c : ℕ) (party : Party)
     (is : PartyAt world c party) where

@@ -1,8 +1,8 @@
 -- What is promised holds while an event of the server's is under way, in the store after the first of its commands.
 use Rattle.std.proofs.Common.{◌≡◌, ℕ, zero, suc, ◌<◌, ◌^◌, ◌%◌, List, sym, subst, ◌∙◌, arith}
 use Rattle.std.proofs.lemmas.Option.{same_Some}
-use Rattle.ax25_link.specs.Air.{IsLawful, Transmission}
 use Rattle.pfh_items.specs.Laws.{HasNoFault, HasNoFront}
+use Rattle.ax25_link.specs.Air.{IsLawful, Transmission}
 use Rattle.node.specs.Events.{NodeEvent, ticks}
 use Rattle.file_entries.specs.Follows.{FollowsBy, FollowsLaw}
 use Rattle.file_store.specs.Command.{Command, after_all}
@@ -16,15 +16,15 @@ use Rattle.air_world.specs.Cuts.{server_commands}
 use Rattle.air_world.specs.Events.{DeliversToServer, IsSent, ServerTakes}
 use Rattle.air_world.specs.Headline.{HeadlineIn}
 use Rattle.air_world.specs.Lawful.{HasParty, IsPossible, MayCome}
-use Rattle.air_world.specs.Schedule.{Event, ask_download, ask_list, ask_resume, ask_upload, break_client}
-use Rattle.air_world.specs.Schedule.{cut_client, cut_server, tick_client, tick_server, to_client, to_server}
+use Rattle.air_world.specs.Schedule.{Event, ask_download, ask_list, ask_resume, ask_upload, break_client, cut_client}
+use Rattle.air_world.specs.Schedule.{cut_server, tick_client, tick_server, to_client, to_server}
 use Rattle.air_world.specs.Sound.{Sound}
 use Rattle.air_world.specs.World.{PartyAt, World, next_moment}
 use Rattle.air_world.proofs.CutWorld.{left, own-left, take-none}
 use Rattle.air_world.proofs.HeadlineLemmas.{headline-follows}
 use Rattle.air_world.proofs.Marked.{IsComing}
 use Rattle.air_world.proofs.PartsLemmas.{are-offered, has-headline}
-use Rattle.air_world.proofs.ServerHeard.{HearingLaws}
+use Rattle.air_world.proofs.HeardMade.{HearingLaws}
 use Rattle.air_world.proofs.Served.{stands}
 
 soon : (events : ℕ) → suc events % 2 ^ 32 < 2 ^ 32

@@ -9,18 +9,18 @@ use Rattle.std.proofs.lemmas.List.Quantifiers.{position-Some}
 use Rattle.std.proofs.lemmas.Option.{same_Some, slice_get-get_or}
 use Rattle.ax25_link.specs.Air.{Transmission}
 use Rattle.ax25_link.specs.declared.refusal.Refusal.{Refusal}
+use Rattle.ax25_link.specs.Sending.{Sending, next_sending}
 use Rattle.node.specs.Events.{NodeEvent, hears, ticks}
+use Rattle.ftl0_server.specs.Laws as server
 use Rattle.client_notes.specs.Command.{is_going, new_task}
 use Rattle.client_notes.specs.Notes.{Lists, Task, task_count, task_of}
 use Rattle.ftl0_job.specs.declared.work.Work.TheVariants as work
 use Rattle.ftl0_job.specs.Directory.{new_directory}
 use Rattle.ftl0_job.specs.Download.{new_download}
 use Rattle.ftl0_job.specs.Upload.{new_upload}
-use Rattle.ftl0_server.specs.Laws as server
 use Rattle.ftl0_client.specs.Attempt.Attempted.{Attempted}
 use Rattle.ftl0_client.specs.Client as client
 use Rattle.ftl0_client.specs.Client.{Client, IsSilent, sends_by, sends_of_attempt, sends_of_link}
-use Rattle.ax25_link.specs.Sending.{Sending, next_sending}
 use Rattle.ftl0_client.specs.Laws as law
 use Rattle.air_attempt.specs.Party.{Party, to_client_delivered, to_server_delivered}
 use Rattle.air_files.proofs.Offered.{task-file}
@@ -30,8 +30,7 @@ use Rattle.air_world.specs.Events.{part_with, with_current}
 use Rattle.air_world.specs.Lawful.{IsPossible, last_unfinished}
 use Rattle.air_world.specs.Laws.{ExistenceLaw}
 use Rattle.air_world.specs.Schedule.{Event, ask_download, ask_list, ask_resume, ask_upload, break_client, cut_client}
-use Rattle.air_world.specs.Schedule.{cut_server}
-use Rattle.air_world.specs.Schedule.{tick_client, tick_server, to_client, to_server}
+use Rattle.air_world.specs.Schedule.{cut_server, tick_client, tick_server, to_client, to_server}
 use Rattle.air_world.specs.Sound.{Sound}
 use Rattle.air_world.specs.Step.{client_started}
 use Rattle.air_world.specs.World.{PartyAt, World, counted, next_moment, with_party}

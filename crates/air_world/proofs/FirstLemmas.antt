@@ -8,17 +8,15 @@ use Rattle.std.proofs.lemmas.Option.{same_Some}
 use Rattle.px_base.specs.CallSign.{CallSign, IsCall, is_call_char}
 use Rattle.ax25_link.specs.Window.{Window, window_of}
 use Rattle.file_store.specs.Store.{empty_store}
-use Rattle.ftl0_server.specs.Connection.Connected.{Connected}
-use Rattle.ftl0_server.specs.Server.{all_free}
-use Rattle.ftl0_server.specs.Slots.{Slot, connected, free, leaving}
 use Rattle.air_attempt.specs.Attempt.{Attempt}
 use Rattle.air_attempt.specs.Party.{OnlyNewestUp, Party, first_party}
 use Rattle.air_attempt.specs.Sides.{ServerSide}
 use Rattle.air_files.specs.SoundStore.{IsSoundStore}
-use Rattle.air_files.proofs.Offered.{each-at, facts-first, has-at, no-task}
+use Rattle.air_files.proofs.Offered.{facts-first, no-task}
 use Rattle.air_world.specs.Schedule.{AreDistinct, IsSchedule, Schedule}
 use Rattle.air_world.specs.Sound.{ArePlaces, AreStationsOf, IsParty, IsSideAt, Sound}
 use Rattle.air_world.specs.World.{PartyAt, first_world, pacsat, store_blocks}
+use Rattle.air_world.proofs.ServerCut.{none-connected, none-leaving}
 
 -- the party at a place is the first one of the call there
 first-at : (server : CallSign) (w : Window) (calls : List CallSign) (c : ℕ) (party : Party)
@@ -86,17 +84,6 @@ empty-sound = record {
   octets = tt;
 }
 
-all-free : (place : ℕ) (slot : Slot) → slice_get all_free place ≡ Some slot → slot ≡ free
-all-free place slot there =
-    each-at (λ (it : Slot). it ≡ free) all_free slot (refl, (refl, (refl, (refl, (refl, (refl, (refl, (refl, tt))))))))
-    (has-at all_free place slot there)
-
-no-connected : (place : ℕ) (it : Connected) → slice_get all_free place ≡ Some (connected it) → ⊥
-no-connected place it there = let is = all-free place (connected it) there in cc
-
-no-leaving : (place : ℕ) (it : Connected) → slice_get all_free place ≡ Some (leaving it) → ⊥
-no-leaving place it there = let is = all-free place (leaving it) there in cc
-
 pacsat-call : IsCall pacsat
 pacsat-call = record {
   spelled = (
@@ -136,12 +123,12 @@ first-stations schedule is = record {
 first-places : (schedule : Schedule) → ArePlaces (first_world schedule)
 first-places schedule = record {
   eight = refl;
-  sessions = λ place it seated. absurd (no-connected place it seated);
-  ups = λ place it seated. absurd (no-connected place it seated);
+  sessions = λ place it seated. absurd (none-connected place it seated);
+  ups = λ place it seated. absurd (none-connected place it seated);
   seated = λ c at party side is_party is_side up. absurd (no-side schedule c at party side is_party is_side);
   newest_up = newest schedule.calls;
-  distinct = λ place other it that seated. absurd (no-connected place it seated);
-  none_leaving = no-leaving;
+  distinct = λ place other it that seated. absurd (none-connected place it seated);
+  none_leaving = none-leaving;
 }
   where
     newest : (calls : List CallSign)

@@ -1,10 +1,10 @@
 -- The files of a schedule's uploads are good: octets, that keep all rules, and not too long.
-use Rattle.std.proofs.Common.{◌≡◌, ℕ, ◌+◌, ◌*◌, ◌%◌, ◌^◌, ◌<◌, ◌≤◌, List, [], ◌∷◌, ◌++◌, length, replicate}
-use Rattle.std.proofs.Common.{refl, sym, ap, ◌∙◌, subst, arith, length-append, true}
+use Rattle.std.proofs.Common.{◌≡◌, ℕ, ◌+◌, ◌*◌, ◌%◌, ◌^◌, ◌<◌, ◌≤◌, List, [], ◌∷◌, ◌++◌, length, replicate, refl, sym}
+use Rattle.std.proofs.Common.{ap, ◌∙◌, subst, arith, length-append, true}
 use Rattle.std.specs.List.{AllByRecursion, list_all, range_with_len}
+use Rattle.std.specs.Prelude.{nat_lt, option_map}
 use Rattle.std.proofs.lemmas.Bool.Decides.{nat_tests}
 use Rattle.std.proofs.lemmas.List.{length-map}
-use Rattle.std.specs.Prelude.{nat_lt, option_map}
 use Rattle.std.proofs.lemmas.List.Elements.{All-from_get_or, All-map, All-weaker}
 use Rattle.std.proofs.lemmas.List.Sums.{AllPass-from_list_all}
 use Rattle.std.proofs.lemmas.List.FromFn.{length-range_with_len}
@@ -75,34 +75,78 @@ module _ (file_size body_sum body_offset sum : ℕ) where
   items = saying file_size body_sum body_offset (le16_octets sum)
 
   are-items : AreItems items
-  are-items =
-      (given-item 0x01 (0 ∷ 0 ∷ 0 ∷ 0 ∷ []) (omega arith) (omega arith) (omega arith) refl,
-      (given-item 0x02 file_name (omega arith) (omega arith) (omega arith) refl,
-      (given-item 0x03 file_ext (omega arith) (omega arith) (omega arith) refl,
-      (one-item 0x04 (le32_octets file_size) (omega arith) (omega arith) (omega arith) (IsOctets-le32 file_size),
-      (one-item 0x05 (le32_octets 0) (omega arith) (omega arith) (omega arith) (IsOctets-le32 0),
-      (one-item 0x06 (le32_octets 0) (omega arith) (omega arith) (omega arith) (IsOctets-le32 0),
-      (given-item 0x07 (0 ∷ []) (omega arith) (omega arith) (omega arith) refl,
-      (given-item 0x08 (0 ∷ []) (omega arith) (omega arith) (omega arith) refl,
-      (one-item 0x09 (le16_octets body_sum) (omega arith) (omega arith) (omega arith) (IsOctets-le16 body_sum),
-      (one-item 0x0A (le16_octets sum) (omega arith) (omega arith) (omega arith) (IsOctets-le16 sum),
-      (one-item 0x0B (le16_octets body_offset) (omega arith) (omega arith) (omega arith) (IsOctets-le16 body_offset),
-      (given-item 0x11 (replicate 6 32) (omega arith) (omega arith) (omega arith) refl,
-      (given-item 0x12 (replicate 4 0) (omega arith) (omega arith) (omega arith) refl, tt)))))))))))))
+  are-items = (
+    given-item 0x01 (0 ∷ 0 ∷ 0 ∷ 0 ∷ []) (omega arith) (omega arith) (omega arith) refl,
+    (
+      given-item 0x02 file_name (omega arith) (omega arith) (omega arith) refl,
+      (
+        given-item 0x03 file_ext (omega arith) (omega arith) (omega arith) refl,
+        (
+          one-item 0x04 (le32_octets file_size) (omega arith) (omega arith) (omega arith) (IsOctets-le32 file_size),
+          (
+            one-item 0x05 (le32_octets 0) (omega arith) (omega arith) (omega arith) (IsOctets-le32 0),
+            (
+              one-item 0x06 (le32_octets 0) (omega arith) (omega arith) (omega arith) (IsOctets-le32 0),
+              (
+                given-item 0x07 (0 ∷ []) (omega arith) (omega arith) (omega arith) refl,
+                (
+                  given-item 0x08 (0 ∷ []) (omega arith) (omega arith) (omega arith) refl,
+                  (
+                    one-item 0x09 (le16_octets body_sum) (omega arith) (omega arith) (omega arith)
+                        (IsOctets-le16 body_sum),
+                    (
+                      one-item 0x0A (le16_octets sum) (omega arith) (omega arith) (omega arith) (IsOctets-le16 sum),
+                      (
+                        one-item 0x0B (le16_octets body_offset) (omega arith) (omega arith) (omega arith)
+                            (IsOctets-le16 body_offset),
+                        (
+                          given-item 0x11 (replicate 6 32) (omega arith) (omega arith) (omega arith) refl,
+                          (given-item 0x12 (replicate 4 0) (omega arith) (omega arith) (omega arith) refl, tt),
+                        ),
+                      ),
+                    ),
+                  ),
+                ),
+              ),
+            ),
+          ),
+        ),
+      ),
+    ),
+  )
 
   all-once : AllByRecursion (StandsOnce items) mandatory_items
-  all-once =
-      ((0 ∷ 0 ∷ 0 ∷ 0 ∷ [], refl, refl),
-      ((file_name, refl, refl),
-      ((file_ext, refl, refl),
-      ((le32_octets file_size, refl, refl),
-      ((le32_octets 0, refl, refl),
-      ((le32_octets 0, refl, refl),
-      ((0 ∷ [], refl, refl),
-      ((0 ∷ [], refl, refl),
-      ((le16_octets body_sum, refl, refl),
-      ((le16_octets sum, refl, refl),
-      ((le16_octets body_offset, refl, refl), tt)))))))))))
+  all-once = (
+    (0 ∷ 0 ∷ 0 ∷ 0 ∷ [], refl, refl),
+    (
+      (file_name, refl, refl),
+      (
+        (file_ext, refl, refl),
+        (
+          (le32_octets file_size, refl, refl),
+          (
+            (le32_octets 0, refl, refl),
+            (
+              (le32_octets 0, refl, refl),
+              (
+                (0 ∷ [], refl, refl),
+                (
+                  (0 ∷ [], refl, refl),
+                  (
+                    (le16_octets body_sum, refl, refl),
+                    (
+                      (le16_octets sum, refl, refl),
+                      ((le16_octets body_offset, refl, refl), tt),
+                    ),
+                  ),
+                ),
+              ),
+            ),
+          ),
+        ),
+      ),
+    ),
+  )
 
   items-len : length (header_text items) ≡ 89
   items-len = refl
@@ -110,21 +154,21 @@ module _ (file_size body_sum body_offset sum : ℕ) where
   faultless : (body : List ℕ) → file_size ≡ 89 + length body → length body ≤ 40000 → body_sum ≡ sum16 body
       → body_offset ≡ 89 → sum ≡ header_sum items → IsFaultless items body (header_text items ++ body)
   faultless body size_is short sum_is offset_is check_is = record {
-      file_text = record { are_items = are-items; text = refl };
-      mandatory = all-stand items mandatory_items all-once;
-      fits = record {
-        once = all-once;
-        file_size =
-            le32-of file_size (omega (arith, size_is, short)) ∙ size_is
-            ∙ sym (length-append (header_text items) body ∙ ap (λ n. n + length body) items-len);
-        body_offset = le16-of body_offset (omega (arith, offset_is)) ∙ offset_is ∙ sym items-len;
-      };
-      header_sum =
-          le16-of sum
-          (subst (λ n. n < 65536) (sym check_is) (below (header_text (with_content 0x0A (0 ∷ 0 ∷ []) items))))
-          ∙ check_is;
-      body_sum = le16-of body_sum (subst (λ n. n < 65536) (sym sum_is) (below body)) ∙ sum_is;
-    }
+    file_text = record { are_items = are-items; text = refl };
+    mandatory = all-stand items mandatory_items all-once;
+    fits = record {
+      once = all-once;
+      file_size =
+          le32-of file_size (omega (arith, size_is, short)) ∙ size_is
+          ∙ sym (length-append (header_text items) body ∙ ap (λ n. n + length body) items-len);
+      body_offset = le16-of body_offset (omega (arith, offset_is)) ∙ offset_is ∙ sym items-len;
+    };
+    header_sum =
+        le16-of sum
+        (subst (λ n. n < 65536) (sym check_is) (below (header_text (with_content 0x0A (0 ∷ 0 ∷ []) items))))
+        ∙ check_is;
+    body_sum = le16-of body_sum (subst (λ n. n < 65536) (sym sum_is) (below body)) ∙ sum_is;
+  }
     where
       le16-of : (n : ℕ) → n < 65536 → le16 (le16_octets n) 0 ≡ n
       le16-of n small = omega arith
@@ -192,5 +236,5 @@ pub good-upload : (upload count : ℕ) → count ≤ 40000 → IsGoodFile (uploa
 unfolding upload_file
 good-upload upload count short =
     let many : length (body_octets upload count) ≡ count =
-        length-map (range_with_len 0 count) (octet-at upload) ∙ length-range_with_len 0 count in
+    length-map (range_with_len 0 count) (octet-at upload) ∙ length-range_with_len 0 count in
     good-file (body_octets upload count) (body-octets upload count) (subst (λ n. n ≤ 40000) (sym many) short)

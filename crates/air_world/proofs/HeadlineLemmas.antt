@@ -3,8 +3,8 @@ use Rattle.std.proofs.Common.{ℕ}
 use Rattle.file_entries.specs.Follows.{KeepsEntries}
 use Rattle.file_store.specs.Store.{Store}
 use Rattle.client_notes.specs.Notes.{got_of}
-use Rattle.air_files.proofs.Offered.{keeps-file, keeps-offer, keeps-task_kept}
 use Rattle.air_files.specs.Facts.{IsOfferKept}
+use Rattle.air_files.proofs.Offered.{keeps-file, keeps-offer, keeps-task_kept}
 use Rattle.air_world.specs.Headline.{HeadlineIn}
 use Rattle.air_world.specs.Offered.{Offered}
 use Rattle.air_world.specs.World.{World}

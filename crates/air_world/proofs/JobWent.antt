@@ -1,18 +1,16 @@
 -- A client whose job went on by entries is as it should be.
-use Rattle.std.proofs.Common.{◌≡◌, ◌≢◌, ◌⊎◌, ℕ, zero, suc, List, [], ◌∷◌, ◌++◌, length, take, Bool, true, false, Option, None, Some, refl, sym, ap, subst, ◌∙◌, inl, inr, append-nil, le_refl, take_all}
-use Rattle.std.specs.Prelude.{slice_get, map, IfSome, Ok}
+use Rattle.std.proofs.Common.{◌≡◌, ℕ, List, [], ◌∷◌, ◌++◌, length, Option, None, Some, refl, sym, ap, subst, ◌∙◌, inl}
+use Rattle.std.proofs.Common.{append-nil, le_refl, take_all}
+use Rattle.std.specs.Prelude.{map, Ok}
 use Rattle.std.specs.List.{AllByRecursion}
 use Rattle.std.proofs.lemmas.Option.{same_Some}
+use Rattle.ftl0_packets.specs.Items.{kind_of_item}
 use Rattle.ax25_link.specs.Ends.{LinkEnd}
-use Rattle.client_laws.specs.Steps.{StepLaw}
-use Rattle.client_notes.specs.Command.{NotesCommand}
 use Rattle.client_notes.specs.Laws.{after_all}
-use Rattle.client_notes.specs.Notes.{Lists, Task, task_of}
+use Rattle.client_notes.specs.Notes.{Lists}
 use Rattle.client_notes.specs.Several as notes
 use Rattle.client_notes.proofs.Offered.{after_all-append}
-use Rattle.ftl0_packets.specs.Items.{kind_of_item}
 use Rattle.ftl0_job.specs.declared.work.Work.{Work}
-use Rattle.ftl0_job.specs.declared.work.Work.TheVariants as work
 use Rattle.ftl0_job.specs.Promises.{JobStands}
 use Rattle.ftl0_job.specs.Table.{JobState, job_after}
 use Rattle.ftl0_client.specs.Attempt.Attempted.{Attempted}
@@ -22,22 +20,25 @@ use Rattle.ftl0_client.specs.Attempt.Taking.{Happened}
 use Rattle.ftl0_client.specs.Client.{Client, heard_by}
 use Rattle.ftl0_client.specs.Entries as job
 use Rattle.ftl0_client.specs.Entries.{HearingLaw, JobEntry, TickingLaw}
+use Rattle.client_laws.specs.Steps.{StepLaw}
 use Rattle.air_attempt.specs.Attempt.{Attempt, IsAnsweredBy, IsAttempt}
-use Rattle.air_attempt.specs.Laws.{AreAttempts, ClientLaw, FrontLaw, GoesWith, LeftLaw}
-use Rattle.air_attempt.specs.Party.{Asked, EachAttempt, IsFileOf, Party, newest, upload_of}
+use Rattle.air_attempt.specs.Laws.{ClientLaw, FrontLaw, GoesWith, LeftLaw}
+use Rattle.air_attempt.specs.Party.{EachAttempt, Party, newest}
 use Rattle.air_attempt.specs.Lists.{AreFirstOf}
 use Rattle.air_attempt.specs.Sides.{ClientSide, ServerSide, said_by_server}
+use Rattle.air_attempt.proofs.Offered.{each-weaker}
 use Rattle.air_files.specs.Facts.{HasFacts}
-use Rattle.air_files.specs.Laws.{BeginLaw, IsWorking, JobGoes, JobKeeps, JobLaw, JobTasksLaw, JobTookFront, LookLike, LooksServed, StayLaw, TookFront, job_gone, started_with, with_job}
+use Rattle.air_files.specs.Laws.{BeginLaw, IsWorking, JobGoes, JobKeeps, JobLaw, JobTasksLaw, JobTookFront, LooksServed}
+use Rattle.air_files.specs.Laws.{StayLaw, job_gone, started_with, with_job}
 use Rattle.air_files.specs.Tasks.{AreTasks, IsWork, StandsBy}
+use Rattle.air_files.proofs.Offered.{alike-itself, served-itself, tasks-lists}
 use Rattle.air_world.specs.Sound.{IsParty, Sound}
 use Rattle.air_world.specs.World.{PartyAt, World}
 use Rattle.air_world.proofs.ClientBasics.{HasLink, has-link, its-attempt, stands-job, working}
-use Rattle.air_world.proofs.ClientMade.{IsClientMade, SessionsStay, sessions_of}
-use Rattle.air_world.proofs.WorldLists.{all-map}
-use Rattle.air_world.proofs.Likes.{like-refl, served-same}
-use Rattle.air_world.proofs.Rebuild.{stands-at}
+use Rattle.air_world.proofs.ClientMade.{IsClientMade}
+use Rattle.air_world.proofs.SessionsStay.{SessionsStay, sessions_of}
 use Rattle.air_world.proofs.ServerTicked.{its-session}
+use Rattle.air_world.proofs.Rebuild.{work-by}
 
 -- the laws that the client's events are proved by
 pub record ClientLaws : Type 0 where
@@ -55,50 +56,28 @@ pub record ClientLaws : Type 0 where
   pub calling : CallingLaw
 
 -- the notes behind entries are those after their commands
-pub goes-lists : (lists lists_now : Lists) (before now : JobState) (entries : List JobEntry) → job.GoesBy lists before entries lists_now now → lists_now ≡ after_all lists (job.commands_in entries)
+pub goes-lists : (lists lists_now : Lists) (before now : JobState) (entries : List JobEntry)
+    → job.GoesBy lists before entries lists_now now → lists_now ≡ after_all lists (job.commands_in entries)
 goes-lists lists lists_now before now [] goes = goes.0
 goes-lists lists lists_now before now (job.took item row ∷ entries) goes =
-    goes-lists (after_all lists row.commands) lists_now (job_after row) now entries goes.2 ∙ sym (after_all-append row.commands (job.commands_in entries) lists)
+    goes-lists (after_all lists row.commands) lists_now (job_after row) now entries goes.2
+    ∙ sym (after_all-append row.commands (job.commands_in entries) lists)
 goes-lists lists lists_now before now (job.lost item row ∷ entries) goes =
     goes-lists (after_all lists row.commands) lists_now (job.after_losing (kind_of_item item) row) now entries goes.2
     ∙ sym (after_all-append row.commands (job.commands_in entries) lists)
-goes-lists lists lists_now before now (job.passed item ∷ entries) goes = goes-lists lists lists_now before now entries goes.1
-goes-lists lists lists_now before now (job.queued due ∷ entries) goes = goes-lists lists lists_now due.state now entries goes.1
-
--- a client's tasks, by its stations, its notes and its uploads
-pub tasks-lists : (files : List Asked) (c : ℕ) (one other : Party) → other.client.me ≡ one.client.me → other.client.server ≡ one.client.server → other.client.lists ≡ one.client.lists
-    → other.uploads ≡ one.uploads → AreTasks files c one → AreTasks files c other
-tasks-lists files c one other me server lists uploads tasks = record {
-    each = λ task entry is.
-        let was = tasks.each task entry (subst (λ (it : Lists). task_of it task ≡ Some entry) lists is) in
-        record {
-          upload = was.upload;
-          is_upload = subst (λ (u : List ℕ). upload_of (record other { uploads = u }) task ≡ Some was.upload) (sym uploads) was.is_upload;
-          asked = was.asked;
-          is_asked = was.is_asked;
-          whose = was.whose;
-          server_is = was.server_is ∙ sym server;
-          caller_is = was.caller_is ∙ sym me;
-          name_is = was.name_is;
-          length_is = was.length_is;
-          digest_is = was.digest_is;
-        };
-    as_many = ap (λ (u : List ℕ). length u) uploads ∙ tasks.as_many ∙ ap (λ (it : Lists). length it.tasks) (sym lists);
-  }
+goes-lists lists lists_now before now (job.passed item ∷ entries) goes =
+    goes-lists lists lists_now before now entries goes.1
+goes-lists lists lists_now before now (job.queued due ∷ entries) goes =
+    goes-lists lists lists_now due.state now entries goes.1
 
 no-more : {X : Type 0} (xs : List X) (y : X) (ys : List X) → xs ++ (y ∷ ys) ≡ [] → ⊥
 no-more [] y ys is = absurd cc
 no-more (x ∷ xs) y ys is = absurd cc
 
--- a work, by the client's server and its uploads
-pub work-by : (files : List Asked) (one other : Party) (asked : Work) → other.client.server ≡ one.client.server → other.uploads ≡ one.uploads → IsWork files one asked → IsWork files other asked
-work-by files one other (work.Upload at) server uploads is = subst (λ (u : List ℕ). IsFileOf files (record other { uploads = u }) at.task at.file) (sym uploads) is
-work-by files one other (work.Directory at) server uploads is = is
-work-by files one other (work.Download at) server uploads is = (is.0 ∙ sym server, is.1)
-
 -- ---- the job goes on
 
-module _ (laws : ClientLaws) (old : World) (sound : Sound old) (c : ℕ) (party : Party) (is-party : PartyAt old c party) (link : Attempted) (has : party.client.attempt ≡ Some link) where
+module _ (laws : ClientLaws) (old : World) (sound : Sound old) (c : ℕ) (party : Party) (is-party : PartyAt old c party)
+    (link : Attempted) (has : party.client.attempt ≡ Some link) where
   abbrev linked : HasLink old sound c party is-party link
   linked = has-link old sound c party is-party link has
 
@@ -113,12 +92,16 @@ module _ (laws : ClientLaws) (old : World) (sound : Sound old) (c : ℕ) (party 
     pub happened : Happened
     pub last : LinkEnd
     pub entries : List JobEntry
-    pub goes : job.GoesBy party.client.lists link.job entries (after_all party.client.lists happened.noted) happened.after.job
+    pub goes : job.GoesBy party.client.lists link.job entries (after_all party.client.lists happened.noted)
+        happened.after.job
     pub noted : happened.noted ≡ job.commands_in entries
     pub stands : AttemptStands a.client.asked (after_all party.client.lists happened.noted) happened.after
     pub now_is : now ≡ (heard_by party.client (record happened { after = with_end happened.after last })).after
     pub gone : Attempt
-    pub client_is : gone.client ≡ record a.client { attempted = with_end happened.after last; entries = a.client.entries ++ entries }
+    pub client_is : gone.client ≡ record a.client {
+      attempted = with_end happened.after last;
+      entries = a.client.entries ++ entries;
+    }
     pub server_is : gone.server ≡ a.server
     pub goes_with : GoesWith now (gone ∷ linked.older)
 
@@ -150,108 +133,144 @@ module _ (laws : ClientLaws) (old : World) (sound : Sound old) (c : ℕ) (party 
     front : JobTookFront a went.entries
     front = by went.entries refl a.server refl
       where
-        by : (entries : List JobEntry) → went.entries ≡ entries → (o : Option ServerSide) → a.server ≡ o → JobTookFront a entries
+        by : (entries : List JobEntry) → went.entries ≡ entries → (o : Option ServerSide) → a.server ≡ o
+            → JobTookFront a entries
         by [] are o is = tt
         by (entry ∷ entries) are None is =
-            let unanswered = subst (λ (o : Option ServerSide). IsAnsweredBy went.gone o) (went.server_is ∙ is) gone-is.answered in
-            absurd (no-more a.client.entries entry entries (ap (λ (those : List JobEntry). a.client.entries ++ those) (sym are) ∙ sym entries-are ∙ unanswered.unserved))
-        by (entry ∷ entries) are (Some side) is =
-            (
-              side,
-              record {
-                is_side = is;
-                greets = (its-session a a.server side is (its-attempt old sound c party is-party link has).answered).session.greets;
-                client =
-                    subst (λ (those : List JobEntry). AreFirstOf (job.items_in those) (map Ok (said_by_server side)))
-                    (entries-are ∙ ap (λ (those : List JobEntry). a.client.entries ++ those) are)
-                    (laws.fronts now.me now.server went.gone side gone-is (went.server_is ∙ is)).1;
-                server = (laws.fronts party.client.me party.client.server a side (its-attempt old sound c party is-party link has) is).0;
-              },
-            )
+            let unanswered = subst (λ (o : Option ServerSide). IsAnsweredBy went.gone o)
+            (went.server_is ∙ is) gone-is.answered in
+            absurd (no-more a.client.entries entry entries
+            (ap (λ (those : List JobEntry). a.client.entries ++ those) (sym are) ∙ sym entries-are
+            ∙ unanswered.unserved))
+        by (entry ∷ entries) are (Some side) is = (
+          side,
+          record {
+            is_side = is;
+            greets =
+                (its-session a a.server side is
+                (its-attempt old sound c party is-party link has).answered).session.greets;
+            client =
+                subst (λ (those : List JobEntry). AreFirstOf (job.items_in those) (map Ok (said_by_server side)))
+                (entries-are ∙ ap (λ (those : List JobEntry). a.client.entries ++ those) are)
+                (laws.fronts now.me now.server went.gone side gone-is (went.server_is ∙ is)).1;
+            server =
+                (laws.fronts party.client.me party.client.server a side
+                (its-attempt old sound c party is-party link has) is).0;
+          },
+        )
 
     abbrev works : IsWorking old.server.store old.files c party
     works = working old sound c party is-party link has
 
     goes-on : JobGoes party went.entries (after_all party.client.lists went.happened.noted) attempted-now a
     goes-on = record {
-        goes = subst (λ (before : Attempted). job.GoesBy party.client.lists before.job went.entries (after_all party.client.lists went.happened.noted) attempted-now.job) (sym linked.attempted_is) went.goes;
-        front = front;
-      }
+      goes =
+          subst (λ (before : Attempted). job.GoesBy party.client.lists before.job went.entries
+          (after_all party.client.lists went.happened.noted) attempted-now.job) (sym linked.attempted_is) went.goes;
+      front = front;
+    }
 
-    kept : JobKeeps old.server.store old.files party (with_job party (after_all party.client.lists went.happened.noted) attempted-now (job_gone went.entries attempted-now a) linked.older) went.entries
-    kept = laws.job old.server.store old.files c party went.entries (after_all party.client.lists went.happened.noted) attempted-now works tt tt goes-on
+    kept : JobKeeps old.server.store old.files party
+        (with_job party (after_all party.client.lists went.happened.noted) attempted-now
+        (job_gone went.entries attempted-now a) linked.older) went.entries
+    kept =
+        laws.job old.server.store old.files c party went.entries
+        (after_all party.client.lists went.happened.noted) attempted-now works tt tt goes-on
 
     facts-now : HasFacts old.server.store old.files now-party
     facts-now =
-        let mid = with_job party (after_all party.client.lists went.happened.noted) attempted-now (job_gone went.entries attempted-now a) linked.older in
+        let mid = with_job party (after_all party.client.lists went.happened.noted) attempted-now
+        (job_gone went.entries attempted-now a) linked.older in
         laws.stay.same old.server.store old.files mid now-party
         (record {
           me = me-is;
           server = server-is;
           lists = now-lists;
           uploads = refl;
-          attempts =
-              (
-                record {
-                  asked = ap (λ (side : ClientSide). side.asked) went.client_is;
-                  entries = entries-are;
-                  job = ap (λ (side : ClientSide). side.attempted.job) went.client_is;
-                  served = subst (λ (o : Option ServerSide). LooksServed a.server o) (sym went.server_is) (served-same a.server);
-                },
-                like-refl linked.older,
-              );
-          link = λ one other first newest_is linked_is. ap Some (ap (λ (it : Attempt). it.client.attempted) (same_Some (job_gone went.entries attempted-now a) one first));
+          attempts = (
+            record {
+              asked = ap (λ (side : ClientSide). side.asked) went.client_is;
+              entries = entries-are;
+              job = ap (λ (side : ClientSide). side.attempted.job) went.client_is;
+              served =
+                  subst (λ (o : Option ServerSide). LooksServed a.server o) (sym went.server_is)
+                  (served-itself a.server);
+            },
+            alike-itself linked.older,
+          );
+          link =
+              λ one other first newest_is linked_is. ap Some
+              (ap (λ (it : Attempt). it.client.attempted)
+              (same_Some (job_gone went.entries attempted-now a) one first));
         })
         kept.facts
 
     -- the tasks, behind the entries and where the client starts again after the first of their commands
-    pub tasks-during : (count : ℕ) → AreTasks old.files c (started_with party (notes.after_first count party.client.lists went.happened.noted))
+    pub tasks-during : (count : ℕ)
+        → AreTasks old.files c (started_with party (notes.after_first count party.client.lists went.happened.noted))
     tasks-during count =
-        subst (λ commands. AreTasks old.files c (started_with party (notes.after_first count party.client.lists commands))) (sym went.noted)
-        (laws.tasks old.files c party went.entries (after_all party.client.lists went.happened.noted) link.job went.happened.after.job it.tasks went.goes count)
+        subst (λ commands. AreTasks old.files c (started_with party
+        (notes.after_first count party.client.lists commands))) (sym went.noted)
+        (laws.tasks old.files c party went.entries
+        (after_all party.client.lists went.happened.noted) link.job went.happened.after.job it.tasks went.goes
+        count)
 
-    pub facts-during : (count : ℕ) → HasFacts old.server.store old.files (started_with party (notes.after_first count party.client.lists went.happened.noted))
+    pub facts-during : (count : ℕ)
+        → HasFacts old.server.store old.files
+        (started_with party (notes.after_first count party.client.lists went.happened.noted))
     facts-during count =
-        subst (λ commands. HasFacts old.server.store old.files (started_with party (notes.after_first count party.client.lists commands))) (sym went.noted) (kept.during count)
+        subst (λ commands. HasFacts old.server.store old.files
+        (started_with party (notes.after_first count party.client.lists commands))) (sym went.noted)
+        (kept.during count)
 
     tasks-now : AreTasks old.files c now-party
     tasks-now =
         let count = length went.happened.noted in
-        let all : notes.after_first count party.client.lists went.happened.noted ≡ after_all party.client.lists went.happened.noted = ap (λ commands. after_all party.client.lists commands) (take_all count went.happened.noted (le_refl count)) in
-        tasks-lists old.files c (started_with party (notes.after_first count party.client.lists went.happened.noted)) now-party me-is server-is (now-lists ∙ sym all) refl (tasks-during count)
+        let all : notes.after_first count party.client.lists went.happened.noted ≡ after_all party.client.lists
+        went.happened.noted = ap (λ commands. after_all party.client.lists commands)
+        (take_all count went.happened.noted (le_refl count)) in
+        tasks-lists old.files c (started_with party (notes.after_first count party.client.lists went.happened.noted))
+        now-party me-is server-is (now-lists ∙ sym all) refl (tasks-during count)
 
     works-now : EachAttempt now-party (λ a. IsWork old.files now-party a.client.asked)
     works-now =
         let all : AllByRecursion (λ (it : Attempt). IsWork old.files party it.client.asked) (a ∷ linked.older) =
-            subst (λ attempts. AllByRecursion (λ (it : Attempt). IsWork old.files party it.client.asked) attempts) linked.attempts_are it.works in
-        let of = λ (asked : Work) (works : IsWork old.files party asked). work-by old.files party now-party asked server-is refl works in
-        (
-          of went.gone.client.asked (subst (λ asked. IsWork old.files party asked) (sym (ap (λ (side : ClientSide). side.asked) went.client_is)) all.0),
-          all-map (λ (it : Attempt). IsWork old.files party it.client.asked) (λ it. IsWork old.files now-party it.client.asked) linked.older (λ it works. of it.client.asked works) all.1,
+        subst (λ attempts. AllByRecursion (λ (it : Attempt). IsWork old.files party it.client.asked) attempts)
+        linked.attempts_are it.works in
+        let of = λ (asked : Work) (works : IsWork old.files party asked). work-by old.files party now-party asked
+        server-is refl works in (
+          of went.gone.client.asked (subst (λ asked. IsWork old.files party asked)
+              (sym (ap (λ (side : ClientSide). side.asked) went.client_is)) all.0),
+          each-weaker {P = (λ (it : Attempt). IsWork old.files party it.client.asked)} {Q =
+              (λ it. IsWork old.files now-party it.client.asked)} linked.older
+              (λ it works. of it.client.asked works) all.1,
         )
 
     job-now : StandsBy now-party (newest now-party)
     job-now link_is =
         let stands : JobStands went.gone.client.asked now.lists went.gone.client.attempted.job =
-            subst (λ (side : ClientSide). JobStands side.asked now.lists side.attempted.job) (sym went.client_is)
-            (subst (λ lists. JobStands a.client.asked lists went.happened.after.job) (sym now-lists) went.stands.job) in
+        subst (λ (side : ClientSide). JobStands side.asked now.lists side.attempted.job) (sym went.client_is)
+        (subst (λ lists. JobStands a.client.asked lists went.happened.after.job) (sym now-lists) went.stands.job) in
         stands-job went.gone.client.asked now.lists went.gone.client gone-is.job stands
 
     sessions-now : SessionsStay party.attempts now-party.attempts
     sessions-now =
         inl
-        (ap (λ (o : Option ServerSide). o ∷ sessions_of linked.older) went.server_is ∙ ap sessions_of (sym linked.attempts_are))
+        (ap (λ (o : Option ServerSide). o ∷ sessions_of linked.older) went.server_is
+        ∙ ap sessions_of (sym linked.attempts_are))
 
     pub client-made : IsClientMade old c party now-party []
     client-made = record {
-        me = me-is;
-        server = server-is;
-        window = ap (λ (it : Client). it.window) went.now_is;
-        goes = went.goes_with;
-        works = subst (λ files. EachAttempt now-party (λ a. IsWork files now-party a.client.asked)) (sym (append-nil old.files)) works-now;
-        tasks = subst (λ files. AreTasks files c now-party) (sym (append-nil old.files)) tasks-now;
-        job = job-now;
-        facts = subst (λ files. HasFacts old.server.store files now-party) (sym (append-nil old.files)) facts-now;
-        sessions = sessions-now;
-        good = tt;
-      }
+      me = me-is;
+      server = server-is;
+      window = ap (λ (it : Client). it.window) went.now_is;
+      goes = went.goes_with;
+      works =
+          subst (λ files. EachAttempt now-party (λ a. IsWork files now-party a.client.asked))
+          (sym (append-nil old.files)) works-now;
+      tasks = subst (λ files. AreTasks files c now-party) (sym (append-nil old.files)) tasks-now;
+      job = job-now;
+      facts = subst (λ files. HasFacts old.server.store files now-party) (sym (append-nil old.files)) facts-now;
+      sessions = sessions-now;
+      good = tt;
+    }

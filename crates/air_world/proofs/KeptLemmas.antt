@@ -1,8 +1,7 @@
 -- Each event that may come keeps a sound world.
-use Rattle.std.proofs.Common.{◌≡◌, ◌≢◌, ◌⊎◌, ℕ, zero, suc, ◌≤◌, ◌<◌, List, [], ◌∷◌, ◌++◌, Bool, true, false, Option, None, Some, length, refl, sym, ap, subst, ◌∙◌}
-use Rattle.std.specs.Prelude.{slice_get}
+use Rattle.std.proofs.Common.{◌≡◌, ℕ, zero, suc, ◌<◌, List, [], Bool, true, refl, sym, ap, subst, ◌∙◌}
 use Rattle.std.proofs.lemmas.Option.{same_Some}
-use Rattle.ax25_link.specs.Air.{IsAt, IsLawful, Transmission}
+use Rattle.ax25_link.specs.Air.{IsLawful, Transmission}
 use Rattle.client_notes.specs.Limits.{most_tasks}
 use Rattle.client_notes.specs.Notes.{task_count}
 use Rattle.ftl0_job.specs.declared.work.Work.{Work}
@@ -13,19 +12,19 @@ use Rattle.ftl0_job.specs.Upload.{new_upload}
 use Rattle.ftl0_client.specs.Client as client
 use Rattle.ftl0_client.specs.Laws.{SomeStepLaw}
 use Rattle.air_attempt.specs.Attempt.{Attempt}
-use Rattle.air_attempt.specs.Lists.{Placed}
-use Rattle.air_attempt.specs.Party.{Asked, Party, newest, to_client_delivered}
-use Rattle.air_world.specs.Cuts.{Changes, ClientDoes, ClientEvent, Happens, ServerEvent, WorldStep, broken}
-use Rattle.air_world.specs.Events.{ClientPart, ClientTakes, DeliversToClient, IsPartOf, IsResuming, asking, asking_file, next_upload, part_with, with_current}
-use Rattle.air_world.specs.Lawful.{HasParty, IsAllowed, IsFree, MayCome}
-use Rattle.air_world.specs.Schedule.{Event, ask_download, ask_list, ask_resume, ask_upload, break_client, cut_client, cut_server, tick_client, tick_server, to_client, to_server}
+use Rattle.air_attempt.specs.Party.{Party, to_client_delivered}
+use Rattle.air_files.proofs.Offered.{alike-itself}
+use Rattle.air_world.specs.Cuts.{Changes, ClientDoes, ClientEvent, WorldStep, broken}
+use Rattle.air_world.specs.Events.{ClientPart, asking, asking_file, next_upload, part_with, with_current}
+use Rattle.air_world.specs.Lawful.{IsAllowed, MayCome}
+use Rattle.air_world.specs.Schedule.{Event, ask_download, ask_list, ask_resume, ask_upload, break_client, cut_client}
+use Rattle.air_world.specs.Schedule.{cut_server, tick_client, tick_server, to_client, to_server}
 use Rattle.air_world.specs.Laws.{SoundLaw}
 use Rattle.air_world.specs.Sound.{Sound}
-use Rattle.air_world.proofs.FirstLemmas.{first-sound}
 use Rattle.air_world.specs.World.{PartyAt, World, counted, with_party}
+use Rattle.air_world.proofs.FirstLemmas.{first-sound}
 use Rattle.air_world.proofs.ClientsStay.{stay-refl}
 use Rattle.air_world.proofs.Granted.{granted-like}
-use Rattle.air_world.proofs.Likes.{like-refl}
 use Rattle.air_world.proofs.Rebuild.{IsMade, StayParties, rebuilt}
 use Rattle.air_world.proofs.Seats.{between, calls}
 use Rattle.air_world.proofs.AskOthers.{ask-download, ask-list}
@@ -47,31 +46,38 @@ module _ (laws : KeptLaws) (old new : World) (sound : Sound old) where
   -- of the client of a number, at its place, with this part
   module _ (event : Event) (happens : ClientEvent old event new) where
     -- the part is this one
-    with-part : (c : ℕ) (part : ClientPart) → happens.c ≡ c → happens.part ≡ part → ((cut : Bool) → ClientDoes cut old c part new → Sound new) → Sound new
+    with-part : (c : ℕ) (part : ClientPart) → happens.c ≡ c → happens.part ≡ part
+        → ((cut : Bool) → ClientDoes cut old c part new → Sound new) → Sound new
     with-part c part c_is part_is does =
         does happens.part.party.is_cut
         (subst (λ c. ClientDoes happens.part.party.is_cut old c part new) c_is
-         (subst (λ part. ClientDoes happens.part.party.is_cut old happens.c part new) part_is happens.does))
+        (subst (λ part. ClientDoes happens.part.party.is_cut old happens.c part new) part_is happens.does))
 
   -- a work without a new task
-  ask-kept : (event : Event) (happens : ClientEvent old event new) (c : ℕ) (party : Party) (wanted : Work) → happens.c ≡ c → PartyAt old happens.c party → happens.part ≡ asking party wanted
+  ask-kept : (event : Event) (happens : ClientEvent old event new) (c : ℕ) (party : Party) (wanted : Work)
+      → happens.c ≡ c → PartyAt old happens.c party → happens.part ≡ asking party wanted
       → ((is : PartyAt old c party) → MayBeAsked old c party party [] wanted) → Sound new
   ask-kept event happens c party wanted c_is is part_is may =
       let there = subst (λ c. PartyAt old c party) c_is is in
-      with-part event happens c (asking party wanted) c_is part_is (events.ask-does laws.client laws.client_steps old new sound c party there wanted (may there))
+      with-part event happens c (asking party wanted) c_is part_is
+      (events.ask-does laws.client laws.client_steps old new sound c party there wanted (may there))
 
-  list-kept : (number : ℕ) (tokens : List ℕ) → IsAllowed old (ask_list number tokens) → ClientEvent old (ask_list number tokens) new → Sound new
+  list-kept : (number : ℕ) (tokens : List ℕ) → IsAllowed old (ask_list number tokens)
+      → ClientEvent old (ask_list number tokens) new → Sound new
   list-kept zero tokens allowed happens = absurd happens.takes
   list-kept (suc c) tokens allowed happens =
       let takes = happens.takes in
-      ask-kept (ask_list (suc c) tokens) happens c takes.1.0 (work.Directory (new_directory tokens)) takes.0 takes.1.1 takes.1.2
+      ask-kept (ask_list (suc c) tokens) happens c takes.1.0
+      (work.Directory (new_directory tokens)) takes.0 takes.1.1 takes.1.2
       (λ is. ask-list old c takes.1.0 tokens sound is allowed.in_range)
 
-  download-kept : (number file : ℕ) → IsAllowed old (ask_download number file) → ClientEvent old (ask_download number file) new → Sound new
+  download-kept : (number file : ℕ) → IsAllowed old (ask_download number file)
+      → ClientEvent old (ask_download number file) new → Sound new
   download-kept zero file allowed happens = absurd happens.takes
   download-kept (suc c) file allowed happens =
       let takes = happens.takes in
-      ask-kept (ask_download (suc c) file) happens c takes.1.0 (work.Download (new_download takes.1.0.client.server file)) takes.0 takes.1.1 takes.1.2
+      ask-kept (ask_download (suc c) file) happens c takes.1.0
+      (work.Download (new_download takes.1.0.client.server file)) takes.0 takes.1.1 takes.1.2
       (λ is. ask-download old c takes.1.0 file sound is allowed.in_range)
 
   resume-kept : (number : ℕ) → ClientEvent old (ask_resume number) new → Sound new
@@ -79,11 +85,13 @@ module _ (laws : KeptLaws) (old new : World) (sound : Sound old) where
   resume-kept (suc c) happens =
       let takes = happens.takes in
       let it = takes.1.2 in
-      ask-kept (ask_resume (suc c)) happens c takes.1.0 (work.Upload (new_upload it.task it.entry.number it.file)) takes.0 takes.1.1 it.part_is
+      ask-kept (ask_resume (suc c)) happens c takes.1.0
+      (work.Upload (new_upload it.task it.entry.number it.file)) takes.0 takes.1.1 it.part_is
       (λ is. ask-resume old c takes.1.0 it.task it.entry it.file sound is it.last it.is_entry it.is_file)
 
   -- a file for the first time
-  upload-kept : (number count : ℕ) → IsAllowed old (ask_upload number count) → ClientEvent old (ask_upload number count) new → Sound new
+  upload-kept : (number count : ℕ) → IsAllowed old (ask_upload number count)
+      → ClientEvent old (ask_upload number count) new → Sound new
   upload-kept zero count allowed happens = absurd happens.takes
   upload-kept (suc c) count allowed happens =
       let takes = happens.takes in
@@ -95,7 +103,8 @@ module _ (laws : KeptLaws) (old new : World) (sound : Sound old) where
       let same = same_Some possible.0 party (sym possible.1 ∙ is) in
       let few = subst (λ (p : Party). task_count p.client.lists < most_tasks) same possible.2.1 in
       let may = ask-upload laws.client.begin old c party count sound is few allowed.in_range in
-      with-part (ask_upload (suc c) count) happens c (asking_file old it party) takes.0 part_is (events.begin-does laws.client laws.client_steps old new sound c party is it may)
+      with-part (ask_upload (suc c) count) happens c (asking_file old it party) takes.0 part_is
+      (events.begin-does laws.client laws.client_steps old new sound c party is it may)
 
   -- a tick
   client-ticks-kept : (number : ℕ) → ClientEvent old (tick_client number) new → Sound new
@@ -103,10 +112,12 @@ module _ (laws : KeptLaws) (old new : World) (sound : Sound old) where
   client-ticks-kept (suc c) happens =
       let takes = happens.takes in
       let is = subst (λ c. PartyAt old c takes.1.0) takes.0 takes.1.1 in
-      with-part (tick_client (suc c)) happens c (part_with takes.1.0 client.ticks) takes.0 takes.1.2 (events.tick-does laws.client laws.client_steps old new sound c takes.1.0 is)
+      with-part (tick_client (suc c)) happens c (part_with takes.1.0 client.ticks) takes.0 takes.1.2
+      (events.tick-does laws.client laws.client_steps old new sound c takes.1.0 is)
 
   -- a delivery
-  client-hears-kept : (number place : ℕ) → IsAllowed old (to_client number place) → ClientEvent old (to_client number place) new → Sound new
+  client-hears-kept : (number place : ℕ) → IsAllowed old (to_client number place)
+      → ClientEvent old (to_client number place) new → Sound new
   client-hears-kept zero place allowed happens = absurd happens.takes
   client-hears-kept (suc c) zero allowed happens = absurd happens.takes.1.2
   client-hears-kept (suc c) (suc place) allowed happens =
@@ -121,12 +132,14 @@ module _ (laws : KeptLaws) (old new : World) (sound : Sound old) where
       let lawful = subst (λ (a : Attempt). IsLawful a.window a.by_server place of.1) attempt_is of.3 in
       let t_is = same_Some of.1 it.t (sym lawful.sent ∙ it.sent.is_at) in
       let coming : IsReceiving old c party place it.t = record {
-            is = is;
-            attempt = it.sent.attempt;
-            current = it.sent.current;
-            lawful = subst (λ (t : Transmission). IsLawful it.sent.attempt.window it.sent.attempt.by_server place t) t_is lawful;
-          } in
-      with-part (to_client (suc c) (suc place)) happens c (part_with (with_current (to_client_delivered place it.t) party) (client.hears it.t.frame)) takes.0 it.part_is
+        is = is;
+        attempt = it.sent.attempt;
+        current = it.sent.current;
+        lawful =
+            subst (λ (t : Transmission). IsLawful it.sent.attempt.window it.sent.attempt.by_server place t) t_is lawful;
+      } in
+      with-part (to_client (suc c) (suc place)) happens c
+      (part_with (with_current (to_client_delivered place it.t) party) (client.hears it.t.frame)) takes.0 it.part_is
       (events.frame-does laws.client laws.client_steps old new sound c place party it.t coming)
 
   -- a break, and a cut that is noted
@@ -150,24 +163,25 @@ module _ (laws : KeptLaws) (old new : World) (sound : Sound old) where
 
   noted-made : IsMade noted
   noted-made = record {
-      between = between old sound;
-      known = λ place seat at.
-          let session = sound.places.sessions place seat at in (session.c, session.party, session.is_party, session.caller_is);
-      store = sound.store;
-      lists = sound.lists;
-      calls = λ c party is. calls old sound c party is;
-      facts = λ c party is. (sound.parties c party is).facts;
-      granted = granted-like old noted (λ c party is. (party, is, like-refl party.attempts)) sound.granted;
-    }
+    between = between old sound;
+    known = λ place seat at.
+        let session = sound.places.sessions place seat at in
+        (session.c, session.party, session.is_party, session.caller_is);
+    store = sound.store;
+    lists = sound.lists;
+    calls = λ c party is. calls old sound c party is;
+    facts = λ c party is. (sound.parties c party is).facts;
+    granted = granted-like old noted (λ c party is. (party, is, alike-itself party.attempts)) sound.granted;
+  }
 
   noted-stay : StayParties old noted
   noted-stay = record {
-      me = refl;
-      window = refl;
-      files = refl;
-      many = refl;
-      each = λ c party is. (party, is, record { client = refl; uploads = refl; attempts = stay-refl party.attempts });
-    }
+    me = refl;
+    window = refl;
+    files = refl;
+    many = refl;
+    each = λ c party is. (party, is, record { client = refl; uploads = refl; attempts = stay-refl party.attempts });
+  }
 
   server-note-kept : new ≡ noted → Sound new
   server-note-kept new_is = subst Sound (sym new_is) (rebuilt old noted sound noted-stay noted-made)
@@ -177,7 +191,8 @@ module _ (laws : KeptLaws) (old new : World) (sound : Sound old) where
   kept (ask_resume number) step = resume-kept number step.happens
   kept (ask_list number tokens) step = list-kept number tokens step.allowed step.happens
   kept (ask_download number file) step = download-kept number file step.allowed step.happens
-  kept (to_server number place) step = server-hears-kept laws.server old new sound number place step.allowed step.happens
+  kept (to_server number place) step =
+      server-hears-kept laws.server old new sound number place step.allowed step.happens
   kept (to_client number place) step = client-hears-kept number place step.allowed step.happens
   kept tick_server step = server-ticks-kept laws.server old new sound step.happens
   kept (tick_client number) step = client-ticks-kept number step.happens

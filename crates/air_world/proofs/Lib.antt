@@ -24,6 +24,7 @@ mod FirstLemmas
 mod GoodFile
 mod Granted
 mod HeadlineLemmas
+mod HeardMade
 mod JobWent
 mod KeptLemmas
 mod Likes
@@ -42,5 +43,6 @@ mod ServerEvents
 mod ServerHeard
 mod ServerTicked
 mod ServerWorld
+mod SessionsStay
 mod WholeLemmas
 mod WorldLists

@@ -1,43 +1,38 @@
 -- A world in which a transmission of one client's is marked as delivered to the server.
-use Rattle.std.proofs.Common.{◌≡◌, ◌⊎◌, ℕ, zero, suc, List, [], ◌∷◌, Option, None, Some, length, refl, sym, ap, subst, ◌∙◌, inl, inr}
-use Rattle.std.specs.Prelude.{slice_get, slice_set}
-use Rattle.std.specs.List.{AllByRecursion}
-use Rattle.std.proofs.lemmas.Option.{same_Some}
+use Rattle.std.proofs.Common.{◌≡◌, ◌⊎◌, ℕ, List, Some, refl, sym, ap, subst, ◌∙◌, inl, inr}
+use Rattle.std.specs.Prelude.{slice_get}
+use Rattle.std.proofs.lemmas.List.{length-set}
 use Rattle.ax25_link.specs.Air.{IsLawful, Transmission}
 use Rattle.air_attempt.specs.Attempt.{Attempt, IsAttempt, IsFromTo}
-use Rattle.air_attempt.specs.Laws.{AreAttempts, Calls, DeliversToServer, LeftLaw}
+use Rattle.air_attempt.specs.Laws.{Calls, DeliversToServer, LeftLaw}
 use Rattle.air_attempt.specs.Party.{Party, newest, to_server_delivered, with_newest}
+use Rattle.air_attempt.proofs.Offered.{all-at, set-at}
+use Rattle.air_files.proofs.Offered.{alike-itself, served-itself}
 use Rattle.air_world.specs.Events.{with_current}
 use Rattle.air_world.specs.Sound.{Sound}
 use Rattle.air_world.specs.World.{PartyAt, World, with_party}
-use Rattle.air_world.proofs.ClientsStay.{ClientsStay, newest-stays, stay-refl}
-use Rattle.air_world.proofs.Likes.{like-refl, newest-like, served-same}
+use Rattle.air_world.proofs.ClientsStay.{newest-stays, stay-refl}
+use Rattle.air_world.proofs.Likes.{newest-like}
 use Rattle.air_world.proofs.Seats.{calls}
 use Rattle.air_world.proofs.ServerCut.{AreMarked, IsMarked}
-use Rattle.air_world.proofs.WorldLists.{all-at, set-at}
-
-pub length-set-slice : {X : Type 0} (xs : List X) (i : ℕ) (x : X) → length (slice_set xs i x) ≡ length xs
-length-set-slice [] i x = refl
-length-set-slice (y ∷ ys) zero x = refl
-length-set-slice (y ∷ ys) (suc i) x = ap suc (length-set-slice ys i x)
 
 -- nothing is delivered
 pub none-marked : (old : World) → Sound old → AreMarked old old
 none-marked old sound = record {
-    files = refl;
-    many = refl;
-    each = λ c party is. (
-        party,
-        is,
-        record {
-          client = refl;
-          uploads = refl;
-          like = like-refl party.attempts;
-          stays = stay-refl party.attempts;
-          attempts_are = (calls old sound c party is).attempts_are;
-        },
-      );
-  }
+  files = refl;
+  many = refl;
+  each = λ c party is. (
+    party,
+    is,
+    record {
+      client = refl;
+      uploads = refl;
+      like = alike-itself party.attempts;
+      stays = stay-refl party.attempts;
+      attempts_are = (calls old sound c party is).attempts_are;
+    },
+  );
+}
 
 -- A transmission of the current attempt of the client at this place may be delivered.
 pub record IsComing (old : World) (c : ℕ) (party : Party) (place : ℕ) (t : Transmission) : Type 0 where
@@ -46,7 +41,8 @@ pub record IsComing (old : World) (c : ℕ) (party : Party) (place : ℕ) (t : T
   pub current : newest party ≡ Some attempt
   pub lawful : IsLawful attempt.window attempt.by_client place t
 
-module _ (old : World) (sound : Sound old) (c : ℕ) (party : Party) (place : ℕ) (t : Transmission) (coming : IsComing old c party place t) where
+module _ (old : World) (sound : Sound old) (c : ℕ) (party : Party) (place : ℕ) (t : Transmission)
+    (coming : IsComing old c party place t) where
   abbrev pub marked : List Attempt
   marked = with_newest (to_server_delivered place t) party.attempts
 
@@ -55,14 +51,14 @@ module _ (old : World) (sound : Sound old) (c : ℕ) (party : Party) (place : �
 
   pub delivers : DeliversToServer party.attempts t.frame marked
   delivers = record {
-      attempt = coming.attempt;
-      current = coming.current;
-      place = place;
-      t = t;
-      lawful = coming.lawful;
-      frame_is = refl;
-      marked_is = refl;
-    }
+    attempt = coming.attempt;
+    current = coming.current;
+    place = place;
+    t = t;
+    lawful = coming.lawful;
+    frame_is = refl;
+    marked_is = refl;
+  }
 
   its-calls : Calls old.server party.client.me party.attempts
   its-calls = calls old sound c party coming.is
@@ -70,40 +66,53 @@ module _ (old : World) (sound : Sound old) (c : ℕ) (party : Party) (place : �
   -- the frame is the client's
   pub from-client : t.frame.src ≡ party.client.me
   from-client =
-      let attempt = all-at (IsAttempt party.client.me old.server.me) party.attempts 0 coming.attempt its-calls.attempts_are coming.current in
-      let from = all-at (λ (t : Transmission). IsFromTo coming.attempt.window party.client.me old.server.me t.frame) coming.attempt.by_client place t attempt.stations.from_client coming.lawful.sent in
+      let attempt = all-at (IsAttempt party.client.me old.server.me) party.attempts 0 coming.attempt
+      its-calls.attempts_are coming.current in
+      let from = all-at (λ (t : Transmission). IsFromTo coming.attempt.window party.client.me old.server.me t.frame)
+      coming.attempt.by_client place t attempt.stations.from_client coming.lawful.sent in
       from.src_is
 
   module _ (left_law : LeftLaw) where
     own-marked : IsMarked old party (with_current (to_server_delivered place t) party)
     own-marked = record {
-        client = refl;
-        uploads = refl;
-        like = newest-like (to_server_delivered place t) party.attempts (λ a. record { asked = refl; entries = refl; job = refl; served = served-same a.server });
-        stays = newest-stays (to_server_delivered place t) party.attempts (λ a. record { client = refl; window = refl });
-        attempts_are = left_law.to_server party.client.me old.server.me party.attempts marked t.frame its-calls.attempts_are delivers;
-      }
+      client = refl;
+      uploads = refl;
+      like =
+          newest-like (to_server_delivered place t) party.attempts
+          (λ a. record { asked = refl; entries = refl; job = refl; served = served-itself a.server });
+      stays = newest-stays (to_server_delivered place t) party.attempts (λ a. record { client = refl; window = refl });
+      attempts_are =
+          left_law.to_server party.client.me old.server.me party.attempts marked t.frame its-calls.attempts_are
+          delivers;
+    }
 
     pub are-marked : AreMarked old delivered
     are-marked = record {
-        files = refl;
-        many = length-set-slice old.parties c (with_current (to_server_delivered place t) party);
-        each = λ number that is. by number that (set-at old.parties c number (with_current (to_server_delivered place t) party) that is);
-      }
+      files = refl;
+      many = length-set old.parties c (with_current (to_server_delivered place t) party);
+      each =
+          λ number that is. by number that
+          (set-at old.parties c number (with_current (to_server_delivered place t) party) that is);
+    }
       where
-        by : (number : ℕ) (that : Party) → ((number ≡ c) × (that ≡ with_current (to_server_delivered place t) party)) ⊎ ((number ≡ c → ⊥) × (slice_get old.parties number ≡ Some that))
+        by : (number : ℕ) (that : Party)
+            → ((number ≡ c) × (that ≡ with_current (to_server_delivered place t) party)) ⊎ ((number ≡ c
+            → ⊥) × (slice_get old.parties number ≡ Some that))
             → (was : Party) × PartyAt old number was × IsMarked old was that
-        by number that (inl own) =
-            (party, ap (λ i. slice_get old.parties i) own.0 ∙ coming.is, subst (λ (p : Party). IsMarked old party p) (sym own.1) own-marked)
-        by number that (inr other) =
-            (
-              that,
-              other.1,
-              record {
-                client = refl;
-                uploads = refl;
-                like = like-refl that.attempts;
-                stays = stay-refl that.attempts;
-                attempts_are = (calls old sound number that other.1).attempts_are;
-              },
-            )
+        by number that (inl own) = (
+          party,
+          ap (λ i. slice_get old.parties i) own.0
+              ∙ coming.is,
+          subst (λ (p : Party). IsMarked old party p) (sym own.1) own-marked,
+        )
+        by number that (inr other) = (
+          that,
+          other.1,
+          record {
+            client = refl;
+            uploads = refl;
+            like = alike-itself that.attempts;
+            stays = stay-refl that.attempts;
+            attempts_are = (calls old sound number that other.1).attempts_are;
+          },
+        )

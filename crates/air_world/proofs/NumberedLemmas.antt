@@ -1,5 +1,5 @@
 -- Whose a number is: it was given once, to the task of the attempt whose session gave it.
-use Rattle.std.proofs.Common.{◌≡◌, ℕ, suc, List, [], ◌∷◌, length, refl, ap, sym, ◌∙◌, subst, Some, inl, inr}
+use Rattle.std.proofs.Common.{◌≡◌, ℕ, List, length, ap, sym, ◌∙◌, subst, Some}
 use Rattle.std.specs.Prelude.{slice_get}
 use Rattle.std.proofs.lemmas.Option.{same_Some}
 use Rattle.client_notes.specs.Answers.{noted_by}
@@ -10,23 +10,16 @@ use Rattle.client_notes.specs.declared.answers.Noted.TheVariants as noted
 use Rattle.ftl0_job.specs.declared.work.Work.{Work}
 use Rattle.ftl0_job.specs.declared.work.Work.TheVariants as work
 use Rattle.air_attempt.specs.Attempt.{Attempt}
-use Rattle.air_attempt.specs.Lists.{OneIs}
 use Rattle.air_attempt.specs.Party.{IsFileOf, Party}
 use Rattle.air_attempt.specs.Said.{AsksUpload, Grants}
 use Rattle.air_attempt.specs.Sides.{ServerSide}
+use Rattle.air_attempt.proofs.Offered.{one-placed}
 use Rattle.air_files.specs.Facts.{HasNumber, IsGranted, IsNumbered}
 use Rattle.air_files.specs.Tasks.{IsTaskFor}
 use Rattle.air_files.proofs.Offered.{acked-task, later-number, task-file}
 use Rattle.air_world.specs.Parts.{AreAcknowledged, AreNumbered}
 use Rattle.air_world.specs.Sound.{AreGrantedOnce, IsParty, Sound}
 use Rattle.air_world.specs.World.{PartyAt, World}
-
--- where the one that is so stands
-pub place-of_one : {X : Type 0} (P : X → Type 0) (xs : List X) → OneIs P xs
-    → (at : ℕ) × (x : X) × (slice_get xs at ≡ Some x) × P x
-place-of_one P [] one = absurd one
-place-of_one P (x ∷ xs) (inl here) = (0, x, refl, here)
-place-of_one P (x ∷ xs) (inr there) = let found = place-of_one P xs there in (suc found.0, found.1, found.2, found.3)
 
 -- a session of this attempt of the client, which is one to send this task's file for the first time, gave the number
 pub record IsTaskGrant (party : Party) (task number : ℕ) : Type 0 where
@@ -53,7 +46,7 @@ pub task-grant : (world : World) (c : ℕ) (party : Party) (task number : ℕ) �
     → HasNumber party task number
     → IsTaskGrant party task number
 task-grant world c party task number is has =
-    let one = place-of_one (IsGranted task number) party.attempts
+    let one = one-placed (IsGranted task number) party.attempts
     (task-of world c party task number is has).2.granted in
     record {
       at = one.0;

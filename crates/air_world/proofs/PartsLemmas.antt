@@ -18,17 +18,17 @@ use Rattle.air_attempt.specs.Lists.{Has}
 use Rattle.air_attempt.specs.Party.{EachSide, IsLinkOf, Party, newest}
 use Rattle.air_attempt.specs.Said.{Grants, Offers}
 use Rattle.air_attempt.specs.Sides.{ServerSide}
+use Rattle.air_attempt.proofs.Offered.{each-at, each-weaker, has-at, one-placed, some-from}
 use Rattle.air_files.specs.Facts.{HasFetched, HasNumber, IsGrantKept, IsOfferKept, got}
 use Rattle.air_files.specs.Tasks.{IsWork}
-use Rattle.air_files.proofs.Offered.{each-at, each-side, each-weaker, has-at, side-at, some-from}
+use Rattle.air_files.proofs.Offered.{each-side, side-at}
 use Rattle.air_world.specs.Headline.{HasWhole, HeadlineIn}
 use Rattle.air_world.specs.Offered.{Offered}
 use Rattle.air_world.specs.Parts.{AreGranted, AreInState, AreNumbered, DoNumbersFit, DoOctetsFit, EachParty, HasParts}
 use Rattle.air_world.specs.Parts.{IsGiven, OfCurrent}
 use Rattle.air_world.specs.Sound.{IsParty, Sound}
 use Rattle.air_world.specs.World.{PartyAt, World}
-use Rattle.air_world.proofs.NumberedLemmas.{IsTaskGrant, are-acknowledged, are-numbered, place-of_one, same-grant}
-use Rattle.air_world.proofs.NumberedLemmas.{task-grant}
+use Rattle.air_world.proofs.NumberedLemmas.{IsTaskGrant, are-acknowledged, are-numbered, same-grant, task-grant}
 use Rattle.air_world.proofs.ReceivesLemmas.{receives-file, session-of}
 use Rattle.air_world.proofs.WholeLemmas.{whole-got}
 
@@ -100,7 +100,7 @@ given world c party a side number file_length sound there has is grants = record
         (each-at (λ it. IsWork world.files party it.client.asked) party.attempts a here.works has)
 
     granted : IsTaskGrant party kept.task number
-    granted = let at = place-of_one (λ it. it ≡ a) party.attempts has in record {
+    granted = let at = one-placed (λ it. it ≡ a) party.attempts has in record {
       at = at.0;
       attempt = a;
       is_attempt = at.2 ∙ ap Some at.3;

@@ -13,16 +13,17 @@ use Rattle.air_attempt.specs.Lists.{Has}
 use Rattle.air_attempt.specs.Party.{IsFileOf, Party}
 use Rattle.air_attempt.specs.Said.{AsksUpload, Grants, octets_come, said_behind_server}
 use Rattle.air_attempt.specs.Sides.{IsSession, ServerSide}
+use Rattle.air_attempt.proofs.Offered.{each-at, one-placed}
 use Rattle.air_files.specs.Dialogue.{Serves}
 use Rattle.air_files.specs.Facts.{GoesOnWithTask, HasNumber, Receives}
 use Rattle.air_files.specs.Tasks.{IsWork}
 use Rattle.air_files.specs.UploadDialogue.{AnsweredFirst, GoesOnWith, IsOfferedBy, IsReceivingState, Receiving}
 use Rattle.air_files.specs.UploadDialogue.{ServesUpload, ended, receives, refused, unasked}
-use Rattle.air_files.proofs.Offered.{each-at, side-at}
-use Rattle.air_world.proofs.NumberedLemmas.{place-of_one, same-grant, task-grant}
+use Rattle.air_files.proofs.Offered.{side-at}
 use Rattle.air_world.specs.Parts.{AreNumbered, ReceivesFile}
 use Rattle.air_world.specs.Sound.{IsParty, Sound}
 use Rattle.air_world.specs.World.{PartyAt, World}
+use Rattle.air_world.proofs.NumberedLemmas.{same-grant, task-grant}
 
 -- the session of an attempt of a client
 pub session-of : (world : World) (c : ℕ) (party : Party) (a : Attempt) (side : ServerSide) → IsParty world c party
@@ -79,7 +80,7 @@ received-task world c party a side task number rest sound numbered there has is 
     (side-at (λ it those.
     Serves world.server.store it.client.asked those) party a side party_is.facts.sessions.serves has is) in
     let session = session-of world c party a side party_is has is in
-    let at = place-of_one (λ it. it ≡ a) party.attempts has in
+    let at = one-placed (λ it. it ≡ a) party.attempts has in
     elim (offered-number r.known number r.file rest side serves (session.none_lost up) state) [
       | inl new ↦
           (same-grant world c c r.task task number party party sound.granted there there

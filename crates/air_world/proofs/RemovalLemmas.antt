@@ -2,6 +2,7 @@
 use Rattle.std.proofs.Common.{◌≡◌, ℕ, List, [], ◌∷◌, refl, Bool, true, false, Option, None, Some, inl, inr}
 use Rattle.std.specs.Prelude.{if◌then◌else◌}
 use Rattle.std.specs.Option.{option_map}
+use Rattle.ax25_link.specs.declared.refusal.Refusal.{Refusal}
 use Rattle.file_entries.specs.Follows.{FollowsLaw}
 use Rattle.file_store.specs.Command.{after, drop_entry}
 use Rattle.file_store.specs.Store.{Store}
@@ -11,7 +12,6 @@ use Rattle.ftl0_session.specs.Table.{State, download_part, in_session, next_due}
 use Rattle.ftl0_session.specs.Uploads.Failures.{read_fails}
 use Rattle.ftl0_server.specs.Laws as server
 use Rattle.ftl0_server.specs.Server.{IsSilent, Server, sends_by, sends_of_places}
-use Rattle.ax25_link.specs.declared.refusal.Refusal.{Refusal}
 use Rattle.ftl0_server.specs.Slots.{PlacesSend, Slot, connected, free, leaving, places_next}
 use Rattle.air_attempt.specs.Party.{Party}
 use Rattle.air_files.proofs.Offered.{drop-keeps, drop-sound, facts-removed}

@@ -1,7 +1,7 @@
 -- What is promised holds over a lawful schedule, where it holds of each sound world and each event keeps a world sound.
 use Rattle.std.proofs.Common.{List, [], ◌∷◌, sym, subst}
 use Rattle.std.specs.List.{AllByRecursion}
-use Rattle.air_files.proofs.Offered.{each-weaker}
+use Rattle.air_attempt.proofs.Offered.{each-weaker}
 use Rattle.air_world.specs.Cuts.{IsRun, Plays}
 use Rattle.air_world.specs.Laws.{NoCutsLaw, PartsLaw, PrefixesLaw, ScheduleLaw, SoundLaw}
 use Rattle.air_world.specs.Schedule.{Event, Schedule}

@@ -1,5 +1,6 @@
 -- In a sound world the fields of all that a client's job says have their ranges.
-use Rattle.std.proofs.Common.{◌≡◌, ◌⊎◌, ℕ, zero, suc, ◌^◌, ◌<◌, ◌≤◌, List, [], ◌∷◌, ◌++◌, Option, None, Some, Ok, refl, inl, inr, ap, ◌∙◌, subst, arith}
+use Rattle.std.proofs.Common.{◌≡◌, ◌⊎◌, ℕ, ◌^◌, ◌<◌, ◌≤◌, List, [], ◌∷◌, ◌++◌, Option, None, Some, Ok, refl, inl, inr}
+use Rattle.std.proofs.Common.{ap, ◌∙◌, subst, arith}
 use Rattle.std.specs.Prelude.{length, slice_get}
 use Rattle.std.specs.List.{AllByRecursion}
 use Rattle.std.specs.Option.{option_and_then, option_map}
@@ -19,26 +20,23 @@ use Rattle.air_attempt.specs.Lists.{OneIs}
 use Rattle.air_attempt.specs.Party.{Asked, IsFileOf, Party, newest, upload_of}
 use Rattle.air_attempt.specs.Said.{IsAnswer}
 use Rattle.air_attempt.specs.Sides.{ServerSide}
+use Rattle.air_attempt.proofs.Offered.{all-at}
 use Rattle.air_files.specs.Facts.{GoesOnWithTask, IsGranted}
 use Rattle.air_files.specs.Tasks.{IsWork, StandsBy}
 use Rattle.air_files.specs.Uploads.{IsGoodFile}
 use Rattle.air_world.specs.Sound.{IsParty, Sound}
 use Rattle.air_world.specs.World.{PartyAt, World}
 
--- the one at a place of a list of which each is so
-all-at : {X : Type 0} (P : X → Type 0) (xs : List X) (place : ℕ) (x : X) → AllByRecursion P xs → slice_get xs place ≡ Some x → P x
-all-at P [] place x all is = absurd (cc is)
-all-at P (y ∷ xs) zero x all is = subst P (same_Some y x is) all.0
-all-at P (y ∷ xs) (suc place) x all is = all-at P xs place x all.1 is
-
 -- ---- a number that was granted
 
 -- what a session said in answer to a packet fits
-answer-fits : (item : Item) (packet : PacketValue) (entries : List SessionEntry) → OneIs (IsAnswer item packet) entries → AllByRecursion Fits (session.said_in entries) → Fits packet
+answer-fits : (item : Item) (packet : PacketValue) (entries : List SessionEntry) → OneIs (IsAnswer item packet) entries
+    → AllByRecursion Fits (session.said_in entries) → Fits packet
 answer-fits item packet [] one fits = absurd one
 answer-fits item packet (session.took taken row ∷ entries) (inl answers) fits =
     (subst (λ (replies : List PacketValue). AllByRecursion Fits (replies ++ session.said_in entries)) answers.1 fits).0
-answer-fits item packet (session.took taken row ∷ entries) (inr later) fits = answer-fits item packet entries later (all-behind row.replies (session.said_in entries) fits)
+answer-fits item packet (session.took taken row ∷ entries) (inr later) fits =
+    answer-fits item packet entries later (all-behind row.replies (session.said_in entries) fits)
   where
     all-behind : (xs ys : List PacketValue) → AllByRecursion Fits (xs ++ ys) → AllByRecursion Fits ys
     all-behind [] ys all = all
@@ -48,30 +46,38 @@ answer-fits item packet (session.lost taken row ∷ entries) (inr later) fits = 
 answer-fits item packet (session.queued due ∷ entries) (inl answers) fits = absurd answers
 answer-fits item packet (session.queued due ∷ entries) (inr later) fits = answer-fits item packet entries later fits.1
 
-granted-fits : (me server : _) (task number : ℕ) (attempts : List Attempt) → OneIs (IsGranted task number) attempts → AllByRecursion (IsAttempt me server) attempts → number < 2 ^ 32
+granted-fits : (me server : _) (task number : ℕ) (attempts : List Attempt) → OneIs (IsGranted task number) attempts
+    → AllByRecursion (IsAttempt me server) attempts → number < 2 ^ 32
 granted-fits me server task number [] one all = absurd one
 granted-fits me server task number (a ∷ older) (inr later) all = granted-fits me server task number older later all.1
 granted-fits me server task number (a ∷ older) (inl granted) all =
     let side : ServerSide = granted.1 in
     let answered : IsAnswered a side = subst (IsAnsweredBy a) granted.3 all.0.answered in
-    (answer-fits (Ok (upload_cmd 0 (length granted.0))) (ul_go_resp number 0) side.entries granted.4 answered.session.fits.1).0
+    (answer-fits (Ok (upload_cmd 0 (length granted.0)))
+    (ul_go_resp number 0) side.entries granted.4 answered.session.fits.1).0
 
 -- ---- the files that are sent
 
 -- a file that was found in a list, by whatever place, is one of it
-found-good : (files : List Asked) (place : Option ℕ) (file : List ℕ) → AllByRecursion (λ asked. IsGoodFile asked.file) files
+found-good : (files : List Asked) (place : Option ℕ) (file : List ℕ)
+    → AllByRecursion (λ asked. IsGoodFile asked.file) files
     → option_map (λ (asked : Asked). asked.file) (option_and_then (slice_get files) place) ≡ Some file → IsGoodFile file
 found-good files None file good is = absurd (cc is)
 found-good files (Some place) file good is = by (slice_get files place) refl is
   where
-    by : (o : Option Asked) → slice_get files place ≡ o → option_map (λ (asked : Asked). asked.file) o ≡ Some file → IsGoodFile file
+    by : (o : Option Asked) → slice_get files place ≡ o → option_map (λ (asked : Asked). asked.file) o ≡ Some file
+        → IsGoodFile file
     by None at is = absurd (cc is)
-    by (Some asked) at is = subst IsGoodFile (same_Some asked.file file is) (all-at (λ (it : Asked). IsGoodFile it.file) files place asked good at)
+    by (Some asked) at is =
+        subst IsGoodFile (same_Some asked.file file is)
+        (all-at (λ (it : Asked). IsGoodFile it.file) files place asked good at)
 
 -- ---- what a job says
 
-module _ (world : World) (c : ℕ) (party : Party) (sound : Sound world) (is : IsParty world c party) (a : Attempt) (current : newest party ≡ Some a) where
-  known-fits : (at : Upload) → a.client.asked ≡ work.Upload at → at ≡ new_upload at.task at.known at.file → IsFileOf world.files party at.task at.file → at.known < 2 ^ 32
+module _ (world : World) (c : ℕ) (party : Party) (sound : Sound world) (is : IsParty world c party) (a : Attempt)
+    (current : newest party ≡ Some a) where
+  known-fits : (at : Upload) → a.client.asked ≡ work.Upload at → at ≡ new_upload at.task at.known at.file
+      → IsFileOf world.files party at.task at.file → at.known < 2 ^ 32
   known-fits at asked begun file = by (cases_lt 0 at.known)
     where
       by : (0 < at.known) ⊎ (at.known ≤ 0) → at.known < 2 ^ 32
@@ -82,7 +88,8 @@ module _ (world : World) (c : ℕ) (party : Party) (sound : Sound world) (is : I
           let numbered = is.facts.tasks.numbered at.task at.known at.file has file in
           granted-fits party.client.me party.client.server at.task at.known party.attempts numbered.granted is.attempts
 
-  work-fits : (doing : Work) → a.client.asked ≡ doing → IsNotBegun doing → IsWork world.files party doing → WorkFits doing
+  work-fits : (doing : Work) → a.client.asked ≡ doing → IsNotBegun doing → IsWork world.files party doing
+      → WorkFits doing
   work-fits (work.Upload at) asked begun file =
       let good = found-good world.files (upload_of party at.task) at.file sound.files file in
       let short = good.short in
@@ -96,12 +103,16 @@ module _ (world : World) (c : ℕ) (party : Party) (sound : Sound world) (is : I
       let stands : StandsBy party (Some a) = subst (StandsBy party) current is.job in
       record {
         asked =
-            work-fits a.client.asked refl attempt.job.begun (all-at (λ b. IsWork world.files party b.client.asked) party.attempts 0 a is.works current);
+            work-fits a.client.asked refl attempt.job.begun
+            (all-at (λ b. IsWork world.files party b.client.asked) party.attempts 0 a is.works current);
         go_with = (stands link).job.go_with;
       }
 
 -- so it is at each event
-pub may-say-at : (world : World) (c : ℕ) (party : Party) (event : ClientEvent) → Sound world → PartyAt world c party → MaySayAt event party.client party.attempts
+pub may-say-at : (world : World) (c : ℕ) (party : Party) (event : ClientEvent) → Sound world → PartyAt world c party
+    → MaySayAt event party.client party.attempts
 may-say-at world c party (asks job) sound at = tt
-may-say-at world c party (hears frame) sound at = λ a current link. may-say world c party sound (sound.parties c party at) a current link
-may-say-at world c party ticks sound at = λ a current link. may-say world c party sound (sound.parties c party at) a current link
+may-say-at world c party (hears frame) sound at =
+    λ a current link. may-say world c party sound (sound.parties c party at) a current link
+may-say-at world c party ticks sound at =
+    λ a current link. may-say world c party sound (sound.parties c party at) a current link

@@ -1,28 +1,24 @@
 -- Each event of the server's keeps a sound world.
-use Rattle.std.proofs.Common.{◌≡◌, ◌≢◌, ◌⊎◌, ℕ, zero, suc, take, ◌≤◌, ◌<◌, ◌^◌, ◌%◌, List, [], ◌∷◌, Bool, true, false, Option, None, Some, length, refl, sym, ap, subst, ◌∙◌, arith}
-use Rattle.std.specs.Prelude.{map, slice_get}
+use Rattle.std.proofs.Common.{◌≡◌, ℕ, zero, suc, ◌<◌, ◌^◌, Bool, true, false, Some, sym, ap, subst, ◌∙◌, arith}
 use Rattle.std.proofs.lemmas.Option.{same_Some}
 use Rattle.ax25_link.specs.Air.{IsAt, IsLawful, Transmission}
 use Rattle.node.specs.Events.{NodeEvent, hears as frame_comes, ticks as tick_comes}
 use Rattle.file_store.specs.Command.{after_all}
 use Rattle.file_store.specs.OnDisk.{after_first}
 use Rattle.ftl0_server.specs.Laws.{SomeStepLaw}
-use Rattle.ftl0_server.specs.ServerStep.{ServerStep}
 use Rattle.air_attempt.specs.Attempt.{Attempt}
 use Rattle.air_attempt.specs.Laws.{LeftLaw, ServerTicksLaw}
-use Rattle.air_attempt.specs.Lists.{Placed}
 use Rattle.air_attempt.specs.Party.{Party, newest}
 use Rattle.air_attempt.specs.Transfers.{ServerDid}
 use Rattle.air_world.specs.Cuts.{ServerDoes, ServerEvent, ServerIsCut, server_commands}
-use Rattle.air_world.specs.Events.{DeliversToServer, ServerTakes}
 use Rattle.air_world.specs.Lawful.{HasParty, IsAllowed, MayCome}
-use Rattle.air_world.specs.Schedule.{Event, tick_server, to_server}
+use Rattle.air_world.specs.Schedule.{tick_server, to_server}
 use Rattle.air_world.specs.Sound.{Sound}
 use Rattle.air_world.specs.Step.{ServerGoes, parties_after}
 use Rattle.air_world.specs.World.{PartyAt, World, counted, next_moment}
-use Rattle.air_world.proofs.CutWorld.{frame-cut-sound, tick-cut-sound, take-none}
-use Rattle.air_world.proofs.Marked.{IsComing, are-marked, delivered, none-marked}
-use Rattle.air_world.proofs.ServerHeard.{HearingLaws}
+use Rattle.air_world.proofs.CutWorld.{frame-cut-sound, take-none, tick-cut-sound}
+use Rattle.air_world.proofs.Marked.{IsComing, delivered}
+use Rattle.air_world.proofs.HeardMade.{HearingLaws}
 use Rattle.air_world.proofs.ServerTicked.{tick-sound}
 use Rattle.air_world.proofs.ServerWorld.{heard-sound}
 
@@ -39,23 +35,31 @@ soon-moment world = omega arith
 -- ---- a tick
 
 module _ (laws : ServerLaws) (old new : World) (sound : Sound old) where
-  tick-goes : (coming : NodeEvent) (those : World) → coming ≡ tick_comes (next_moment old) → those ≡ old → ServerGoes old coming those new → Sound new
+  tick-goes : (coming : NodeEvent) (those : World) → coming ≡ tick_comes (next_moment old) → those ≡ old
+      → ServerGoes old coming those new → Sound new
   tick-goes coming those coming_is those_is goes =
-      let it = subst (λ coming. ServerGoes old coming old new) coming_is (subst (λ d. ServerGoes old coming d new) those_is goes) in
+      let it = subst (λ coming. ServerGoes old coming old new) coming_is
+      (subst (λ d. ServerGoes old coming d new) those_is goes) in
       subst Sound
       (sym
-       (it.new_is
-        ∙ ap (λ (did : ServerDid). counted (record old { server = it.gives.new; parties = parties_after did (tick_comes (next_moment old)) old.parties })) it.did_is))
+      (it.new_is
+      ∙ ap (λ (did : ServerDid). counted (record
+      old { server = it.gives.new; parties = parties_after did (tick_comes (next_moment old)) old.parties }))
+      it.did_is))
       (tick-sound laws.ticks laws.hearing.stay old sound (next_moment old) it.gives it.step)
 
-  tick-cut : (coming : NodeEvent) (those : World) → coming ≡ tick_comes (next_moment old) → those ≡ old → ServerIsCut old coming those new → Sound new
+  tick-cut : (coming : NodeEvent) (those : World) → coming ≡ tick_comes (next_moment old) → those ≡ old
+      → ServerIsCut old coming those new → Sound new
   tick-cut coming those coming_is those_is is_cut =
-      let it = subst (λ coming. ServerIsCut old coming old new) coming_is (subst (λ d. ServerIsCut old coming d new) those_is is_cut) in
+      let it = subst (λ coming. ServerIsCut old coming old new) coming_is
+      (subst (λ d. ServerIsCut old coming d new) those_is is_cut) in
       let left = after_first it.count old.server.store (server_commands old (tick_comes (next_moment old))) in
       subst Sound (sym it.new_is)
-      (tick-cut-sound laws.left laws.hearing.stay old sound left (ap (λ these. after_all old.server.store these) (take-none it.count)))
+      (tick-cut-sound laws.left laws.hearing.stay old sound left
+      (ap (λ these. after_all old.server.store these) (take-none it.count)))
 
-  tick-does : (cut : Bool) (coming : NodeEvent) (those : World) → coming ≡ tick_comes (next_moment old) → those ≡ old → ServerDoes cut old coming those new → Sound new
+  tick-does : (cut : Bool) (coming : NodeEvent) (those : World) → coming ≡ tick_comes (next_moment old) → those ≡ old
+      → ServerDoes cut old coming those new → Sound new
   tick-does true coming those coming_is those_is does = tick-cut coming those coming_is those_is does
   tick-does false coming those coming_is those_is does = tick-goes coming those coming_is those_is does
 
@@ -66,7 +70,8 @@ module _ (laws : ServerLaws) (old new : World) (sound : Sound old) where
 
   module _ (c place : ℕ) where
     -- what is delivered may come
-    frame-coming : (party : Party) (t : Transmission) → PartyAt old c party → (a : Attempt) → newest party ≡ Some a → IsAt a.by_client place t
+    frame-coming : (party : Party) (t : Transmission) → PartyAt old c party → (a : Attempt) → newest party ≡ Some a
+        → IsAt a.by_client place t
         → HasParty old (suc c) (MayCome (λ a. a.by_client) (suc place)) → IsComing old c party place t
     frame-coming party t is a current is_at may =
         let party_is = same_Some may.0 party (sym may.1 ∙ is) in
@@ -74,35 +79,55 @@ module _ (laws : ServerLaws) (old new : World) (sound : Sound old) where
         let attempt_is = same_Some of.0 a (sym of.2 ∙ current) in
         let lawful = subst (λ (it : Attempt). IsLawful it.window it.by_client place of.1) attempt_is of.3 in
         let t_is = same_Some of.1 t (sym lawful.sent ∙ is_at) in
-        record { is = is; attempt = a; current = current; lawful = subst (λ (it : Transmission). IsLawful a.window a.by_client place it) t_is lawful }
+        record {
+          is = is;
+          attempt = a;
+          current = current;
+          lawful = subst (λ (it : Transmission). IsLawful a.window a.by_client place it) t_is lawful;
+        }
 
     module _ (party : Party) (t : Transmission) (coming_is : IsComing old c party place t) where
       abbrev those-delivered : World
       those-delivered = delivered old sound c party place t coming_is
 
-      frame-goes : (coming : NodeEvent) (those : World) → coming ≡ frame_comes t.frame (next_moment old) → those ≡ those-delivered → ServerGoes old coming those new → Sound new
+      frame-goes : (coming : NodeEvent) (those : World) → coming ≡ frame_comes t.frame (next_moment old)
+          → those ≡ those-delivered → ServerGoes old coming those new → Sound new
       frame-goes coming those came marked goes =
-          let it = subst (λ coming. ServerGoes old coming those-delivered new) came (subst (λ d. ServerGoes old coming d new) marked goes) in
+          let it = subst (λ coming. ServerGoes old coming those-delivered new) came
+          (subst (λ d. ServerGoes old coming d new) marked goes) in
           subst Sound
           (sym
-           (it.new_is
-            ∙ ap (λ (did : ServerDid). counted (record those-delivered { server = it.gives.new; parties = parties_after did (frame_comes t.frame (next_moment old)) those-delivered.parties })) it.did_is))
-          (heard-sound laws.hearing old sound c party place t coming_is (next_moment old) (soon-moment old) it.gives it.step)
+          (it.new_is
+          ∙ ap (λ (did : ServerDid). counted (record
+          those-delivered {
+            server = it.gives.new;
+            parties = parties_after did (frame_comes t.frame (next_moment old)) those-delivered.parties;
+          }))
+          it.did_is))
+          (heard-sound laws.hearing old sound c party place t coming_is (next_moment old)
+          (soon-moment old) it.gives it.step)
 
-      frame-cut : (coming : NodeEvent) (those : World) → coming ≡ frame_comes t.frame (next_moment old) → those ≡ those-delivered → ServerIsCut old coming those new → Sound new
+      frame-cut : (coming : NodeEvent) (those : World) → coming ≡ frame_comes t.frame (next_moment old)
+          → those ≡ those-delivered → ServerIsCut old coming those new → Sound new
       frame-cut coming those came marked is_cut =
-          let it = subst (λ coming. ServerIsCut old coming those-delivered new) came (subst (λ d. ServerIsCut old coming d new) marked is_cut) in
+          let it = subst (λ coming. ServerIsCut old coming those-delivered new) came
+          (subst (λ d. ServerIsCut old coming d new) marked is_cut) in
           subst Sound (sym it.new_is)
-          (frame-cut-sound laws.hearing laws.some_step laws.left old sound c party place t coming_is (next_moment old) (soon-moment old) it.count)
+          (frame-cut-sound laws.hearing laws.some_step laws.left old sound c party place t coming_is (next_moment old)
+          (soon-moment old) it.count)
 
-      frame-does : (cut : Bool) (coming : NodeEvent) (those : World) → coming ≡ frame_comes t.frame (next_moment old) → those ≡ those-delivered → ServerDoes cut old coming those new → Sound new
+      frame-does : (cut : Bool) (coming : NodeEvent) (those : World) → coming ≡ frame_comes t.frame (next_moment old)
+          → those ≡ those-delivered → ServerDoes cut old coming those new → Sound new
       frame-does true coming those came marked does = frame-cut coming those came marked does
       frame-does false coming those came marked does = frame-goes coming those came marked does
 
-  pub server-hears-kept : (number place : ℕ) → IsAllowed old (to_server number place) → ServerEvent old (to_server number place) new → Sound new
+  pub server-hears-kept : (number place : ℕ) → IsAllowed old (to_server number place)
+      → ServerEvent old (to_server number place) new → Sound new
   server-hears-kept zero place allowed event = absurd event.takes
   server-hears-kept (suc c) zero allowed event = absurd event.takes
   server-hears-kept (suc c) (suc at) allowed event =
       let takes = event.takes in
-      let coming = frame-coming c at takes.party takes.t takes.is_party takes.sent.attempt takes.sent.current takes.sent.is_at allowed.possible in
-      frame-does c at takes.party takes.t coming old.is_cut event.coming event.delivered takes.coming_is takes.delivered_is event.does
+      let coming = frame-coming c at takes.party takes.t takes.is_party takes.sent.attempt takes.sent.current
+      takes.sent.is_at allowed.possible in
+      frame-does c at takes.party takes.t coming old.is_cut event.coming event.delivered takes.coming_is
+      takes.delivered_is event.does

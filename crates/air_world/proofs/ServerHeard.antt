@@ -1,22 +1,19 @@
 -- A frame that the server hears: what it makes of the client whose frame it is.
-use Rattle.std.proofs.Common.{◌≡◌, ◌≢◌, ◌⊎◌, ℕ, zero, suc, ◌≤◌, ◌<◌, ◌^◌, List, [], ◌∷◌, ◌++◌, Bool, true, false, Option, None, Some, refl, sym, ap, subst, ◌∙◌, inl, inr, true≢false}
-use Rattle.std.specs.Prelude.{slice_get, map, IfSome}
+use Rattle.std.proofs.Common.{◌≡◌, ◌⊎◌, ℕ, zero, suc, ◌≤◌, ◌<◌, ◌^◌, List, [], ◌∷◌, Bool, true, false, Option, None}
+use Rattle.std.proofs.Common.{Some, refl, sym, ap, subst, ◌∙◌, inl, inr, true≢false}
+use Rattle.std.specs.Prelude.{slice_get}
 use Rattle.std.specs.List.{AllByRecursion}
 use Rattle.std.specs.Option.{option_map_or}
 use Rattle.std.proofs.lemmas.Option.{same_Some}
-use Rattle.px_base.specs.CallSign.{CallSign}
 use Rattle.ax25_frames.specs.FrameText.{FrameValue}
 use Rattle.ax25_link.specs.Air.{Transmission}
 use Rattle.ax25_link.specs.Rows.{is_call}
-use Rattle.ftl0_packets.specs.Layout.{Fits}
 use Rattle.node.specs.Events.{hears as frame_comes}
 use Rattle.file_entries.specs.Follows.{FollowsBy}
 use Rattle.file_store.specs.Command.{after_all}
-use Rattle.file_store.specs.Store.{Store}
 use Rattle.ftl0_session.specs.Downloads.Needs.{AreComplete}
-use Rattle.ftl0_session.specs.Lists.Lists.{CallerList, has_left}
+use Rattle.ftl0_session.specs.Lists.Lists.{has_left}
 use Rattle.ftl0_session.specs.Run.{Session}
-use Rattle.ftl0_session.specs.Table.{command}
 use Rattle.ftl0_server.specs.Connection.Connected.{Connected, caller_of}
 use Rattle.ftl0_server.specs.Connection.Hearing.{with_end}
 use Rattle.ftl0_server.specs.Entries as session
@@ -24,48 +21,27 @@ use Rattle.ftl0_server.specs.Entries.{SessionEntry}
 use Rattle.ftl0_server.specs.ServerStep.{ServerStep, Stepped}
 use Rattle.ftl0_server.specs.Slots.{place_of}
 use Rattle.air_attempt.specs.Attempt.{Attempt, IsAnsweredBy, IsAttempt, IsUnanswered}
-use Rattle.air_attempt.specs.Laws.{AreAttempts, Calls, HeardLaw, IsSeatedIn, IsServedBy, SaysFit, ServerHearsLaw, SessionHears, StaysServer, did_in, heard_in}
+use Rattle.air_attempt.specs.Laws.{AreAttempts, Calls, IsSeatedIn, IsServedBy, SaysFit, SessionHears, StaysServer}
+use Rattle.air_attempt.specs.Laws.{did_in, heard_in}
 use Rattle.air_attempt.specs.Party.{Party, all_over, server_sends, to_server_delivered, with_answered, with_newest}
 use Rattle.air_attempt.specs.Said.{Grants}
 use Rattle.air_attempt.specs.Sides.{ServerSide}
-use Rattle.air_world.proofs.ServerCut.{over-like}
-use Rattle.air_attempt.specs.Transfers.{ServerDid, after_hearing, begun, connection_of, gone_on, has_session, heard_by, opened, served}
+use Rattle.air_attempt.specs.Transfers.{ServerDid, after_hearing, begun, connection_of, gone_on, has_session, heard_by}
+use Rattle.air_attempt.specs.Transfers.{opened, served}
+use Rattle.air_attempt.proofs.Offered.{place-of-is}
 use Rattle.air_files.specs.Facts.{HasFacts}
-use Rattle.air_files.specs.Laws.{BeginLaw, GrantedAt, IsGreeted, LookLike, SessionKeeps, StayLaw, session_gone, with_attempt}
+use Rattle.air_files.specs.Laws.{GrantedAt, IsGreeted, LookLike, SessionKeeps, session_gone, with_attempt}
 use Rattle.air_files.specs.SoundStore.{IsSoundStore}
+use Rattle.air_files.proofs.Offered.{alike-itself, over-alike, served-itself}
 use Rattle.air_world.specs.Sound.{Sound}
-use Rattle.air_world.specs.World.{PartyAt, World}
-use Rattle.air_world.proofs.ClientsStay.{ClientsStay, hearing-stays, newest-stays, stay-refl, stay-trans}
-use Rattle.air_world.proofs.Likes.{grants-like, like-at, like-refl, newest-like, same-party, served-same}
+use Rattle.air_world.specs.World.{World}
+use Rattle.air_world.proofs.ClientsStay.{ClientsStay, newest-stays, stay-refl, stay-trans}
+use Rattle.air_world.proofs.Likes.{grants-like, like-at, same-party}
 use Rattle.air_world.proofs.Marked.{IsComing, delivers, from-client, marked}
-use Rattle.air_world.proofs.Seats.{between, calls, connection-none, connection-seat, finds-slot, found-slot}
-use Rattle.air_world.proofs.Served.{SessionLaws, before-session, by-session, keeps, now-session}
+use Rattle.air_world.proofs.Seats.{between, calls, connection-none, connection-seat, finds-slot}
+use Rattle.air_world.proofs.Served.{before-session, by-session, keeps, now-session}
 use Rattle.air_world.proofs.ServerTicked.{its-state}
-
--- what the frame makes of its client's facts, with these attempts, and of store and lists
-pub record OwnMade (old : World) (party : Party) (gives : Stepped) (attempts : List Attempt) : Type 0 where
-  pub facts : HasFacts gives.new.store old.files (record party { attempts = attempts })
-  pub store : IsSoundStore gives.new.store
-  pub lists : AreComplete gives.new.store gives.new.lists
-  pub follows : FollowsBy party.client.me old.server.store gives.new.store
-  pub grants :
-      (at number : ℕ) → GrantedAt (record party { attempts = attempts }) at number
-      → GrantedAt party at number ⊎ ((at ≡ 0) × (old.server.store.next ≤ number))
-
-pub first-of : {X : Type 0} (xs : List X) (x : X) → slice_get xs 0 ≡ Some x → (older : List X) × (xs ≡ x ∷ older)
-first-of [] x is = absurd cc
-first-of (y ∷ ys) x is = (ys, ap (λ z. z ∷ ys) (same_Some y x is))
-
-lost-second : (some more : List SessionEntry) → AllByRecursion session.IsNotLost (some ++ more) → AllByRecursion session.IsNotLost more
-lost-second [] more all = all
-lost-second (entry ∷ some) more all = lost-second some more all.1
-
-pub record HearingLaws : Type 0 where
-  pub hears : ServerHearsLaw
-  pub heard : HeardLaw
-  pub sessions : SessionLaws
-  pub stay : StayLaw
-  pub begin : BeginLaw
+use Rattle.air_world.proofs.HeardMade.{HearingLaws, OwnMade, first-of, lost-second}
 
 module _ (laws : HearingLaws) (old : World) (sound : Sound old) (c : ℕ) (party : Party) (place : ℕ) (t : Transmission) (coming : IsComing old c party place t)
     (moment : ℕ) (soon : moment < 2 ^ 32) (gives : Stepped) (step : ServerStep old.server (frame_comes t.frame moment) [] gives) where
@@ -89,7 +65,7 @@ module _ (laws : HearingLaws) (old : World) (sound : Sound old) (c : ℕ) (party
   calls-then fits =
       subst (λ me. Calls gives.new me (after_hearing did t.frame those)) src-is
       (laws.hears.own old.server t.frame moment gives party.attempts those (between old sound) fits calls-src
-       (delivers old sound c party place t coming) step)
+      (delivers old sound c party place t coming) step)
 
   -- where the store and the lists stay, and the attempts are such as they were
   module _ (quiet : (gives.done ≡ []) × (gives.new.lists ≡ old.server.lists)) where
@@ -99,12 +75,12 @@ module _ (laws : HearingLaws) (old : World) (sound : Sound old) (c : ℕ) (party
     quiet-made : (attempts : List Attempt) → HasFacts old.server.store old.files (record party { attempts = attempts })
         → ((at number : ℕ) → GrantedAt (record party { attempts = attempts }) at number → GrantedAt party at number) → OwnMade old party gives attempts
     quiet-made attempts facts grants = record {
-        facts = subst (λ store. HasFacts store old.files (record party { attempts = attempts })) (sym store-is) facts;
-        store = subst IsSoundStore (sym store-is) sound.store;
-        lists = subst (λ store. AreComplete store gives.new.lists) (sym store-is) (subst (λ lists. AreComplete old.server.store lists) (sym quiet.1) sound.lists);
-        follows = record { commands = []; own = tt; does = (tt, store-is) };
-        grants = λ at number granted. inl (grants at number granted);
-      }
+      facts = subst (λ store. HasFacts store old.files (record party { attempts = attempts })) (sym store-is) facts;
+      store = subst IsSoundStore (sym store-is) sound.store;
+      lists = subst (λ store. AreComplete store gives.new.lists) (sym store-is) (subst (λ lists. AreComplete old.server.store lists) (sym quiet.1) sound.lists);
+      follows = record { commands = []; own = tt; does = (tt, store-is) };
+      grants = λ at number granted. inl (grants at number granted);
+    }
 
   -- ---- no session hears it
 
@@ -132,14 +108,15 @@ module _ (laws : HearingLaws) (old : World) (sound : Sound old) (c : ℕ) (party
   passed-made quiet frames =
       let like = passed-like frames party.attempts in
       let stay = stay-trans party.attempts those (with_newest (server_sends frames) those)
-          (newest-stays (to_server_delivered place t) party.attempts (λ a. record { client = refl; window = refl }))
-          (newest-stays (server_sends frames) those (λ a. record { client = refl; window = refl })) in
+      (newest-stays (to_server_delivered place t) party.attempts (λ a. record { client = refl; window = refl }))
+      (newest-stays (server_sends frames) those (λ a. record { client = refl; window = refl })) in
       quiet-made quiet (with_newest (server_sends frames) those) (passed-facts (with_newest (server_sends frames) those) like stay)
       (passed-grants (with_newest (server_sends frames) those) like stay)
     where
-      passed-like : (frames : List FrameValue) (attempts : List Attempt) → LookLike attempts (with_newest (server_sends frames) (with_newest (to_server_delivered place t) attempts))
+      passed-like : (frames : List FrameValue) (attempts : List Attempt)
+          → LookLike attempts (with_newest (server_sends frames) (with_newest (to_server_delivered place t) attempts))
       passed-like frames [] = tt
-      passed-like frames (a ∷ older) = (record { asked = refl; entries = refl; job = refl; served = served-same a.server }, like-refl older)
+      passed-like frames (a ∷ older) = (record { asked = refl; entries = refl; job = refl; served = served-itself a.server }, alike-itself older)
 
   -- ---- a session begins
 
@@ -174,10 +151,11 @@ module _ (laws : HearingLaws) (old : World) (sound : Sound old) (c : ℕ) (party
         where
           by : (at : ℕ) → slice_get (first ∷ all_over older) at ≡ Some granted.attempt → GrantedAt party at number
           by zero is =
-              let side_is : side ≡ granted.side = same_Some side granted.side (ap (λ (it : Attempt). it.server) (same_Some first granted.attempt is) ∙ granted.is_side) in
+              let side_is : side ≡ granted.side = same_Some side granted.side
+              (ap (λ (it : Attempt). it.server) (same_Some first granted.attempt is) ∙ granted.is_side) in
               absurd (subst (λ (it : ServerSide). Grants it number granted.file_length) (sym side_is) granted.grants)
           by (suc at) is =
-              let before = like-at older (all_over older) at granted.attempt granted.side (over-like older) is granted.is_side in
+              let before = like-at older (all_over older) at granted.attempt granted.side (over-alike older) is granted.is_side in
               record {
                 attempt = before.0;
                 is_attempt = ap (λ (attempts : List Attempt). slice_get attempts (suc at)) attempts-are.1 ∙ before.2;
@@ -190,32 +168,34 @@ module _ (laws : HearingLaws) (old : World) (sound : Sound old) (c : ℕ) (party
       opened-facts : IsGreeted side → HasFacts old.server.store old.files (record party { attempts = first ∷ all_over older })
       opened-facts greeted =
           let none = unserved coming.attempt.server refl in
-          let begun_facts = laws.begin.opened old.server.store old.files party coming.attempt older side (sound.parties c party coming.is).facts attempts-are.1 none.0 none.1.unserved greeted in
+          let begun_facts = laws.begin.opened old.server.store old.files party coming.attempt older side
+          (sound.parties c party coming.is).facts attempts-are.1 none.0 none.1.unserved greeted in
           let mid = with_attempt party (record coming.attempt { server = Some side }) (all_over older) in
           laws.stay.same old.server.store old.files mid (record party { attempts = first ∷ all_over older })
           (same-party mid (record party { attempts = first ∷ all_over older }) refl refl
-           (record { asked = refl; entries = refl; job = refl; served = served-same (Some side) }, like-refl (all_over older))
-           (record { client = refl; window = refl }, stay-refl (all_over older)))
+          (record { asked = refl; entries = refl; job = refl; served = served-itself (Some side) }, alike-itself (all_over older))
+          (record { client = refl; window = refl }, stay-refl (all_over older)))
           begun_facts
 
       opened-made : (gives.done ≡ []) × (gives.new.lists ≡ old.server.lists) → AreAttempts party.client.me gives.new.me (opened did now those)
           → OwnMade old party gives (opened did now those)
       opened-made quiet all =
-          let of : AreAttempts party.client.me gives.new.me (first ∷ all_over older) = subst (λ attempts. AreAttempts party.client.me gives.new.me attempts) opened-is all in
+          let of : AreAttempts party.client.me gives.new.me (first ∷ all_over older) =
+          subst (λ attempts. AreAttempts party.client.me gives.new.me attempts) opened-is all in
           let state = its-state party.client.me gives.new.me first side of.0 refl in
           subst (λ attempts. OwnMade old party gives attempts) (sym opened-is)
           (quiet-made quiet (first ∷ all_over older)
-           (opened-facts (record { greets = (did.moment, has_left did.old.lists (caller_of now), refl); entries = refl; state = state })) opened-grants)
+          (opened-facts (record { greets = (did.moment, has_left did.old.lists (caller_of now), refl); entries = refl; state = state })) opened-grants)
 
   -- ---- a session hears it
 
   -- what the server says fits
   pub fits : SaysFit old.server t.frame moment
   fits = record {
-      moment_fits = soon;
-      said = λ at seat found seated is_packet.
-          (keeps laws.sessions old sound c party place t coming moment is_packet at seat found seated false (λ up. absurd cc)).fits;
-    }
+    moment_fits = soon;
+    said = λ at seat found seated is_packet.
+        (keeps laws.sessions old sound c party place t coming moment is_packet at seat found seated false (λ up. absurd cc)).fits;
+  }
 
   module _ (is_packet : is_call t.frame.kind.control ≡ false) (at : ℕ) (seat : Connected) (found : place_of t.frame.src old.server.slots ≡ Some at)
       (seated : IsSeatedIn old.server at seat) where
@@ -242,9 +222,9 @@ module _ (laws : HearingLaws) (old : World) (sound : Sound old) (c : ℕ) (party
       served-is =
           ap (λ (attempts : List Attempt). with_answered (served did now these) (with_newest (to_server_delivered place t) attempts)) served-by.attempts_are
           ∙ ap
-            (λ (o : Option ServerSide).
-            option_map_or (λ side. served did now these (to_server_delivered place t a) side ∷ served-by.older) o
-            (to_server_delivered place t a ∷ with_answered (served did now these) served-by.older)) served-by.is_side
+          (λ (o : Option ServerSide).
+          option_map_or (λ side. served did now these (to_server_delivered place t a) side ∷ served-by.older) o
+          (to_server_delivered place t a ∷ with_answered (served did now these) served-by.older)) served-by.is_side
 
       abbrev up : Bool
       up = has_session did.last (caller_of now)
@@ -255,8 +235,8 @@ module _ (laws : HearingLaws) (old : World) (sound : Sound old) (c : ℕ) (party
 
         kept : SessionKeeps old.files party
             (with_attempt party
-             (session_gone these (now-session laws.sessions old sound c party place t coming moment is_packet at seat found seated).state up a its)
-             served-by.older)
+            (session_gone these (now-session laws.sessions old sound c party place t coming moment is_packet at seat found seated).state up a its)
+            served-by.older)
             (before-session laws.sessions old sound c party place t coming moment is_packet at seat found seated)
             (now-session laws.sessions old sound c party place t coming moment is_packet at seat found seated) these its
         kept = keeps laws.sessions old sound c party place t coming moment is_packet at seat found seated up none-lost
@@ -271,9 +251,16 @@ module _ (laws : HearingLaws) (old : World) (sound : Sound old) (c : ℕ) (party
         heard-facts state =
             let mid = with_attempt party (session_gone these now-is.state up a its) served-by.older in
             laws.stay.same now-is.store old.files mid (record party { attempts = gone ∷ served-by.older })
-            (same-party mid (record party { attempts = gone ∷ served-by.older }) refl refl
-             (record { asked = refl; entries = refl; job = refl; served = record { greeting = refl; entries = refl; state = state; up = λ is_up. is_up } }, like-refl served-by.older)
-             (record { client = refl; window = refl }, stay-refl served-by.older))
+            (same-party mid (record party { attempts = gone ∷ served-by.older }) refl refl (
+              record {
+                asked = refl;
+                entries = refl;
+                job = refl;
+                served = record { greeting = refl; entries = refl; state = state; up = λ is_up. is_up };
+              },
+              alike-itself served-by.older,
+            )
+            (record { client = refl; window = refl }, stay-refl served-by.older))
             kept.facts
 
         heard-grants : (place number : ℕ) → GrantedAt (record party { attempts = gone ∷ served-by.older }) place number
@@ -283,32 +270,38 @@ module _ (laws : HearingLaws) (old : World) (sound : Sound old) (c : ℕ) (party
             before : (place : ℕ) (attempt : Attempt) (side : ServerSide) → slice_get (a ∷ served-by.older) place ≡ Some attempt → attempt.server ≡ Some side
                 → Grants side number granted.file_length → GrantedAt party place number
             before place attempt side is is_side grants = record {
-                attempt = attempt;
-                is_attempt = ap (λ (attempts : List Attempt). slice_get attempts place) served-by.attempts_are ∙ is;
-                side = side;
-                is_side = is_side;
-                file_length = granted.file_length;
-                grants = grants;
-              }
+              attempt = attempt;
+              is_attempt = ap (λ (attempts : List Attempt). slice_get attempts place) served-by.attempts_are ∙ is;
+              side = side;
+              is_side = is_side;
+              file_length = granted.file_length;
+              grants = grants;
+            }
 
-            cases : Grants its number granted.file_length ⊎ (old.server.store.next ≤ number) → GrantedAt party 0 number ⊎ (◌≡◌ {A = ℕ} 0 0 × (old.server.store.next ≤ number))
+            cases : Grants its number granted.file_length ⊎ (old.server.store.next ≤ number)
+                → GrantedAt party 0 number ⊎ (◌≡◌ {A = ℕ} 0 0 × (old.server.store.next ≤ number))
             cases (inl grants) = inl (before 0 a its refl served-by.is_side grants)
             cases (inr next) = inr (refl, next)
 
-            by : (place : ℕ) → slice_get (gone ∷ served-by.older) place ≡ Some granted.attempt → GrantedAt party place number ⊎ ((place ≡ 0) × (old.server.store.next ≤ number))
+            by : (place : ℕ) → slice_get (gone ∷ served-by.older) place ≡ Some granted.attempt
+                → GrantedAt party place number ⊎ ((place ≡ 0) × (old.server.store.next ≤ number))
             by zero is =
-                let side_is : gone_on did now these its ≡ granted.side = same_Some (gone_on did now these its) granted.side (ap (λ (it : Attempt). it.server) (same_Some gone granted.attempt is) ∙ granted.is_side) in
+                let side_is : gone_on did now these its ≡ granted.side =
+                same_Some (gone_on did now these its) granted.side
+                (ap (λ (it : Attempt). it.server) (same_Some gone granted.attempt is) ∙ granted.is_side) in
                 cases (kept.grants number granted.file_length (subst (λ (it : ServerSide). Grants it number granted.file_length) (sym side_is) granted.grants))
             by (suc place) is = inl (before (suc place) granted.attempt granted.side is granted.is_side granted.grants)
 
         heard-made : now.state ≡ now-is.state → OwnMade old party gives (gone ∷ served-by.older)
         heard-made state = record {
-            facts = subst (λ store. HasFacts store old.files (record party { attempts = gone ∷ served-by.older })) (sym store-now) (heard-facts state);
-            store = subst IsSoundStore (sym store-now) kept.store;
-            lists = subst (λ store. AreComplete store gives.new.lists) (sym store-now) (subst (λ lists. AreComplete now-is.store lists) (sym hears.lists_are) kept.lists);
-            follows = subst (λ store. FollowsBy party.client.me old.server.store store) (sym store-now) kept.follows;
-            grants = heard-grants;
-          }
+          facts = subst (λ store. HasFacts store old.files (record party { attempts = gone ∷ served-by.older })) (sym store-now) (heard-facts state);
+          store = subst IsSoundStore (sym store-now) kept.store;
+          lists =
+              subst (λ store. AreComplete store gives.new.lists) (sym store-now)
+              (subst (λ lists. AreComplete now-is.store lists) (sym hears.lists_are) kept.lists);
+          follows = subst (λ store. FollowsBy party.client.me old.server.store store) (sym store-now) kept.follows;
+          grants = heard-grants;
+        }
 
   -- ---- all
 
@@ -317,7 +310,7 @@ module _ (laws : HearingLaws) (old : World) (sound : Sound old) (c : ℕ) (party
   seat-found seat was =
       let there = connection-seat old.server t.frame.src seat (between old sound) was in
       let found = finds-slot t.frame.src old.server.slots there.0 seat there.1 there.2 in
-      let slot = found-slot t.frame.src old.server.slots found.0 found.1 in
+      let slot = place-of-is t.frame.src old.server.slots found.0 found.1 in
       let number = (between old sound).distinct found.0 there.0 slot.0 seat slot.1 there.1 (slot.2 ∙ sym there.2) in
       (found.0, found.1, ap (λ i. slice_get old.server.slots i) number ∙ there.1)
 
@@ -325,14 +318,15 @@ module _ (laws : HearingLaws) (old : World) (sound : Sound old) (c : ℕ) (party
   own-made = by (is_call t.frame.kind.control) refl (connection_of old.server t.frame.src) refl (connection_of did.last t.frame.src) refl (calls-then fits).attempts_are
     where
       by : (call : Bool) → is_call t.frame.kind.control ≡ call → (before : Option Connected) → connection_of old.server t.frame.src ≡ before
-          → (after : Option Connected) → connection_of did.last t.frame.src ≡ after → AreAttempts party.client.me gives.new.me (heard_by call before after did t.frame those)
+          → (after : Option Connected) → connection_of did.last t.frame.src ≡ after
+          → AreAttempts party.client.me gives.new.me (heard_by call before after did t.frame those)
           → OwnMade old party gives (heard_by call before after did t.frame those)
       by true calls_now before was (Some now) is all =
           opened-made calls_now now (laws.heard.unheard old.server t.frame moment gives (between old sound) (inl calls_now) step) all
       by true calls_now before was None is all =
           passed-made (laws.heard.unheard old.server t.frame moment gives (between old sound) (inl calls_now) step) did.frames
       by false is_packet None was after is all =
-          passed-made (laws.heard.unheard old.server t.frame moment gives (between old sound) (inr (connection-none old.server t.frame.src was)) step) did.frames
+          passed-made (laws.heard.unheard old.server t.frame moment gives (between old sound) (inr (connection-none old.server t.frame.src (between old sound) was)) step) did.frames
       by false is_packet (Some seat) was None is all =
           let sits = seat-found seat was in
           let hears = laws.heard.heard old.server t.frame moment gives sits.0 seat (between old sound) is_packet sits.1 sits.2 step in
@@ -345,4 +339,4 @@ module _ (laws : HearingLaws) (old : World) (sound : Sound old) (c : ℕ) (party
           let P : List Attempt → Type 0 = λ attempts. OwnMade old party gives attempts in
           subst P (sym are)
           (heard-made is_packet sits.0 seat sits.1 sits.2 now (subst (λ attempts. AreAttempts party.client.me gives.new.me attempts) are all)
-           (ap (λ (c : Connected). c.state) now_is))
+          (ap (λ (c : Connected). c.state) now_is))

@@ -1,12 +1,12 @@
 -- A tick of the server keeps a sound world.
-use Rattle.std.proofs.Common.{◌≡◌, ◌⊎◌, ℕ, List, [], ◌∷◌, ◌++◌, Bool, true, false, Option, None, Some, length, refl, sym, ap, subst, ◌∙◌, append-nil, inl, inr}
-use Rattle.std.specs.Prelude.{map, slice_get, IfSome}
-use Rattle.std.specs.List.{AllByRecursion}
+use Rattle.std.proofs.Common.{◌≡◌, ℕ, List, [], true, false, Option, None, Some, refl, sym, subst, ◌∙◌, append-nil, inl}
+use Rattle.std.proofs.Common.{inr}
+use Rattle.std.specs.Prelude.{map, IfSome}
 use Rattle.std.proofs.lemmas.List.{length-map}
 use Rattle.std.proofs.lemmas.Option.{same_Some}
 use Rattle.px_base.specs.CallSign.{CallSign}
 use Rattle.node.specs.Events.{ticks as tick_comes}
-use Rattle.ftl0_session.specs.Table.{State, command}
+use Rattle.ftl0_session.specs.Table.{command}
 use Rattle.ftl0_session.specs.Downloads.Needs.{AreComplete}
 use Rattle.ftl0_server.specs.Connection.Connected.{Connected, caller_of}
 use Rattle.ftl0_server.specs.Entries.{SessionEntry}
@@ -14,24 +14,27 @@ use Rattle.ftl0_server.specs.Server.{Server}
 use Rattle.ftl0_server.specs.ServerStep.{ServerStep, Stepped}
 use Rattle.air_attempt.specs.Attempt.{Attempt, IsAnswered, IsAnsweredBy, IsAttempt, IsEndOf}
 use Rattle.air_attempt.specs.Laws.{AreAttempts, Calls, IsBetween, IsKnown, ServerTicksLaw, StaysServer, did_in}
-use Rattle.air_attempt.specs.Party.{Party, newest_side, with_answered}
+use Rattle.air_attempt.specs.Party.{Party, newest_side}
 use Rattle.air_attempt.specs.Sides.{ServerSide, SessionReaches}
 use Rattle.air_attempt.specs.Transfers.{ServerDid, after_tick, connection_of, did_to, gone_on, served, ticked_by}
+use Rattle.air_attempt.proofs.Offered.{place-of-is}
 use Rattle.air_files.specs.Facts.{HasFacts}
-use Rattle.air_files.specs.Laws.{LookLike, LooksLike, LooksLikeSession, LooksServed, StayLaw}
+use Rattle.air_files.specs.Laws.{LookLike, LooksServed, StayLaw}
 use Rattle.air_files.specs.SoundStore.{IsSoundStore}
-use Rattle.air_world.specs.Sound.{AreGrantedOnce, GrantedAt, IsSideAt, Sound}
-use Rattle.air_world.specs.Step.{parties_after, party_ticked}
+use Rattle.air_files.proofs.Offered.{alike-itself}
+use Rattle.air_world.specs.Sound.{Sound}
+use Rattle.air_world.specs.Step.{party_ticked}
 use Rattle.air_world.specs.World.{PartyAt, World, counted}
 use Rattle.air_world.proofs.ClientsStay.{tick-stays}
-use Rattle.air_world.proofs.Likes.{answered-like, grants-like, like-at, like-refl, reaches-one, same-party}
+use Rattle.air_world.proofs.Likes.{answered-like, reaches-one, same-party}
 use Rattle.air_world.proofs.Rebuild.{IsMade, StayParties, StaysParty, rebuilt}
 use Rattle.air_world.proofs.Granted.{granted-like}
-use Rattle.air_world.proofs.Seats.{AreSeatsKnown, between, calls, connection-seat, finds-slot, found-slot}
+use Rattle.air_world.proofs.Seats.{AreSeatsKnown, between, calls, connection-seat, finds-slot}
 use Rattle.air_world.proofs.WorldLists.{at-map, map-at}
 
 -- the session of an answered attempt
-pub its-session : (a : Attempt) (o : Option ServerSide) (side : ServerSide) → o ≡ Some side → IsAnsweredBy a o → IsAnswered a side
+pub its-session : (a : Attempt) (o : Option ServerSide) (side : ServerSide) → o ≡ Some side → IsAnsweredBy a o
+    → IsAnswered a side
 its-session a o side is answered = subst (λ (o : Option ServerSide). IsAnsweredBy a o) is answered
 
 -- what leads a session of this caller to its state
@@ -39,30 +42,37 @@ pub its-state : (me server : CallSign) (a : Attempt) (side : ServerSide) → IsA
     → SessionReaches me command side.entries side.connected.state
 its-state me server a side is is_side =
     let answered = its-session a a.server side is_side is.answered in
-    let serves = subst (λ (o : Option ServerSide). IfSome o (λ it. IsEndOf false server me it.connected.end)) is_side is.stations.serves in
-    subst (λ caller. SessionReaches caller command side.entries side.connected.state) serves.peer_is answered.session.reached
+    let serves = subst (λ (o : Option ServerSide). IfSome o (λ it. IsEndOf false server me it.connected.end)) is_side
+    is.stations.serves in
+    subst (λ caller. SessionReaches caller command side.entries side.connected.state) serves.peer_is
+    answered.session.reached
 
 -- ---- the attempts of one caller
 
-module _ (it : Server) (me : CallSign) (attempts : List Attempt) (between_is : IsBetween it) (call : Calls it me attempts) (did : ServerDid) (did_old : did.old ≡ it) where
+module _ (it : Server) (me : CallSign) (attempts : List Attempt) (between_is : IsBetween it)
+    (call : Calls it me attempts) (did : ServerDid) (did_old : did.old ≡ it) where
   -- where the caller has a connection, its newest session is up
-  newest-up : (c : Connected) (side : ServerSide) → connection_of it me ≡ Some c → newest_side attempts ≡ Some side → side.is_up ≡ true
+  newest-up : (c : Connected) (side : ServerSide) → connection_of it me ≡ Some c → newest_side attempts ≡ Some side
+      → side.is_up ≡ true
   newest-up c side is newest =
       let seat = connection-seat it me c between_is is in
       let found = finds-slot me it.slots seat.0 c seat.1 seat.2 in
-      let slot = found-slot me it.slots found.0 found.1 in
+      let slot = place-of-is me it.slots found.0 found.1 in
       let session = call.sits.some found.0 slot.0 found.1 slot.1 in
-      subst (λ (s : ServerSide). s.is_up ≡ true) (same_Some session.side side (sym session.is_newest ∙ newest)) session.is_up
+      subst (λ (s : ServerSide). s.is_up ≡ true)
+      (same_Some session.side side (sym session.is_newest ∙ newest)) session.is_up
 
   tick-like : AreAttempts me it.me (after_tick did me attempts) → LookLike attempts (after_tick did me attempts)
   tick-like now = by (connection_of did.old me) refl (connection_of did.last me) now
     where
-      by : (before : Option Connected) → connection_of did.old me ≡ before → (after : Option Connected) → AreAttempts me it.me (ticked_by before after (did_to me did) attempts)
+      by : (before : Option Connected) → connection_of did.old me ≡ before → (after : Option Connected)
+          → AreAttempts me it.me (ticked_by before after (did_to me did) attempts)
           → LookLike attempts (ticked_by before after (did_to me did) attempts)
-      by None is after now = like-refl attempts
-      by (Some c) is None now = like-refl attempts
+      by None is after now = alike-itself attempts
+      by (Some c) is None now = alike-itself attempts
       by (Some c) is (Some then) now =
-          answered-like (served (did_to me did) then []) (IsAttempt me it.me) (IsAttempt me it.me) attempts call.attempts_are now
+          answered-like (served (did_to me did) then []) (IsAttempt me it.me)
+          (IsAttempt me it.me) attempts call.attempts_are now
           (λ a side newest old is_side new.
           let now_side = gone_on (did_to me did) then [] side in
           let nothing = append-nil side.entries in
@@ -77,14 +87,18 @@ module _ (it : Server) (me : CallSign) (attempts : List Attempt) (between_is : I
                 (record {
                   greeting = refl;
                   entries = nothing;
-                  state = reaches-one me command then.state side.connected.state side.entries (subst (λ (entries : List SessionEntry). SessionReaches me command entries then.state) nothing now_state) before_state;
+                  state =
+                      reaches-one me command then.state side.connected.state side.entries
+                      (subst (λ (entries : List SessionEntry). SessionReaches me command entries then.state) nothing
+                      now_state) before_state;
                   up = λ up. newest-up c side (subst (λ (s : Server). connection_of s me ≡ Some c) did_old is) newest;
                 });
           })
 
 -- ---- the world
 
-module _ (ticks_law : ServerTicksLaw) (stay_law : StayLaw) (old : World) (sound : Sound old) (moment : ℕ) (gives : Stepped)
+module _ (ticks_law : ServerTicksLaw) (stay_law : StayLaw) (old : World) (sound : Sound old) (moment : ℕ)
+    (gives : Stepped)
     (step : ServerStep old.server (tick_comes moment) [] gives) where
   abbrev pub did : ServerDid
   did = did_in moment step
@@ -102,63 +116,84 @@ module _ (ticks_law : ServerTicksLaw) (stay_law : StayLaw) (old : World) (sound 
   lists-are = (ticks_law.server old.server moment gives (between old sound) step).2
 
   -- the client at a place was there
-  before : (c : ℕ) (party : Party) → PartyAt ticked c party → (was : Party) × PartyAt old c was × (party ≡ party_ticked did was)
+  before : (c : ℕ) (party : Party) → PartyAt ticked c party
+      → (was : Party) × PartyAt old c was × (party ≡ party_ticked did was)
   before c party is = map-at (party_ticked did) old.parties c party is
 
-  calls-then : (c : ℕ) (was : Party) → PartyAt old c was → Calls gives.new was.client.me (after_tick did was.client.me was.attempts)
-  calls-then c was is = ticks_law.each old.server moment gives was.client.me was.attempts (between old sound) (calls old sound c was is) step
+  calls-then : (c : ℕ) (was : Party) → PartyAt old c was
+      → Calls gives.new was.client.me (after_tick did was.client.me was.attempts)
+  calls-then c was is =
+      ticks_law.each old.server moment gives was.client.me was.attempts (between old sound)
+      (calls old sound c was is) step
 
-  like-then : (c : ℕ) (was : Party) → PartyAt old c was → LookLike was.attempts (after_tick did was.client.me was.attempts)
+  like-then : (c : ℕ) (was : Party) → PartyAt old c was
+      → LookLike was.attempts (after_tick did was.client.me was.attempts)
   like-then c was is =
       tick-like old.server was.client.me was.attempts (between old sound) (calls old sound c was is) did refl
-      (subst (λ me. AreAttempts was.client.me me (after_tick did was.client.me was.attempts)) stays.me_is (calls-then c was is).attempts_are)
+      (subst (λ me. AreAttempts was.client.me me (after_tick did was.client.me was.attempts)) stays.me_is
+      (calls-then c was is).attempts_are)
 
   known : AreSeatsKnown ticked
   known place seat at = by (stays.known place seat at)
     where
-      by : IsKnown old.server (λ caller. ⊥) (caller_of seat) → (c : ℕ) × (party : Party) × PartyAt ticked c party × (caller_of seat ≡ party.client.me)
+      by : IsKnown old.server (λ caller. ⊥) (caller_of seat)
+          → (c : ℕ) × (party : Party) × PartyAt ticked c party × (caller_of seat ≡ party.client.me)
       by (inl none) = absurd none
       by (inr was) =
-          let session = sound.places.sessions was.0 was.1 was.2 in
-          (session.c, party_ticked did session.party, at-map (party_ticked did) old.parties session.c session.party session.is_party, sym was.3 ∙ session.caller_is)
+          let session = sound.places.sessions was.0 was.1 was.2 in (
+            session.c,
+            party_ticked did session.party,
+            at-map
+                (party_ticked did) old.parties session.c session.party session.is_party,
+            sym was.3 ∙ session.caller_is,
+          )
 
   facts-then : (c : ℕ) (was : Party) → PartyAt old c was → HasFacts gives.new.store old.files (party_ticked did was)
   facts-then c was is =
       subst (λ store. HasFacts store old.files (party_ticked did was)) (sym store-is)
       (stay_law.same old.server.store old.files was (party_ticked did was)
-       (same-party was (party_ticked did was) refl refl (like-then c was is) (tick-stays did was.client.me was.attempts))
-       (sound.parties c was is).facts)
+      (same-party was (party_ticked did was) refl refl (like-then c was is) (tick-stays did was.client.me was.attempts))
+      (sound.parties c was is).facts)
 
   made : IsMade ticked
   made = record {
-      between = stays.between;
-      known = known;
-      store = subst IsSoundStore (sym store-is) sound.store;
-      lists = subst (λ store. AreComplete store gives.new.lists) (sym store-is) (subst (λ lists. AreComplete old.server.store lists) (sym lists-are) sound.lists);
-      calls = λ c party is.
-          let was = before c party is in
-          subst (λ (p : Party). Calls gives.new p.client.me p.attempts) (sym was.2) (calls-then c was.0 was.1);
-      facts = λ c party is. let was = before c party is in subst (λ (p : Party). HasFacts gives.new.store old.files p) (sym was.2) (facts-then c was.0 was.1);
-      granted =
-          granted-like old ticked
-          (λ c party is. let was = before c party is in (was.0, was.1, subst (λ (p : Party). LookLike was.0.attempts p.attempts) (sym was.2) (like-then c was.0 was.1)))
-          sound.granted;
-    }
+    between = stays.between;
+    known = known;
+    store = subst IsSoundStore (sym store-is) sound.store;
+    lists =
+        subst (λ store. AreComplete store gives.new.lists) (sym store-is)
+        (subst (λ lists. AreComplete old.server.store lists) (sym lists-are) sound.lists);
+    calls = λ c party is.
+        let was = before c party is in
+        subst (λ (p : Party). Calls gives.new p.client.me p.attempts) (sym was.2) (calls-then c was.0 was.1);
+    facts =
+        λ c party is. let was = before c party is in
+        subst (λ (p : Party). HasFacts gives.new.store old.files p) (sym was.2) (facts-then c was.0 was.1);
+    granted =
+        granted-like old ticked
+        (λ c party is. let was = before c party is in (
+          was.0,
+          was.1,
+          subst (λ (p : Party). LookLike was.0.attempts p.attempts) (sym was.2)
+              (like-then c was.0 was.1),
+        ))
+        sound.granted;
+  }
 
   stay : StayParties old ticked
   stay = record {
-      me = stays.me_is;
-      window = stays.window_is;
-      files = refl;
-      many = length-map old.parties (party_ticked did);
-      each = λ c party is.
-          let was = before c party is in (
-            was.0,
-            was.1,
-            subst (λ (p : Party). StaysParty was.0 p) (sym was.2)
-            (record { client = refl; uploads = refl; attempts = tick-stays did was.0.client.me was.0.attempts }),
-          );
-    }
+    me = stays.me_is;
+    window = stays.window_is;
+    files = refl;
+    many = length-map old.parties (party_ticked did);
+    each = λ c party is.
+        let was = before c party is in (
+          was.0,
+          was.1,
+          subst (λ (p : Party). StaysParty was.0 p) (sym was.2)
+              (record { client = refl; uploads = refl; attempts = tick-stays did was.0.client.me was.0.attempts }),
+        );
+  }
 
   pub tick-sound : Sound ticked
   tick-sound = rebuilt old ticked sound stay made

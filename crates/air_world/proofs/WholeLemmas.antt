@@ -1,20 +1,19 @@
 -- What was got of a file and has no fault is the whole file.
-use Rattle.std.proofs.Common.{◌≡◌, ℕ, ◌<◌, List, [], ◌∷◌, ◌++◌, refl, ap, sym, ◌∙◌, subst, append-nil, Option, None}
-use Rattle.std.proofs.Common.{Some}
-use Rattle.std.specs.List.{AllByRecursion}
+use Rattle.std.proofs.Common.{◌≡◌, ℕ, List, [], ◌++◌, refl, ap, sym, ◌∙◌, subst, append-nil, Option, None, Some}
 use Rattle.std.specs.Option.{option_map}
-use Rattle.std.proofs.lemmas.List.Elements.{All-from_recursion, recursion_from_All}
 use Rattle.std.proofs.lemmas.Option.{same_Some}
 use Rattle.px_base.specs.Octets.{IsFront, IsOctets}
+use Rattle.ftl0_packets.proofs.SplitLemmas.{octets_front}
 use Rattle.pfh_items.specs.Faults.{code_of, fault_code, first_fault}
 use Rattle.pfh_items.specs.declared.fault.FileFault.{FileFault}
 use Rattle.pfh_items.specs.Laws.{HasNoFault, HasNoFront}
 use Rattle.file_store.specs.Headers.{KeepsRules}
 use Rattle.file_store.specs.Store.{Holding, Store, complete, entry_of, octets_of, partial}
+use Rattle.file_store.proofs.Offered.{has_number}
 use Rattle.ftl0_session.specs.Downloads.Table.{complete_octets, file_of}
 use Rattle.air_files.specs.Facts.{AreFirstIfAny}
 use Rattle.air_files.specs.SoundStore.{IsSoundStore}
-use Rattle.air_files.proofs.Offered.{complete-entry, found-so}
+use Rattle.air_files.proofs.Offered.{complete-entry, found-such}
 
 -- no octets are no file
 empty-fault : fault_code [] ≡ None → ⊥
@@ -25,16 +24,6 @@ no-fault : (o : Option FileFault) → option_map code_of o ≡ None → o ≡ No
 no-fault None is = refl
 no-fault (Some fault) is = absurd (cc)
 
-each-front : (P : ℕ → Type 0) (xs ys : List ℕ) → AllByRecursion P (xs ++ ys) → AllByRecursion P xs
-each-front P [] ys each = tt
-each-front P (x ∷ xs) ys each = (each.0, each-front P xs ys each.1)
-
--- the front of octets is octets
-front-octets : (xs ys : List ℕ) → IsOctets (xs ++ ys) → IsOctets xs
-front-octets xs ys all =
-    All-from_recursion (λ octet. octet < 256) xs
-    (each-front (λ octet. octet < 256) xs ys (recursion_from_All (λ octet. octet < 256) (xs ++ ys) all))
-
 -- a front without fault of a file without fault is all of it
 whole-front : HasNoFault → HasNoFront → (file octets : List ℕ) → IsOctets file → fault_code file ≡ None
     → IsFront octets file
@@ -44,7 +33,7 @@ whole-front fault front file octets are good first good_front =
     let those : IsOctets (octets ++ first.0) = subst IsOctets same are in
     let whole = (fault (octets ++ first.0) those).1
     (no-fault (first_fault (octets ++ first.0)) (ap fault_code (sym same) ∙ good)) in
-    let part = (fault octets (front-octets octets first.0 those)).1 (no-fault (first_fault octets) good_front) in
+    let part = (fault octets (octets_front octets first.0 those)).1 (no-fault (first_fault octets) good_front) in
     let none : first.0 ≡ [] = front whole.0 part.0 whole.1 part.1 octets first.0 whole.2 part.2 in
     same ∙ ap (λ more. octets ++ more) none ∙ append-nil octets
 
@@ -62,6 +51,7 @@ whole-got store number octets fault front sound first good =
     let it = first (λ none. empty-fault (ap fault_code (sym none) ∙ good)) in
     let found = complete-entry (entry_of store number) it.0 it.1 in
     let file = complete-good found.0.holding it.0 found.3
-    (found-so (λ entry. KeepsRules entry.holding) number store.entries found.0 sound.keeps_rules found.1)
-    (found-so (λ entry. IsOctets (octets_of entry.holding)) number store.entries found.0 sound.octets found.1) in
+    (found-such (λ entry. KeepsRules entry.holding) (has_number number) store.entries found.0 found.1 sound.keeps_rules)
+    (found-such (λ entry. IsOctets (octets_of entry.holding))
+    (has_number number) store.entries found.0 found.1 sound.octets) in
     it.1 ∙ ap Some (whole-front fault front it.0 octets file.1 file.0 it.2 good)

@@ -1,3 +1,4 @@
+-- From the laws of the client's events and of its link.
 use Rattle.air_attempt.proofs.ClientLaws.{client-law}
 use Rattle.air_attempt.proofs.laws.client_law.Goals as goal
 

@@ -1,3 +1,4 @@
+-- From the lemmas on facts where something begins.
 use Rattle.air_files.proofs.BeginLemmas.{facts-called, facts-opened_over}
 use Rattle.air_files.proofs.LongerLemmas.{facts-first, facts-longer}
 use Rattle.air_files.proofs.TaskLemmas.{facts-tasked}

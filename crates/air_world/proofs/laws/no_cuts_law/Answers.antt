@@ -1,3 +1,4 @@
+-- From the lemmas on runs.
 use Rattle.air_world.proofs.RunLemmas.{no-cuts-law}
 use Rattle.air_world.proofs.laws.no_cuts_law.Goals as goal
 

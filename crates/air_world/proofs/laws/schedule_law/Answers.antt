@@ -1,3 +1,4 @@
+-- From the lemmas on runs.
 use Rattle.air_world.proofs.RunLemmas.{schedule-law}
 use Rattle.air_world.proofs.laws.schedule_law.Goals as goal
 
