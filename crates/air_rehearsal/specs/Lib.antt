@@ -1,0 +1,3 @@
+pub mod Chain
+pub mod Standing
+pub mod Stations
