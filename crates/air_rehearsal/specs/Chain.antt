@@ -2,7 +2,7 @@
 use Rattle.std.specs.Prelude.{◌≡◌, ℕ, ◌-◌, ◌<◌, List, [], ◌∷◌, false, Option, None, Some, IfSome}
 use Rattle.disk_model.specs.Cuts.{ArmsOnly, Cuts, KeepsPast, LosesPower, Passes}
 use Rattle.disk_model.specs.declared.disk.Disk.{Ghosts}
-use Rattle.file_journal.specs.Calls.{Leaves}
+use Rattle.file_journal.specs.Calls.{IsQuietNow, Leaves}
 use Rattle.air_world.specs.Schedule.{Event}
 use Rattle.air_world.specs.World.{World}
 use Rattle.air_rehearsal.specs.Standing.{StandsAlike, StandsBehind, StandsDuring, StandsFor, StandsNow}
@@ -19,19 +19,21 @@ abbrev pub last_stage : {B : Type 0} → Stage B → List (Stage B) → Stage B
 last_stage first [] = first
 last_stage first (next ∷ later) = last_stage next later
 
-module _ {B : Type 0} (g : Ghosts B) (cuts : Cuts B) (station : Station) where
-  -- The event is carried out on the disk, which knows of no cut. A crash since it began leaves what stands for the world
-  -- before it, after the first of its commands.
-  pub record CarriesOut (old : Stage B) (event : Event) (disk disk_now : B) : Type 0 where
-    pub since : Leaves g disk disk_now (λ _. StandsDuring station old.world event)
+module _ {B : Type 0} (g : Ghosts B) (station : Station) where
+  -- The event is carried out on the disk, which knows of no cut. A crash since it began leaves what stands for the
+  -- world before it, after the first of its commands.
+  pub record CarriesOut (old : World) (event : Event) (disk disk_now : B) : Type 0 where
+    pub since : Leaves g disk disk_now (λ _. StandsDuring station old event)
     pub lasts : g.lasts disk disk_now
 
-  -- The station starts again from its disk. A crash since then leaves what it might have left before, or what stands
-  -- for the same as the content.
+  -- The station starts again from its disk, which is quiet then. A crash since this began leaves what it might have
+  -- left before, or what stands for the same as the content.
   pub record StartsAgain (disk disk_now : B) : Type 0 where
     pub since : Leaves g disk disk_now (StandsAlike station)
+    pub quiet : IsQuietNow g disk_now
     pub lasts : g.lasts disk disk_now
 
+module _ {B : Type 0} (g : Ghosts B) (cuts : Cuts B) (station : Station) where
   -- At a cut the disk is armed so that the call of this number fails, and the event is carried out on it, as far as it
   -- comes. Where no call failed by the arming all commands of the event are done, unless the count of failed writes
   -- stands at its last number and tells nothing. Then power is lost: what is left stands for the next world, and the
@@ -40,7 +42,7 @@ module _ {B : Type 0} (g : Ghosts B) (cuts : Cuts B) (station : Station) where
     pub armed : B
     pub arms : ArmsOnly g cuts (Some (call - 1)) old.disk armed
     pub lost : B
-    pub carries : CarriesOut old event armed lost
+    pub carries : CarriesOut g station old.world event armed lost
     pub left : B
     pub loses : LosesPower g cuts lost left
     pub keeps : KeepsPast g cuts lost left
@@ -49,14 +51,14 @@ module _ {B : Type 0} (g : Ghosts B) (cuts : Cuts B) (station : Station) where
     pub all_done :
         g.write_faults lost < 18446744073709551615 → (calls : ℕ) → cuts.arming lost ≡ Passes calls
         → IfSome (g.content left) (StandsBehind station old.world event)
-    pub again : StartsAgain left new.disk
+    pub again : StartsAgain g station left new.disk
 
   -- What an event does to the disk, by what it is for the station, and by the cut that waits for it. In an event of
   -- another one the disk is the same.
   abbrev pub StepBy : Role → Option ℕ → Stage B → Event → Stage B → Type 0
-  StepBy acts None old event new = CarriesOut old event old.disk new.disk
+  StepBy acts None old event new = CarriesOut g station old.world event old.disk new.disk
   StepBy acts (Some call) old event new = IsCutOff call old event new
-  StepBy breaks_off waiting old event new = StartsAgain old.disk new.disk
+  StepBy breaks_off waiting old event new = StartsAgain g station old.disk new.disk
   StepBy (will_be_cut call) waiting old event new = new.disk ≡ old.disk
   StepBy looks_on waiting old event new = new.disk ≡ old.disk
 

@@ -1,3 +1,7 @@
 pub mod Chain
+pub mod Drawn
+pub mod Played
+pub mod Rehearsed
+pub mod Report
 pub mod Standing
 pub mod Stations
