@@ -18,7 +18,8 @@ use Rattle.air_rehearsal.specs.Chain.{Stage}
 use Rattle.air_rehearsal.specs.Played.{BenchPlayed, EndsWhole, PlayedAt, StaysSo, TellsCuts, first_stage}
 use Rattle.air_rehearsal.specs.Report.{IsReport, Report, last_world}
 use Rattle.air_rehearsal.specs.Standing.{StandsDuring, StandsFor}
-use Rattle.air_rehearsal.specs.Stations.{IsStationOf, Station, acts, breaks_off, client_at, place_of, role_of, the_server}
+use Rattle.air_rehearsal.specs.Stations.{IsStationOf, Station, acts, breaks_off, client_at, place_of, role_of}
+use Rattle.air_rehearsal.specs.Stations.{the_server}
 
 -- the octets stand for a store in which what is promised of this world holds
 abbrev pub KeepsPromise : World → List ℕ → Type 0
