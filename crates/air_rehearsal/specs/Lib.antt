@@ -1,5 +1,6 @@
 pub mod Chain
 pub mod Drawn
+pub mod Generator
 pub mod Played
 pub mod Rehearsed
 pub mod Report
