@@ -1,1 +1,2 @@
+mod CutsTold
 mod OneReport

@@ -2,7 +2,7 @@
 use Rattle.std.specs.Prelude.{◌≡◌, ℕ, ◌-◌, ◌<◌, List, [], ◌∷◌, false, Option, None, Some, IfSome}
 use Rattle.disk_model.specs.Cuts.{ArmsOnly, Cuts, KeepsPast, LosesPower, Passes}
 use Rattle.disk_model.specs.declared.disk.Disk.{Ghosts}
-use Rattle.file_journal.specs.Calls.{IsQuietNow, Leaves}
+use Rattle.file_journal.specs.Calls.{IsQuietNow, Leaves, TellsAlike}
 use Rattle.air_world.specs.Schedule.{Event}
 use Rattle.air_world.specs.World.{World}
 use Rattle.air_rehearsal.specs.Standing.{StandsAlike, StandsBehind, StandsDuring, StandsFor, StandsNow}
@@ -23,12 +23,14 @@ module _ {B : Type 0} (g : Ghosts B) (station : Station) where
   -- The event is carried out on the disk, which knows of no cut. A crash since it began leaves what stands for the
   -- world before it, after the first of its commands.
   pub record CarriesOut (old : World) (event : Event) (disk disk_now : B) : Type 0 where
+    pub told : TellsAlike (g.content disk) (g.content disk_now)
     pub since : Leaves g disk disk_now (λ _. StandsDuring station old event)
     pub lasts : g.lasts disk disk_now
 
   -- The station starts again from its disk, which is quiet then. A crash since this began leaves what it might have
   -- left before, or what stands for the same as the content.
   pub record StartsAgain (disk disk_now : B) : Type 0 where
+    pub told : TellsAlike (g.content disk) (g.content disk_now)
     pub since : Leaves g disk disk_now (StandsAlike station)
     pub quiet : IsQuietNow g disk_now
     pub lasts : g.lasts disk disk_now
