@@ -1,2 +1,3 @@
 mod CutsTold
+mod ImagesThrough
 mod OneReport
