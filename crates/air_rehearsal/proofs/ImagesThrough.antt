@@ -1,5 +1,6 @@
 -- What a crash leaves of a station's disk, from each stage on.
-use Rattle.std.specs.Prelude.{◌≡◌, ◌⊎◌, ℕ, ◌≤◌, List, [], ◌∷◌, true, false, Option, None, Some, IfSome, refl}
+use Rattle.std.specs.Prelude.{◌≡◌, ◌⊎◌, ℕ, List, [], ◌∷◌, true, false, Option, None, Some, IfSome, refl}
+use Rattle.std.specs.List.{AllByRecursion}
 use Rattle.std.proofs.Common.{inl, inr, sym, ◌∙◌, subst, arith}
 use Rattle.disk_model.specs.Cuts.{Cuts}
 use Rattle.disk_model.specs.Disk.{IsTold}
@@ -7,7 +8,7 @@ use Rattle.disk_model.specs.Moments.{LeavesOnly}
 use Rattle.disk_model.specs.declared.disk.Disk.{Ghosts}
 use Rattle.air_world.specs.Schedule.{Event}
 use Rattle.air_world.specs.World.{World}
-use Rattle.air_rehearsal.specs.Chain.{CarriesOut, DiskStep, Follow, IsCutOff, Stage, StartsAgain, StepBy, last_stage}
+use Rattle.air_rehearsal.specs.Chain.{CarriesOut, Follow, IsCutOff, Stage, StartsAgain, StepBy, last_stage}
 use Rattle.air_rehearsal.specs.Standing.{StandsAlike, StandsDuring, StandsFor, StandsNow}
 use Rattle.air_rehearsal.specs.Stations.{Role, Station, acts, breaks_off, looks_on, role_of, will_be_cut}
 
@@ -27,11 +28,11 @@ somewhere_first station stage [] stages image stands = stands
 somewhere_first station stage (event ∷ events) [] image stands = stands
 somewhere_first station stage (event ∷ events) (next ∷ later) image stands = inl stands
 
--- where a station starts again from octets that stand for what it keeps, what is alike does so too
-abbrev pub AlikeStands : Station → Type 0
-AlikeStands station =
-    (world : World) (content image : List ℕ) → StandsFor station world content → StandsAlike station content image
-    → StandsFor station world image
+-- In worlds that fit, octets that are alike stand for what the station keeps where the ones before do.
+abbrev pub AlikeStands : Station → (World → Type 0) → Type 0
+AlikeStands station Fits =
+    (world : World) (content image : List ℕ) → Fits world → StandsFor station world content
+    → StandsAlike station content image → StandsFor station world image
 
 some_of :
     (content : Option (List ℕ)) (P Q : List ℕ → Type 0) → IsTold content → IfSome content P → IfSome content Q
@@ -39,7 +40,8 @@ some_of :
 some_of None P Q told first second = absurd (let e : false ≡ true = told in cc)
 some_of (Some octets) P Q told first second = (octets, first, second)
 
-module _ {B : Type 0} (g : Ghosts B) (cuts : Cuts B) (station : Station) (alike : AlikeStands station) where
+module _ {B : Type 0} (g : Ghosts B) (cuts : Cuts B) (station : Station) (Fits : World → Type 0)
+    (alike : AlikeStands station Fits) where
   -- from one disk to the next a crash since an earlier moment leaves what it might have left before, or what has P
   abbrev Adds : (List ℕ → Type 0) → B → B → Type 0
   Adds P old new = LeavesOnly g.moment g.images_since old new P
@@ -49,22 +51,22 @@ module _ {B : Type 0} (g : Ghosts B) (cuts : Cuts B) (station : Station) (alike 
   of_told content octets P is has = subst (λ (c : Option (List ℕ)). IfSome c P) is has
 
   adds_again :
-      (world : World) (old new : B) (content : List ℕ) → StandsFor station world content
+      (world : World) (old new : B) (content : List ℕ) → Fits world → StandsFor station world content
       → LeavesOnly g.moment g.images_since old new (StandsAlike station content)
       → Adds (StandsFor station world) old new
-  adds_again world old new content stands leaves = record {
+  adds_again world old new content fits stands leaves = record {
     later = leaves.later;
     each = λ t image before since. elim (leaves.each t image before since) [
       | inl was ↦ inl was
-      | inr same ↦ inr (alike world content image stands same)
+      | inr same ↦ inr (alike world content image fits stands same)
     ];
   }
 
   adds_cut :
-      (call : ℕ) (old : Stage B) (event : Event) (new : Stage B)
+      (call : ℕ) (old : Stage B) (event : Event) (new : Stage B) → Fits new.world
       → IsCutOff g cuts station call old event new → StandsNow g station old.world old.disk
       → Adds (λ image. StandsDuring station old.world event image ⊎ StandsFor station new.world image) old.disk new.disk
-  adds_cut call old event new is stands =
+  adds_cut call old event new fits is stands =
       let armed : g.content is.armed ≡ Some stands.content = is.arms.nothing_else.same_content ∙ stands.is_content in
       let carried = of_told (g.content is.armed) stands.content
       (λ _. LeavesOnly g.moment g.images_since is.armed is.lost (StandsDuring station old.world event))
@@ -72,7 +74,7 @@ module _ {B : Type 0} (g : Ghosts B) (cuts : Cuts B) (station : Station) (alike 
       let lost : IsTold (g.content is.lost) =
       is.carries.told.1 (subst (λ (c : Option (List ℕ)). IsTold c) (sym armed) refl) in
       let left = some_of (g.content is.left) _ _ (is.keeps.told.1 lost) is.stands is.again.since in
-      let again = adds_again new.world is.left new.disk left.0 left.1 left.2 in
+      let again = adds_again new.world is.left new.disk left.0 fits left.1 left.2 in
       let first : g.moment is.armed ≡ g.moment old.disk = is.arms.nothing_else.same_moment in
       let last : g.moment is.left ≡ g.moment is.lost = is.keeps.moment in
       record {
@@ -87,6 +89,10 @@ module _ {B : Type 0} (g : Ghosts B) (cuts : Cuts B) (station : Station) (alike 
                   ]
             ];
       }
+
+  -- each of these stages' worlds fits
+  abbrev AllFit : List (Stage B) → Type 0
+  AllFit stages = AllByRecursion (λ (it : Stage B). Fits it.world) stages
 
   -- what an event adds
   abbrev OfStep : Stage B → Event → Stage B → List ℕ → Type 0
@@ -118,11 +124,11 @@ module _ {B : Type 0} (g : Ghosts B) (cuts : Cuts B) (station : Station) (alike 
       stands.is_content does.since)
 
   adds_broken :
-      (old : Stage B) (event : Event) (new : Stage B) → StartsAgain g station old.disk new.disk
+      (old : Stage B) (event : Event) (new : Stage B) → Fits old.world → StartsAgain g station old.disk new.disk
       → StandsNow g station old.world old.disk → Adds (OfStep old event new) old.disk new.disk
-  adds_broken old event new does stands =
+  adds_broken old event new fits does stands =
       adds_more (StandsFor station old.world) (OfStep old event new) old.disk new.disk (λ image stood. inl stood)
-      (adds_again old.world old.disk new.disk stands.content stands.stands
+      (adds_again old.world old.disk new.disk stands.content fits stands.stands
       (of_told (g.content old.disk) stands.content
       (λ content. LeavesOnly g.moment g.images_since old.disk new.disk (StandsAlike station content))
       stands.is_content does.since))
@@ -135,17 +141,17 @@ module _ {B : Type 0} (g : Ghosts B) (cuts : Cuts B) (station : Station) (alike 
       (adds_none (OfStep old event new) old.disk)
 
   adds_step :
-      (role : Role) (waiting : Option ℕ) (old : Stage B) (event : Event) (new : Stage B)
+      (role : Role) (waiting : Option ℕ) (old : Stage B) (event : Event) (new : Stage B) → Fits old.world → Fits new.world
       → StepBy g cuts station role waiting old event new → StandsNow g station old.world old.disk
       → Adds (OfStep old event new) old.disk new.disk
-  adds_step acts None old event new does stands = adds_carried old event new does stands
-  adds_step acts (Some call) old event new does stands =
+  adds_step acts None old event new fits fit does stands = adds_carried old event new does stands
+  adds_step acts (Some call) old event new fits fit does stands =
       adds_more
       (λ image. StandsDuring station old.world event image ⊎ StandsFor station new.world image)
-      (OfStep old event new) old.disk new.disk (λ image has. inr has) (adds_cut call old event new does stands)
-  adds_step breaks_off waiting old event new does stands = adds_broken old event new does stands
-  adds_step (will_be_cut call) waiting old event new does stands = adds_same old event new does
-  adds_step looks_on waiting old event new does stands = adds_same old event new does
+      (OfStep old event new) old.disk new.disk (λ image has. inr has) (adds_cut call old event new fit does stands)
+  adds_step breaks_off waiting old event new fits fit does stands = adds_broken old event new fits does stands
+  adds_step (will_be_cut call) waiting old event new fits fit does stands = adds_same old event new does
+  adds_step looks_on waiting old event new fits fit does stands = adds_same old event new does
 
   adds_both :
       (old : Stage B) (event : Event) (next : Stage B) (events : List Event) (later : List (Stage B)) (last : B)
@@ -172,31 +178,32 @@ module _ {B : Type 0} (g : Ghosts B) (cuts : Cuts B) (station : Station) (alike 
 
   adds_through :
       (stage : Stage B) (events : List Event) (stages : List (Stage B)) → Follow g cuts station stage events stages
-      → StandsNow g station stage.world stage.disk
+      → Fits stage.world → AllFit stages → StandsNow g station stage.world stage.disk
       → Adds (StandsSomewhere station stage events stages) stage.disk (last_stage stage stages).disk
-  adds_through stage [] stages follow stands =
+  adds_through stage [] stages follow fits fit stands =
       subst
       (λ (s : List (Stage B)). Adds (StandsSomewhere station stage [] s) stage.disk (last_stage stage s).disk)
       (sym follow) (adds_none (StandsFor station stage.world) stage.disk)
-  adds_through stage (event ∷ events) stages follow stands =
+  adds_through stage (event ∷ events) stages follow fits fit stands =
+      let all = subst (λ (s : List (Stage B)). AllFit s) follow.2 fit in
       subst
       (λ (s : List (Stage B)).
       Adds (StandsSomewhere station stage (event ∷ events) s) stage.disk (last_stage stage s).disk)
       (sym follow.2)
       (adds_both stage event follow.0 events follow.1 (last_stage follow.0 follow.1).disk
-      (adds_step (role_of station event) stage.waiting stage event follow.0 follow.3.does stands)
-      (adds_through follow.0 events follow.1 follow.4 follow.3.stands))
+      (adds_step (role_of station event) stage.waiting stage event follow.0 fits all.0 follow.3.does stands)
+      (adds_through follow.0 events follow.1 follow.4 all.0 all.1 follow.3.stands))
 
   -- Whatever a crash since a stage leaves of the disk, up to the last stage, stands for what the station keeps in one of
   -- the worlds from this stage's on, or in one of them after the first of its event's commands.
   pub images_through :
       (stage : Stage B) (events : List Event) (stages : List (Stage B)) → Follow g cuts station stage events stages
-      → StandsNow g station stage.world stage.disk → (image : List ℕ)
+      → Fits stage.world → AllFit stages → StandsNow g station stage.world stage.disk → (image : List ℕ)
       → g.images_since (last_stage stage stages).disk (g.moment stage.disk) image
       → StandsSomewhere station stage events stages image
-  images_through stage events stages follow stands image since =
+  images_through stage events stages follow fits fit stands image since =
       elim
-      ((adds_through stage events stages follow stands).each (g.moment stage.disk) image (omega arith) since) [
+      ((adds_through stage events stages follow fits fit stands).each (g.moment stage.disk) image (omega arith) since) [
         | inl was ↦ somewhere_first station stage events stages image (stands.images image was)
         | inr somewhere ↦ somewhere
       ]

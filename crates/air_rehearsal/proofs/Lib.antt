@@ -1,3 +1,4 @@
+mod Alike
 mod CutsTold
 mod ImagesThrough
 mod OneReport
