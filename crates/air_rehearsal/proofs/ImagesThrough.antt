@@ -40,6 +40,10 @@ some_of :
 some_of None P Q told first second = absurd (let e : false ≡ true = told in cc)
 some_of (Some octets) P Q told first second = (octets, first, second)
 
+-- each of these stages' worlds fits
+abbrev pub AllFit : {B : Type 0} → (World → Type 0) → List (Stage B) → Type 0
+AllFit {B} Fits stages = AllByRecursion (λ (it : Stage B). Fits it.world) stages
+
 module _ {B : Type 0} (g : Ghosts B) (cuts : Cuts B) (station : Station) (Fits : World → Type 0)
     (alike : AlikeStands station Fits) where
   -- from one disk to the next a crash since an earlier moment leaves what it might have left before, or what has P
@@ -89,10 +93,6 @@ module _ {B : Type 0} (g : Ghosts B) (cuts : Cuts B) (station : Station) (Fits :
                   ]
             ];
       }
-
-  -- each of these stages' worlds fits
-  abbrev AllFit : List (Stage B) → Type 0
-  AllFit stages = AllByRecursion (λ (it : Stage B). Fits it.world) stages
 
   -- what an event adds
   abbrev OfStep : Stage B → Event → Stage B → List ℕ → Type 0
@@ -178,14 +178,14 @@ module _ {B : Type 0} (g : Ghosts B) (cuts : Cuts B) (station : Station) (Fits :
 
   adds_through :
       (stage : Stage B) (events : List Event) (stages : List (Stage B)) → Follow g cuts station stage events stages
-      → Fits stage.world → AllFit stages → StandsNow g station stage.world stage.disk
+      → Fits stage.world → AllFit Fits stages → StandsNow g station stage.world stage.disk
       → Adds (StandsSomewhere station stage events stages) stage.disk (last_stage stage stages).disk
   adds_through stage [] stages follow fits fit stands =
       subst
       (λ (s : List (Stage B)). Adds (StandsSomewhere station stage [] s) stage.disk (last_stage stage s).disk)
       (sym follow) (adds_none (StandsFor station stage.world) stage.disk)
   adds_through stage (event ∷ events) stages follow fits fit stands =
-      let all = subst (λ (s : List (Stage B)). AllFit s) follow.2 fit in
+      let all = subst (λ (s : List (Stage B)). AllFit Fits s) follow.2 fit in
       subst
       (λ (s : List (Stage B)).
       Adds (StandsSomewhere station stage (event ∷ events) s) stage.disk (last_stage stage s).disk)
@@ -198,7 +198,7 @@ module _ {B : Type 0} (g : Ghosts B) (cuts : Cuts B) (station : Station) (Fits :
   -- the worlds from this stage's on, or in one of them after the first of its event's commands.
   pub images_through :
       (stage : Stage B) (events : List Event) (stages : List (Stage B)) → Follow g cuts station stage events stages
-      → Fits stage.world → AllFit stages → StandsNow g station stage.world stage.disk → (image : List ℕ)
+      → Fits stage.world → AllFit Fits stages → StandsNow g station stage.world stage.disk → (image : List ℕ)
       → g.images_since (last_stage stage stages).disk (g.moment stage.disk) image
       → StandsSomewhere station stage events stages image
   images_through stage events stages follow fits fit stands image since =

@@ -2,3 +2,4 @@ mod Alike
 mod CutsTold
 mod ImagesThrough
 mod OneReport
+mod Promised
