@@ -141,7 +141,8 @@ module _ {B : Type 0} (g : Ghosts B) (cuts : Cuts B) (station : Station) (Fits :
       (adds_none (OfStep old event new) old.disk)
 
   adds_step :
-      (role : Role) (waiting : Option ℕ) (old : Stage B) (event : Event) (new : Stage B) → Fits old.world → Fits new.world
+      (role : Role) (waiting : Option ℕ) (old : Stage B) (event : Event) (new : Stage B) → Fits old.world
+      → Fits new.world
       → StepBy g cuts station role waiting old event new → StandsNow g station old.world old.disk
       → Adds (OfStep old event new) old.disk new.disk
   adds_step acts None old event new fits fit does stands = adds_carried old event new does stands
@@ -194,8 +195,8 @@ module _ {B : Type 0} (g : Ghosts B) (cuts : Cuts B) (station : Station) (Fits :
       (adds_step (role_of station event) stage.waiting stage event follow.0 fits all.0 follow.3.does stands)
       (adds_through follow.0 events follow.1 follow.4 all.0 all.1 follow.3.stands))
 
-  -- Whatever a crash since a stage leaves of the disk, up to the last stage, stands for what the station keeps in one of
-  -- the worlds from this stage's on, or in one of them after the first of its event's commands.
+  -- Whatever a crash since a stage leaves of the disk, up to the last stage, stands for what the station keeps in one
+  -- of the worlds from this stage's on, or in one of them after the first of its event's commands.
   pub images_through :
       (stage : Stage B) (events : List Event) (stages : List (Stage B)) → Follow g cuts station stage events stages
       → Fits stage.world → AllFit Fits stages → StandsNow g station stage.world stage.disk → (image : List ℕ)
@@ -206,4 +207,67 @@ module _ {B : Type 0} (g : Ghosts B) (cuts : Cuts B) (station : Station) (Fits :
       ((adds_through stage events stages follow fits fit stands).each (g.moment stage.disk) image (omega arith) since) [
         | inl was ↦ somewhere_first station stage events stages image (stands.images image was)
         | inr somewhere ↦ somewhere
+      ]
+
+  last_stands :
+      (stage : Stage B) (events : List Event) (stages : List (Stage B)) → Follow g cuts station stage events stages
+      → StandsNow g station stage.world stage.disk
+      → StandsNow g station (last_stage stage stages).world (last_stage stage stages).disk
+  last_stands stage [] stages follow stands =
+      subst
+      (λ (s : List (Stage B)). StandsNow g station (last_stage stage s).world (last_stage stage s).disk)
+      (sym follow) stands
+  last_stands stage (event ∷ events) stages follow stands =
+      subst
+      (λ (s : List (Stage B)). StandsNow g station (last_stage stage s).world (last_stage stage s).disk)
+      (sym follow.2) (last_stands follow.0 events follow.1 follow.4 follow.3.stands)
+
+  last_fits :
+      (stage : Stage B) (stages : List (Stage B)) → Fits stage.world → AllFit Fits stages
+      → Fits (last_stage stage stages).world
+  last_fits stage [] fits all = fits
+  last_fits stage (next ∷ later) fits all = last_fits next later all.0 all.1
+
+  somewhere_last :
+      (stage : Stage B) (events : List Event) (stages : List (Stage B)) → Follow g cuts station stage events stages
+      → (image : List ℕ) → StandsFor station (last_stage stage stages).world image
+      → StandsSomewhere station stage events stages image
+  somewhere_last stage [] stages follow image stands =
+      subst (λ (s : List (Stage B)). StandsFor station (last_stage stage s).world image) follow stands
+  somewhere_last stage (event ∷ events) stages follow image stands =
+      subst (λ (s : List (Stage B)). StandsSomewhere station stage (event ∷ events) s image) (sym follow.2)
+      (inr
+      (inr
+      (somewhere_last follow.0 events follow.1 follow.4 image
+      (subst (λ (s : List (Stage B)). StandsFor station (last_stage stage s).world image) follow.2 stands))))
+
+  adds_last :
+      (stage : Stage B) (events : List Event) (stages : List (Stage B)) (disk_now : B)
+      → Follow g cuts station stage events stages → Fits stage.world → AllFit Fits stages
+      → StandsNow g station stage.world stage.disk
+      → StartsAgain g station (last_stage stage stages).disk disk_now
+      → Adds (StandsFor station (last_stage stage stages).world) (last_stage stage stages).disk disk_now
+  adds_last stage events stages disk_now follow fits fit stands again =
+      let last = last_stands stage events stages follow stands in
+      adds_again (last_stage stage stages).world (last_stage stage stages).disk disk_now last.content
+      (last_fits stage stages fits fit) last.stands
+      (of_told (g.content (last_stage stage stages).disk) last.content
+      (λ content.
+      LeavesOnly g.moment g.images_since (last_stage stage stages).disk disk_now (StandsAlike station content))
+      last.is_content again.since)
+
+  -- The same where the station starts once more from the last stage.
+  pub images_to_end :
+      (stage : Stage B) (events : List Event) (stages : List (Stage B)) (disk_now : B)
+      → Follow g cuts station stage events stages → Fits stage.world → AllFit Fits stages
+      → StandsNow g station stage.world stage.disk
+      → StartsAgain g station (last_stage stage stages).disk disk_now
+      → (image : List ℕ) → g.images_since disk_now (g.moment stage.disk) image
+      → StandsSomewhere station stage events stages image
+  images_to_end stage events stages disk_now follow fits fit stands again image since =
+      let through = adds_through stage events stages follow fits fit stands in
+      let ends = adds_last stage events stages disk_now follow fits fit stands again in
+      elim (ends.each (g.moment stage.disk) image through.later since) [
+        | inr stood ↦ somewhere_last stage events stages follow image stood
+        | inl was ↦ images_through stage events stages follow fits fit stands image was
       ]

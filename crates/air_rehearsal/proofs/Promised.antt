@@ -1,9 +1,9 @@
--- What is promised of a stage's world holds in whatever a crash since then leaves of the server's disk, where the store of
--- each later world follows from the one before.
+-- What is promised of a stage's world holds in whatever a crash since then leaves of the server's disk, where the store
+-- of each later world follows from the one before.
 use Rattle.std.specs.Prelude.{ℕ, List, [], ◌∷◌, refl, ⊤}
-use Rattle.std.proofs.Common.{inl, inr}
+use Rattle.std.specs.List.{AllByRecursion}
+use Rattle.std.proofs.Common.{inl, inr, sym, subst}
 use Rattle.disk_model.specs.Cuts.{Cuts}
-use Rattle.disk_model.specs.Moments.{LeavesSince}
 use Rattle.disk_model.specs.declared.disk.Disk.{Ghosts}
 use Rattle.file_entries.specs.Follows.{Follows, FollowsLaw, KeepsEntries}
 use Rattle.file_entries.specs.IsStore.{IsStore}
@@ -14,12 +14,12 @@ use Rattle.air_world.specs.Headline.{HeadlineIn}
 use Rattle.air_world.specs.Offered.{Offered}
 use Rattle.air_world.specs.Schedule.{Event}
 use Rattle.air_world.specs.World.{World}
-use Rattle.air_rehearsal.specs.Chain.{Follow, Stage, last_stage}
-use Rattle.air_rehearsal.specs.Rehearsed.{KeepsPromise}
+use Rattle.air_rehearsal.specs.Chain.{Follow, Stage, StartsAgain, last_stage}
+use Rattle.air_rehearsal.specs.Rehearsed.{KeepsPromise, PromisedSince}
 use Rattle.air_rehearsal.specs.Standing.{StandsDuring, StandsNow}
 use Rattle.air_rehearsal.specs.Stations.{the_server}
 use Rattle.air_rehearsal.proofs.Alike.{HasBlocks, server_alike}
-use Rattle.air_rehearsal.proofs.ImagesThrough.{AllFit, StandsSomewhere, images_through}
+use Rattle.air_rehearsal.proofs.ImagesThrough.{AllFit, StandsSomewhere, images_to_end}
 
 -- the octets stand for a store that follows this one
 abbrev pub FollowsIn : Store → List ℕ → Type 0
@@ -73,15 +73,42 @@ pub record IsGoodWorld (world : World) : Type 0 where
   pub offers : (number offset : ℕ) → Offered world number offset → IsOfferKept world.server.store number offset
   pub headline : HeadlineIn world world.server.store
 
-pub promised_since :
-    {B : Type 0} (g : Ghosts B) (cuts : Cuts B) (law : FollowsLaw) (stays : HeadlineStays) (stage : Stage B)
-    (events : List Event) (stages : List (Stage B)) → Follow g cuts the_server stage events stages
-    → StandsNow g the_server stage.world stage.disk → HasBlocks stage.world → AllFit HasBlocks stages
-    → StoresFollow stage events stages → IsGoodWorld stage.world
-    → LeavesSince (g.moment stage.disk) (g.images_since (last_stage stage stages).disk) (KeepsPromise stage.world)
-promised_since g cuts law stays stage events stages goes stands blocks all follow good = λ image since.
-    let somewhere = images_through g cuts the_server HasBlocks server_alike stage events stages goes blocks all stands
-    image since in
-    let it = follows_somewhere law stage events stages follow image somewhere in
-    let keeps = law.entries stage.world.server.store it.0 good.rules it.2 in
-    (it.0, it.1, stays stage.world stage.world.server.store it.0 keeps good.offers good.headline)
+promised_of :
+    (law : FollowsLaw) (stays : HeadlineStays) (world : World) (image : List ℕ) → IsGoodWorld world
+    → FollowsIn world.server.store image → KeepsPromise world image
+promised_of law stays world image good it =
+    let keeps = law.entries world.server.store it.0 good.rules it.2 in
+    (it.0, it.1, stays world world.server.store it.0 keeps good.offers good.headline)
+
+module _ {B : Type 0} (g : Ghosts B) (cuts : Cuts B) (law : FollowsLaw) (stays : HeadlineStays) (disk_now : B) where
+  promised_since :
+      (stage : Stage B) (events : List Event) (stages : List (Stage B))
+      → Follow g cuts the_server stage events stages → StandsNow g the_server stage.world stage.disk
+      → HasBlocks stage.world → AllFit HasBlocks stages → StoresFollow stage events stages → IsGoodWorld stage.world
+      → StartsAgain g the_server (last_stage stage stages).disk disk_now → PromisedSince g cuts disk_now stage
+  promised_since stage events stages goes stands blocks all follow good again = λ image since.
+      let somewhere = images_to_end g cuts the_server HasBlocks server_alike stage events stages disk_now goes blocks
+      all stands again image since in
+      promised_of law stays stage.world image good (follows_somewhere law stage events stages follow image somewhere)
+
+  -- So it is of each stage, up to a disk from which the server started once more.
+  pub promised_all :
+      (stage : Stage B) (events : List Event) (stages : List (Stage B))
+      → Follow g cuts the_server stage events stages → StandsNow g the_server stage.world stage.disk
+      → AllFit HasBlocks (stage ∷ stages) → StoresFollow stage events stages → AllFit IsGoodWorld (stage ∷ stages)
+      → StartsAgain g the_server (last_stage stage stages).disk disk_now
+      → AllByRecursion (PromisedSince g cuts disk_now) (stage ∷ stages)
+  promised_all stage [] stages goes stands all follow good again =
+      let none = subst (λ (s : List (Stage B)). AllByRecursion (PromisedSince g cuts disk_now) s) (sym goes) tt in
+      (promised_since stage [] stages goes stands all.0 all.1 follow good.0 again, none)
+  promised_all stage (event ∷ events) stages goes stands all follow good again =
+      let stages_are = goes.2 in
+      let blocks = subst (λ (s : List (Stage B)). AllFit HasBlocks s) stages_are all.1 in
+      let goods = subst (λ (s : List (Stage B)). AllFit IsGoodWorld s) stages_are good.1 in
+      let follows = subst (λ (s : List (Stage B)). StoresFollow stage (event ∷ events) s) stages_are follow in
+      let again_so = subst
+      (λ (s : List (Stage B)). StartsAgain g the_server (last_stage stage s).disk disk_now) stages_are again in (
+        promised_since stage (event ∷ events) stages goes stands all.0 all.1 follow good.0 again,
+        subst (λ (s : List (Stage B)). AllByRecursion (PromisedSince g cuts disk_now) s) (sym stages_are)
+            (promised_all goes.0 events goes.1 goes.4 goes.3.stands blocks follows.2 goods again_so),
+      )
