@@ -1,4 +1,5 @@
 mod Alike
+mod Blocks
 mod CutsTold
 mod ImagesThrough
 mod OneReport
