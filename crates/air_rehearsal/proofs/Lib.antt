@@ -1,0 +1,6 @@
+mod Alike
+mod Blocks
+mod CutsTold
+mod ImagesThrough
+mod OneReport
+mod Promised
