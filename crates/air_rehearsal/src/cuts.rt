@@ -1,5 +1,8 @@
 //! The cuts of power.
 
+ghost use Rattle.std.specs.Prelude.{◌-◌, Some};
+ghost use Rattle.disk_model.specs.Cuts.{ArmsOnly, cuts_by};
+
 use disk_model::{CutDisk, Halt};
 use px_base::OutOfMemory;
 
@@ -14,7 +17,10 @@ pub(crate) struct Cut {
 
 impl Cut {
     /// Arms the station's disk for its event.
-    pub(crate) fn arm<B: CutDisk>(&self, disk: &mut B) {
+    pub(crate) fn arm<B: CutDisk>(&self, disk: &mut B)
+        ensures { ArmsOnly B.Disk (cuts_by B.restarts B.arming B.plain B.is_starved)
+            (Some (self.now.call - 1)) disk.old disk.new }
+    {
         disk.arm(Some(self.call.saturating_sub(1)));
     }
 

@@ -1,5 +1,9 @@
 //! A rehearsal whose events are drawn by a number.
 
+ghost use Rattle.std.specs.Prelude.{◌≡◌, IfOk, OnOk};
+ghost use Rattle.disk_model.specs.Cuts.{AreFresh, cuts_by};
+ghost use Rattle.air_rehearsal.specs.Ready.{AreReady, IsReadyServer};
+
 use crate::report::Report;
 use crate::stations::Stations;
 use air_schedule::Event;
@@ -9,20 +13,7 @@ use px_base::{Call, OutOfMemory};
 use std::alloc::Global;
 
 /// The calls of the clients.
-const CALLS: [Call; 3] = [
-    Call {
-        chars: *b"T1AAA ",
-        ssid: 0,
-    },
-    Call {
-        chars: *b"T2AAA ",
-        ssid: 0,
-    },
-    Call {
-        chars: *b"T3AAA ",
-        ssid: 0,
-    },
-];
+const CALLS: [&str; 3] = ["T1AAA", "T2AAA", "T3AAA"];
 
 /// How many I frames of each link may be outstanding.
 const WINDOW: u8 = 4;
@@ -57,7 +48,7 @@ enum Way {
 impl Way {
     /// The delivery of the transmission at this place, from or to the client of this number.
     fn delivery(self, client: u64, place: usize) -> Event {
-        let transmission = place as u64 + 1;
+        let transmission = (place as u64).saturating_add(1);
         match self {
             Way::ToServer => Event::ToServer {
                 client,
@@ -83,12 +74,12 @@ impl Looked {
     /// None yet of the newest attempt of the client of this number; those that were looked at, where it is the same
     /// attempt.
     fn at(self, stations: &Stations, client: u64) -> Looked {
-        let attempt = stations.attempts_of(client);
-        if attempt == self.attempt {
+        let number = number_of(stations, client);
+        if number == self.attempt {
             return self;
         }
         Looked {
-            attempt,
+            attempt: number,
             to_server: 0,
             to_client: 0,
         }
@@ -116,19 +107,35 @@ pub fn drive<B: CutDisk>(
     seed: u64,
     count: u32,
     bench: &mut Vec<B>,
-) -> Result<Report, OutOfMemory> {
-    let bench = bench.as_mut_slice();
-    let stations = Stations::open(alloc, bench, WINDOW, &CALLS)?;
-    let mut server = stations.start(&mut bench[0])?;
+) -> Result<Report, OutOfMemory>
+    requires { AreFresh B.Disk (cuts_by B.restarts B.arming B.plain B.is_starved) bench.old.items }
+{
+    let Some((disk, disks)) = bench.as_mut_slice().split_first_mut() else {
+        return Err(OutOfMemory);
+    };
+    let calls = calls(alloc)?;
+    let stations = Stations::open(alloc, disks, WINDOW, calls.as_slice())?;
+    let mut server = stations.start(disk)?;
     let mut driver = Driver {
         draws: Draws { state: seed },
         stations,
     };
     for _ in 0..count {
-        server = driver.round(server, bench)?;
+        server = driver.round(server, disk, disks)?;
     }
     server.close();
-    driver.stations.end(&mut bench[0])
+    driver.stations.end(disk)
+}
+
+/// The calls of the clients. Takes memory.
+fn calls(alloc: Global) -> Result<Vec<Call>, OutOfMemory> {
+    let mut calls = Vec::new(alloc);
+    for text in CALLS {
+        if let Ok(call) = Call::read(text) {
+            calls.push(call)?;
+        }
+    }
+    Ok(calls)
 }
 
 impl Driver {
@@ -136,47 +143,71 @@ impl Driver {
     fn round<B: CutDisk>(
         &mut self,
         server: Server,
-        bench: &mut [B],
-    ) -> Result<Server, OutOfMemory> {
-        let server = self.turn(server, bench, 1)?;
-        let server = self.turn(server, bench, 2)?;
-        self.turn(server, bench, 3)
+        disk: &mut B,
+        disks: &mut [B],
+    ) -> Result<Server, OutOfMemory>
+        requires server { IsReadyServer B.Disk self.old.stations server disk.old }
+        requires clients { AreReady B.Disk self.old.stations.parties.items disks.old }
+        ensures server { IfOk result (λ server. IsReadyServer B.Disk self.new.stations server disk.new) }
+        ensures clients { OnOk result (AreReady B.Disk self.new.stations.parties.items disks.new) }
+    {
+        let server = self.turn(server, disk, disks, 1)?;
+        let server = self.turn(server, disk, disks, 2)?;
+        self.turn(server, disk, disks, 3)
     }
 
     /// A turn of the client of this number.
     fn turn<B: CutDisk>(
         &mut self,
         server: Server,
-        bench: &mut [B],
+        disk: &mut B,
+        disks: &mut [B],
         client: u64,
-    ) -> Result<Server, OutOfMemory> {
-        let server = self.ask(server, bench, client)?;
-        let server = self.exchange_all(server, bench, client)?;
-        self.disturb(server, bench, client)
+    ) -> Result<Server, OutOfMemory>
+        requires server { IsReadyServer B.Disk self.old.stations server disk.old }
+        requires clients { AreReady B.Disk self.old.stations.parties.items disks.old }
+        ensures server { IfOk result (λ server. IsReadyServer B.Disk self.new.stations server disk.new) }
+        ensures clients { OnOk result (AreReady B.Disk self.new.stations.parties.items disks.new) }
+    {
+        let server = self.ask(server, disk, disks, client)?;
+        let server = self.exchange_all(server, disk, disks, client)?;
+        self.disturb(server, disk, disks, client)
     }
 
     /// Plays an event, if it may come.
     fn play<B: CutDisk>(
         &mut self,
         server: Server,
-        bench: &mut [B],
+        disk: &mut B,
+        disks: &mut [B],
         event: Event,
-    ) -> Result<Server, OutOfMemory> {
+    ) -> Result<Server, OutOfMemory>
+        requires server { IsReadyServer B.Disk self.old.stations server disk.old }
+        requires clients { AreReady B.Disk self.old.stations.parties.items disks.old }
+        ensures server { IfOk result (λ server. IsReadyServer B.Disk self.new.stations server disk.new) }
+        ensures clients { OnOk result (AreReady B.Disk self.new.stations.parties.items disks.new) }
+    {
         if !self.stations.allows(&event) {
             return Ok(server);
         }
-        self.stations.play(server, bench, &event)
+        self.stations.play(server, disk, disks, &event)
     }
 
     /// The client is asked, if it is free.
     fn ask<B: CutDisk>(
         &mut self,
         server: Server,
-        bench: &mut [B],
+        disk: &mut B,
+        disks: &mut [B],
         client: u64,
-    ) -> Result<Server, OutOfMemory> {
+    ) -> Result<Server, OutOfMemory>
+        requires server { IsReadyServer B.Disk self.old.stations server disk.old }
+        requires clients { AreReady B.Disk self.old.stations.parties.items disks.old }
+        ensures server { IfOk result (λ server. IsReadyServer B.Disk self.new.stations server disk.new) }
+        ensures clients { OnOk result (AreReady B.Disk self.new.stations.parties.items disks.new) }
+    {
         match self.wish(client) {
-            Some(event) => self.play(server, bench, event),
+            Some(event) => self.play(server, disk, disks, event),
             None => Ok(server),
         }
     }
@@ -204,21 +235,27 @@ impl Driver {
     fn exchange_all<B: CutDisk>(
         &mut self,
         server: Server,
-        bench: &mut [B],
+        disk: &mut B,
+        disks: &mut [B],
         client: u64,
-    ) -> Result<Server, OutOfMemory> {
+    ) -> Result<Server, OutOfMemory>
+        requires server { IsReadyServer B.Disk self.old.stations server disk.old }
+        requires clients { AreReady B.Disk self.old.stations.parties.items disks.old }
+        ensures server { IfOk result (λ server. IsReadyServer B.Disk self.new.stations server disk.new) }
+        ensures clients { OnOk result (AreReady B.Disk self.new.stations.parties.items disks.new) }
+    {
         let mut server = server;
         let mut looked = Looked {
-            attempt: self.stations.attempts_of(client),
+            attempt: number_of(&self.stations, client),
             to_server: 0,
             to_client: 0,
         };
         for _ in 0..MOST_EXCHANGES {
-            if self.stations.is_closed(client) {
+            if is_closed(&self.stations, client) {
                 break;
             }
             looked = looked.at(&self.stations, client);
-            server = self.exchange(server, bench, client, &mut looked)?;
+            server = self.exchange(server, disk, disks, client, &mut looked)?;
         }
         Ok(server)
     }
@@ -228,38 +265,50 @@ impl Driver {
     fn exchange<B: CutDisk>(
         &mut self,
         server: Server,
-        bench: &mut [B],
+        disk: &mut B,
+        disks: &mut [B],
         client: u64,
         looked: &mut Looked,
-    ) -> Result<Server, OutOfMemory> {
+    ) -> Result<Server, OutOfMemory>
+        requires server { IsReadyServer B.Disk self.old.stations server disk.old }
+        requires clients { AreReady B.Disk self.old.stations.parties.items disks.old }
+        ensures server { IfOk result (λ server. IsReadyServer B.Disk self.new.stations server disk.new) }
+        ensures clients { OnOk result (AreReady B.Disk self.new.stations.parties.items disks.new) }
+    {
         let from = looked.to_server;
-        looked.to_server = self.stations.sent_by(client);
+        looked.to_server = count_to_server(&self.stations, client);
         let is_silent = from == looked.to_server;
-        let server = self.carry(server, bench, client, Way::ToServer, from, looked.to_server)?;
+        let server = self.carry(server, disk, disks, client, Way::ToServer, from, looked.to_server)?;
         let from = looked.to_client;
-        looked.to_client = self.stations.sent_to(client);
+        looked.to_client = count_to_client(&self.stations, client);
         if is_silent && from == looked.to_client {
-            let server = self.play(server, bench, Event::TickClient { client })?;
-            return self.play(server, bench, Event::TickServer);
+            let server = self.play(server, disk, disks, Event::TickClient { client })?;
+            return self.play(server, disk, disks, Event::TickServer);
         }
-        self.carry(server, bench, client, Way::ToClient, from, looked.to_client)
+        self.carry(server, disk, disks, client, Way::ToClient, from, looked.to_client)
     }
 
     /// The transmissions from the first of these places up to the other one are on the air.
     fn carry<B: CutDisk>(
         &mut self,
         server: Server,
-        bench: &mut [B],
+        disk: &mut B,
+        disks: &mut [B],
         client: u64,
         way: Way,
         from: usize,
         to: usize,
-    ) -> Result<Server, OutOfMemory> {
+    ) -> Result<Server, OutOfMemory>
+        requires server { IsReadyServer B.Disk self.old.stations server disk.old }
+        requires clients { AreReady B.Disk self.old.stations.parties.items disks.old }
+        ensures server { IfOk result (λ server. IsReadyServer B.Disk self.new.stations server disk.new) }
+        ensures clients { OnOk result (AreReady B.Disk self.new.stations.parties.items disks.new) }
+    {
         let mut server = server;
         let mut late = None;
         for place in from..to {
             let drawn = self.draws.next() % 16;
-            let is_last = place + 1 == to;
+            let is_last = place >= to - 1;
             let times = match drawn {
                 0 => 0,
                 1 => 2,
@@ -267,10 +316,10 @@ impl Driver {
                 _ => 1,
             };
             for _ in 0..times {
-                server = self.play(server, bench, way.delivery(client, place))?;
+                server = self.play(server, disk, disks, way.delivery(client, place))?;
             }
             if let Some(late) = late.take() {
-                server = self.play(server, bench, way.delivery(client, late))?;
+                server = self.play(server, disk, disks, way.delivery(client, late))?;
             }
             if drawn == 2 && !is_last {
                 late = Some(place);
@@ -283,9 +332,15 @@ impl Driver {
     fn disturb<B: CutDisk>(
         &mut self,
         server: Server,
-        bench: &mut [B],
+        disk: &mut B,
+        disks: &mut [B],
         client: u64,
-    ) -> Result<Server, OutOfMemory> {
+    ) -> Result<Server, OutOfMemory>
+        requires server { IsReadyServer B.Disk self.old.stations server disk.old }
+        requires clients { AreReady B.Disk self.old.stations.parties.items disks.old }
+        ensures server { IfOk result (λ server. IsReadyServer B.Disk self.new.stations server disk.new) }
+        ensures clients { OnOk result (AreReady B.Disk self.new.stations.parties.items disks.new) }
+    {
         let event = match self.draws.next() % 8 {
             0 => Event::BreakClient { client },
             1 => Event::CutClient {
@@ -299,6 +354,38 @@ impl Driver {
             },
             _ => return Ok(server),
         };
-        self.play(server, bench, event)
+        self.play(server, disk, disks, event)
+    }
+}
+
+/// How many attempts the client of this number made.
+fn number_of(stations: &Stations, client: u64) -> u64 {
+    match stations.attempt(client) {
+        Some(attempt) => attempt.number,
+        None => 0,
+    }
+}
+
+/// How many frames it sent in the newest one.
+fn count_to_server(stations: &Stations, client: u64) -> usize {
+    match stations.attempt(client) {
+        Some(attempt) => attempt.from_client.count(),
+        None => 0,
+    }
+}
+
+/// How many frames the server sent it there.
+fn count_to_client(stations: &Stations, client: u64) -> usize {
+    match stations.attempt(client) {
+        Some(attempt) => attempt.from_server.count(),
+        None => 0,
+    }
+}
+
+/// Whether nothing is under way on its link.
+fn is_closed(stations: &Stations, client: u64) -> bool {
+    match stations.party(client) {
+        Some(party) => party.client.closed(),
+        None => true,
     }
 }

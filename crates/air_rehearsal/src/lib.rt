@@ -3,17 +3,20 @@
 #![tactic(auto)]
 
 mod asking;
-mod at_client;
-mod at_server;
+mod attempt;
 mod cuts;
 mod generator;
+mod kept;
 mod lane;
+mod part;
 mod party;
 mod play;
-mod rehearse;
+mod rehearsing;
 mod report;
+mod serving;
 mod stations;
+mod tasks;
 
 pub use generator::drive;
-pub use rehearse::{RehearseStop, rehearse};
+pub use rehearsing::{RehearseStop, rehearse};
 pub use report::Report;

@@ -1,62 +1,62 @@
 //! A client of the rehearsal.
 
+ghost use Rattle.std.specs.Prelude.{◌≡◌, ◌≤◌, length, IfOk, IfSome, IsTrue, OnOk};
+ghost use Rattle.ax25_frames.specs.Kinds.{FitsControl};
+ghost use Rattle.ax25_frames.specs.Values.{value_of};
+ghost use Rattle.ax25_link.specs.Window.{IsGoodK};
+ghost use Rattle.client_notes.specs.Limits.{longest_file};
+ghost use Rattle.ftl0_client.specs.ClientState.{IsFree};
+ghost use Rattle.node.specs.Events.{IsFor};
+ghost use Rattle.air_rehearsal.specs.Ready.{IsReadyParty, IsTheirs, KeepsParty};
+
+use crate::attempt::Attempt;
 use crate::cuts::Cut;
-use crate::lane::{Lane, Sort};
+use crate::asking::sum_of;
+use crate::tasks::Tasks;
 use arrayvec::ArrayVec;
-use ax25_frames::{Frame, Kind, read_frame};
-use client_notes::{Noted, Notes};
+use ax25_frames::{Frame, read_frame};
+use client_notes::{Begun, Noted, Notes, NotesRefusal};
 use disk_model::{Disk, Halt};
-use ftl0_client::{Client, Outcome};
+use ftl0_client::{Client, Job, Outcome};
 use itoa::Buffer;
-use px_base::{Call, OutOfMemory};
+use px_base::{Call, FileBytes, OutOfMemory};
 use std::alloc::Global;
 
-/// A client, with what it and the server sent to each other in its newest attempt: the newest SABM that it sent, and all
-/// that followed.
+/// A client of the server, over the notes of its disk.
 #[derive(Drop)]
 pub(crate) struct Party {
     pub me: Call,
     pub server: Call,
-    k: u8,
+    pub k: u8,
     pub client: Client,
-    pub from_client: Lane,
-    pub from_server: Lane,
-    /// How many attempts there were.
-    pub attempts: u64,
-    /// Whether a session answered the newest attempt.
-    pub is_answered: bool,
-    /// Of each of its tasks, in their order, which upload it is.
-    pub uploads: Vec<u32>,
-    /// Those of the uploads whose tasks may be unfinished, in their order.
-    pub open: Vec<u32>,
+    pub tasks: Tasks,
     /// The cut that comes in its next event.
     pub cut: Option<Cut>,
 }
 
-
 impl Party {
-    /// A client of this server, over the notes of its disk. Takes memory.
+    /// A client over the notes of this disk. Takes memory.
     pub(crate) fn open<D: Disk>(
         alloc: Global,
         disk: &mut D,
         server: Call,
         me: Call,
         k: u8,
-    ) -> Result<Party, OutOfMemory> {
-        let notes = recover_notes(alloc, disk)?;
-        Ok(Party {
-            me,
-            server,
-            k,
-            client: Client::start(notes, me, server, k),
-            from_client: Lane::new(alloc),
-            from_server: Lane::new(alloc),
-            attempts: 0,
-            is_answered: false,
-            uploads: Vec::new(alloc),
-            open: Vec::new(alloc),
-            cut: None,
-        })
+    ) -> Result<Party, OutOfMemory>
+        requires { IsGoodK k }
+        ensures { IfOk result (λ party. IsReadyParty D.Disk party disk.new) }
+    {
+        match Notes::recover(alloc, disk) {
+            Ok(notes) => Ok(Party {
+                me,
+                server,
+                k,
+                client: Client::start(notes, me, server, k),
+                tasks: Tasks::new(alloc),
+                cut: None,
+            }),
+            Err(_) => Err(OutOfMemory),
+        }
     }
 
     /// The client starts again from its notes. Takes memory.
@@ -64,74 +64,147 @@ impl Party {
         &mut self,
         alloc: Global,
         disk: &mut D,
-    ) -> Result<(), OutOfMemory> {
-        let notes = recover_notes(alloc, disk)?;
-        self.client = Client::start(notes, self.me, self.server, self.k);
-        Ok(())
+    ) -> Result<(), OutOfMemory>
+        requires { IsGoodK self.old.k }
+        ensures { OnOk result (IsReadyParty D.Disk self.new disk.new) }
+    {
+        match Notes::recover(alloc, disk) {
+            Ok(notes) => {
+                self.client = Client::start(notes, self.me, self.server, self.k);
+                Ok(())
+            }
+            Err(_) => Err(OutOfMemory),
+        }
     }
 
     /// Whether nothing that was asked of it is under way.
-    pub(crate) fn is_free(&self) -> bool {
+    pub(crate) fn is_free(&self) -> bool
+        ensures { IsTrue result → IsFree self.now.client }
+    {
         self.client.outcome() != Outcome::Working
     }
 
     /// How its task of an upload stands, if it has one.
     pub(crate) fn noted(&self, upload: u32) -> Option<Noted> {
-        let mut name = Buffer::new();
-        self.client
-            .notes()
-            .noted(self.server, self.me, name.format(upload))
+        noted(self.client.notes(), self.server, self.me, upload)
     }
 
     /// The last upload whose task is unfinished, if there is one.
     pub(crate) fn unfinished(&self) -> Option<u32> {
-        for upload in self.open.iter().rev() {
-            if let Some(Noted::Going { .. }) = self.noted(*upload) {
-                return Some(*upload);
-            }
-        }
-        None
+        self.tasks.last_going(self.client.notes(), self.server, self.me)
     }
 
-    /// The number on the server of the last upload that was acknowledged, if one was.
+    /// The number on the server of the last file that was acknowledged, if one was.
     pub(crate) fn last_acked(&self) -> Option<u32> {
-        for upload in self.uploads.iter().rev() {
-            if let Some(Noted::Acked { number, .. }) = self.noted(*upload) {
-                return Some(number);
-            }
-        }
-        None
+        self.tasks.last_acked(self.client.notes(), self.server, self.me)
     }
 
     /// Looks for the task of the upload that was asked last: where it was begun, it is the last task. Takes memory.
-    pub(crate) fn find_task(&mut self, upload: u32) -> Result<(), OutOfMemory> {
-        if self.noted(upload).is_none() || self.uploads.last() == Some(&upload) {
-            return Ok(());
+    pub(crate) fn find_task(&mut self, upload: u32) -> Result<(), OutOfMemory>
+        ensures { KeepsParty self.old self.new }
+    {
+        self.tasks
+            .find(self.client.notes(), self.server, self.me, upload)
+    }
+
+    /// The task of an upload's file is started, or gone on with. Takes memory.
+    pub(crate) fn start<D: Disk>(
+        &mut self,
+        disk: &mut D,
+        upload: u32,
+        file: &[u8],
+    ) -> Result<Begun, Halt>
+        requires ready { IsReadyParty D.Disk self.old disk.old }
+        requires free { IsFree self.old.client }
+        requires short { length file.now ≤ longest_file }
+        ensures k { self.new.k ≡ self.old.k }
+    {
+        let mut name = Buffer::new();
+        let digest = sum_of(file);
+        let length = file.len() as u32;
+        match self
+            .client
+            .start_task(disk, name.format(upload), length, digest)
+        {
+            Ok(begun) => Ok(begun),
+            Err(NotesRefusal::Disk) => Err(Halt::Disk),
+            Err(_) => Err(Halt::OutOfMemory),
         }
-        self.forget_finished();
-        self.uploads.push(upload)?;
-        self.open.push(upload)?;
+    }
+
+    /// The client is asked for the upload of a file. Takes memory.
+    pub(crate) fn ask_upload<D: Disk>(
+        &mut self,
+        alloc: Global,
+        disk: &mut D,
+        upload: u32,
+        file: FileBytes,
+    ) -> Result<(), OutOfMemory>
+        requires ready { IsReadyParty D.Disk self.old disk.old }
+        requires free { IsFree self.old.client }
+        requires short { length file ≤ longest_file }
+        ensures { OnOk result (IsTheirs D.Disk self.new disk.new) }
+    {
+        let mut name = Buffer::new();
+        let digest = sum_of(file.as_slice());
+        let length = file.len() as u32;
+        let begun = self
+            .client
+            .start_task(disk, name.format(upload), length, digest);
+        let (task, number) = match begun {
+            Ok(Begun::Fresh { task }) => (task, 0),
+            Ok(Begun::Going { task, number }) => (task, number),
+            Ok(Begun::Already { .. }) => return Ok(()),
+            Err(_) => return Err(OutOfMemory),
+        };
+        self.client.ask(alloc, Job::upload(task, number, file))?;
+        self.find_task(upload)
+    }
+
+    /// The client is asked for the list of the files that the selection of these tokens holds of. Takes memory.
+    pub(crate) fn ask_list<D: Disk>(
+        &mut self,
+        alloc: Global,
+        _disk: &mut D,
+        tokens: FileBytes,
+    ) -> Result<(), OutOfMemory>
+        requires ready { IsReadyParty D.Disk self.old _disk.old }
+        requires free { IsFree self.old.client }
+        requires short { length tokens ≤ 2047 }
+        ensures { OnOk result (IsTheirs D.Disk self.new _disk.new) }
+    {
+        self.client.ask(alloc, Job::list(alloc, tokens))?;
         Ok(())
     }
 
-    /// The last of the open uploads, as far as they are finished, are open no more.
-    fn forget_finished(&mut self) {
-        while let Some(last) = self.open.last() {
-            if let Some(Noted::Going { .. }) = self.noted(*last) {
-                return;
-            }
-            self.open.pop();
-        }
+    /// The client is asked for the file of this number. Takes memory.
+    pub(crate) fn ask_download<D: Disk>(
+        &mut self,
+        alloc: Global,
+        _disk: &mut D,
+        number: u32,
+    ) -> Result<(), OutOfMemory>
+        requires ready { IsReadyParty D.Disk self.old _disk.old }
+        requires free { IsFree self.old.client }
+        requires some { 1 ≤ number }
+        ensures { OnOk result (IsTheirs D.Disk self.new _disk.new) }
+    {
+        self.client.ask(alloc, Job::download(self.server, number))?;
+        Ok(())
     }
 
-    /// The frame at this place of those that the client sent is delivered to the server, if there is one.
-    pub(crate) fn deliver_to_server(&mut self, place: usize) -> Option<Frame<'_>> {
-        frame_for(self.server, self.from_client.deliver(place)?)
-    }
-
-    /// The client hears the frame at this place of those that the server sent, which is delivered so.
-    pub(crate) fn hear<D: Disk>(&mut self, disk: &mut D, place: usize) -> Result<(), Halt> {
-        let Some(octets) = self.from_server.deliver(place) else {
+    /// The client hears the frame at this place of those that the server sent, which is delivered so. Takes memory.
+    pub(crate) fn hear<D: Disk>(
+        &mut self,
+        disk: &mut D,
+        attempt: &mut Attempt,
+        place: usize,
+    ) -> Result<(), Halt>
+        requires { IsReadyParty D.Disk self.old disk.old }
+        ensures theirs { OnOk result (IsTheirs D.Disk self.new disk.new) }
+        ensures k { self.new.k ≡ self.old.k }
+    {
+        let Some(octets) = attempt.from_server.deliver(place) else {
             return Ok(());
         };
         match frame_for(self.me, octets) {
@@ -140,60 +213,42 @@ impl Party {
         }
     }
 
-    /// The client sends all that it has to send. A SABM begins an attempt. Takes memory.
-    pub(crate) fn say(&mut self) -> Result<(), OutOfMemory> {
+    /// The client counts a tick. Takes no memory.
+    pub(crate) fn tick<D: Disk>(&mut self, _disk: &mut D)
+        requires { IsReadyParty D.Disk self.old _disk.old }
+        ensures { IsTheirs D.Disk self.new _disk.new }
+    {
+        self.client.tick();
+    }
+
+    /// The client sends all that it has to send. Takes memory.
+    pub(crate) fn say<D: Disk>(
+        &mut self,
+        _disk: &mut D,
+        attempt: &mut Attempt,
+    ) -> Result<(), OutOfMemory>
+        requires { IsTheirs D.Disk self.old _disk.old }
+        ensures { OnOk result (IsReadyParty D.Disk self.new _disk.new) }
+    {
         let mut out = ArrayVec::new();
         while self.client.next_out(&mut out) {
-            self.send(out.as_slice())?;
+            attempt.send_to_server(out.as_slice())?;
         }
         Ok(())
     }
-
-    /// The client sends a frame with these octets.
-    fn send(&mut self, octets: &[u8]) -> Result<(), OutOfMemory> {
-        let Ok(frame) = read_frame(octets) else {
-            return Ok(());
-        };
-        let sort = Sort::of(&frame.kind);
-        if sort == Sort::Call {
-            self.begin_attempt();
-        }
-        self.from_client.put(octets, sort)
-    }
-
-    /// The server sends a frame of this kind with these octets to the client. It belongs to the newest attempt, but where
-    /// it is of a session that the newest attempt doesn't have: then nobody hears it any more. UA says that a session
-    /// answered the newest attempt, and DM is sent where there is no session. Takes memory.
-    pub(crate) fn send_from_server(
-        &mut self,
-        octets: &[u8],
-        kind: &Kind<'_>,
-    ) -> Result<(), OutOfMemory> {
-        if *kind == Kind::Ua {
-            self.is_answered = true;
-        }
-        if !self.is_answered && *kind != Kind::Dm {
-            return Ok(());
-        }
-        self.from_server.put(octets, Sort::of(kind))
-    }
-
-    /// An attempt begins, and nothing of the one before is delivered any more.
-    fn begin_attempt(&mut self) {
-        self.from_client.clear();
-        self.from_server.clear();
-        self.is_answered = false;
-        self.attempts = self.attempts.saturating_add(1);
-    }
 }
 
-/// The notes that stand on a disk. Takes memory.
-fn recover_notes<D: Disk>(alloc: Global, disk: &mut D) -> Result<Notes, OutOfMemory> {
-    Notes::recover(alloc, disk).map_err(|_| OutOfMemory)
+/// How the task of an upload stands in these notes, if it has one.
+pub(crate) fn noted(notes: &Notes, server: Call, me: Call, upload: u32) -> Option<Noted> {
+    let mut name = Buffer::new();
+    notes.noted(server, me, name.format(upload))
 }
 
 /// The frame for this station that has these octets, if one does.
-pub(crate) fn frame_for(me: Call, octets: &[u8]) -> Option<Frame<'_>> {
+pub(crate) fn frame_for(me: Call, octets: &[u8]) -> Option<Frame<'_>>
+    ensures own { IfSome result (λ frame. IsFor me (value_of frame)) }
+    ensures numbers { IfSome result (λ frame. FitsControl (value_of frame).kind.control) }
+{
     match read_frame(octets) {
         Ok(frame) if frame.dest == me && frame.via == 0 => Some(frame),
         _ => None,

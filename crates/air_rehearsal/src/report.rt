@@ -1,15 +1,6 @@
 //! What came of a rehearsal.
 
-use crate::asking::file_of;
-use crate::stations::{LIMITS, Stations};
-use client_notes::Noted;
-use disk_model::{CutDisk, Disk};
-use file_store::FileStore;
 use ftl0_client::Outcome;
-use pfh_items::{Header, UPLOAD_TIME};
-use pfh_writer::stamp;
-use px_base::{Call, FileBytes, OutOfMemory, le32};
-use std::alloc::Global;
 use std::fmt;
 
 /// What came of a rehearsal.
@@ -44,73 +35,40 @@ impl Report {
             cuts: 0,
         }
     }
-}
 
-impl Report {
-    /// Counts what became of what was asked.
-    pub(crate) fn count(&mut self, outcome: Outcome) {
+    /// An event comes.
+    pub(crate) fn count_event(&mut self) {
+        self.events = self.events.saturating_add(1);
+    }
+
+    /// A client is asked for something.
+    pub(crate) fn count_asked(&mut self) {
+        self.asked = self.asked.saturating_add(1);
+    }
+
+    /// Power is cut.
+    pub(crate) fn count_cut(&mut self) {
+        self.cuts = self.cuts.saturating_add(1);
+    }
+
+    /// What was asked came to this, if it isn't under way.
+    pub(crate) fn count_outcome(&mut self, outcome: Outcome) {
         match outcome {
-            Outcome::Refused { .. } | Outcome::BadFile { .. } => self.refused += 1,
-            Outcome::Fetched { .. } => self.fetched += 1,
+            Outcome::Refused { .. } | Outcome::BadFile { .. } => {
+                self.refused = self.refused.saturating_add(1);
+            }
+            Outcome::Fetched { .. } => self.fetched = self.fetched.saturating_add(1),
             _ => {}
         }
     }
-}
 
-impl Stations {
-    /// What came of the rehearsal, once the server is closed: its store is recovered from its disk. Takes memory.
-    pub(crate) fn end<B: CutDisk>(&mut self, disk: &mut B) -> Result<Report, OutOfMemory> {
-        let mut store =
-            FileStore::recover(self.alloc, disk, LIMITS).map_err(|_| OutOfMemory)?;
-        let mut report = self.report;
-        for (upload, asked) in self.uploads.iter().enumerate() {
-            let upload = upload as u32;
-            let party = &self.parties[asked.client];
-            if let Some(Noted::Acked { number, .. }) = party.noted(upload) {
-                report.acked += 1;
-                let file = file_of(self.alloc, upload, asked.octets)?;
-                if is_kept(self.alloc, &mut store, disk, number, party.me, file)? {
-                    report.kept += 1;
-                }
-            }
+    /// The server acknowledged a file, which is kept or not.
+    pub(crate) fn count_acked(&mut self, is_kept: bool) {
+        self.acked = self.acked.saturating_add(1);
+        if is_kept {
+            self.kept = self.kept.saturating_add(1);
         }
-        Ok(report)
     }
-}
-
-/// Whether the store has the file whole at this number, as this caller's, with the moment that the file itself says.
-/// Takes memory.
-fn is_kept<D: Disk>(
-    alloc: Global,
-    store: &mut FileStore,
-    disk: &mut D,
-    number: u32,
-    caller: Call,
-    file: FileBytes,
-) -> Result<bool, OutOfMemory> {
-    let Some(info) = store.info(number) else {
-        return Ok(false);
-    };
-    if !info.complete || info.caller != caller {
-        return Ok(false);
-    }
-    let mut octets = Vec::new(alloc);
-    octets.resize(info.held as usize, 0)?;
-    store
-        .read_at(disk, number, 0, octets.as_mut_slice())
-        .map_err(|_| OutOfMemory)?;
-    let Some(moment) = upload_time(octets.as_slice()) else {
-        return Ok(false);
-    };
-    let mut file = file.into_vec();
-    stamp(file.as_mut_slice(), number, caller, moment);
-    Ok(file.as_slice() == octets.as_slice())
-}
-
-/// The moment that a file says it was stamped at, if it does.
-fn upload_time(file: &[u8]) -> Option<u32> {
-    let moment = Header::of_file(file)?.field(UPLOAD_TIME)?;
-    (moment.len() == 4).then(|| le32(moment, 0))
 }
 
 impl fmt::Display for Report {

@@ -1,5 +1,8 @@
 //! A schedule is played.
 
+ghost use Rattle.std.specs.Prelude.{◌≡◌};
+ghost use Rattle.disk_model.specs.Cuts.{AreFresh, cuts_by};
+
 use crate::report::Report;
 use crate::stations::Stations;
 use air_schedule::Schedule;
@@ -37,19 +40,23 @@ pub fn rehearse<B: CutDisk>(
     alloc: Global,
     schedule: &Schedule,
     bench: &mut Vec<B>,
-) -> Result<Report, RehearseStop> {
-    let bench = bench.as_mut_slice();
-    let mut stations = Stations::open(alloc, bench, schedule.window(), schedule.clients())?;
-    let mut server = stations.start(&mut bench[0])?;
+) -> Result<Report, RehearseStop>
+    requires { AreFresh B.Disk (cuts_by B.restarts B.arming B.plain B.is_starved) bench.old.items }
+{
+    let Some((disk, disks)) = bench.as_mut_slice().split_first_mut() else {
+        return Err(RehearseStop::OutOfMemory);
+    };
+    let mut stations = Stations::open(alloc, disks, schedule.window(), schedule.clients())?;
+    let mut server = stations.start(disk)?;
     let mut line = 2 + schedule.clients().len() as u64;
     for event in schedule.events() {
         if !stations.allows(event) {
             server.close();
             return Err(RehearseStop::Unlawful { line });
         }
-        server = stations.play(server, bench, event)?;
-        line += 1;
+        server = stations.play(server, disk, disks, event)?;
+        line = line.wrapping_add(1);
     }
     server.close();
-    Ok(stations.end(&mut bench[0])?)
+    Ok(stations.end(disk)?)
 }
