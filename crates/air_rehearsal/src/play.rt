@@ -103,19 +103,22 @@ impl Stations {
         disks: &mut [B],
         client: u64,
     ) -> Result<(), OutOfMemory>
-        requires { AreReady B.Disk self.old.parties.items disks.old }
+        requires window { IsGoodK self.old.k }
+        requires clients { AreReady B.Disk self.old.parties.items disks.old }
         ensures clients { OnOk result (AreReady B.Disk self.new.parties.items disks.new) }
         ensures me { self.new.me ≡ self.old.me }
         ensures k { self.new.k ≡ self.old.k }
     {
         let alloc = self.alloc;
+        let k = self.k;
         let Some(c) = place_of(client) else {
             return Ok(());
         };
         if c >= self.parties.len() || c >= disks.len() {
             return Ok(());
         }
-        self.parties[c].restart(alloc, &mut disks[c])
+        let party = &mut self.parties[c];
+        party.restart(alloc, &mut disks[c], k)
     }
 
     /// Plays an event in which a client takes part. Takes memory.
