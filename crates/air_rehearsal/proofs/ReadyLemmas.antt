@@ -1,11 +1,19 @@
 -- Clients stay ready where one of them takes part in an event.
-use Rattle.std.proofs.Common.{◌≡◌, ◌≢◌, ◌⊎◌, ℕ, zero, suc, ◌<◌, List, [], ◌∷◌, ◌++◌, length, Option, Some, Result, Ok, Err}
-use Rattle.std.proofs.Common.{refl, sym, ap, subst, inl, inr, arith}
+use Rattle.std.proofs.Common.{◌≡◌, ◌≢◌, ◌⊎◌, ℕ, zero, suc, ◌<◌, ◌≤◌, List, [], ◌∷◌, ◌++◌, length, Option, Some, Result, Ok, Err}
+use Rattle.std.proofs.Common.{refl, sym, ap, ◌∙◌, subst, inl, inr, arith}
 use Rattle.std.specs.Prelude.{slice_get, slice_set, slice_index_or, OnOk}
 use Rattle.std.proofs.lemmas.Option.{same_Some, slice_get_read}
+use Rattle.px_base.specs.CallSign.{CallSign}
+use Rattle.client_notes.specs.Limits.{longest_file}
+use Rattle.client_notes.specs.Notes.{Lists, got_of}
+use Rattle.ftl0_job.specs.Download.{new_download}
+use Rattle.ftl0_job.specs.JobState.{NotesGoWith}
+use Rattle.ftl0_job.specs.Table.{JobState, new_job}
+use Rattle.ftl0_job.specs.declared.work.Work.TheVariants as work
 use Rattle.disk_model.specs.declared.disk.Disk.{Ghosts}
 use Rattle.air_rehearsal.specs.declared.party.Party.{Party}
-use Rattle.air_rehearsal.specs.Ready.{AreReady, IsReadyParty}
+use Rattle.air_rehearsal.specs.declared.stations.Stations.{Stations}
+use Rattle.air_rehearsal.specs.Ready.{AreReady, IsReadyParty, KeepsClients}
 
 -- the element at a place of a list of which one is another now
 at_set : {X : Type 0} (xs : List X) (i j : ℕ) (x y : X) → slice_get (slice_set xs i x) j ≡ Some y
@@ -34,6 +42,34 @@ at_more (z ∷ zs) (suc j) x y at = elim (at_more zs j x y at) [
 pub read_at : {X : Type 0} (xs : List X) (i : ℕ) (x : X) → i < length xs → x ≡ slice_index_or xs i x
     → slice_get xs i ≡ Some x
 read_at xs i x within is = slice_get_read xs (length xs) i x refl within is
+
+kept_at :
+    (old new : Stations) → KeepsClients old new → (c : ℕ) (party : Party) → slice_get new.parties.items c ≡ Some party
+    → slice_get old.parties.items c ≡ Some party
+kept_at old new keeps c party at =
+    let same : new.parties ≡ old.parties = keeps.parties in cc
+
+-- the clients are ready where none of them was touched
+pub kept_ready :
+    {D : Type 0} (g : Ghosts D) (old new : Stations) (disks : List D) → KeepsClients old new
+    → AreReady g old.parties.items disks → AreReady g new.parties.items disks
+kept_ready g old new disks keeps ready c party disk at at_disk =
+    ready c party disk (kept_at old new keeps c party at) at_disk
+
+-- where nothing stopped
+pub kept_unless :
+    {D T E : Type 0} (g : Ghosts D) (result : Result T E) (old new : Stations) (disks : List D) → KeepsClients old new
+    → AreReady g old.parties.items disks → OnOk result (AreReady g new.parties.items disks)
+kept_unless g (Ok done) old new disks keeps ready = kept_ready g old new disks keeps ready
+kept_unless g (Err stop) old new disks keeps ready = tt
+
+-- the notes go with a download that was just made
+pub download_goes :
+    (lists : Lists) (server : CallSign) (number held : ℕ) → held ≡ length (got_of lists server number)
+    → held ≤ longest_file → (job : JobState) → job ≡ new_job (work.Download (new_download server number))
+    → NotesGoWith lists job
+download_goes lists server number held is most job job_is =
+    subst (NotesGoWith lists) (sym job_is) (record { fits = omega (arith, is, most); checked = tt })
 
 module _ {D : Type 0} (g : Ghosts D) (parties : List Party) (disks : List D) (ready : AreReady g parties disks) where
   -- a client, with its disk, is another one that is ready

@@ -46,6 +46,7 @@ pub fn rehearse<B: CutDisk>(
     let Some((disk, disks)) = bench.as_mut_slice().split_first_mut() else {
         return Err(RehearseStop::OutOfMemory);
     };
+    schedule.fits_law();
     let mut stations = Stations::open(alloc, disks, schedule.window(), schedule.clients())?;
     let mut server = stations.start(disk)?;
     let mut line = 2 + schedule.clients().len() as u64;

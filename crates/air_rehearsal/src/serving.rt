@@ -153,6 +153,9 @@ impl Stations {
         while server.next_out(&mut out) {
             self.send(out.as_slice())?;
         }
+        if server.pending() {
+            return Err(OutOfMemory);
+        }
         Ok(())
     }
 
