@@ -4,3 +4,4 @@ mod CutsTold
 mod ImagesThrough
 mod OneReport
 mod Promised
+pub mod ReadyLemmas

@@ -2,6 +2,7 @@ pub mod Chain
 pub mod Drawn
 pub mod Generator
 pub mod Played
+pub mod Ready
 pub mod Rehearsed
 pub mod Report
 pub mod Standing

@@ -103,6 +103,13 @@ impl Schedule {
         &self.events
     }
 
+    /// A law, which does nothing: the window, the clients and the events keep to their ranges.
+    pub fn fits_law(&self)
+        ensures { IsSchedule self.now }
+    {
+        let _window = self.window;
+    }
+
     /// Takes the next line, without its LF. Takes memory.
     fn add(&mut self, alloc: Global, line: &[u8]) -> Result<(), LineFault>
         ensures taken { OnOk result ((said : Line) × LineText said line.now
