@@ -15,7 +15,8 @@ front-of-event w lists a frame before item behind packets none =
     let heard : Attempted = after_hearing w a frame in
     let taken : Happened = taking lists heard before in
     let own : List NotesCommand = (job_row (after_all lists taken.noted) taken.after.job item).commands in
-    let front = noted-front lists heard before item behind none in
-    (front.0,
-    ap (λ (items : List Item). (taking lists heard items).noted) packets ∙ front.1
-    ∙ sym (append_assoc taken.noted own front.0))
+    let front = noted-front lists heard before item behind none in (
+      front.0,
+      ap (λ (items : List Item). (taking lists heard items).noted) packets ∙ front.1
+          ∙ sym (append_assoc taken.noted own front.0),
+    )

@@ -12,18 +12,20 @@ pub loop-preserved : goal.loop-preserved
 loop-preserved g c =
     let before = c.loop.invariant.0 in
     let length_is = c.loop.invariant.1 in
-    let same = c.apply_next.ensures.reads.only.same_content in
-    ((
-      c.apply_next.ensures.stands_on,
-      grind (arith, common_steps),
-      reads_on g.D.Disk g.met.D.Disk.lasts_on c.args.disk.now c.loop.disk c.apply_next.new.disk ⊥ ⊥ (λ none. none) before.2
-          (reads_same g.D.Disk c.loop.disk c.apply_next.new.disk _ ⊥ (λ is. cc (sym is ∙ c.in_ok-apply_next.was)) (λ none. absurd none) c.apply_next.ensures.reads),
-      grind (arith, common_steps, on_more),
-      grind (arith, common_steps),
-    ), record {
-      told = subst (λ (content : Option (List ℕ)). IfSome content (λ octets. c.in_ok-end.end ≡ length octets)) (sym same) length_is.told;
-      most = length_is.most;
-    })
+    let same = c.apply_next.ensures.reads.only.same_content in (
+      (
+        c.apply_next.ensures.stands_on,
+        grind (arith, common_steps),
+        reads_on g.D.Disk g.met.D.Disk.lasts_on c.args.disk.now c.loop.disk c.apply_next.new.disk ⊥ ⊥ (λ none. none) before.2
+            (reads_same g.D.Disk c.loop.disk c.apply_next.new.disk _ ⊥ (λ is. cc (sym is ∙ c.in_ok-apply_next.was)) (λ none. absurd none) c.apply_next.ensures.reads),
+        grind (arith, common_steps, on_more),
+        grind (arith, common_steps),
+      ),
+      record {
+        told = subst (λ (content : Option (List ℕ)). IfSome content (λ octets. c.in_ok-end.end ≡ length octets)) (sym same) length_is.told;
+        most = length_is.most;
+      },
+    )
 
 pub returns-clause-all : goal.returns-clause-all
 returns-clause-all g c healthy memory = grind (arith, common_steps, all_read, on_end)
