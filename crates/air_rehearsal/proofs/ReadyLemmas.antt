@@ -56,6 +56,11 @@ pub kept_ready :
 kept_ready g old new disks keeps ready c party disk at at_disk =
     ready c party disk (kept_at old new keeps c party at) at_disk
 
+pub same_ready :
+    {D : Type 0} (g : Ghosts D) (old new : Stations) (disks : List D) → new ≡ old
+    → AreReady g old.parties.items disks → AreReady g new.parties.items disks
+same_ready g old new disks same ready = subst (λ (s : Stations). AreReady g s.parties.items disks) (sym same) ready
+
 -- where nothing stopped
 pub kept_unless :
     {D T E : Type 0} (g : Ghosts D) (result : Result T E) (old new : Stations) (disks : List D) → KeepsClients old new

@@ -213,7 +213,9 @@ impl Driver {
     }
 
     /// What the client is asked for, if it is free.
-    fn wish(&mut self, client: u64) -> Option<Event> {
+    fn wish(&mut self, client: u64) -> Option<Event>
+        ensures { self.new.stations ≡ self.old.stations }
+    {
         let party = self.stations.party(client)?;
         if !party.is_free() {
             return None;
@@ -318,14 +320,31 @@ impl Driver {
             for _ in 0..times {
                 server = self.play(server, disk, disks, way.delivery(client, place))?;
             }
-            if let Some(late) = late.take() {
-                server = self.play(server, disk, disks, way.delivery(client, late))?;
-            }
-            if drawn == 2 && !is_last {
-                late = Some(place);
-            }
+            server = self.deliver_late(server, disk, disks, client, way, late)?;
+            late = put_off(drawn == 2 && !is_last, place);
         }
         Ok(server)
+    }
+
+    /// The transmission at this place is delivered, if one was put off.
+    fn deliver_late<B: CutDisk>(
+        &mut self,
+        server: Server,
+        disk: &mut B,
+        disks: &mut [B],
+        client: u64,
+        way: Way,
+        late: Option<usize>,
+    ) -> Result<Server, OutOfMemory>
+        requires server { IsReadyServer B.Disk self.old.stations server disk.old }
+        requires clients { AreReady B.Disk self.old.stations.parties.items disks.old }
+        ensures server { IfOk result (λ server. IsReadyServer B.Disk self.new.stations server disk.new) }
+        ensures clients { OnOk result (AreReady B.Disk self.new.stations.parties.items disks.new) }
+    {
+        match late {
+            Some(place) => self.play(server, disk, disks, way.delivery(client, place)),
+            None => Ok(server),
+        }
     }
 
     /// The client may be broken off; or the next event of it or of the server is to be cut.
@@ -341,21 +360,40 @@ impl Driver {
         ensures server { IfOk result (λ server. IsReadyServer B.Disk self.new.stations server disk.new) }
         ensures clients { OnOk result (AreReady B.Disk self.new.stations.parties.items disks.new) }
     {
-        let event = match self.draws.next() % 8 {
-            0 => Event::BreakClient { client },
-            1 => Event::CutClient {
-                client,
-                call: self.draws.next() % 9 + 1,
-                choice: self.draws.next(),
-            },
-            2 => Event::CutServer {
-                call: self.draws.next() % 9 + 1,
-                choice: self.draws.next(),
-            },
-            _ => return Ok(server),
-        };
-        self.play(server, disk, disks, event)
+        match self.trouble(client) {
+            Some(event) => self.play(server, disk, disks, event),
+            None => Ok(server),
+        }
     }
+
+    /// What is drawn for the end of the client's turn, if anything is.
+    fn trouble(&mut self, client: u64) -> Option<Event>
+        ensures { self.new.stations ≡ self.old.stations }
+    {
+        match self.draws.next() % 8 {
+            0 => Some(Event::BreakClient { client }),
+            1 => {
+                let call = self.draws.next() % 9 + 1;
+                let choice = self.draws.next();
+                Some(Event::CutClient {
+                    client,
+                    call,
+                    choice,
+                })
+            }
+            2 => {
+                let call = self.draws.next() % 9 + 1;
+                let choice = self.draws.next();
+                Some(Event::CutServer { call, choice })
+            }
+            _ => None,
+        }
+    }
+}
+
+/// The place of what is put off, if it is.
+fn put_off(is_late: bool, place: usize) -> Option<usize> {
+    if is_late { Some(place) } else { None }
 }
 
 /// How many attempts the client of this number made.
