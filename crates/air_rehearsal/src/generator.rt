@@ -96,10 +96,10 @@ struct Driver {
 /// Plays so many rounds of three clients' turns over nine disks, as [`rehearse`] does a schedule. The same numbers give
 /// the same events. Takes memory.
 ///
-/// In its turn a client that is free goes on with its unfinished upload, if it has one; or it downloads the last file that
-/// was acknowledged, or uploads a new one. Then the two stations exchange frames, of which some are lost, delivered twice
-/// or delivered late, until the client is done, or has had 20 exchanges. At the end it may be broken off, or a cut of its
-/// power or the server's may wait for the next event.
+/// In its turn a client that is free goes on with its unfinished upload, if it has one; or it downloads the last file
+/// that was acknowledged, or uploads a new one. Then the two stations exchange frames, of which some are lost,
+/// delivered twice or delivered late, until the client is done, or has had 20 exchanges. At the end it may be broken
+/// off, or a cut of its power or the server's may wait for the next event.
 ///
 /// [`rehearse`]: crate::rehearse
 pub fn drive<B: CutDisk>(
@@ -262,8 +262,8 @@ impl Driver {
         Ok(server)
     }
 
-    /// The transmissions of the client that weren't looked at are on the air, and then those of the server. Where neither
-    /// has one, both stations count a tick.
+    /// The transmissions of the client that weren't looked at are on the air, and then those of the server. Where
+    /// neither has one, both stations count a tick.
     fn exchange<B: CutDisk>(
         &mut self,
         server: Server,
@@ -280,14 +280,30 @@ impl Driver {
         let from = looked.to_server;
         looked.to_server = count_to_server(&self.stations, client);
         let is_silent = from == looked.to_server;
-        let server = self.carry(server, disk, disks, client, Way::ToServer, from, looked.to_server)?;
+        let server = self.carry(
+            server,
+            disk,
+            disks,
+            client,
+            Way::ToServer,
+            from,
+            looked.to_server,
+        )?;
         let from = looked.to_client;
         looked.to_client = count_to_client(&self.stations, client);
         if is_silent && from == looked.to_client {
             let server = self.play(server, disk, disks, Event::TickClient { client })?;
             return self.play(server, disk, disks, Event::TickServer);
         }
-        self.carry(server, disk, disks, client, Way::ToClient, from, looked.to_client)
+        self.carry(
+            server,
+            disk,
+            disks,
+            client,
+            Way::ToClient,
+            from,
+            looked.to_client,
+        )
     }
 
     /// The transmissions from the first of these places up to the other one are on the air.
