@@ -1,6 +1,6 @@
 -- Clients stay ready where one of them takes part in an event.
-use Rattle.std.proofs.Common.{◌≡◌, ◌≢◌, ◌⊎◌, ℕ, zero, suc, ◌<◌, ◌≤◌, List, [], ◌∷◌, ◌++◌, length, Option, Some, Result, Ok, Err}
-use Rattle.std.proofs.Common.{refl, sym, ap, ◌∙◌, subst, inl, inr, arith}
+use Rattle.std.proofs.Common.{◌≡◌, ◌≢◌, ◌⊎◌, ℕ, zero, suc, ◌<◌, ◌≤◌, List, [], ◌∷◌, ◌++◌, length, Some, Result, Ok, Err}
+use Rattle.std.proofs.Common.{refl, sym, ap, subst, inl, inr, arith}
 use Rattle.std.specs.Prelude.{slice_get, slice_set, slice_index_or, OnOk}
 use Rattle.std.proofs.lemmas.Option.{same_Some, slice_get_read}
 use Rattle.px_base.specs.CallSign.{CallSign}
@@ -55,6 +55,11 @@ pub kept_ready :
     → AreReady g old.parties.items disks → AreReady g new.parties.items disks
 kept_ready g old new disks keeps ready c party disk at at_disk =
     ready c party disk (kept_at old new keeps c party at) at_disk
+
+pub same_ready :
+    {D : Type 0} (g : Ghosts D) (old new : Stations) (disks : List D) → new ≡ old
+    → AreReady g old.parties.items disks → AreReady g new.parties.items disks
+same_ready g old new disks same ready = subst (λ (s : Stations). AreReady g s.parties.items disks) (sym same) ready
 
 -- where nothing stopped
 pub kept_unless :

@@ -1,5 +1,5 @@
 -- What the stations of a rehearsal need before an event.
-use Rattle.std.specs.Prelude.{◌≡◌, ◌≢◌, ℕ, ◌≤◌, List, length, slice_get, false, Some, ⊤}
+use Rattle.std.specs.Prelude.{◌≡◌, ℕ, ◌≤◌, List, length, slice_get, false, Some, ⊤}
 use Rattle.ax25_link.specs.Window.{IsGoodK}
 use Rattle.disk_model.specs.declared.disk.Disk.{Ghosts}
 use Rattle.client_notes.specs.Limits.{longest_file}

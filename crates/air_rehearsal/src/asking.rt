@@ -22,7 +22,9 @@ pub(crate) struct Upload {
 pub(crate) fn file_of(alloc: Global, upload: u32, octets: u16) -> Result<FileBytes, OutOfMemory> {
     let body = body_of(alloc, upload, octets)?;
     let mut builder = HeaderBuilder::new(alloc, *b"FILE    ", *b"BIN", 0, 0, 0, 0)?;
-    if builder.put(AX25_UPLOADER, b"      ").is_err() || builder.put(UPLOAD_TIME, &[0; 4]).is_err() {
+    if builder.put(AX25_UPLOADER, b"      ").is_err()
+        || builder.put(UPLOAD_TIME, &[0; 4]).is_err()
+    {
         return Err(OutOfMemory);
     }
     match builder.finish(body.as_slice()) {

@@ -28,8 +28,8 @@ impl Attempt {
         }
     }
 
-    /// The client sends a frame with these octets. A SABM begins an attempt, and nothing of the one before is delivered any
-    /// more. Takes memory.
+    /// The client sends a frame with these octets. A SABM begins an attempt, and nothing of the one before is delivered
+    /// any more. Takes memory.
     pub(crate) fn send_to_server(&mut self, octets: &[u8]) -> Result<(), OutOfMemory> {
         let Ok(frame) = read_frame(octets) else {
             return Ok(());
@@ -49,9 +49,9 @@ impl Attempt {
         self.is_answered = false;
     }
 
-    /// The server sends the client a frame of this kind with these octets. UA says that a session answered this attempt. A
-    /// frame of a session is of the attempt that it answered; where that is an older one, nobody hears the frame any more.
-    /// DM is sent where there is no session, and is of this attempt. Takes memory.
+    /// The server sends the client a frame of this kind with these octets. UA says that a session answered this
+    /// attempt. A frame of a session is of the attempt that it answered; where that is an older one, nobody hears the
+    /// frame any more. DM is sent where there is no session, and is of this attempt. Takes memory.
     pub(crate) fn send_to_client(
         &mut self,
         octets: &[u8],

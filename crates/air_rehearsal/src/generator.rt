@@ -96,10 +96,10 @@ struct Driver {
 /// Plays so many rounds of three clients' turns over nine disks, as [`rehearse`] does a schedule. The same numbers give
 /// the same events. Takes memory.
 ///
-/// In its turn a client that is free goes on with its unfinished upload, if it has one; or it downloads the last file that
-/// was acknowledged, or uploads a new one. Then the two stations exchange frames, of which some are lost, delivered twice
-/// or delivered late, until the client is done, or has had 20 exchanges. At the end it may be broken off, or a cut of its
-/// power or the server's may wait for the next event.
+/// In its turn a client that is free goes on with its unfinished upload, if it has one; or it downloads the last file
+/// that was acknowledged, or uploads a new one. Then the two stations exchange frames, of which some are lost,
+/// delivered twice or delivered late, until the client is done, or has had 20 exchanges. At the end it may be broken
+/// off, or a cut of its power or the server's may wait for the next event.
 ///
 /// [`rehearse`]: crate::rehearse
 pub fn drive<B: CutDisk>(
@@ -213,7 +213,9 @@ impl Driver {
     }
 
     /// What the client is asked for, if it is free.
-    fn wish(&mut self, client: u64) -> Option<Event> {
+    fn wish(&mut self, client: u64) -> Option<Event>
+        ensures { self.new.stations ≡ self.old.stations }
+    {
         let party = self.stations.party(client)?;
         if !party.is_free() {
             return None;
@@ -260,8 +262,8 @@ impl Driver {
         Ok(server)
     }
 
-    /// The transmissions of the client that weren't looked at are on the air, and then those of the server. Where neither
-    /// has one, both stations count a tick.
+    /// The transmissions of the client that weren't looked at are on the air, and then those of the server. Where
+    /// neither has one, both stations count a tick.
     fn exchange<B: CutDisk>(
         &mut self,
         server: Server,
@@ -278,14 +280,30 @@ impl Driver {
         let from = looked.to_server;
         looked.to_server = count_to_server(&self.stations, client);
         let is_silent = from == looked.to_server;
-        let server = self.carry(server, disk, disks, client, Way::ToServer, from, looked.to_server)?;
+        let server = self.carry(
+            server,
+            disk,
+            disks,
+            client,
+            Way::ToServer,
+            from,
+            looked.to_server,
+        )?;
         let from = looked.to_client;
         looked.to_client = count_to_client(&self.stations, client);
         if is_silent && from == looked.to_client {
             let server = self.play(server, disk, disks, Event::TickClient { client })?;
             return self.play(server, disk, disks, Event::TickServer);
         }
-        self.carry(server, disk, disks, client, Way::ToClient, from, looked.to_client)
+        self.carry(
+            server,
+            disk,
+            disks,
+            client,
+            Way::ToClient,
+            from,
+            looked.to_client,
+        )
     }
 
     /// The transmissions from the first of these places up to the other one are on the air.
@@ -318,14 +336,31 @@ impl Driver {
             for _ in 0..times {
                 server = self.play(server, disk, disks, way.delivery(client, place))?;
             }
-            if let Some(late) = late.take() {
-                server = self.play(server, disk, disks, way.delivery(client, late))?;
-            }
-            if drawn == 2 && !is_last {
-                late = Some(place);
-            }
+            server = self.deliver_late(server, disk, disks, client, way, late)?;
+            late = put_off(drawn == 2 && !is_last, place);
         }
         Ok(server)
+    }
+
+    /// The transmission at this place is delivered, if one was put off.
+    fn deliver_late<B: CutDisk>(
+        &mut self,
+        server: Server,
+        disk: &mut B,
+        disks: &mut [B],
+        client: u64,
+        way: Way,
+        late: Option<usize>,
+    ) -> Result<Server, OutOfMemory>
+        requires server { IsReadyServer B.Disk self.old.stations server disk.old }
+        requires clients { AreReady B.Disk self.old.stations.parties.items disks.old }
+        ensures server { IfOk result (λ server. IsReadyServer B.Disk self.new.stations server disk.new) }
+        ensures clients { OnOk result (AreReady B.Disk self.new.stations.parties.items disks.new) }
+    {
+        match late {
+            Some(place) => self.play(server, disk, disks, way.delivery(client, place)),
+            None => Ok(server),
+        }
     }
 
     /// The client may be broken off; or the next event of it or of the server is to be cut.
@@ -341,21 +376,40 @@ impl Driver {
         ensures server { IfOk result (λ server. IsReadyServer B.Disk self.new.stations server disk.new) }
         ensures clients { OnOk result (AreReady B.Disk self.new.stations.parties.items disks.new) }
     {
-        let event = match self.draws.next() % 8 {
-            0 => Event::BreakClient { client },
-            1 => Event::CutClient {
-                client,
-                call: self.draws.next() % 9 + 1,
-                choice: self.draws.next(),
-            },
-            2 => Event::CutServer {
-                call: self.draws.next() % 9 + 1,
-                choice: self.draws.next(),
-            },
-            _ => return Ok(server),
-        };
-        self.play(server, disk, disks, event)
+        match self.trouble(client) {
+            Some(event) => self.play(server, disk, disks, event),
+            None => Ok(server),
+        }
     }
+
+    /// What is drawn for the end of the client's turn, if anything is.
+    fn trouble(&mut self, client: u64) -> Option<Event>
+        ensures { self.new.stations ≡ self.old.stations }
+    {
+        match self.draws.next() % 8 {
+            0 => Some(Event::BreakClient { client }),
+            1 => {
+                let call = self.draws.next() % 9 + 1;
+                let choice = self.draws.next();
+                Some(Event::CutClient {
+                    client,
+                    call,
+                    choice,
+                })
+            }
+            2 => {
+                let call = self.draws.next() % 9 + 1;
+                let choice = self.draws.next();
+                Some(Event::CutServer { call, choice })
+            }
+            _ => None,
+        }
+    }
+}
+
+/// The place of what is put off, if it is.
+fn put_off(is_late: bool, place: usize) -> Option<usize> {
+    if is_late { Some(place) } else { None }
 }
 
 /// How many attempts the client of this number made.

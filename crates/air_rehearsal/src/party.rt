@@ -9,9 +9,9 @@ ghost use Rattle.ftl0_client.specs.ClientState.{IsFree};
 ghost use Rattle.node.specs.Events.{IsFor};
 ghost use Rattle.air_rehearsal.specs.Ready.{IsReadyParty, IsTheirs, KeepsParty};
 
+use crate::asking::sum_of;
 use crate::attempt::Attempt;
 use crate::cuts::Cut;
-use crate::asking::sum_of;
 use crate::tasks::Tasks;
 use arrayvec::ArrayVec;
 use ax25_frames::{Frame, read_frame};
@@ -93,12 +93,14 @@ impl Party {
 
     /// The last upload whose task is unfinished, if there is one.
     pub(crate) fn unfinished(&self) -> Option<u32> {
-        self.tasks.last_going(self.client.notes(), self.server, self.me)
+        self.tasks
+            .last_going(self.client.notes(), self.server, self.me)
     }
 
     /// The number on the server of the last file that was acknowledged, if one was.
     pub(crate) fn last_acked(&self) -> Option<u32> {
-        self.tasks.last_acked(self.client.notes(), self.server, self.me)
+        self.tasks
+            .last_acked(self.client.notes(), self.server, self.me)
     }
 
     /// Looks for the task of the upload that was asked last: where it was begun, it is the last task. Takes memory.

@@ -14,8 +14,8 @@ use ftl0_server::Server;
 use px_base::{FileBytes, OutOfMemory};
 
 impl Stations {
-    /// Plays an event that may come, over the server's disk and the clients'. Where memory is wanting the server is closed.
-    /// Takes memory.
+    /// Plays an event that may come, over the server's disk and the clients'. Where memory is wanting the server is
+    /// closed. Takes memory.
     pub(crate) fn play<B: CutDisk>(
         &mut self,
         server: Server,
@@ -46,11 +46,7 @@ impl Stations {
     }
 
     /// Plays an event in which the server takes no part. Takes memory.
-    fn play_apart<B: CutDisk>(
-        &mut self,
-        disks: &mut [B],
-        event: &Event,
-    ) -> Result<(), OutOfMemory>
+    fn play_apart<B: CutDisk>(&mut self, disks: &mut [B], event: &Event) -> Result<(), OutOfMemory>
         requires window { IsGoodK self.old.k }
         requires clients { AreReady B.Disk self.old.parties.items disks.old }
         ensures clients { OnOk result (AreReady B.Disk self.new.parties.items disks.new) }
@@ -98,11 +94,7 @@ impl Stations {
     }
 
     /// A client starts again from its notes. Takes memory.
-    fn break_client<B: CutDisk>(
-        &mut self,
-        disks: &mut [B],
-        client: u64,
-    ) -> Result<(), OutOfMemory>
+    fn break_client<B: CutDisk>(&mut self, disks: &mut [B], client: u64) -> Result<(), OutOfMemory>
         requires window { IsGoodK self.old.k }
         requires clients { AreReady B.Disk self.old.parties.items disks.old }
         ensures clients { OnOk result (AreReady B.Disk self.new.parties.items disks.new) }
@@ -190,11 +182,7 @@ impl Stations {
     }
 
     /// A client is asked for a new upload, with a body of so many octets. Takes memory.
-    fn new_upload(
-        &mut self,
-        client: u64,
-        octets: u16,
-    ) -> Result<Option<(usize, Part)>, OutOfMemory>
+    fn new_upload(&mut self, client: u64, octets: u16) -> Result<Option<(usize, Part)>, OutOfMemory>
         ensures { KeepsClients self.old self.new }
     {
         let Some(c) = place_of(client) else {

@@ -31,11 +31,11 @@ impl From<OutOfMemory> for RehearseStop {
     }
 }
 
-/// Plays a schedule over nine disks: the server's, and those of the clients in their order. The others stay as they are.
-/// Takes memory.
+/// Plays a schedule over nine disks: the server's, and those of the clients in their order. The others stay as they
+/// are. Takes memory.
 ///
-/// `Unlawful` comes exactly where an event may not come, for the first such one. Either way the disks hold what the events
-/// before wrote.
+/// `Unlawful` comes exactly where an event may not come, for the first such one. Either way the disks hold what the
+/// events before wrote.
 pub fn rehearse<B: CutDisk>(
     alloc: Global,
     schedule: &Schedule,

@@ -82,7 +82,10 @@ impl fmt::Display for Report {
             fetched,
             cuts,
         } = *self;
-        write!(f, "events {events} asked {asked} acked {acked} kept {kept} ")?;
+        write!(
+            f,
+            "events {events} asked {asked} acked {acked} kept {kept} "
+        )?;
         write!(f, "refused {refused} fetched {fetched} cuts {cuts}")
     }
 }

@@ -97,8 +97,8 @@ impl Stations {
         }
     }
 
-    /// The server has done its event so. It sends what it has to send; but where the event is cut nothing is sent, power is
-    /// lost, and the server starts again from its disk. Takes memory.
+    /// The server has done its event so. It sends what it has to send; but where the event is cut nothing is sent,
+    /// power is lost, and the server starts again from its disk. Takes memory.
     fn end_event<B: CutDisk>(
         &mut self,
         server: Server,

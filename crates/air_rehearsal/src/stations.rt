@@ -138,9 +138,7 @@ impl Stations {
     /// Whether it may be asked for a new file.
     fn may_upload(&self, client: u64) -> bool {
         match self.party(client) {
-            Some(party) => {
-                party.is_free() && party.tasks.uploads.len() < MOST_TASKS as usize
-            }
+            Some(party) => { party.is_free() && party.tasks.uploads.len() < MOST_TASKS as usize }
             None => false,
         }
     }

@@ -73,7 +73,12 @@ fn with_lines(alloc: Global, text: &str) -> Result<Vec<u8>> {
 fn seed(alloc: Global, text: &str) -> Result<String> {
     let (seed, count) = text.split_once(' ').context("no count")?;
     let mut bench = fuses(alloc)?;
-    let report = drive(alloc, seed.parse::<u64>()?, count.parse::<u32>()?, &mut bench)?;
+    let report = drive(
+        alloc,
+        seed.parse::<u64>()?,
+        count.parse::<u32>()?,
+        &mut bench,
+    )?;
     Ok(format!(in alloc; "{report}")?)
 }
 

@@ -1,5 +1,5 @@
 -- The name has an octet.
-use Rattle.std.proofs.Common.{rules, sym, ap, ◌∙◌, arith}
+use Rattle.std.proofs.Common.{rules, arith}
 use Rattle.std.proofs.lemmas.Fmt.{decimal_nonempty}
 use Rattle.air_rehearsal.proofs.party.Party.ask_upload.Goals as goal
 
