@@ -3,7 +3,7 @@
 //!
 //! - `text TEXT`: the schedule of this text, in which `|` stands for LF.
 //! - `log TEXT`: the same over disks that tell what their power cuts left: behind the line, how often each lost power.
-//! - `seed N COUNT`: what is drawn by this number, in so many rounds.
+//! - `seed N COUNT`: what is drawn by this number, in so many rounds; `log-seed` the same over such disks.
 //! - `seeds FIRST LAST COUNT`: of all these numbers together, how many uploads were acknowledged and how many files
 //!   fetched, how many cuts came, and for how many numbers not all were kept.
 #![tactic(auto)]

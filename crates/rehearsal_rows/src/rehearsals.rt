@@ -6,7 +6,7 @@ use crate::bench::{fuses, logs};
 use air_rehearsal::{RehearseStop, drive, rehearse};
 use air_schedule::{Schedule, ScheduleFault};
 use anyhow::{Context, Result, bail};
-use disk_model::CutDisk;
+use disk_model::{CutDisk, LogDisk};
 use row_words::Player;
 use std::alloc::Global;
 
@@ -21,6 +21,7 @@ impl Player for RehearsalRows {
             "text" => text(alloc, rest),
             "log" => log(alloc, rest),
             "seed" => seed(alloc, rest),
+            "log-seed" => log_seed(alloc, rest),
             "seeds" => seeds(alloc, rest),
             _ => bail!("no kind of row"),
         }
@@ -35,9 +36,14 @@ fn text(alloc: Global, text: &str) -> Result<String> {
 
 /// `log TEXT`
 fn log(alloc: Global, text: &str) -> Result<String> {
-    let (mut shown, bench) = played(alloc, text, logs(alloc)?)?;
+    let (shown, bench) = played(alloc, text, logs(alloc)?)?;
+    with_restarts(alloc, shown, &bench)
+}
+
+/// A line, and behind it how often each of these disks lost power.
+fn with_restarts(alloc: Global, mut shown: String, bench: &[LogDisk]) -> Result<String> {
     shown.push_str(" |")?;
-    for disk in bench.iter() {
+    for disk in bench {
         let restarts = disk.restarts().len();
         shown.push_str(format!(in alloc; " {restarts}")?.as_str())?;
     }
@@ -76,15 +82,28 @@ fn with_lines(alloc: Global, text: &str) -> Result<Vec<u8>> {
 
 /// `seed N COUNT`
 fn seed(alloc: Global, text: &str) -> Result<String> {
+    let (shown, _) = drawn(alloc, text, fuses(alloc)?)?;
+    Ok(shown)
+}
+
+/// `log-seed N COUNT`
+fn log_seed(alloc: Global, text: &str) -> Result<String> {
+    let (shown, bench) = drawn(alloc, text, logs(alloc)?)?;
+    with_restarts(alloc, shown, &bench)
+}
+
+/// What is drawn by a number, in so many rounds, over these disks, and the disks then.
+fn drawn<B: CutDisk + Drop>(
+    alloc: Global,
+    text: &str,
+    mut bench: Vec<B>,
+) -> Result<(String, Vec<B>)>
+    requires { AreFresh B.Disk (cuts_by B.restarts B.arming B.plain B.is_starved) bench.items }
+{
     let (seed, count) = text.split_once(' ').context("no count")?;
-    let mut bench = fuses(alloc)?;
-    let report = drive(
-        alloc,
-        seed.parse::<u64>()?,
-        count.parse::<u32>()?,
-        &mut bench,
-    )?;
-    Ok(format!(in alloc; "{report}")?)
+    let (seed, count) = (seed.parse::<u64>()?, count.parse::<u32>()?);
+    let report = drive(alloc, seed, count, &mut bench)?;
+    Ok((format!(in alloc; "{report}")?, bench))
 }
 
 /// `seeds FIRST LAST COUNT`
