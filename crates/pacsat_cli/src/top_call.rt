@@ -31,7 +31,7 @@ use disk_model::Disk;
 use ftl0_client::laws::{one_step_law, stays_law};
 use node::laws::one_run_law;
 use px_base::{Air, Clock, Out, Shelf};
-use server_laws::{server_acknowledges_law, session_acknowledges_law};
+use server_node::laws::{server_acknowledges_law, session_acknowledges_law};
 use std::alloc::Global;
 
 /// Does what the words ask for, over this disk, air, shelf, output and clock, and shows the status's line on the output.

@@ -1,4 +1,3 @@
-mod AcknowledgedLemmas
 mod FrontLemmas
 mod HearingLemmas
 mod MissesLemmas

@@ -46,7 +46,6 @@ use Rattle.ftl0_server.specs.Connection.Taking.{Progress, after_due, after_row, 
 use Rattle.ftl0_server.specs.Connection.Taking.{taking}
 use Rattle.ftl0_server.proofs.Offered.{queued-alone}
 use Rattle.server_laws.specs.Rows.{ReceivesAfter, ReceivesBehind, ReceivesHeard, ReceivesLaw, ReceivesOwn}
-use Rattle.server_laws.proofs.AcknowledgedLemmas.{allowed_then}
 use Rattle.server_laws.proofs.RowLemmas.{commands_own, own-grow}
 
 -- ---- behind a row
@@ -184,12 +183,12 @@ queued-own caller store failures progress own =
 
 -- ---- behind a frame
 
--- the commands before others are allowed
-allowed-before : (first others : List Command) (store : Store) → AreAllowed store (first ++ others)
-    → AreAllowed store first
-allowed-before [] others store allowed = tt
-allowed-before (one ∷ first) others store allowed =
-    (allowed.0, allowed-before first others (after store one) allowed.1)
+-- of commands behind others the first are allowed, and behind them the others
+allowed-split : (first others : List Command) (store : Store) → AreAllowed store (first ++ others)
+    → AreAllowed store first × AreAllowed (after_all store first) others
+allowed-split [] others store allowed = (tt, allowed)
+allowed-split (one ∷ first) others store allowed =
+    let each = allowed-split first others (after store one) allowed.1 in ((allowed.0, each.0), each.1)
 
 -- what commands of a caller, each of them allowed, make of a store that keeps its rules keeps them
 row-rules : (caller : CallSign) (store : Store) (commands : List Command) → IsStore store → IsCall caller
@@ -227,8 +226,8 @@ module _ (caller : CallSign) (moment : ℕ) (call : IsCall caller) (failures : L
       (sym (after_all-append row.commands later.done session.store))
       (taking-own next (after_push end (texts row.replies)) items (suc part)
       (row-rules caller session.store row.commands is call commands
-      (allowed-before row.commands later.done session.store allowed)) behind
-      (allowed_then row.commands later.done session.store allowed)))
+      (allowed-split row.commands later.done session.store allowed).0) behind
+      (allowed-split row.commands later.done session.store allowed).1))
       (λ few allowed. behind))
 
 module _ (moment : ℕ) (store : Store) (lists : List CallerList) (c : Connected) (failures : List Failure)

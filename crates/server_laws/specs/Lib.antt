@@ -1,4 +1,3 @@
-pub mod Acknowledged
 pub mod Misses
 pub mod Places
 pub mod Rows

@@ -1,36 +1,10 @@
-//! Laws of the runs of `server_node`: what a session or a server acknowledges stands on its disk. And laws of the rows
-//! of a session's table, and of what a server does at an event.
+//! Laws of the rows of a session's table, and of what a server does at an event.
 #![tactic(auto)]
 
 ghost use Rattle.ftl0_server.specs.Entries.{HearingLaw};
-ghost use Rattle.node.specs.Lent.{seen};
-ghost use Rattle.server_laws.specs.Acknowledged.{ServerAcknowledgesLaw, SessionAcknowledgesLaw};
 ghost use Rattle.server_laws.specs.Misses.{FrontOfEventLaw, MissesLaw};
 ghost use Rattle.server_laws.specs.Places.{StepLaw};
 ghost use Rattle.server_laws.specs.Rows.{CallerLaw, DueReadsLaw, ReadsLaw, ReceivesLaw};
-
-use disk_model::Disk;
-use ftl0_server::connection::laws::taking_law;
-use ftl0_session::laws::acknowledged_stands_law;
-use px_base::{Air, Clock};
-
-/// What a session acknowledges stands: for each UL_ACK_RESP that it said a file is complete, with exactly the octets
-/// that came, stamped, in every image that a crash leaves since the last call of the disk for the commands of that
-/// reply's row, however the session goes on and ends. `Session::take` of `ftl0_session` makes that call before it gives
-/// the reply.
-pub fn session_acknowledges_law<D: Disk, A: Air, C: Clock>()
-    ensures { SessionAcknowledgesLaw (seen D.Disk A.Air C.given) }
-{
-    acknowledged_stands_law();
-}
-
-/// So it is with a server, for each packet of a caller to which UL_ACK_RESP is a reply.
-pub fn server_acknowledges_law<D: Disk, A: Air, C: Clock>()
-    ensures { ServerAcknowledgesLaw (seen D.Disk A.Air C.given) }
-{
-    acknowledged_stands_law();
-    taking_law();
-}
 
 /// Each frame but a SABM makes of a connection whose end is up what the session's packets make of it one after another:
 /// each that is taken, with its row of the session's table, and then each that is due.

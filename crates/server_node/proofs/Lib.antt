@@ -1,2 +1,3 @@
+mod AcknowledgedLemmas
 mod Ending
 mod StepsLemmas

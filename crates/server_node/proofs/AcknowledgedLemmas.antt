@@ -43,7 +43,7 @@ use Rattle.server_node.specs.OnAir.Serving.{server_steps}
 use Rattle.ftl0_server.proofs.Offered.{serves}
 use Rattle.node.specs.Events.{NodeEvent}
 use Rattle.node.specs.Lent.{Seen}
-use Rattle.server_laws.specs.Acknowledged.{AcknowledgedSince, FileEnd, MeetsEvent, ServerAcknowledgesLaw, SessionAcknowledgesLaw, TakesPacket, row_of_end, taken_first}
+use Rattle.server_node.specs.Acknowledged.{AcknowledgedSince, FileEnd, MeetsEvent, ServerAcknowledgesLaw, SessionAcknowledgesLaw, TakesPacket, row_of_end, taken_first}
 use Rattle.server_node.specs.OnAir.Served.{ServerRan, server_from}
 use Rattle.server_node.specs.Served.{IsServed, IsUnrecovered, Run}
 use Rattle.server_node.specs.Sessions.Running.{IsSaid, RunsAs, StopsAs, first_session, session_steps}
@@ -210,7 +210,7 @@ whole store number moment rest others (Some entry) is good allowed =
     (entry, holds.0, record { under_way = (is, holds.1); all = grind (arith, common_steps); good = grind (arith, common_steps) })
 
 -- the commands behind the first are allowed behind them
-pub allowed_then : (first others : List Command) (start : Store) → AreAllowed start (first ++ others) → AreAllowed (after_all start first) others
+allowed_then : (first others : List Command) (start : Store) → AreAllowed start (first ++ others) → AreAllowed (after_all start first) others
 allowed_then [] others start allowed = allowed
 allowed_then (one ∷ first) others start allowed = allowed_then first others (after start one) allowed.1
 
