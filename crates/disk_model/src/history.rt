@@ -215,8 +215,8 @@ impl History {
     }
 }
 
-/// Keeps the octets that a write finds, unless no write came before it since the last sync: the first one's aren't asked
-/// for. Takes memory.
+/// Keeps the octets that a write finds, unless no write came before it since the last sync: those of the first one
+/// aren't asked for. Takes memory.
 fn keep_found(kept: &mut Vec<u8>, here: &[u8], earlier: usize) -> Result<(), OutOfMemory> {
     if earlier > 0 {
         kept.extend_from_slice(here)?;

@@ -1,6 +1,6 @@
 //! The journal: recovery, reading, appending.
 
-ghost use Rattle.std.specs.Prelude.{◌≡◌, ◌↔◌, ℕ, ◌+◌, ◌^◌, ◌<◌, ◌≤◌, List, [], ◌∷◌, ◌++◌, length, true, false, IfOk, IfSome, IsErr, IsErrOf, None, OnErr, OnOk, OnSome};
+ghost use Rattle.std.specs.Prelude.{◌≡◌, ◌↔◌, ℕ, ◌+◌, ◌^◌, ◌<◌, ◌≤◌, List, [], ◌∷◌, ◌++◌, length, true, false, IfOk, IfSome, IsErr, IsErrOf, MatchResult, None, OnErr, OnOk, OnSome};
 ghost use Rattle.file_journal.specs.Appending.{Appends, LeavesAppending, LeavesBeforeOrAfter, TakesFour};
 ghost use Rattle.file_journal.specs.Calls.{IsQuietNow, Leaves, Puts, Reads, Runs, TakesStep};
 ghost use Rattle.file_journal.specs.Header.{AreBlocks};
@@ -273,20 +273,18 @@ impl Journal {
         text: &[u8],
     ) -> Result<(), DiskFault>
         requires stands_on { StandsOn D.Disk self.old disk.old }
-        requires healthy { self.old.failed ≡ false }
-        requires ended { self.old.ended ≡ true }
+        requires end { (self.old.failed ≡ false) × (self.old.ended ≡ true) }
         requires fits { IsRecord (record_of _kind _content.now) }
         requires text { text.now ≡ record_text (record_of _kind _content.now) ++ 0 ∷ [] }
         ensures stands_on { StandsOn D.Disk self.new disk.new }
-        ensures journal { self.new ≡ record self.old { place = self.new.place; failed = self.new.failed } }
+        ensures journal { (self.new ≡ record self.old { place = self.new.place; failed = self.new.failed })
+            × TakesFour D.Disk disk.old disk.new result }
         ensures ok { OnOk result (TakesStep D.Disk disk.old disk.new (Appends self.old (record_of _kind _content.now))) }
-        ensures quiet { OnOk result (IsQuietNow D.Disk disk.new) }
-        ensures fails { OnErr result (self.new ≡ record self.old { failed = true }) }
-        ensures goes_on { OnOk result (self.new.failed ≡ false) }
+        ensures ends { MatchResult result (λ _. IsQuietNow D.Disk disk.new × (self.new.failed ≡ false))
+            (λ _. self.new ≡ record self.old { failed = true }) }
         ensures puts { Puts D.Disk (IsErr result) disk.old disk.new }
         ensures any_moment { LeavesBeforeOrAfter D.Disk self.old (record_of _kind _content.now) disk.old disk.new }
         ensures since { LeavesAppending D.Disk self.old (record_of _kind _content.now) disk.old disk.new }
-        ensures calls { TakesFour D.Disk disk.old disk.new result }
     {
         match put_record(disk, self.place, text) {
             Ok(()) => {
