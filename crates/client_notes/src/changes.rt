@@ -11,8 +11,7 @@ ghost use Rattle.client_notes.specs.declared.noted_lists.Coming.TheVariants as c
 
 use crate::command::Command;
 use crate::noted_lists::{Coming, NotedLists};
-use arrayvec::ArrayVec;
-use file_journal::Change;
+use file_journal::{Change, RecordContent};
 
 /// A command that takes memory, and what it makes stands in the lists already.
 #[derive(Drop)]
@@ -43,8 +42,8 @@ impl<'a> Change<NotedLists> for Brought<'a> {
 
     ghost makes = { λ change old new. new.coming ≡ coming.Nothing };
 
-    fn write(&self, _noted: &NotedLists, room: &mut ArrayVec<u8, 600>) -> u8 {
-        self.command.write(room)
+    fn write(&self, _noted: &NotedLists, content: &mut RecordContent) -> u8 {
+        self.command.write(content)
     }
 
     fn make(&self, noted: &mut NotedLists) {
@@ -72,8 +71,8 @@ impl<'a> Change<NotedLists> for Direct<'a> {
 
     ghost makes = { λ change old new. new.coming ≡ coming.Nothing };
 
-    fn write(&self, _noted: &NotedLists, room: &mut ArrayVec<u8, 600>) -> u8 {
-        self.command.write(room)
+    fn write(&self, _noted: &NotedLists, content: &mut RecordContent) -> u8 {
+        self.command.write(content)
     }
 
     fn make(&self, noted: &mut NotedLists) {

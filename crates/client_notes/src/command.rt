@@ -7,7 +7,7 @@ ghost use Rattle.client_notes.specs.Records.{IsWritable, command_of, record_of_c
 
 use crate::reading::{read_acked, read_forgot, read_got, read_numbered, read_refused, read_start};
 use crate::writing::{put_acked, put_forgot, put_got, put_numbered, put_refused, put_start};
-use arrayvec::ArrayVec;
+use file_journal::RecordContent;
 use px_base::Call;
 
 /// A command that changes notes.
@@ -71,9 +71,9 @@ impl<'a> Command<'a> {
 
     /// Writes the command's content in place of what `content` holds, and gives the kind of its record. Takes no
     /// memory.
-    pub(crate) fn write(&self, content: &mut ArrayVec<u8, 600>) -> u8
+    pub(crate) fn write(&self, content: &mut RecordContent) -> u8
         requires { IsWritable (command_value self.now) }
-        ensures { record_of result content.new.items ≡ record_of_command (command_value self.now) }
+        ensures { record_of result content.new ≡ record_of_command (command_value self.now) }
     {
         match self {
             Command::Start {

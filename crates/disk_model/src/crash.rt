@@ -7,7 +7,7 @@ ghost use Rattle.disk_model.specs.Open.{LeaveOpen, StandsSince, standing};
 ghost use Rattle.disk_model.specs.Surface.{IsImage, count_of, place_of, surface_after};
 
 use crate::open_ranges::copy_open;
-use crate::open_write::OpenWrite;
+use crate::open_write::{OpenWrite, Written};
 use px_base::OutOfMemory;
 
 /// What becomes of the octets that may be any octet: each is this one, or is drawn.
@@ -89,7 +89,7 @@ pub(crate) fn lose_power(
     synced: &mut Vec<u8>,
     present: &mut Vec<u8>,
     calls: &[OpenWrite],
-    written: &[u8],
+    kept: &[u8],
     pick: u64,
 ) -> Result<(), OutOfMemory>
     requires { StandsSince synced.old.items calls.now present.old.items }
@@ -99,7 +99,7 @@ pub(crate) fn lose_power(
     ensures err { OnErr result (present.new.items ≡ present.old.items) }
 {
     let shared = synced.len();
-    crash(synced, present.as_slice(), calls, written, pick)?;
+    crash(synced, present.as_slice(), calls, kept, pick)?;
     copy_open(present, synced.as_slice(), shared, calls)
 }
 
@@ -109,7 +109,7 @@ fn crash(
     synced: &mut Vec<u8>,
     present: &[u8],
     calls: &[OpenWrite],
-    written: &[u8],
+    kept: &[u8],
     pick: u64,
 ) -> Result<(), OutOfMemory>
     requires { StandsSince synced.old.items calls.now present.now }
@@ -123,14 +123,19 @@ fn crash(
         let shared = synced.len();
         return copy_open(synced, present, shared, calls);
     }
-    tear_all(synced, calls, written, Pick::new(pick))
+    let written = Written {
+        writes: calls,
+        kept,
+        present,
+    };
+    tear_all(synced, calls, &written, Pick::new(pick))
 }
 
-/// Turns the octets that were synced before these writes into what a crash leaves of them, of which those were written.
+/// Turns the octets that were synced before these writes into what a crash leaves of them.
 fn tear_all(
     image: &mut Vec<u8>,
     calls: &[OpenWrite],
-    written: &[u8],
+    written: &Written<'_>,
     pick: Pick,
 ) -> Result<(), OutOfMemory>
     requires { LeaveOpen image.old.items calls.now }
@@ -150,7 +155,7 @@ fn tear_all(
 }
 
 /// Puts other octets in the range of a write, as picked for each; those past the end are left out.
-fn tear(image: &mut [u8], call: &OpenWrite, written: &[u8], pick: &mut Pick)
+fn tear(image: &mut [u8], call: &OpenWrite, written: &Written<'_>, pick: &mut Pick)
     ensures tears { Tears (place_of call.now) (count_of call.now) pick.old.octet image.old image.new }
     ensures same { pick.new.octet ≡ pick.old.octet }
     ensures octets { IsOctets image.new }

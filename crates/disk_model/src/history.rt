@@ -9,8 +9,8 @@ ghost use Rattle.disk_model.specs.declared.disk_call.DiskCall.TheVariants as Dis
 
 use crate::crash::lose_power;
 use crate::limits::ends_within;
-use crate::open_ranges::copy_open;
-use crate::open_write::OpenWrite;
+use crate::open_ranges::{catch_up, range_of};
+use crate::open_write::{Found, OpenWrite};
 use crate::overwriting::overwrite;
 use crate::past::{First, Past, Told};
 use px_base::OutOfMemory;
@@ -20,7 +20,7 @@ use std::alloc::Global;
 const ROOM: usize = 131_072;
 
 /// What was done to a disk, for proofs alone; the octets that a read gives, those that were synced last, and the writes
-/// since then, with their octets; and whether the disk is down. While it isn't, there is room for one write more, so
+/// since then, with what they found; and whether the disk is down. While it isn't, there is room for one write more, so
 /// that one that finds no memory leaves its range open. A disk that is lost, by a power cut that found no memory, is
 /// down from then on, and nothing is known of what was synced.
 #[derive(Drop)]
@@ -31,8 +31,8 @@ pub(crate) struct History {
     synced: Vec<u8>,
     /// The writes since then, in order.
     writes: Vec<OpenWrite>,
-    /// The octets of those that passed, one write behind another.
-    written: Vec<u8>,
+    /// The octets that those that passed found in their ranges, but for the first one, one write behind another.
+    kept: Vec<u8>,
     down: bool,
     lost: bool,
     ghost content: { present.items ≡ (surface_after past.first past.calls).content },
@@ -56,7 +56,7 @@ impl History {
             present: octets_with_room(alloc, bytes)?,
             synced: octets_with_room(alloc, bytes)?,
             writes: Vec::with_capacity(alloc, 1)?,
-            written: Vec::new(alloc),
+            kept: Vec::new(alloc),
             down: false,
             lost: false,
         })
@@ -90,11 +90,15 @@ impl History {
         ensures down { self.new.down ≡ self.old.down }
     {
         self.writes.reserve(2)?;
-        let from = self.written.len();
-        self.written.extend_from_slice(bytes)?;
+        let found = Found {
+            earlier: self.writes.len(),
+            kept: self.kept.len(),
+        };
+        let here = range_of(self.present.as_slice(), at, bytes.len() as u64);
+        keep_found(&mut self.kept, here, found.earlier)?;
         overwrite(&mut self.present, at, bytes)?;
         self.writes
-            .push(OpenWrite::new(at, bytes.len() as u64, Some(from)))
+            .push(OpenWrite::new(at, bytes.len() as u64, Some(found)))
             .unwrap();
         self.past = self.past.then(&Told::Write { at, bytes });
         Ok(())
@@ -167,16 +171,14 @@ impl History {
             self.past = self.past.then(&Told::FailedSync);
             return Ok(());
         }
-        let shared = self.synced.len();
-        copy_open(
+        catch_up(
             &mut self.synced,
             self.present.as_slice(),
-            shared,
             self.writes.as_slice(),
         )?;
         self.past = self.past.then(&Told::Sync);
         self.writes.clear();
-        self.written.clear();
+        self.kept.clear();
         Ok(())
     }
 
@@ -199,18 +201,27 @@ impl History {
             &mut self.synced,
             &mut self.present,
             self.writes.as_slice(),
-            self.written.as_slice(),
+            self.kept.as_slice(),
             pick,
         )?;
         self.past = self.past.then(&Told::PowerCut {
             left: self.synced.as_slice(),
         });
         self.writes.clear();
-        self.written.clear();
+        self.kept.clear();
         self.down = false;
         self.lost = false;
         Ok(())
     }
+}
+
+/// Keeps the octets that a write finds, unless no write came before it since the last sync: those of the first one
+/// aren't asked for. Takes memory.
+fn keep_found(kept: &mut Vec<u8>, here: &[u8], earlier: usize) -> Result<(), OutOfMemory> {
+    if earlier > 0 {
+        kept.extend_from_slice(here)?;
+    }
+    Ok(())
 }
 
 /// These octets, with room for more.

@@ -17,6 +17,13 @@ fn part_of<'a>(octets: &'a [u8], call: &OpenWrite) -> &'a [u8]
     &octets[call.place().min(length) as usize..call.end().min(length) as usize]
 }
 
+/// So many octets from this place on, as far as there are octets.
+pub(crate) fn range_of(octets: &[u8], at: u64, count: u64) -> &[u8] {
+    let length = octets.len() as u64;
+    let start = at.min(length);
+    &octets[start as usize..at.saturating_add(count).min(length) as usize]
+}
+
 /// Makes octets the same as others: before this length they are so but for the ranges that these calls left open. It
 /// costs the octets in these ranges and those behind this length. It changes nothing where there is no memory.
 pub(crate) fn copy_open(
@@ -33,6 +40,25 @@ pub(crate) fn copy_open(
     copy.reserve(others.len().saturating_sub(copy.len()))?;
     copy.truncate(shared);
     copy.extend_from_slice(&others[shared..]).unwrap();
+    copy_within(copy.as_mut_slice(), others, shared, calls);
+    Ok(())
+}
+
+/// Makes octets the same as others: they are so but for those behind their end, and for the ranges that these calls
+/// left open. It costs the octets there. It changes nothing where there is no memory.
+pub(crate) fn catch_up(
+    copy: &mut Vec<u8>,
+    others: &[u8],
+    calls: &[OpenWrite],
+) -> Result<(), OutOfMemory>
+    requires { DifferInRanges (length copy.old.items) calls.now copy.old.items others.now }
+    ensures ok { OnOk result (copy.new.items ≡ others.now) }
+    ensures err { OnErr result (copy.new.items ≡ copy.old.items) }
+{
+    let shared = copy.len();
+    if others.len() > shared {
+        copy.extend_from_slice(&others[shared..])?;
+    }
     copy_within(copy.as_mut_slice(), others, shared, calls);
     Ok(())
 }

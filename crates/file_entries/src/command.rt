@@ -8,7 +8,7 @@ ghost use Rattle.file_entries.specs.Records.{IsWritable, command_of, record_of_c
 
 use crate::reading::{read_begin, read_drop, read_grow, read_seal};
 use crate::writing::{put_begin, put_drop, put_grow, put_seal};
-use arrayvec::ArrayVec;
+use file_journal::RecordContent;
 use px_base::Call;
 
 /// A command that changes a store.
@@ -64,9 +64,9 @@ impl<'a> Command<'a> {
 
     /// Writes the command's content in place of what `content` holds, and gives the kind of its record. Takes no
     /// memory.
-    pub fn write(&self, content: &mut ArrayVec<u8, 600>) -> u8
+    pub fn write(&self, content: &mut RecordContent) -> u8
         requires { IsWritable (command_value self.now) }
-        ensures { record_of result content.new.items ≡ record_of_command (command_value self.now) }
+        ensures { record_of result content.new ≡ record_of_command (command_value self.now) }
     {
         match self {
             Command::Begin {

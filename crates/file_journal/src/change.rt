@@ -4,8 +4,7 @@ ghost use Rattle.std.specs.Prelude.{◌≡◌, [], Some};
 ghost use Rattle.file_journal.specs.Form.{Form, IsFormOf};
 ghost use Rattle.file_journal.specs.Records.{record_of};
 
-use crate::Ledger;
-use arrayvec::ArrayVec;
+use crate::{Ledger, RecordContent};
 
 /// A change of a ledger that one record keeps. Its record is on the disk before it is made, so where it may be made
 /// there is memory for it: nothing is on the disk that memory can't have.
@@ -31,12 +30,11 @@ pub trait Change<L: Ledger> {
     /// What it makes of a ledger, beside the state after it.
     ghost makes: { Self → L → L → Type 0 };
 
-    /// Writes its record: the kind, with the content in `room`, which is empty. Takes no memory.
-    fn write(&self, ledger: &L, room: &mut ArrayVec<u8, 600>) -> u8
-        requires empty { room.old.items ≡ [] }
+    /// Writes its record: the kind, with the content in place of what `content` holds. Takes no memory.
+    fn write(&self, ledger: &L, content: &mut RecordContent) -> u8
         requires may { may self.now ledger.now }
         ensures allowed { form.allowed (state ledger.now) (command self.now ledger.now) }
-        ensures steps { form.step (state ledger.now) (record_of result room.new.items)
+        ensures steps { form.step (state ledger.now) (record_of result content.new)
             ≡ Some (form.after (state ledger.now) (command self.now ledger.now)) };
 
     /// Makes it. Takes no memory.

@@ -1,17 +1,18 @@
 //! The journal: recovery, reading, appending.
 
-ghost use Rattle.std.specs.Prelude.{◌≡◌, ◌↔◌, ℕ, ◌+◌, ◌^◌, ◌<◌, ◌≤◌, List, length, true, false, IfOk, IfSome, IsErr, IsErrOf, None, OnErr, OnOk, OnSome};
+ghost use Rattle.std.specs.Prelude.{◌≡◌, ◌↔◌, ℕ, ◌+◌, ◌^◌, ◌<◌, ◌≤◌, List, [], ◌∷◌, ◌++◌, length, true, false, IfOk, IfSome, IsErr, IsErrOf, MatchResult, None, OnErr, OnOk, OnSome};
 ghost use Rattle.file_journal.specs.Appending.{Appends, LeavesAppending, LeavesBeforeOrAfter, TakesFour};
 ghost use Rattle.file_journal.specs.Calls.{IsQuietNow, Leaves, Puts, Reads, Runs, TakesStep};
 ghost use Rattle.file_journal.specs.Header.{AreBlocks};
 ghost use Rattle.file_journal.specs.Next.{AnswersNext, HasLength};
 ghost use Rattle.file_journal.specs.Position.{StandsOn};
-ghost use Rattle.file_journal.specs.Records.{IsRecord, record_of};
+ghost use Rattle.file_journal.specs.Records.{IsRecord, record_of, record_text};
 ghost use Rattle.file_journal.specs.Recovery.{IsRecovered, IsRecovering, LeavesSinceSync, Refuses};
 
+use crate::content::{RecordContent, close_text};
 use crate::format::{FIRST_GATE, finish_format, format_new};
 use crate::header::read_header;
-use crate::record::{RecordRoom, RecordText, encode_record, put_record, read_record};
+use crate::record::{RecordRoom, put_record, read_record};
 use crate::{JournalFault, RecoverFault};
 use arrayvec::ArrayVec;
 use disk_model::{Disk, DiskFault};
@@ -28,8 +29,6 @@ pub struct Journal {
     ended: bool,
     /// Whether a write or a sync failed.
     failed: bool,
-    /// The octets of the record that was put last.
-    text: RecordText,
 }
 
 impl Model for Journal {
@@ -117,7 +116,6 @@ impl Journal {
             place: FIRST_GATE,
             ended: false,
             failed: false,
-            text: RecordText::new(),
         }
     }
 
@@ -232,37 +230,65 @@ impl Journal {
         if self.failed {
             return Err(JournalFault::Failed);
         }
-        self.put(disk, kind, content)?;
+        let mut text = RecordContent::new();
+        text.put(content);
+        self.put(disk, kind, &mut text)?;
         Ok(())
     }
 
-    /// Puts a record at the end, as [`append`](Journal::append) does, of a journal of which no append failed before.
-    /// Takes no memory.
+    /// Puts a record of this content at the end, as [`append`](Journal::append) does, of a journal of which no append
+    /// failed before. Takes no memory.
     pub(crate) fn put<D: Disk>(
         &mut self,
         disk: &mut D,
         kind: u8,
-        content: &[u8],
+        content: &mut RecordContent,
     ) -> Result<(), DiskFault>
         requires stands_on { StandsOn D.Disk self.old disk.old }
         requires healthy { self.old.failed ≡ false }
         requires ended { self.old.ended ≡ true }
-        requires fits { IsRecord (record_of kind content.now) }
         ensures stands_on { StandsOn D.Disk self.new disk.new }
         ensures journal { self.new ≡ record self.old { place = self.new.place; failed = self.new.failed } }
-        ensures ok { OnOk result (TakesStep D.Disk disk.old disk.new (Appends self.old (record_of kind content.now))) }
+        ensures ok { OnOk result (TakesStep D.Disk disk.old disk.new (Appends self.old (record_of kind content.old))) }
         ensures quiet { OnOk result (IsQuietNow D.Disk disk.new) }
         ensures fails { OnErr result (self.new ≡ record self.old { failed = true }) }
         ensures goes_on { OnOk result (self.new.failed ≡ false) }
         ensures puts { Puts D.Disk (IsErr result) disk.old disk.new }
-        ensures any_moment { LeavesBeforeOrAfter D.Disk self.old (record_of kind content.now) disk.old disk.new }
-        ensures since { LeavesAppending D.Disk self.old (record_of kind content.now) disk.old disk.new }
+        ensures any_moment { LeavesBeforeOrAfter D.Disk self.old (record_of kind content.old) disk.old disk.new }
+        ensures since { LeavesAppending D.Disk self.old (record_of kind content.old) disk.old disk.new }
         ensures calls { TakesFour D.Disk disk.old disk.new result }
     {
-        encode_record(kind, content, &mut self.text);
-        match put_record(disk, self.place, self.text.as_slice()) {
+        close_text(&mut content.text, kind, content.len);
+        let text = &content.text[..4 + content.len];
+        let octets = &text[3..3 + content.len];
+        self.put_text(disk, kind, octets, text)
+    }
+
+    /// Puts this text at the end, which is that of a record of this kind and content, with a closed gate.
+    fn put_text<D: Disk>(
+        &mut self,
+        disk: &mut D,
+        _kind: u8,
+        _content: &[u8],
+        text: &[u8],
+    ) -> Result<(), DiskFault>
+        requires stands_on { StandsOn D.Disk self.old disk.old }
+        requires end { (self.old.failed ≡ false) × (self.old.ended ≡ true) }
+        requires fits { IsRecord (record_of _kind _content.now) }
+        requires text { text.now ≡ record_text (record_of _kind _content.now) ++ 0 ∷ [] }
+        ensures stands_on { StandsOn D.Disk self.new disk.new }
+        ensures journal { (self.new ≡ record self.old { place = self.new.place; failed = self.new.failed })
+            × TakesFour D.Disk disk.old disk.new result }
+        ensures ok { OnOk result (TakesStep D.Disk disk.old disk.new (Appends self.old (record_of _kind _content.now))) }
+        ensures ends { MatchResult result (λ _. IsQuietNow D.Disk disk.new × (self.new.failed ≡ false))
+            (λ _. self.new ≡ record self.old { failed = true }) }
+        ensures puts { Puts D.Disk (IsErr result) disk.old disk.new }
+        ensures any_moment { LeavesBeforeOrAfter D.Disk self.old (record_of _kind _content.now) disk.old disk.new }
+        ensures since { LeavesAppending D.Disk self.old (record_of _kind _content.now) disk.old disk.new }
+    {
+        match put_record(disk, self.place, text) {
             Ok(()) => {
-                self.place += self.text.len() as u64;
+                self.place += text.len() as u64;
                 Ok(())
             }
             Err(fault) => {

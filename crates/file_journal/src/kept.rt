@@ -5,8 +5,7 @@ ghost use Rattle.file_journal.specs.Header.{AreBlocks};
 ghost use Rattle.file_journal.specs.Kept.{AnswersPut, StandsAt, kept_at};
 ghost use Rattle.file_journal.specs.Restoring.{AnswersRecovery, IsRestored};
 
-use crate::{Change, Journal, Ledger, StoreFault};
-use arrayvec::ArrayVec;
+use crate::{Change, Journal, Ledger, RecordContent, StoreFault};
 use disk_model::{Disk, DiskFault};
 use std::alloc::Global;
 
@@ -17,6 +16,8 @@ pub struct Kept<L> {
     /// The ledger.
     pub ledger: L,
     journal: Journal,
+    /// The content of the record that was put last.
+    content: RecordContent,
 }
 
 impl<L: Ledger> Kept<L> {
@@ -37,7 +38,11 @@ impl<L: Ledger> Kept<L> {
         let mut journal = Journal::recover(disk, L::magic(), blocks)?;
         let mut ledger = L::fresh(alloc, journal.blocks());
         journal.read_into(disk, &mut ledger)?;
-        Ok(Kept { ledger, journal })
+        Ok(Kept {
+            ledger,
+            journal,
+            content: RecordContent::new(),
+        })
     }
 
     /// Makes a change of the ledger that may be made. Its record is put at the end of the journal and synced, by two
@@ -55,12 +60,10 @@ impl<L: Ledger> Kept<L> {
         ensures makes { OnOk result (C.makes change.now self.old.ledger self.new.ledger) }
         ensures err { OnErr result (self.new.ledger ≡ self.old.ledger) }
     {
-        let mut room = ArrayVec::new();
-        let kind = change.write(&self.ledger, &mut room);
+        let kind = change.write(&self.ledger, &mut self.content);
         // A crash before the record's gate is synced leaves the state before the change, or the one after it: it is
         // told of only after that. A crash behind it leaves the one after it.
-        let content = room.as_slice();
-        match self.journal.put(disk, kind, content) {
+        match self.journal.put(disk, kind, &mut self.content) {
             Ok(()) => {
                 change.make(&mut self.ledger);
                 Ok(())

@@ -12,6 +12,7 @@
 #![tactic(auto)]
 
 mod change;
+mod content;
 mod faults;
 mod format;
 mod header;
@@ -23,6 +24,7 @@ mod record;
 mod write;
 
 pub use change::Change;
+pub use content::RecordContent;
 pub use faults::{JournalFault, ReadFault, RecoverFault, StoreFault};
 pub use journal::Journal;
 pub use kept::Kept;

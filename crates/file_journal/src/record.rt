@@ -1,47 +1,26 @@
 //! One record: its text, putting it, and reading it.
 
-ghost use Rattle.std.specs.Prelude.{◌≡◌, ◌+◌, ◌^◌, ◌<◌, ◌≤◌, ℕ, List, [], ◌∷◌, ◌++◌, length, slice_index, take, drop, true, false, IfOk, IfSome, OnOk, IsErrOf, None};
+ghost use Rattle.std.specs.Prelude.{◌≡◌, ◌+◌, ◌^◌, ◌<◌, ◌≤◌, [], length, IfOk, IfSome, OnOk, IsErrOf, None};
 ghost use Rattle.file_journal.specs.Appending.{IsPutting, OpensGate};
 ghost use Rattle.file_journal.specs.Calls.{Makes, Reads};
 ghost use Rattle.file_journal.specs.Finding.{IsFound};
 ghost use Rattle.file_journal.specs.Next.{FindsRecord, HasLength, RefusesAt};
-ghost use Rattle.file_journal.specs.Records.{reading_at, record_of, record_text, whole};
+ghost use Rattle.file_journal.specs.Records.{reading_at, record_of, whole};
 
 use crate::RecoverFault;
 use crate::write::write_synced;
-use byteorder::{ByteOrder, LittleEndian};
 use disk_model::{Disk, DiskFault};
-use px_base::{OctetBuffer, le16};
+use px_base::le16;
 use std::marker::Model;
 
 /// An open gate.
 const OPEN: u8 = 1;
-
-/// A closed gate.
-const CLOSED: u8 = 0;
 
 /// The most octets that the content of a record has.
 const MAX_CONTENT: usize = 600;
 
 /// The most octets from one gate to the next, both among them.
 const MOST_READ: usize = 605;
-
-/// A record's octets behind its gate, and the next gate.
-pub(crate) type RecordText = OctetBuffer<604>;
-
-/// Replaces a text by the octets of a record behind its gate, and a closed gate.
-pub(crate) fn encode_record(kind: u8, content: &[u8], text: &mut RecordText)
-    requires { length content.now ≤ 600 }
-    ensures { text.new ≡ record_text (record_of kind content.now) ++ 0 ∷ [] }
-{
-    let mut len = [0; 2];
-    LittleEndian::write_u16(&mut len, content.len() as u16);
-    text.clear();
-    text.put(&[kind]);
-    text.put(&len);
-    text.put(content);
-    text.put(&[CLOSED]);
-}
 
 /// Puts octets behind the closed gate at this place, syncs them, and then opens the gate and syncs it.
 pub(crate) fn put_record<D: Disk>(disk: &mut D, place: u64, octets: &[u8]) -> Result<(), DiskFault>

@@ -9,9 +9,8 @@ ghost use Rattle.file_entries.specs.Records.{IsWritable, store_form};
 ghost use Rattle.file_entries.specs.Store.{Store};
 ghost use Rattle.file_store.specs.Changes.{MakesOf, MayMake, command_by};
 
-use arrayvec::ArrayVec;
 use file_entries::{Command, Entries};
-use file_journal::Change;
+use file_journal::{Change, RecordContent};
 use px_base::Call;
 
 /// A change of the entries, which is one command.
@@ -91,8 +90,8 @@ impl Change<Entries> for EntriesChange {
 
     ghost makes = { λ change old new. MakesOf change old.files new.files };
 
-    fn write(&self, entries: &Entries, room: &mut ArrayVec<u8, 600>) -> u8 {
-        self.command(entries).write(room)
+    fn write(&self, entries: &Entries, content: &mut RecordContent) -> u8 {
+        self.command(entries).write(content)
     }
 
     fn make(&self, entries: &mut Entries) {

@@ -123,6 +123,7 @@ impl Session {
     /// Puts what is due next in place of what `out` holds: DATA of the next 254 octets, the last one shorter, or
     /// DATA_END where none is left; or code 3 in the place of a DATA whose octets can't be read. It answers false, and
     /// nothing changed, exactly where nothing is due. It reads what it sends. Takes no memory.
+    #[inline(always)]
     pub fn fill<D: Disk>(
         &mut self,
         disk: &mut D,
@@ -218,7 +219,9 @@ fn take_upload<D: Disk>(
     uploads.take(disk, packet, moment, store, replies)
 }
 
-/// Takes any other packet: by its row of downloading, or by error 1.
+/// Takes any other packet: by its row of downloading, or by error 1. It stays a call of its own, so that its buffers
+/// aren't part of what a packet of uploading costs.
+#[inline(never)]
 fn take_other<D: Disk>(
     uploads: &Uploads,
     downloads: &mut Downloads,

@@ -161,6 +161,7 @@ impl Downloads {
     /// Puts what is due next in place of what `out` holds: DATA of the next 254 octets, the last one shorter, or
     /// DATA_END where none is left; or code 3 in the place of a DATA whose octets can't be read. It answers false,
     /// and nothing changed, exactly where nothing is due. It reads what it sends. Takes no memory.
+    #[inline(always)]
     pub fn fill<D: Disk>(
         &mut self,
         disk: &mut D,
@@ -209,6 +210,7 @@ impl Downloads {
     }
 
     /// Reads the octets of the next DATA, and moves on behind them. After a fault what is due is open.
+    #[inline(never)]
     fn read_part<D: Disk>(
         &mut self,
         disk: &mut D,

@@ -10,6 +10,7 @@ use crate::system_error::{SystemError, noted, system_answer};
 use std::alloc::Global;
 use std::fs::{self, File, Metadata, OpenOptions, Permissions, TryLockError};
 use std::io::{self, ErrorKind, Seek, SeekFrom};
+use std::os::fd::AsRawFd;
 use std::os::unix::fs::{FileExt, PermissionsExt};
 use std::rt::Files;
 
@@ -93,7 +94,7 @@ impl<'a, R: Files<File = File>> FileSystem for RealFiles<'a, R> {
     }
 
     fn sync(&mut self, file: &File) -> Result<(), SystemError> {
-        let answer = system_answer(file.sync_all());
+        let answer = sync_file(file);
         noted(&mut self.last_error, answer)
     }
 
@@ -147,6 +148,18 @@ fn for_both() -> OpenOptions
     let mut options = OpenOptions::new();
     options.read(true).write(true).create(true);
     options
+}
+
+/// Syncs this file. Where a signal interrupts the call, it is made again, as `File::sync_all` makes it.
+fn sync_file(file: &File) -> Result<(), SystemError> {
+    if libc::fsync(file.as_raw_fd()) >= 0 {
+        return Ok(());
+    }
+    let error = io::Error::from_raw_os_error(os::errno());
+    if error.kind() == ErrorKind::Interrupted {
+        return system_answer(file.sync_all());
+    }
+    Err(SystemError::from(error))
 }
 
 /// Syncs this folder.

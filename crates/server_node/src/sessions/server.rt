@@ -129,7 +129,9 @@ impl<D: Disk> Party<D> for SessionServer {
     fn is_lawful() {}
 }
 
-/// Replaces a text by these octets.
+/// Replaces a text by these octets. It stays a call of its own, so that looking for a text costs little where there is
+/// none.
+#[inline(never)]
 fn put_in(octets: &[u8], text: &mut ArrayVec<u8, 2049>)
     requires { length octets.now ≤ 2049 }
     ensures { text.new.items ≡ octets.now }

@@ -7,4 +7,4 @@ use Rattle.client_notes.proofs.changes.BroughtChangeNotedLists.write.Goals as go
 pub returns-clause-steps : goal.returns-clause-steps
 returns-clause-steps c =
     let command = command_value c.args.self.now.command in
-    step-command (lists_of c.args._noted.now) command (record_of c.write.result c.write.new.content.items) c.write.ensures c.requires.may.2 c.requires.may.1
+    step-command (lists_of c.args._noted.now) command (record_of c.write.result c.write.new.content) c.write.ensures c.requires.may.2 c.requires.may.1

@@ -14,5 +14,5 @@ returns-clause-steps c =
     let noted = c.args._noted.now in
     let command = command_value c.args.self.now.command in
     let same : lists_of noted ≡ noted.lists = ap (λ (k : Coming). without k noted.lists) c.requires.may.0 in
-    step-command (lists_of noted) command (record_of c.write.result c.write.new.content.items) c.write.ensures c.requires.may.2
+    step-command (lists_of noted) command (record_of c.write.result c.write.new.content) c.write.ensures c.requires.may.2
     (subst (λ (l : Lists). IsTrue (is_allowed l command)) (sym same) c.requires.may.1)

@@ -1,44 +1,20 @@
-use Rattle.std.proofs.Common.{◌≡◌, ◌+◌, [], ◌∷◌, length, Ok, sym, ◌∙◌, ap, subst, arith, length-append}
-use Rattle.file_journal.specs.Position.{Position, StandsOn}
-use Rattle.file_journal.specs.Records.{record_of}
-use Rattle.file_journal.proofs.AppendLemmas.{any_moment, appends, gate_there, leaves, stands_after}
-use Rattle.file_journal.proofs.ToldLemmas.{told_weaker}
+use Rattle.std.proofs.Common.{rules, ◌≡◌, ◌+◌, ◌-◌, ◌++◌, ℕ, List, [], ◌∷◌, length, take, drop, sym, ◌∙◌, ap, subst, arith}
+use Rattle.std.proofs.lemmas.List.{places, same_lists}
+use Rattle.file_journal.specs.Records.{IsRecord, record_of, record_text}
 use Rattle.file_journal.proofs.journal.Journal.put.Goals as goal
 
-pub put_record-requires-clause-gate : goal.put_record-requires-clause-gate
-put_record-requires-clause-gate g c =
-    gate_there g.D.Disk _ c.args.disk.now (ap (λ (journal : Position). journal.failed) c.self.view_is ∙ c.requires.healthy) (ap (λ (journal : Position). journal.ended) c.self.view_is ∙ c.requires.ended)
-    (subst (λ (journal : Position). StandsOn g.D.Disk journal c.args.disk.now) (sym c.self.view_is) c.requires.stands_on)
+-- a record's content stands in its text behind its kind and its length
+content_of : (kind len : ℕ) (content text : List ℕ) → text ≡ record_text (record_of kind content) ++ 0 ∷ [] → length content ≡ len
+    → take (3 + len - 3) (drop 3 text) ≡ content
+content_of kind len content text is size =
+    ap (λ (l : List ℕ). take (3 + len - 3) (drop 3 l)) is ∙ same_lists _ _ (search (rules, places)) (λ k d below. grind (arith, places))
 
-pub returns-in-Ok-clause-since : goal.returns-in-Ok-clause-since
-returns-in-Ok-clause-since g c =
-    leaves g.D.Disk c.args.self.now c.args.disk.now c.requires.healthy c.requires.ended c.requires.stands_on (record_of c.args.kind c.args.content.now) c.requires.fits
-    _ c.self.view_is _ c.put_record.new.disk _ (c.as_slice.ensures.octets ∙ c.encode_record.ensures) c.put_record.ensures.makes (g.met.D.Disk.counts_now _) (g.met.D.Disk.content_is_image _)
+pub put_text-requires-clause-text : goal.put_text-requires-clause-text
+put_text-requires-clause-text g c =
+    let closed = c.close_text.ensures in
+    closed.text ∙ ap (λ (l : List ℕ). record_text (record_of c.args.kind l) ++ 0 ∷ []) (sym (content_of c.args.kind c.content.inside.len _ _ closed.text closed.size))
 
-pub returns-in-Ok-clause-any_moment : goal.returns-in-Ok-clause-any_moment
-returns-in-Ok-clause-any_moment g c healthy =
-    any_moment g.D.Disk c.args.self.now c.args.disk.now c.requires.healthy c.requires.ended c.requires.stands_on (record_of c.args.kind c.args.content.now) c.requires.fits
-    _ c.self.view_is _ c.put_record.new.disk _ (c.as_slice.ensures.octets ∙ c.encode_record.ensures) c.put_record.ensures.makes (g.met.D.Disk.counts_now _) (g.met.D.Disk.content_is_image _)
-
-pub returns-in-Err-clause-since : goal.returns-in-Err-clause-since
-returns-in-Err-clause-since g c =
-    leaves g.D.Disk c.args.self.now c.args.disk.now c.requires.healthy c.requires.ended c.requires.stands_on (record_of c.args.kind c.args.content.now) c.requires.fits
-    _ c.self.view_is _ c.put_record.new.disk _ (c.as_slice.ensures.octets ∙ c.encode_record.ensures) c.put_record.ensures.makes (g.met.D.Disk.counts_now _) (g.met.D.Disk.content_is_image _)
-
-pub returns-in-Err-clause-any_moment : goal.returns-in-Err-clause-any_moment
-returns-in-Err-clause-any_moment g c healthy =
-    any_moment g.D.Disk c.args.self.now c.args.disk.now c.requires.healthy c.requires.ended c.requires.stands_on (record_of c.args.kind c.args.content.now) c.requires.fits
-    _ c.self.view_is _ c.put_record.new.disk _ (c.as_slice.ensures.octets ∙ c.encode_record.ensures) c.put_record.ensures.makes (g.met.D.Disk.counts_now _) (g.met.D.Disk.content_is_image _)
-
-pub returns-in-Ok-clause-ok : goal.returns-in-Ok-clause-ok
-returns-in-Ok-clause-ok g c =
-    appends g.D.Disk c.args.self.now c.args.disk.now c.requires.healthy c.requires.ended c.requires.stands_on (record_of c.args.kind c.args.content.now) c.requires.fits
-    _ c.self.view_is (Ok c.in-Ok.field-0) c.put_record.new.disk _ (c.as_slice.ensures.octets ∙ c.encode_record.ensures) c.in-Ok.ensures.makes
-
-pub returns-in-Ok-clause-stands_on : goal.returns-in-Ok-clause-stands_on
-returns-in-Ok-clause-stands_on g c =
-    let place : c.self.inside.place + c.len.result ≡ c.self.inside.place + 4 + length c.args.content.now =
-    omega (arith, c.len.ensures.len, ap length c.encode_record.ensures, length-append c.args.content.now (0 ∷ [])) in
-    stands_after g.D.Disk c.args.self.now c.args.disk.now c.requires.healthy c.requires.ended c.requires.stands_on (record_of c.args.kind c.args.content.now) c.requires.fits
-    _ c.self.view_is (Ok c.in-Ok.field-0) c.put_record.new.disk _ (c.as_slice.ensures.octets ∙ c.encode_record.ensures) c.in-Ok.ensures.makes (c.self.inside.place + c.len.result) place
-    (told_weaker (g.D.Disk.content c.put_record.new.disk) _ _ (λ now told image. (g.met.D.Disk.images_fit _ now image).0) (g.met.D.Disk.content_is_image _))
+pub put_text-requires-clause-fits : goal.put_text-requires-clause-fits
+put_text-requires-clause-fits g c =
+    let closed = c.close_text.ensures in
+    subst (λ (l : List ℕ). IsRecord (record_of c.args.kind l)) (sym (content_of c.args.kind c.content.inside.len _ _ closed.text closed.size)) closed.fits

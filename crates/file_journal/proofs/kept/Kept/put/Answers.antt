@@ -1,19 +1,14 @@
-use Rattle.std.proofs.Common.{ℕ, List, Ok, sym, ◌∙◌, ap, subst, arith, Err, refl}
+use Rattle.std.proofs.Common.{Ok, sym, ap, subst, Err, refl}
 use Rattle.disk_model.specs.declared.disk.DiskFault.{DiskFault}
 use Rattle.file_journal.specs.Kept.{AnswersPut, kept_on}
 use Rattle.file_journal.specs.Position.{Position}
-use Rattle.file_journal.specs.Records.{record_of}
-use Rattle.file_journal.proofs.AppendLemmas.{is_record}
 use Rattle.file_journal.proofs.KeptLemmas.{answers_cut, answers_done}
 use Rattle.file_journal.proofs.kept.Kept.put.Goals as goal
-
-pub put-requires-clause-fits : goal.put-requires-clause-fits
-put-requires-clause-fits g c = is_record c.write-kind.result c.as_slice-content.result.now (omega (arith, c.write-kind.type_inv)) (λ i. omega (arith, c.type_inv.content i)) (omega arith)
 
 pub returns-in-Err-clause-answers : goal.returns-in-Err-clause-answers
 returns-in-Err-clause-answers g c =
     let form = g.C.Change.form in
-    let steps = ap (λ (octets : List ℕ). form.step (g.C.Change.state c.args.self.now.ledger) (record_of c.write-kind.result octets)) c.as_slice-content.ensures.value ∙ c.write-kind.ensures.steps in
+    let steps = c.write-kind.ensures.steps in
     let cut = c.in-Err.ensures in
     answers_cut form g.D.Disk _ _ _ _ _ _ _ c.requires.stands_at c.requires.healthy c.write-kind.ensures.allowed steps cut.journal cut.puts.told cut.since cut.calls.at_most
     g.met.D.Disk.earlier cut.any_moment (ap (λ (p : Position). p.failed) cut.fails) cut.stands_on (Err c.in-Err.fault) refl cut.puts
@@ -21,7 +16,7 @@ returns-in-Err-clause-answers g c =
 pub returns-in-Ok-clause-answers : goal.returns-in-Ok-clause-answers
 returns-in-Ok-clause-answers g c =
     let form = g.C.Change.form in
-    let steps = ap (λ (octets : List ℕ). form.step (g.C.Change.state c.args.self.now.ledger) (record_of c.write-kind.result octets)) c.as_slice-content.ensures.value ∙ c.write-kind.ensures.steps in
+    let steps = c.write-kind.ensures.steps in
     let made = c.in-Ok.ensures in
     subst (λ s. AnswersPut {E = DiskFault} g.D.Disk form (g.C.Change.command c.args.change.now c.args.self.now.ledger) (kept_on (g.C.Change.state c.args.self.now.ledger) c.args.self.now.journal c.args.disk.now) (kept_on s c.put.new.self c.put.new.disk) (Ok (tt {0}))) (sym c.make.ensures.state)
     (answers_done form g.D.Disk _ _ _ _ _ _ _ c.requires.stands_at c.requires.healthy c.write-kind.ensures.allowed steps made.journal made.puts.told made.since made.calls.at_most

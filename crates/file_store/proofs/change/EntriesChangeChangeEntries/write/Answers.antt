@@ -11,5 +11,5 @@ pub returns-clause-steps : goal.returns-clause-steps
 returns-clause-steps c =
     let files = c.args.entries.now.files in
     let value = c.command.ensures.value in
-    written-step (store_of files) (command_by c.args.self.now files) (record_of c.write.result c.write.new.content.items) (c.write.ensures ∙ ap record_of_command value)
+    written-step (store_of files) (command_by c.args.self.now files) (record_of c.write.result c.write.new.content) (c.write.ensures ∙ ap record_of_command value)
     (subst (λ (command : Command). IsWritable command) value c.command.ensures.writable) c.requires.may.allowed
