@@ -6,7 +6,7 @@ use Rattle.air_attempt.specs.Party.{Party, sessions_over}
 use Rattle.air_world.specs.Step.{with_asked}
 use Rattle.client_notes.specs.Several as notes
 use Rattle.node.specs.Events.{NodeEvent}
-use Rattle.air_world.specs.Cuts.{ClientDoes, ClientEvent, ClientIsCut, Happens, IsRun, Plays, ServerDoes, ServerEvent}
+use Rattle.air_world.specs.Cuts.{ClientDoes, ClientEvent, ClientIsCut, Happens, Plays, ServerDoes, ServerEvent}
 use Rattle.air_world.specs.Cuts.{ServerIsCut, client_commands, party_cut, server_commands}
 use Rattle.air_world.specs.Events.{ClientPart, ClientTakes, IsPartOf, ServerTakes}
 use Rattle.air_world.specs.Laws.{CutsLaw, ExistenceLaw, MayPlay, RunLaw, SoundLaw}

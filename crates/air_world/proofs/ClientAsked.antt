@@ -19,12 +19,12 @@ use Rattle.air_attempt.specs.Laws.{AreAttempts, GoesWith}
 use Rattle.air_attempt.specs.Party.{Asked, IsLinkOf, Party}
 use Rattle.air_attempt.specs.Transfers.{ClientDid, after_event, beginning, did_by}
 use Rattle.air_world.specs.Sound.{Sound}
+use Rattle.air_world.specs.StationLaws.{ClientLaws}
 use Rattle.air_world.specs.World.{PartyAt, World}
 use Rattle.air_world.proofs.Asked.{MayBeAsked}
 use Rattle.air_world.proofs.ClientBasics.{goes-with}
 use Rattle.air_world.proofs.ClientBegun.{Begins, begun-made}
 use Rattle.air_world.proofs.ClientMade.{IsClientMade}
-use Rattle.air_world.proofs.JobWent.{ClientLaws}
 
 -- whether a client has something to send doesn't hang on its notes, nor on what else is alike
 still-silent : (one other : Client) → other.window ≡ one.window → other.attempt ≡ one.attempt → other.stray ≡ one.stray

@@ -11,11 +11,11 @@ use Rattle.air_files.specs.Facts.{GoesOnWithTask, HasFacts}
 use Rattle.air_files.specs.Laws.{IsBeginning}
 use Rattle.air_files.specs.Tasks.{IsWork}
 use Rattle.air_files.proofs.Offered.{tasks-lists}
+use Rattle.air_world.specs.StationLaws.{ClientLaws}
 use Rattle.air_world.specs.World.{World}
 use Rattle.air_world.proofs.ClientBasics.{stands-job}
 use Rattle.air_world.proofs.ClientMade.{IsClientMade}
 use Rattle.air_world.proofs.SessionsStay.{sessions_of}
-use Rattle.air_world.proofs.JobWent.{ClientLaws}
 use Rattle.air_world.proofs.Rebuild.{work-by}
 use Rattle.air_world.proofs.Asked.{IsBase}
 

@@ -27,6 +27,7 @@ use Rattle.air_files.proofs.Offered.{tasks-lists}
 use Rattle.air_world.specs.Cuts.{broken, ClientDoes, ClientIsCut, party_cut}
 use Rattle.air_world.specs.Events.{ClientPart, asking, asking_file, part_with, with_current}
 use Rattle.air_world.specs.Sound.{Sound}
+use Rattle.air_world.specs.StationLaws.{ClientLaws}
 use Rattle.air_world.specs.Step.{ClientGoes, client_started, party_after, with_asked}
 use Rattle.air_world.specs.World.{PartyAt, World, counted, with_party}
 use Rattle.air_world.proofs.ClientBasics.{goes-with}
@@ -40,7 +41,6 @@ use Rattle.air_world.proofs.ClientMade.{IsClientMade, tasks-more, then-sound, wo
 use Rattle.air_world.proofs.Served.{stands}
 use Rattle.air_world.proofs.ClientQuiet.{IsStill, quiet-made, started-made, still-delivered, still-itself}
 use Rattle.air_world.proofs.ClientTicked.{ticked-client}
-use Rattle.air_world.proofs.JobWent.{ClientLaws}
 
 module _ (laws : ClientLaws) (some_step : SomeStepLaw) (old new : World) (sound : Sound old) where
   asked-sound : (c : ℕ) (was now : Party) (asked : List Asked) (part : ClientPart) → PartyAt old c was

@@ -27,11 +27,12 @@ use Rattle.air_files.specs.Laws.{started_with}
 use Rattle.air_files.specs.Tasks.{AreTasks}
 use Rattle.air_files.proofs.Offered.{tasks-lists}
 use Rattle.air_world.specs.Sound.{Sound}
+use Rattle.air_world.specs.StationLaws.{ClientLaws}
 use Rattle.air_world.specs.World.{PartyAt, World}
 use Rattle.air_world.proofs.ClientBasics.{HasLink, goes-with, has-link}
 use Rattle.air_world.proofs.ClientMade.{IsClientMade}
 use Rattle.air_world.proofs.ClientQuiet.{quiet-made, still-answered}
-use Rattle.air_world.proofs.JobWent.{ClientLaws, Went, client-made, facts-during, tasks-during}
+use Rattle.air_world.proofs.JobWent.{Went, client-made, facts-during, tasks-during}
 use Rattle.air_world.proofs.Rebuild.{stands-at}
 use Rattle.air_world.proofs.SayLemmas.{may-say-at}
 

@@ -23,13 +23,14 @@ use Rattle.air_attempt.specs.Transfers.{has_call, job_gone_on}
 use Rattle.air_files.specs.Facts.{GoesOnWithTask}
 use Rattle.air_files.specs.Tasks.{IsWork}
 use Rattle.air_world.specs.Sound.{Sound}
+use Rattle.air_world.specs.StationLaws.{ClientLaws}
 use Rattle.air_world.specs.World.{PartyAt, World}
 use Rattle.air_world.proofs.ClientBasics.{HasLink, goes-with, has-link, its-attempt}
 use Rattle.air_world.proofs.ClientBegun.{Begins, begun-made}
 use Rattle.air_world.proofs.ClientHeard.{did-of, its-stands}
 use Rattle.air_world.proofs.ClientMade.{IsClientMade}
 use Rattle.air_world.proofs.ClientQuiet.{quiet-made, still-itself}
-use Rattle.air_world.proofs.JobWent.{ClientLaws, Went, client-made}
+use Rattle.air_world.proofs.JobWent.{Went, client-made}
 use Rattle.air_world.proofs.SayLemmas.{may-say-at}
 use Rattle.air_world.proofs.Asked.{same-base}
 

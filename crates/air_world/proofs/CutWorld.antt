@@ -20,13 +20,13 @@ use Rattle.air_files.specs.Laws.{LeftIn, StayLaw}
 use Rattle.air_files.specs.SoundStore.{IsSoundStore}
 use Rattle.air_world.specs.Cuts.{server_commands}
 use Rattle.air_world.specs.Sound.{Sound}
+use Rattle.air_world.specs.StationLaws.{HearingLaws}
 use Rattle.air_world.specs.World.{PartyAt, World}
 use Rattle.air_world.proofs.Marked.{IsComing, are-marked, delivered, none-marked}
 use Rattle.air_world.proofs.Seats.{between, connection-none}
 use Rattle.air_world.proofs.Served.{done-are, keeps, stands}
 use Rattle.air_world.proofs.ServerCut.{cut, cut-sound}
 use Rattle.air_world.proofs.ServerHeard.{seat-found}
-use Rattle.air_world.proofs.HeardMade.{HearingLaws}
 
 pub take-none : {X : Type 0} (count : ℕ) → take {A = X} count [] ≡ []
 take-none zero = refl

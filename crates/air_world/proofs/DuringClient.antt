@@ -33,13 +33,13 @@ use Rattle.air_world.specs.Lawful.{HasParty, IsPossible, MayCome}
 use Rattle.air_world.specs.Schedule.{Event, ask_download, ask_list, ask_resume, ask_upload, break_client, cut_client}
 use Rattle.air_world.specs.Schedule.{cut_server, tick_client, tick_server, to_client, to_server}
 use Rattle.air_world.specs.Sound.{Sound}
+use Rattle.air_world.specs.StationLaws.{ClientLaws}
 use Rattle.air_world.specs.World.{PartyAt, World}
 use Rattle.air_world.proofs.ClientHeard.{IsReceiving, heard-facts, nothing-noted}
 use Rattle.air_world.proofs.CutWorld.{take-none}
 use Rattle.air_world.proofs.DuringNotes.{AreRight, StaysBut, headline-noted}
 use Rattle.air_world.proofs.DuringRight.{right-facts, right-own, right-tasked}
-use Rattle.air_world.proofs.DuringServer.{lawful-sent}
-use Rattle.air_world.proofs.JobWent.{ClientLaws}
+use Rattle.air_world.proofs.Following.{lawful-sent}
 
 -- the notes of the client of this part, after the first so many of the event's commands
 abbrev noted : ClientPart → ℕ → Lists

@@ -11,7 +11,7 @@ use Rattle.std.proofs.lemmas.List.FromFn.{length-range_with_len}
 use Rattle.px_base.specs.Numbers.{le16, le16_octets, le32, le32_octets, sum16}
 use Rattle.px_base.specs.Octets.{IsOctets}
 use Rattle.pfh_items.specs.Faults.{IsFaultless, Stands, StandsOnce, code_of, header_sum, with_content}
-use Rattle.pfh_items.specs.Layout.{AreItems, IsItem, ItemValue, header_text}
+use Rattle.pfh_items.specs.Layout.{AreItems, FileText, IsItem, ItemValue, header_text}
 use Rattle.pfh_items.specs.Table.{mandatory_items}
 use Rattle.pfh_items.specs.declared.table.MandatoryItem.{MandatoryItem}
 use Rattle.pfh_items.proofs.Offered.{IsOctets-le16, IsOctets-le32, first_fault-none, octets_as_body}
@@ -230,6 +230,19 @@ body-octets : (upload count : ℕ) → IsOctets (body_octets upload count)
 body-octets upload count =
     All-map (λ octet. octet < 256) (octet-at upload) (range_with_len 0 count)
     (All-from_get_or (λ i. octet-at upload i < 256) (range_with_len 0 count) 0 (λ i within. omega arith))
+
+-- the file of each upload is the header that is built for it, and its body
+pub upload-text : (upload count : ℕ)
+    → FileText (built_items file_header (body_octets upload count)) (body_octets upload count)
+    (upload_file upload count)
+unfolding upload_file
+upload-text upload count =
+    let body = body_octets upload count in
+    record {
+      are_items =
+          subst AreItems (sym (same body)) (are-items (size body) (sum16 body) (built_len file_header) (check body));
+      text = refl;
+    }
 
 -- the file of each upload that a schedule may ask is good
 pub good-upload : (upload count : ℕ) → count ≤ 40000 → IsGoodFile (upload_file upload count)

@@ -1,4 +1,4 @@
--- What a frame that the server hears makes of its client's facts, and the laws that this rests on.
+-- What a frame that the server hears makes of its client's facts.
 use Rattle.std.proofs.Common.{◌≡◌, ◌⊎◌, ℕ, ◌≤◌, List, [], ◌∷◌, ◌++◌, Some, ap}
 use Rattle.std.specs.Prelude.{slice_get}
 use Rattle.std.specs.List.{AllByRecursion}
@@ -9,13 +9,11 @@ use Rattle.ftl0_server.specs.Entries as session
 use Rattle.ftl0_server.specs.Entries.{SessionEntry}
 use Rattle.ftl0_server.specs.ServerStep.{Stepped}
 use Rattle.air_attempt.specs.Attempt.{Attempt}
-use Rattle.air_attempt.specs.Laws.{HeardLaw, ServerHearsLaw}
 use Rattle.air_attempt.specs.Party.{Party}
 use Rattle.air_files.specs.Facts.{HasFacts}
-use Rattle.air_files.specs.Laws.{BeginLaw, GrantedAt, StayLaw}
+use Rattle.air_files.specs.Laws.{GrantedAt}
 use Rattle.air_files.specs.SoundStore.{IsSoundStore}
 use Rattle.air_world.specs.World.{World}
-use Rattle.air_world.proofs.Served.{SessionLaws}
 
 -- what the frame makes of its client's facts, with these attempts, and of store and lists
 pub record OwnMade (old : World) (party : Party) (gives : Stepped) (attempts : List Attempt) : Type 0 where
@@ -34,10 +32,3 @@ first-of (y ∷ ys) x is = (ys, ap (λ z. z ∷ ys) (same_Some y x is))
 pub lost-second : (some more : List SessionEntry) → AllByRecursion session.IsNotLost (some ++ more) → AllByRecursion session.IsNotLost more
 lost-second [] more all = all
 lost-second (entry ∷ some) more all = lost-second some more all.1
-
-pub record HearingLaws : Type 0 where
-  pub hears : ServerHearsLaw
-  pub heard : HeardLaw
-  pub sessions : SessionLaws
-  pub stay : StayLaw
-  pub begin : BeginLaw

@@ -15,45 +15,30 @@ use Rattle.ftl0_job.specs.Promises.{JobStands}
 use Rattle.ftl0_job.specs.Table.{JobState, job_after}
 use Rattle.ftl0_client.specs.Attempt.Attempted.{Attempted}
 use Rattle.ftl0_client.specs.Attempt.Hearing.{with_end}
-use Rattle.ftl0_client.specs.Attempt.Laws.{AttemptStands, CallingLaw, StandsLaw}
+use Rattle.ftl0_client.specs.Attempt.Laws.{AttemptStands}
 use Rattle.ftl0_client.specs.Attempt.Taking.{Happened}
 use Rattle.ftl0_client.specs.Client.{Client, heard_by}
 use Rattle.ftl0_client.specs.Entries as job
-use Rattle.ftl0_client.specs.Entries.{HearingLaw, JobEntry, TickingLaw}
-use Rattle.client_laws.specs.Steps.{StepLaw}
+use Rattle.ftl0_client.specs.Entries.{JobEntry}
 use Rattle.air_attempt.specs.Attempt.{Attempt, IsAnsweredBy, IsAttempt}
-use Rattle.air_attempt.specs.Laws.{ClientLaw, FrontLaw, GoesWith, LeftLaw}
+use Rattle.air_attempt.specs.Laws.{GoesWith}
 use Rattle.air_attempt.specs.Party.{EachAttempt, Party, newest}
 use Rattle.air_attempt.specs.Lists.{AreFirstOf}
 use Rattle.air_attempt.specs.Sides.{ClientSide, ServerSide, said_by_server}
 use Rattle.air_attempt.proofs.Offered.{each-weaker}
 use Rattle.air_files.specs.Facts.{HasFacts}
-use Rattle.air_files.specs.Laws.{BeginLaw, IsWorking, JobGoes, JobKeeps, JobLaw, JobTasksLaw, JobTookFront, LooksServed}
-use Rattle.air_files.specs.Laws.{StayLaw, job_gone, started_with, with_job}
+use Rattle.air_files.specs.Laws.{IsWorking, JobGoes, JobKeeps, JobTookFront, LooksServed, job_gone, started_with}
+use Rattle.air_files.specs.Laws.{with_job}
 use Rattle.air_files.specs.Tasks.{AreTasks, IsWork, StandsBy}
 use Rattle.air_files.proofs.Offered.{alike-itself, served-itself, tasks-lists}
 use Rattle.air_world.specs.Sound.{IsParty, Sound}
+use Rattle.air_world.specs.StationLaws.{ClientLaws}
 use Rattle.air_world.specs.World.{PartyAt, World}
 use Rattle.air_world.proofs.ClientBasics.{HasLink, has-link, its-attempt, stands-job, working}
 use Rattle.air_world.proofs.ClientMade.{IsClientMade}
 use Rattle.air_world.proofs.SessionsStay.{SessionsStay, sessions_of}
 use Rattle.air_world.proofs.ServerTicked.{its-session}
 use Rattle.air_world.proofs.Rebuild.{work-by}
-
--- the laws that the client's events are proved by
-pub record ClientLaws : Type 0 where
-  pub client : ClientLaw
-  pub fronts : FrontLaw
-  pub job : JobLaw
-  pub tasks : JobTasksLaw
-  pub stay : StayLaw
-  pub begin : BeginLaw
-  pub left : LeftLaw
-  pub step : StepLaw
-  pub hearing : HearingLaw
-  pub ticking : TickingLaw
-  pub stands : StandsLaw
-  pub calling : CallingLaw
 
 -- the notes behind entries are those after their commands
 pub goes-lists : (lists lists_now : Lists) (before now : JobState) (entries : List JobEntry)

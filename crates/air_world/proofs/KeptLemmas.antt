@@ -10,7 +10,6 @@ use Rattle.ftl0_job.specs.Directory.{new_directory}
 use Rattle.ftl0_job.specs.Download.{new_download}
 use Rattle.ftl0_job.specs.Upload.{new_upload}
 use Rattle.ftl0_client.specs.Client as client
-use Rattle.ftl0_client.specs.Laws.{SomeStepLaw}
 use Rattle.air_attempt.specs.Attempt.{Attempt}
 use Rattle.air_attempt.specs.Party.{Party, to_client_delivered}
 use Rattle.air_files.proofs.Offered.{alike-itself}
@@ -21,6 +20,7 @@ use Rattle.air_world.specs.Schedule.{Event, ask_download, ask_list, ask_resume, 
 use Rattle.air_world.specs.Schedule.{cut_server, tick_client, tick_server, to_client, to_server}
 use Rattle.air_world.specs.Laws.{SoundLaw}
 use Rattle.air_world.specs.Sound.{Sound}
+use Rattle.air_world.specs.StationLaws.{StationLaws}
 use Rattle.air_world.specs.World.{PartyAt, World, counted, with_party}
 use Rattle.air_world.proofs.FirstLemmas.{first-sound}
 use Rattle.air_world.proofs.ClientsStay.{stay-refl}
@@ -33,16 +33,9 @@ use Rattle.air_world.proofs.AskUpload.{ask-upload}
 use Rattle.air_world.proofs.Asked.{MayBeAsked}
 use Rattle.air_world.proofs.ClientEvents as events
 use Rattle.air_world.proofs.ClientHeard.{IsReceiving}
-use Rattle.air_world.proofs.JobWent.{ClientLaws}
-use Rattle.air_world.proofs.ServerEvents.{ServerLaws, server-hears-kept, server-ticks-kept}
+use Rattle.air_world.proofs.ServerEvents.{server-hears-kept, server-ticks-kept}
 
--- the laws of both stations
-pub record KeptLaws : Type 0 where
-  pub server : ServerLaws
-  pub client : ClientLaws
-  pub client_steps : SomeStepLaw
-
-module _ (laws : KeptLaws) (old new : World) (sound : Sound old) where
+module _ (laws : StationLaws) (old new : World) (sound : Sound old) where
   -- of the client of a number, at its place, with this part
   module _ (event : Event) (happens : ClientEvent old event new) where
     -- the part is this one
@@ -201,5 +194,5 @@ module _ (laws : KeptLaws) (old new : World) (sound : Sound old) where
   kept (cut_client number call choice) step = note-kept number step.happens
 
 -- the law, from those of both stations
-pub sound-law : KeptLaws → SoundLaw
+pub sound-law : StationLaws → SoundLaw
 sound-law laws = record { first = first-sound; kept = λ old new event sound step. kept laws old new sound event step }

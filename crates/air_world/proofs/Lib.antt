@@ -21,7 +21,7 @@ mod DuringRight
 mod DuringServer
 mod ExistenceLemmas
 mod FirstLemmas
-mod GoodFile
+mod Following
 mod Granted
 mod HeadlineLemmas
 mod HeardMade
@@ -44,5 +44,7 @@ mod ServerHeard
 mod ServerTicked
 mod ServerWorld
 mod SessionsStay
+mod StoresLemmas
 mod WholeLemmas
 mod WorldLists
+pub mod GoodFile

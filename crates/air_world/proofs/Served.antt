@@ -9,17 +9,18 @@ use Rattle.ftl0_session.specs.Run.{Session, session_over}
 use Rattle.ftl0_server.specs.Connection.Connected.{Connected, caller_of}
 use Rattle.ftl0_server.specs.Connection.Hearing.{hearing}
 use Rattle.ftl0_server.specs.Entries as session
-use Rattle.ftl0_server.specs.Entries.{HearingLaw, SessionEntry, session_after}
+use Rattle.ftl0_server.specs.Entries.{SessionEntry, session_after}
 use Rattle.ftl0_server.specs.Slots.{place_of}
 use Rattle.air_attempt.specs.Attempt.{Attempt, IsAnswered, IsAttempt, IsEndOf}
-use Rattle.air_attempt.specs.Laws.{Calls, CurrentLaw, FrontLaw, HeardFrontLaw, IsSeatedIn, IsServedBy}
+use Rattle.air_attempt.specs.Laws.{Calls, IsSeatedIn, IsServedBy}
 use Rattle.air_attempt.specs.Party.{AreOver, OnlyNewestUp, Party}
 use Rattle.air_attempt.specs.Sides.{ServerSide}
 use Rattle.air_attempt.proofs.Offered.{all-at}
-use Rattle.air_files.specs.Laws.{GrantedAt, GrantsOnce, IsServed, SessionGoes, SessionKeeps, SessionLaw, Stands}
+use Rattle.air_files.specs.Laws.{GrantedAt, GrantsOnce, IsServed, SessionGoes, SessionKeeps, Stands}
 use Rattle.air_files.specs.Laws.{session_gone, with_attempt}
 use Rattle.air_world.specs.Sound as sound
 use Rattle.air_world.specs.Sound.{IsParty, Sound}
+use Rattle.air_world.specs.StationLaws.{SessionLaws}
 use Rattle.air_world.specs.World.{PartyAt, World}
 use Rattle.air_world.proofs.Marked.{IsComing, delivers, from-client, marked}
 use Rattle.air_world.proofs.Seats.{between, calls}
@@ -52,14 +53,6 @@ pub grants-once : (world : World) → Sound world → (c : ℕ) (party : Party) 
 grants-once world sound c party is at that number one two =
     (sound.granted c at c that number (granted-at world c party is at number one)
     (granted-at world c party is that number two)).1
-
--- the laws that are used here
-pub record SessionLaws : Type 0 where
-  pub entries : HearingLaw
-  pub fronts : FrontLaw
-  pub heard_front : HeardFrontLaw
-  pub current : CurrentLaw
-  pub session : SessionLaw
 
 module _ (laws : SessionLaws) (old : World) (sound : Sound old) (c : ℕ) (party : Party) (place : ℕ) (t : Transmission)
     (coming : IsComing old c party place t)

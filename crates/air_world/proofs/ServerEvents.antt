@@ -5,29 +5,20 @@ use Rattle.ax25_link.specs.Air.{IsAt, IsLawful, Transmission}
 use Rattle.node.specs.Events.{NodeEvent, hears as frame_comes, ticks as tick_comes}
 use Rattle.file_store.specs.Command.{after_all}
 use Rattle.file_store.specs.OnDisk.{after_first}
-use Rattle.ftl0_server.specs.Laws.{SomeStepLaw}
 use Rattle.air_attempt.specs.Attempt.{Attempt}
-use Rattle.air_attempt.specs.Laws.{LeftLaw, ServerTicksLaw}
 use Rattle.air_attempt.specs.Party.{Party, newest}
 use Rattle.air_attempt.specs.Transfers.{ServerDid}
 use Rattle.air_world.specs.Cuts.{ServerDoes, ServerEvent, ServerIsCut, server_commands}
 use Rattle.air_world.specs.Lawful.{HasParty, IsAllowed, MayCome}
 use Rattle.air_world.specs.Schedule.{tick_server, to_server}
 use Rattle.air_world.specs.Sound.{Sound}
+use Rattle.air_world.specs.StationLaws.{ServerLaws}
 use Rattle.air_world.specs.Step.{ServerGoes, parties_after}
 use Rattle.air_world.specs.World.{PartyAt, World, counted, next_moment}
 use Rattle.air_world.proofs.CutWorld.{frame-cut-sound, take-none, tick-cut-sound}
 use Rattle.air_world.proofs.Marked.{IsComing, delivered}
-use Rattle.air_world.proofs.HeardMade.{HearingLaws}
 use Rattle.air_world.proofs.ServerTicked.{tick-sound}
 use Rattle.air_world.proofs.ServerWorld.{heard-sound}
-
--- the laws that the server's events are proved by
-pub record ServerLaws : Type 0 where
-  pub hearing : HearingLaws
-  pub ticks : ServerTicksLaw
-  pub left : LeftLaw
-  pub some_step : SomeStepLaw
 
 pub soon-moment : (world : World) → next_moment world < 2 ^ 32
 soon-moment world = omega arith

@@ -34,6 +34,7 @@ use Rattle.air_files.specs.Laws.{GrantedAt, IsGreeted, LookLike, SessionKeeps, s
 use Rattle.air_files.specs.SoundStore.{IsSoundStore}
 use Rattle.air_files.proofs.Offered.{alike-itself, over-alike, served-itself}
 use Rattle.air_world.specs.Sound.{Sound}
+use Rattle.air_world.specs.StationLaws.{HearingLaws}
 use Rattle.air_world.specs.World.{World}
 use Rattle.air_world.proofs.ClientsStay.{ClientsStay, newest-stays, stay-refl, stay-trans}
 use Rattle.air_world.proofs.Likes.{grants-like, like-at, same-party}
@@ -41,7 +42,7 @@ use Rattle.air_world.proofs.Marked.{IsComing, delivers, from-client, marked}
 use Rattle.air_world.proofs.Seats.{between, calls, connection-none, connection-seat, finds-slot}
 use Rattle.air_world.proofs.Served.{before-session, by-session, keeps, now-session}
 use Rattle.air_world.proofs.ServerTicked.{its-state}
-use Rattle.air_world.proofs.HeardMade.{HearingLaws, OwnMade, first-of, lost-second}
+use Rattle.air_world.proofs.HeardMade.{OwnMade, first-of, lost-second}
 
 module _ (laws : HearingLaws) (old : World) (sound : Sound old) (c : ℕ) (party : Party) (place : ℕ) (t : Transmission) (coming : IsComing old c party place t)
     (moment : ℕ) (soon : moment < 2 ^ 32) (gives : Stepped) (step : ServerStep old.server (frame_comes t.frame moment) [] gives) where

@@ -24,6 +24,7 @@ use Rattle.air_files.specs.Laws.{GrantedAt}
 use Rattle.air_world.specs.Events.{with_current}
 use Rattle.air_world.specs.Sound as sound
 use Rattle.air_world.specs.Sound.{AreGrantedOnce, IsSideAt, Sound}
+use Rattle.air_world.specs.StationLaws.{HearingLaws}
 use Rattle.air_world.specs.Step.{party_heard}
 use Rattle.air_world.specs.World.{PartyAt, World, counted}
 use Rattle.air_world.proofs.ClientsStay.{hearing-stays, newest-stays, stay-refl, stay-trans}
@@ -32,7 +33,7 @@ use Rattle.air_world.proofs.Rebuild.{IsMade, StayParties, StaysParty, rebuilt}
 use Rattle.air_world.proofs.Seats.{AreSeatsKnown, between, calls}
 use Rattle.air_world.proofs.Served.{granted-at, stands}
 use Rattle.air_world.proofs.ServerHeard.{calls-then, did, fits, own-made, stays}
-use Rattle.air_world.proofs.HeardMade.{HearingLaws, OwnMade}
+use Rattle.air_world.proofs.HeardMade.{OwnMade}
 use Rattle.air_world.proofs.WorldLists.{at-map, at-set, map-at, other-call}
 
 module _ (laws : HearingLaws) (old : World) (sound_old : Sound old) (c : ℕ) (party : Party) (place : ℕ)

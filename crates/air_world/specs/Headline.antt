@@ -1,5 +1,6 @@
 -- What is promised of uploads and downloads, whatever the air and the power do.
 use Rattle.std.specs.Prelude.{◌≡◌, ℕ, slice_get, Some}
+use Rattle.file_entries.specs.Follows.{KeepsEntries}
 use Rattle.file_store.specs.Store.{Store}
 use Rattle.ftl0_session.specs.Downloads.Table.{file_of}
 use Rattle.client_notes.specs.Notes.{got_of}
@@ -10,6 +11,7 @@ use Rattle.ftl0_client.specs.declared.outcome.Outcome.TheVariants as outcome
 use Rattle.ftl0_client.specs.Outcomes.{outcome_by}
 use Rattle.air_attempt.specs.Attempt.{Attempt}
 use Rattle.air_world.specs.Offered.{Offered}
+use Rattle.air_files.specs.Facts.{IsOfferKept}
 use Rattle.air_files.specs.Kept.{HoldsAck, HoldsTo, IsTaskKept, WhereStands}
 use Rattle.air_attempt.specs.Party.{Party}
 use Rattle.air_world.specs.World.{PartyAt, World}
@@ -33,3 +35,11 @@ pub record HeadlineIn (world : World) (store : Store) : Type 0 where
       (c place number : ℕ) (party : Party) (a : Attempt) → PartyAt world c party
       → slice_get party.attempts place ≡ Some a
       → outcome_of a.client.attempted ≡ Some (Reached (reached.Fetched number)) → HasWhole store party number
+
+-- What is promised holds still in a store that keeps the entries of one in which it holds, where the numbers of all
+-- offers are below the next one.
+abbrev pub HeadlineStays : Type 0
+HeadlineStays =
+    (world : World) (before now : Store) → KeepsEntries before now
+    → ((number offset : ℕ) → Offered world number offset → IsOfferKept before number offset)
+    → HeadlineIn world before → HeadlineIn world now

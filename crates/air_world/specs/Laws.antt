@@ -1,21 +1,25 @@
 -- Laws of worlds, over every lawful schedule.
 use Rattle.std.specs.Prelude.{◌≡◌, ◌≢◌, ℕ, ◌≤◌, List, [], ◌∷◌, length, false, true, Some, ⊤}
 use Rattle.std.specs.List.{AllByRecursion}
+use Rattle.file_entries.specs.Follows.{Follows}
 use Rattle.file_store.specs.Command.{after, drop_entry}
+use Rattle.file_store.specs.IsStore.{IsStore}
 use Rattle.file_store.specs.OnDisk.{after_first}
-use Rattle.file_store.specs.Store.{Entry, entry_of, partial}
+use Rattle.file_store.specs.Store.{Entry, Store, entry_of, partial}
 use Rattle.ftl0_session.specs.Table.{receiving}
 use Rattle.node.specs.Events.{NodeEvent}
 use Rattle.client_notes.specs.Several as notes
 use Rattle.air_world.specs.Cuts.{Happens, IsRun, WorldStep, client_commands, server_commands}
 use Rattle.air_world.specs.Events.{ClientPart, ClientTakes, ServerTakes}
-use Rattle.air_world.specs.Headline.{HeadlineIn}
+use Rattle.air_files.specs.Facts.{IsOfferKept}
+use Rattle.air_world.specs.Headline.{HeadlineIn, HeadlineStays}
 use Rattle.air_world.specs.Lawful.{IsAllowed}
+use Rattle.air_world.specs.Offered.{Offered}
 use Rattle.air_world.specs.Parts.{HasParts}
 use Rattle.air_attempt.specs.Party.{EachSide, Party}
 use Rattle.air_world.specs.Schedule.{Event, IsNoCut, IsSchedule, Schedule}
 use Rattle.air_world.specs.Sound.{Sound}
-use Rattle.air_world.specs.World.{PartyAt, World, first_world, with_party}
+use Rattle.air_world.specs.World.{PartyAt, World, first_world, store_blocks, with_party}
 
 -- The first world of a schedule is sound, and each event that may come keeps that, with a cut at any place.
 pub record SoundLaw : Type 0 where
@@ -122,3 +126,23 @@ RemovalLaw =
     (world : World) (number : ℕ) (entry : Entry) (held : List ℕ) → Sound world
     → entry_of world.server.store number ≡ Some entry → entry.holding ≡ partial held → NoneReceives world number
     → Sound (without_entry world number)
+
+-- The server's store from one world to the next. In a sound world it keeps the rules of a store, and each offer. The
+-- store of the next world follows from it, and so does what stands after the first of the commands of whatever event of
+-- the server's comes next; in a store that follows, what is promised of the world stays. One that follows may take as
+-- many blocks, and that of the first world takes those of a rehearsal.
+pub record StoresLaw : Type 0 where
+  pub next :
+      (old new : World) (event : Event) → Sound old → WorldStep old event new
+      → Follows old.server.store new.server.store
+  pub during :
+      (world : World) (event : Event) (coming : NodeEvent) (delivered : World) (count : ℕ) → Sound world
+      → IsAllowed world event → ServerTakes world event coming delivered
+      → Follows world.server.store (after_first count world.server.store (server_commands world coming))
+  pub rules : (world : World) → Sound world → IsStore world.server.store
+  pub offers :
+      (world : World) (number offset : ℕ) → Sound world → Offered world number offset
+      → IsOfferKept world.server.store number offset
+  pub stays : HeadlineStays
+  pub blocks : (before now : Store) → Follows before now → now.blocks ≡ before.blocks
+  pub first_blocks : (schedule : Schedule) → (first_world schedule).server.store.blocks ≡ store_blocks

@@ -7,5 +7,6 @@ pub mod Offered
 pub mod Parts
 pub use Rattle.air_schedule.specs.Schedule
 pub mod Sound
+pub mod StationLaws
 pub mod Step
 pub mod World

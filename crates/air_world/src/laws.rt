@@ -1,7 +1,8 @@
 //! Laws of the world, each the contract of a function that does nothing.
 
 ghost use Rattle.air_world.specs.Laws.{CutsLaw, ExistenceLaw, NoCutsLaw, PartsLaw, PrefixesLaw, RemovalLaw, RunLaw};
-ghost use Rattle.air_world.specs.Laws.{ScheduleLaw, SoundLaw};
+ghost use Rattle.air_world.specs.Laws.{ScheduleLaw, SoundLaw, StoresLaw};
+ghost use Rattle.air_world.specs.StationLaws.{StationLaws};
 
 use air_attempt::laws as attempts;
 use air_files::laws as files;
@@ -12,11 +13,9 @@ use ftl0_server::laws as server;
 use ftl0_session::downloads::laws::stays_law;
 use pfh_items::laws::{fault_law, no_front_law};
 
-/// The first world of each schedule is sound, and each event that may come keeps a world sound: frames that are lost,
-/// repeated and displaced, ticks, breaks, askings, and power cuts inside whatever of the event's commands, at either
-/// end.
-pub fn sound_law()
-    ensures { SoundLaw }
+/// What the crates below say of the events of both stations.
+fn station_laws()
+    ensures { StationLaws }
 {
     attempts::server_hears_law();
     attempts::heard_law();
@@ -38,6 +37,15 @@ pub fn sound_law()
     stands_law();
     client::some_step_law();
     server::some_step_law();
+}
+
+/// The first world of each schedule is sound, and each event that may come keeps a world sound: frames that are lost,
+/// repeated and displaced, ticks, breaks, askings, and power cuts inside whatever of the event's commands, at either
+/// end.
+pub fn sound_law()
+    ensures { SoundLaw }
+{
+    station_laws();
 }
 
 /// A sound world has all parts, and what is promised of uploads and downloads holds in it: each acknowledged file is
@@ -70,28 +78,19 @@ pub fn existence_law()
 pub fn prefixes_law()
     ensures { PrefixesLaw }
 {
-    attempts::server_hears_law();
-    attempts::heard_law();
-    attempts::heard_front_law();
-    attempts::current_law();
-    attempts::left_law();
-    attempts::front_law();
-    attempts::client_law();
-    files::session_law();
-    files::job_law();
-    files::job_tasks_law();
-    files::stay_law();
-    files::begin_law();
-    server_laws::hearing_law();
-    client_laws::step_law();
-    client_laws::hearing_law();
-    client_laws::ticking_law();
-    stands_law();
-    client::some_step_law();
-    server::some_step_law();
+    station_laws();
     follows_law();
     fault_law();
     no_front_law();
+}
+
+/// The store of each next world follows from the one before, and so does what stands while an event is under way; what
+/// is promised stays in a store that follows.
+pub fn stores_law()
+    ensures { StoresLaw }
+{
+    station_laws();
+    follows_law();
 }
 
 /// What is promised of uploads and downloads holds in each world of each lawful schedule, the first one too, and while

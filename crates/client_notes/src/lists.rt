@@ -3,7 +3,7 @@
 ghost use Rattle.std.specs.Prelude.{◌≡◌, ◌-◌, ◌≤◌, ◌<◌, ◌∷◌, ◌++◌, [], find, length, take, IsTrue, IfOk, IfSome, OnOk, OnErr};
 ghost use Rattle.std.specs.List.{position};
 ghost use Rattle.std.specs.Option.{option_copied};
-ghost use Rattle.client_notes.specs.Answers.{answer_by, answer_of, noted_as as noted_as_task, noted_of};
+ghost use Rattle.client_notes.specs.Answers.{answer_by, answer_of, noted_as as noted_as_task, noted_at, noted_of};
 ghost use Rattle.client_notes.specs.Applied.{IsPlaceOf, taken_back};
 ghost use Rattle.client_notes.specs.Command.{acked, after, forgot, got, is_allowed, numbered, refused};
 ghost use Rattle.client_notes.specs.Limits.{longest_file, most_tasks};
@@ -103,6 +103,13 @@ impl Lists {
         let number = self.last_task(server, caller, name)?;
         let task = self.task(number)?;
         Some(noted_as(number, task))
+    }
+
+    /// How the task of this number stands.
+    pub(crate) fn noted_task(&self, task: u32) -> Option<Noted>
+        ensures { result ≡ noted_at self.now task }
+    {
+        Some(noted_as(task, self.task(task)?))
     }
 
     /// What is answered of the last task of this server, caller and name for a file of this length and digest; none

@@ -2,7 +2,7 @@
 
 ghost use Rattle.std.specs.Prelude.{◌≡◌, ◌⊎◌, ◌+◌, ◌≤◌, ◌<◌, length, true, IsTrue, IsErr, IfOk};
 ghost use Rattle.disk_model.specs.Disk.{FillsRoom};
-ghost use Rattle.client_notes.specs.Answers.{Noting, StartsBy, answer_of, fresh_task, noted_of, start_reaches};
+ghost use Rattle.client_notes.specs.Answers.{Noting, StartsBy, answer_of, fresh_task, noted_at, noted_of, start_reaches};
 ghost use Rattle.client_notes.specs.Command.{acked, forgot, got, is_allowed, numbered, refused};
 ghost use Rattle.client_notes.specs.Commands.{command_value};
 ghost use Rattle.client_notes.specs.Limits.{longest_file, most_tasks};
@@ -301,6 +301,21 @@ impl Notes {
         ensures { result ≡ noted_of self.now.lists server me name.now }
     {
         self.lists().noted(server, me, name.as_bytes())
+    }
+
+    /// How many tasks there are. They are numbered from 1 on. Takes no memory.
+    pub fn tasks(&self) -> u32
+        ensures count { result ≡ task_count self.now.lists }
+        ensures most { result ≤ most_tasks }
+    {
+        self.lists().task_count()
+    }
+
+    /// How the task of this number stands; `None` exactly where there is no such task. Takes no memory.
+    pub fn noted_task(&self, task: u32) -> Option<Noted>
+        ensures { result ≡ noted_at self.now.lists task }
+    {
+        self.lists().noted_task(task)
     }
 
     /// Whether a call answered `Disk`. Takes no memory.

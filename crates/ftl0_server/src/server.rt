@@ -9,7 +9,7 @@ ghost use Rattle.file_store.specs.Records.{store_magic};
 ghost use Rattle.file_store.specs.Calls.{Becomes, Leaves, Runs, TakesStep};
 ghost use Rattle.file_store.specs.Journal.{after_recovery};
 ghost use Rattle.file_store.specs.Recovery.{IsRecovered, LeavesAlikeSinceSync, RefusesRecovery, StandsAlike};
-ghost use Rattle.file_store.specs.State.{IsReady, store_in};
+ghost use Rattle.file_store.specs.State.{IsRead, IsReady, store_in};
 ghost use Rattle.ftl0_session.specs.SessionState.{caller_of};
 ghost use Rattle.node.specs.Events.{ticks};
 ghost use Rattle.ftl0_server.specs.ServerStep.{happening};
@@ -219,6 +219,13 @@ impl Server {
         ensures fits { AllFit self.now.places }
     {
         all_fit_law(&self.places);
+    }
+
+    /// A law, which does nothing: the journal of its store is a store's, read to its end.
+    pub fn read_law(&self)
+        ensures { IsRead self.now.store.journal }
+    {
+        state_law(&self.store);
     }
 
     /// Ends all sessions, and parks their uploads: what is held stays on the disk, which isn't touched. All selections
