@@ -3,7 +3,8 @@
 ghost use Rattle.std.specs.Prelude.{◌≡◌, ◌-◌, ◌≤◌, ◌<◌, ◌∷◌, ◌++◌, [], find, length, take, IsTrue, IfOk, IfSome, OnOk, OnErr};
 ghost use Rattle.std.specs.List.{position};
 ghost use Rattle.std.specs.Option.{option_copied};
-ghost use Rattle.client_notes.specs.Answers.{answer_by, answer_of, noted_as as noted_as_task, noted_at, noted_of};
+ghost use Rattle.client_notes.specs.Answers.{answer_by, answer_of, noted_as as noted_as_task, noted_at};
+ghost use Rattle.client_notes.specs.Answers.{noted_of};
 ghost use Rattle.client_notes.specs.Applied.{IsPlaceOf, taken_back};
 ghost use Rattle.client_notes.specs.Command.{acked, after, forgot, got, is_allowed, numbered, refused};
 ghost use Rattle.client_notes.specs.Limits.{longest_file, most_tasks};
