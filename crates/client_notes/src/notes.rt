@@ -2,7 +2,8 @@
 
 ghost use Rattle.std.specs.Prelude.{◌≡◌, ◌⊎◌, ◌+◌, ◌≤◌, ◌<◌, length, true, IsTrue, IsErr, IfOk};
 ghost use Rattle.disk_model.specs.Disk.{FillsRoom};
-ghost use Rattle.client_notes.specs.Answers.{Noting, StartsBy, answer_of, fresh_task, noted_at, noted_of, start_reaches};
+ghost use Rattle.client_notes.specs.Answers.{Noting, StartsBy, answer_of, fresh_task, noted_at, noted_of};
+ghost use Rattle.client_notes.specs.Answers.{start_reaches};
 ghost use Rattle.client_notes.specs.Command.{acked, forgot, got, is_allowed, numbered, refused};
 ghost use Rattle.client_notes.specs.Commands.{command_value};
 ghost use Rattle.client_notes.specs.Limits.{longest_file, most_tasks};
