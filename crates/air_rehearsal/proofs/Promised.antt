@@ -5,12 +5,12 @@ use Rattle.std.specs.List.{AllByRecursion}
 use Rattle.std.proofs.Common.{inl, inr, sym, subst}
 use Rattle.disk_model.specs.Cuts.{Cuts}
 use Rattle.disk_model.specs.declared.disk.Disk.{Ghosts}
-use Rattle.file_entries.specs.Follows.{Follows, FollowsLaw, KeepsEntries}
+use Rattle.file_entries.specs.Follows.{Follows, FollowsLaw}
 use Rattle.file_entries.specs.IsStore.{IsStore}
 use Rattle.file_store.specs.State.{StandsFor as StandsForStore}
 use Rattle.file_store.specs.Store.{Store}
 use Rattle.air_files.specs.Facts.{IsOfferKept}
-use Rattle.air_world.specs.Headline.{HeadlineIn}
+use Rattle.air_world.specs.Headline.{HeadlineIn, HeadlineStays}
 use Rattle.air_world.specs.Offered.{Offered}
 use Rattle.air_world.specs.Schedule.{Event}
 use Rattle.air_world.specs.World.{World}
@@ -34,13 +34,6 @@ StoresFollow stage (event ∷ events) (next ∷ later) =
     × ((image : List ℕ) → StandsDuring the_server stage.world event image
     → FollowsIn stage.world.server.store image)
     × StoresFollow next events later
-
--- what is promised holds still in a store that keeps the entries
-abbrev pub HeadlineStays : Type 0
-HeadlineStays =
-    (world : World) (before now : Store) → KeepsEntries before now
-    → ((number offset : ℕ) → Offered world number offset → IsOfferKept before number offset)
-    → HeadlineIn world before → HeadlineIn world now
 
 follows_same : (store : Store) → Follows store store
 follows_same store = record { commands = []; calls = tt; does = (tt, refl) }

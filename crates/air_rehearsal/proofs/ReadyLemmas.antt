@@ -13,7 +13,8 @@ use Rattle.ftl0_job.specs.declared.work.Work.TheVariants as work
 use Rattle.disk_model.specs.declared.disk.Disk.{Ghosts}
 use Rattle.air_rehearsal.specs.declared.party.Party.{Party}
 use Rattle.air_rehearsal.specs.declared.stations.Stations.{Stations}
-use Rattle.air_rehearsal.specs.Ready.{AreReady, IsReadyParty, KeepsClients}
+use Rattle.air_rehearsal.specs.Ready.{AreReady, IsReadyParty, KeepsAllButLanes, KeepsClients}
+use Rattle.air_rehearsal.proofs.PairLemmas.{pair-right}
 
 -- the element at a place of a list of which one is another now
 at_set : {X : Type 0} (xs : List X) (i j : ℕ) (x y : X) → slice_get (slice_set xs i x) j ≡ Some y
@@ -28,7 +29,7 @@ at_set (z ∷ zs) (suc i) (suc j) x y at = elim (at_set zs i j x y at) [
 ]
 
 -- and of one with one more
-at_more : {X : Type 0} (xs : List X) (j : ℕ) (x y : X) → slice_get (xs ++ x ∷ []) j ≡ Some y
+pub at_more : {X : Type 0} (xs : List X) (j : ℕ) (x y : X) → slice_get (xs ++ x ∷ []) j ≡ Some y
     → ((j ≡ length xs) × (y ≡ x)) ⊎ ((j ≢ length xs) × (slice_get xs j ≡ Some y))
 at_more [] zero x y at = inl (refl, sym (same_Some x y at))
 at_more [] (suc j) x y at = absurd cc
@@ -43,18 +44,30 @@ pub read_at : {X : Type 0} (xs : List X) (i : ℕ) (x : X) → i < length xs →
     → slice_get xs i ≡ Some x
 read_at xs i x within is = slice_get_read xs (length xs) i x refl within is
 
-kept_at :
-    (old new : Stations) → KeepsClients old new → (c : ℕ) (party : Party) → slice_get new.parties.items c ≡ Some party
-    → slice_get old.parties.items c ≡ Some party
-kept_at old new keeps c party at =
-    let same : new.parties ≡ old.parties = keeps.parties in cc
+-- a client that is ready is so where other frames were sent
+other_lanes :
+    {D : Type 0} (g : Ghosts D) (old new : Party) (disk : D) → KeepsAllButLanes old new → IsReadyParty g old disk
+    → IsReadyParty g new disk
+other_lanes g old new disk keeps ready =
+    subst (λ (p : Party). IsReadyParty g p disk) (sym keeps.same)
+    (record {
+      theirs = record {
+        window = ready.theirs.window;
+        me = ready.theirs.me;
+        server = ready.theirs.server;
+        k = ready.theirs.k;
+        may = ready.theirs.may;
+      };
+      quiet = ready.quiet;
+    })
 
--- the clients are ready where none of them was touched
+-- the clients are ready where none of them was touched, but for what was sent
 pub kept_ready :
     {D : Type 0} (g : Ghosts D) (old new : Stations) (disks : List D) → KeepsClients old new
     → AreReady g old.parties.items disks → AreReady g new.parties.items disks
 kept_ready g old new disks keeps ready c party disk at at_disk =
-    ready c party disk (kept_at old new keeps c party at) at_disk
+    let was = pair-right KeepsAllButLanes old.parties.items new.parties.items keeps.parties c party at in
+    other_lanes g was.0 party disk was.2 (ready c was.0 disk was.1 at_disk)
 
 pub same_ready :
     {D : Type 0} (g : Ghosts D) (old new : Stations) (disks : List D) → new ≡ old

@@ -16,7 +16,8 @@ use Rattle.air_world.specs.Schedule.{Event, Schedule, ask_download, ask_resume, 
 use Rattle.air_world.specs.Schedule.{cut_client, cut_server, tick_client, tick_server, to_client, to_server}
 use Rattle.air_world.specs.World.{World, first_world}
 use Rattle.air_rehearsal.specs.Rehearsed.{Rehearsed, WantsMemory}
-use Rattle.air_rehearsal.specs.Report.{Report, is_working, last_world}
+use Rattle.air_rehearsal.specs.Report.{is_working, last_world}
+use Rattle.air_rehearsal.specs.declared.report.Report.{Report as StoredReport}
 
 -- T1AAA, T2AAA and T3AAA
 abbrev pub drawn_calls : List CallSign
@@ -96,7 +97,7 @@ pub record IsDrawnFor (schedule : Schedule) : Type 0 where
 
 module _ {B : Type 0} (g : Ghosts B) (cuts : Cuts B) where
   -- A schedule of so many rounds was played to its end.
-  pub record Driven (count : ℕ) (bench bench_now : List B) (report : Report) : Type 0 where
+  pub record Driven (count : ℕ) (bench bench_now : List B) (report : StoredReport) : Type 0 where
     pub schedule : Schedule
     pub drawn_for : IsDrawnFor schedule
     pub rehearsed : Rehearsed g cuts schedule bench bench_now report

@@ -18,7 +18,8 @@ use Rattle.air_world.specs.Schedule.{cut_server, tick_client, tick_server, to_cl
 use Rattle.air_world.specs.World.{World, first_world}
 use Rattle.air_rehearsal.specs.Drawn.{IsDrawnFor, last_acked, rounds}
 use Rattle.air_rehearsal.specs.Rehearsed.{Rehearsed}
-use Rattle.air_rehearsal.specs.Report.{Report, is_working}
+use Rattle.air_rehearsal.specs.Report.{is_working}
+use Rattle.air_rehearsal.specs.declared.report.Report.{Report as StoredReport}
 
 -- Numbers are drawn by a linear congruential generator modulo 2^64: its next state, and the number that a state gives.
 abbrev pub next_state : ℕ → ℕ
@@ -246,7 +247,7 @@ pub record IsDrawnBy (seed count : ℕ) (schedule : Schedule) (worlds : List Wor
 
 -- A schedule of so many rounds, as the number draws it, was played to its end.
 pub record DrivenBy {B : Type 0} (g : Ghosts B) (cuts : Cuts B) (seed count : ℕ) (bench bench_now : List B)
-    (report : Report) : Type 0 where
+    (report : StoredReport) : Type 0 where
   pub schedule : Schedule
   pub drawn_for : IsDrawnFor schedule
   pub rehearsed : Rehearsed g cuts schedule bench bench_now report

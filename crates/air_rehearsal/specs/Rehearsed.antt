@@ -1,10 +1,8 @@
 -- What a rehearsal of a schedule comes to: its report; the event that may not come; or want of memory.
 use Rattle.std.specs.Prelude.{◌≡◌, ◌⊎◌, ℕ, ◌+◌, ◌<◌, List, [], ◌∷◌, ◌++◌, length, slice_get, Some, ⊤}
 use Rattle.std.specs.List.{AllByRecursion}
-use Rattle.std.specs.Option.{option_map}
 use Rattle.disk_model.specs.Cuts.{Cuts}
-use Rattle.disk_model.specs.Disk.{IsTold}
-use Rattle.disk_model.specs.Moments.{LeavesOnly, LeavesSince}
+use Rattle.disk_model.specs.Moments.{LeavesSince}
 use Rattle.disk_model.specs.declared.disk.Disk.{Ghosts}
 use Rattle.file_store.specs.State.{StandsFor as StandsForStore}
 use Rattle.file_store.specs.Store.{Store}
@@ -15,15 +13,23 @@ use Rattle.air_world.specs.Laws.{HoldsInEach}
 use Rattle.air_world.specs.Schedule.{Event, Schedule}
 use Rattle.air_world.specs.World.{World, first_world}
 use Rattle.air_rehearsal.specs.Chain.{Stage}
+use Rattle.air_rehearsal.specs.Counting.{Tells}
+use Rattle.air_rehearsal.specs.Halfway.{IsHalfway}
 use Rattle.air_rehearsal.specs.Played.{BenchPlayed, EndsWhole, PlayedAt, StaysSo, TellsCuts, first_stage}
 use Rattle.air_rehearsal.specs.Report.{IsReport, Report, last_world}
+use Rattle.air_rehearsal.specs.ServerEvents.{CanCount}
 use Rattle.air_rehearsal.specs.Standing.{StandsDuring, StandsFor}
 use Rattle.air_rehearsal.specs.Stations.{IsStationOf, Station, acts, breaks_off, client_at, place_of, role_of}
 use Rattle.air_rehearsal.specs.Stations.{the_server}
+use Rattle.air_rehearsal.specs.declared.report.Report.{Report as StoredReport}
 
 -- the octets stand for a store in which what is promised of this world holds
 abbrev pub KeepsPromise : World → List ℕ → Type 0
 KeepsPromise world image = (store : Store) × StandsForStore image store × HeadlineIn world store
+
+-- the count of failed writes of the server's disk, the first one, doesn't stand at its last number
+abbrev pub CanTell : {B : Type 0} → Ghosts B → List B → Type 0
+CanTell g bench = (disk : _) → slice_get bench 0 ≡ Some disk → CanCount g disk
 
 -- the schedule up to here
 abbrev pub until : List Event → Schedule → Schedule
@@ -44,13 +50,6 @@ abbrev pub StandsAmid : Station → World → List Event → List ℕ → Type 0
 StandsAmid station world [] image = StandsFor station world image
 StandsAmid station world (event ∷ later) image =
     StandsFor station world image ⊎ StandsDuring station world event image
-
--- Power was cut at most once more: then what was left stands so.
-abbrev pub TellsOneMore : {B : Type 0} → Cuts B → (List ℕ → Type 0) → B → B → Type 0
-TellsOneMore cuts P disk disk_now =
-    (cuts.restarts disk_now ≡ cuts.restarts disk)
-    ⊎ ((left : List ℕ) × P left
-    × (cuts.restarts disk_now ≡ option_map (λ all. all ++ left ∷ []) (cuts.restarts disk)))
 
 -- the station's disk is in use in the next of these events; after the last one the server's is
 abbrev pub IsInUse : Station → List Event → Type 0
@@ -80,11 +79,13 @@ module _ {B : Type 0} (g : Ghosts B) (cuts : Cuts B) where
   -- The schedule was played to its end. Each event could come in its turn, and these are the worlds; the disks of the
   -- bench went through them; what is promised of uploads and downloads holds in each world, and since each in all that
   -- a crash leaves of the server's disk; and the report counts this run.
-  pub record Rehearsed (schedule : Schedule) (bench bench_now : List B) (report : Report) : Type 0 where
+  pub record Rehearsed (schedule : Schedule) (bench bench_now : List B) (report : StoredReport) : Type 0 where
     pub worlds : List World
     pub run : IsRun schedule worlds
-    pub is_report : IsReport schedule worlds report
-    pub all_kept : report.kept ≡ report.acked
+    pub counts : Report
+    pub is_report : IsReport schedule worlds counts
+    pub tells : Tells report counts
+    pub all_kept : counts.kept ≡ counts.acked
     pub promised : HoldsInEach (first_world schedule ∷ worlds)
     pub played : BenchPlayed g cuts (EndsWhole g) schedule worlds bench bench_now
     pub promised_in_images : PromisedInImages schedule worlds bench bench_now (played.stations the_server tt)
@@ -104,10 +105,8 @@ module _ {B : Type 0} (g : Ghosts B) (cuts : Cuts B) where
 
   -- Memory was wanting in mid-event, or at the end. A crash since the last stage leaves what stands for its world, or
   -- for that after the first of the next event's commands.
-  pub record HalfStep (station : Station) (rest : List Event) (last : Stage B) (disk_now : B) : Type 0 where
-    pub told : IsTold (g.content disk_now)
-    pub since : LeavesOnly g.moment g.images_since last.disk disk_now (StandsAmid station last.world rest)
-    pub tells : TellsOneMore cuts (StandsAmid station last.world rest) last.disk disk_now
+  abbrev pub HalfStep : Station → List Event → Stage B → B → Type 0
+  HalfStep station rest last disk_now = IsHalfway g cuts (StandsAmid station last.world rest) last.disk disk_now
 
   -- a disk that is in use is amid it, and no other one is touched
   abbrev pub EndsHalf : List Event → Station → Stage B → B → Type 0

@@ -1,7 +1,8 @@
 //! The files that clients are asked to send.
 
-ghost use Rattle.std.specs.Prelude.{◌≡◌};
+ghost use Rattle.std.specs.Prelude.{◌≡◌, IfOk};
 ghost use Rattle.sha2.specs.Sha256.{sha256};
+ghost use Rattle.air_files.specs.Uploads.{body_octets, upload_file};
 
 use pfh_items::{AX25_UPLOADER, UPLOAD_TIME};
 use pfh_writer::HeaderBuilder;
@@ -19,14 +20,17 @@ pub(crate) struct Upload {
 }
 
 /// The file of the upload of this number, with a body of so many octets. Takes memory.
-pub(crate) fn file_of(alloc: Global, upload: u32, octets: u16) -> Result<FileBytes, OutOfMemory> {
+pub(crate) fn file_of(alloc: Global, upload: u32, octets: u16) -> Result<FileBytes, OutOfMemory>
+    ensures { IfOk result (λ file. file ≡ upload_file upload octets) }
+{
     let body = body_of(alloc, upload, octets)?;
     let mut builder = HeaderBuilder::new(alloc, *b"FILE    ", *b"BIN", 0, 0, 0, 0)?;
-    if builder.put(AX25_UPLOADER, b"      ").is_err()
-        || builder.put(UPLOAD_TIME, &[0; 4]).is_err()
-    {
+    let Ok(()) = builder.put(AX25_UPLOADER, b"      ") else {
         return Err(OutOfMemory);
-    }
+    };
+    let Ok(()) = builder.put(UPLOAD_TIME, &[0; 4]) else {
+        return Err(OutOfMemory);
+    };
     match builder.finish(body.as_slice()) {
         Ok(file) => Ok(file),
         Err(_) => Err(OutOfMemory),
@@ -34,7 +38,9 @@ pub(crate) fn file_of(alloc: Global, upload: u32, octets: u16) -> Result<FileByt
 }
 
 /// The body of the file: octet i is 7 i + 13 times the upload's number, modulo 256. Takes memory.
-fn body_of(alloc: Global, upload: u32, octets: u16) -> Result<Vec<u8>, OutOfMemory> {
+fn body_of(alloc: Global, upload: u32, octets: u16) -> Result<Vec<u8>, OutOfMemory>
+    ensures { IfOk result (λ body. body.items ≡ body_octets upload octets) }
+{
     let mut body = Vec::new(alloc);
     for i in 0..octets {
         let sum = u64::from(i) * 7 + u64::from(upload) * 13;

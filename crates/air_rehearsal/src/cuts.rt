@@ -1,7 +1,8 @@
 //! The cuts of power.
 
-ghost use Rattle.std.specs.Prelude.{◌-◌, Some};
+ghost use Rattle.std.specs.Prelude.{◌-◌, OnOk, Some};
 ghost use Rattle.disk_model.specs.Cuts.{ArmsOnly, cuts_by};
+ghost use Rattle.air_rehearsal.specs.Strikes.{Strikes};
 
 use disk_model::{CutDisk, Halt};
 use px_base::OutOfMemory;
@@ -29,7 +30,10 @@ impl Cut {
         &self,
         disk: &mut B,
         came: Result<(), Halt>,
-    ) -> Result<(), OutOfMemory> {
+    ) -> Result<(), OutOfMemory>
+        ensures { OnOk result (Strikes B.Disk (cuts_by B.restarts B.arming B.plain B.is_starved)
+            disk.old disk.new came) }
+    {
         if came == Err(Halt::OutOfMemory) || disk.starved() {
             return Err(OutOfMemory);
         }

@@ -1,6 +1,6 @@
 //! A rehearsal whose events are drawn by a number.
 
-ghost use Rattle.std.specs.Prelude.{◌≡◌, IfOk, OnOk};
+ghost use Rattle.std.specs.Prelude.{◌≡◌, ◌≤◌, IfOk, OnOk, length};
 ghost use Rattle.disk_model.specs.Cuts.{AreFresh, cuts_by};
 ghost use Rattle.air_rehearsal.specs.Ready.{AreReady, IsReadyServer};
 
@@ -127,8 +127,10 @@ pub fn drive<B: CutDisk>(
     driver.stations.end(disk)
 }
 
-/// The calls of the clients. Takes memory.
-fn calls(alloc: Global) -> Result<Vec<Call>, OutOfMemory> {
+/// The calls of the clients, at most three. Takes memory.
+fn calls(alloc: Global) -> Result<Vec<Call>, OutOfMemory>
+    ensures { IfOk result (λ calls. length calls.items ≤ 3) }
+{
     let mut calls = Vec::new(alloc);
     for text in CALLS {
         if let Ok(call) = Call::read(text) {
@@ -220,7 +222,7 @@ impl Driver {
         if !party.is_free() {
             return None;
         }
-        if party.unfinished().is_some() {
+        if party.last_going().is_some() {
             return Some(Event::AskResume { client });
         }
         let drawn = self.draws.next();
@@ -414,24 +416,24 @@ fn put_off(is_late: bool, place: usize) -> Option<usize> {
 
 /// How many attempts the client of this number made.
 fn number_of(stations: &Stations, client: u64) -> u64 {
-    match stations.attempt(client) {
-        Some(attempt) => attempt.number,
+    match stations.party(client) {
+        Some(party) => party.attempt.number,
         None => 0,
     }
 }
 
 /// How many frames it sent in the newest one.
 fn count_to_server(stations: &Stations, client: u64) -> usize {
-    match stations.attempt(client) {
-        Some(attempt) => attempt.from_client.count(),
+    match stations.party(client) {
+        Some(party) => party.attempt.from_client.count(),
         None => 0,
     }
 }
 
 /// How many frames the server sent it there.
 fn count_to_client(stations: &Stations, client: u64) -> usize {
-    match stations.attempt(client) {
-        Some(attempt) => attempt.from_server.count(),
+    match stations.party(client) {
+        Some(party) => party.attempt.from_server.count(),
         None => 0,
     }
 }

@@ -1,16 +1,33 @@
 //! What the server's store keeps at the end.
 
-ghost use Rattle.std.specs.Prelude.{◌≡◌, Some, true};
+ghost use Rattle.std.specs.Prelude.{◌≡◌, ℕ, ◌≤◌, [], ◌∷◌, List, IfOk, None, OnOk, Some, true};
 ghost use Rattle.std.specs.Option.{option_map};
+ghost use Rattle.pfh_items.specs.Faults.{fault_code};
+ghost use Rattle.pfh_items.specs.Layout.{FileText, ItemValue};
 ghost use Rattle.file_entries.specs.Info.{info_of};
-ghost use Rattle.file_entries.specs.Store.{entry_of};
+ghost use Rattle.file_entries.specs.Store.{entry_of, octets_at};
 ghost use Rattle.file_store.specs.State.{IsReady, store_in};
+ghost use Rattle.air_attempt.specs.Party.{Party as PlayedParty, file_of_task};
+ghost use Rattle.air_files.specs.Kept.{HoldsAck, IsKept};
+ghost use Rattle.air_world.specs.Sound.{Sound};
+ghost use Rattle.air_world.specs.World.{World, store_blocks};
+ghost use Rattle.air_rehearsal.specs.Counting.{EndsSo};
+ghost use Rattle.air_rehearsal.specs.Ending.{CountsAcked, IsAtEnd, IsStampedFor, IsUpload, LooksOnly, moment_in};
+ghost use Rattle.air_rehearsal.specs.Halfway.{TriesToStart};
+ghost use Rattle.air_rehearsal.specs.Report.{all_tasks, tasks_of};
+ghost use Rattle.air_rehearsal.specs.Standing.{StandsNow};
+ghost use Rattle.air_rehearsal.specs.Stations.{the_server};
+ghost use Rattle.air_rehearsal.specs.TakingPart.{Seat};
+ghost use Rattle.air_rehearsal.specs.Worlds.{PlaysParty, PlaysStations};
 
-use crate::asking::{Upload, file_of};
+use crate::asking::file_of;
+use crate::party::Party;
 use crate::report::Report;
 use crate::stations::{LIMITS, Stations};
+use air_world::laws::parts_law;
 use client_notes::Noted;
 use disk_model::Disk;
+use file_store::laws::state_law;
 use file_store::{FileStore, Info};
 use pfh_items::UPLOAD_TIME;
 use pfh_reader::check;
@@ -19,43 +36,125 @@ use px_base::{Call, FileBytes, OutOfMemory, le32};
 use std::alloc::Global;
 
 impl Stations {
-    /// What came of the rehearsal. The server is closed, and its store is recovered from its disk. Takes memory.
-    pub(crate) fn end<D: Disk>(&self, disk: &mut D) -> Result<Report, OutOfMemory> {
+    /// What came of the rehearsal, in whose world the server is closed: its store is recovered from its disk. Takes
+    /// memory.
+    pub(crate) fn end<D: Disk>(&self, disk: &mut D) -> Result<Report, OutOfMemory>
+        ensures ends { IfOk result (λ report. (world : World) → Sound world → PlaysStations self.now world
+            → world.server.store.blocks ≡ store_blocks → StandsNow D.Disk the_server world disk.old
+            → EndsSo D.Disk world self.now.report disk.old disk.new report) }
+        ensures tries { TriesToStart D.Disk the_server disk.old disk.new }
+    {
         let mut report = self.report;
-        let mut number: u32 = 0;
         let Ok(store) = FileStore::recover(self.alloc, disk, LIMITS) else {
             return Err(OutOfMemory);
         };
         let mut store = store;
-        for asked in &self.uploads {
-            self.count_upload(&mut store, disk, &mut report, number, asked)?;
-            number = number.wrapping_add(1);
-        }
+        state_law(&store);
+        self.count_all(&mut store, disk, &mut report)?;
         Ok(report)
     }
 
-    /// Counts an upload, where it was acknowledged. Takes memory.
-    fn count_upload<D: Disk>(
+    /// Counts the tasks of all clients that were acknowledged. Takes memory.
+    fn count_all<D: Disk>(
         &self,
         store: &mut FileStore,
         disk: &mut D,
         report: &mut Report,
-        upload: u32,
-        asked: &Upload,
     ) -> Result<(), OutOfMemory>
         requires { IsReady D.Disk store.old disk.old }
-        ensures { IsReady D.Disk store.new disk.new }
+        ensures looks { LooksOnly D.Disk store.old store.new disk.old disk.new }
+        ensures counts { OnOk result ((world : World) → Sound world → PlaysStations self.now world
+            → store_in store.old ≡ world.server.store → CountsAcked (all_tasks world) report.old report.new) }
     {
-        let Some(party) = self.parties.get(asked.client) else {
-            return Ok(());
-        };
-        let Some(Noted::Acked { number, .. }) = party.noted(upload) else {
-            return Ok(());
-        };
-        let file = file_of(self.alloc, upload, asked.octets)?;
-        let kept = octets_of(self.alloc, store, disk, number, party.me)?;
-        report.count_acked(is_stamped(file, kept.as_slice(), number, party.me));
+        for party in &self.parties {
+            self.count_tasks(store, disk, report, party)?;
+        }
         Ok(())
+    }
+
+    /// Counts the tasks of a client that were acknowledged. Takes memory.
+    fn count_tasks<D: Disk>(
+        &self,
+        store: &mut FileStore,
+        disk: &mut D,
+        report: &mut Report,
+        party: &Party,
+    ) -> Result<(), OutOfMemory>
+        requires { IsReady D.Disk store.old disk.old }
+        ensures looks { LooksOnly D.Disk store.old store.new disk.old disk.new }
+        ensures counts { OnOk result ((seat : Seat) → IsAtEnd self.now party.now store.old seat
+            → CountsAcked (tasks_of seat.party) report.old report.new) }
+    {
+        for before in 0..party.client.notes().tasks() {
+            self.count_task(store, disk, report, party, before + 1)?;
+        }
+        Ok(())
+    }
+
+    /// Counts the task of this number of a client, where it was acknowledged. Takes memory.
+    fn count_task<D: Disk>(
+        &self,
+        store: &mut FileStore,
+        disk: &mut D,
+        report: &mut Report,
+        party: &Party,
+        task: u32,
+    ) -> Result<(), OutOfMemory>
+        requires ready { IsReady D.Disk store.old disk.old }
+        requires some { 1 ≤ task }
+        ensures looks { LooksOnly D.Disk store.old store.new disk.old disk.new }
+        ensures counts { OnOk result ((seat : Seat) → IsAtEnd self.now party.now store.old seat
+            → CountsAcked (record { party = seat.party; task = task } ∷ []) report.old report.new) }
+    {
+        let Some(noted) = party.client.notes().noted_task(task) else {
+            return Ok(());
+        };
+        let Noted::Acked { number, .. } = noted else {
+            return Ok(());
+        };
+        let is_kept = self.is_kept(store, disk, party, task, number)?;
+        report.count_acked(is_kept);
+        Ok(())
+    }
+
+    /// Whether the store has the file of the task of this number of a client, which was acknowledged with that number.
+    /// Takes memory.
+    fn is_kept<D: Disk>(
+        &self,
+        store: &mut FileStore,
+        disk: &mut D,
+        party: &Party,
+        task: u32,
+        number: u32,
+    ) -> Result<bool, OutOfMemory>
+        requires ready { IsReady D.Disk store.old disk.old }
+        requires some { 1 ≤ task }
+        ensures looks { LooksOnly D.Disk store.old store.new disk.old disk.new }
+        ensures kept { IfOk result (λ is_kept. (seat : Seat) → IsAtEnd self.now party.now store.old seat
+            → HoldsAck seat.party task number → is_kept ≡ true) }
+    {
+        parts_law();
+        let Some(file) = self.file_at(party, task)? else {
+            return Ok(false);
+        };
+        let caller = party.client.me();
+        let kept = octets_of(self.alloc, store, disk, number, caller)?;
+        Ok(is_stamped(file, kept.as_slice(), number, caller))
+    }
+
+    /// The file of the task of this number of a client. Takes memory.
+    pub(crate) fn file_at(&self, party: &Party, task: u32) -> Result<Option<FileBytes>, OutOfMemory>
+        requires { 1 ≤ task }
+        ensures { IfOk result (λ file. (world : World) (played : PlayedParty) → PlaysStations self.now world
+            → PlaysParty party.now played → file_of_task world.files played task ≡ file) }
+    {
+        let Some(upload) = party.uploads.get(task as usize - 1) else {
+            return Ok(None);
+        };
+        match self.uploads.get(*upload as usize) {
+            Some(asked) => Ok(Some(file_of(self.alloc, *upload, asked.octets)?)),
+            None => Ok(None),
+        }
     }
 }
 
@@ -68,7 +167,9 @@ fn octets_of<D: Disk>(
     caller: Call,
 ) -> Result<Vec<u8>, OutOfMemory>
     requires { IsReady D.Disk store.old disk.old }
-    ensures { IsReady D.Disk store.new disk.new }
+    ensures looks { LooksOnly D.Disk store.old store.new disk.old disk.new }
+    ensures octets { IfOk result (λ octets. (file : List ℕ) → IsKept (store_in store.old) number file caller
+        → IsStampedFor file number caller octets.items) }
 {
     match store.info(number) {
         Some(info) if info.complete && info.caller == caller => {
@@ -89,7 +190,8 @@ fn read_all<D: Disk>(
     requires ready { IsReady D.Disk store.old disk.old }
     requires there { option_map info_of (entry_of (store_in store.old) number) ≡ Some info }
     requires complete { info.complete ≡ true }
-    ensures { IsReady D.Disk store.new disk.new }
+    ensures looks { LooksOnly D.Disk store.old store.new disk.old disk.new }
+    ensures octets { IfOk result (λ octets. octets.items ≡ octets_at (entry_of (store_in store.old) number)) }
 {
     let mut octets = Vec::new(alloc);
     octets.resize(info.held as usize, 0)?;
@@ -100,7 +202,9 @@ fn read_all<D: Disk>(
 }
 
 /// Whether these octets are the file, stamped for this number and caller and the moment that they say themselves.
-fn is_stamped(file: FileBytes, octets: &[u8], number: u32, caller: Call) -> bool {
+fn is_stamped(file: FileBytes, octets: &[u8], number: u32, caller: Call) -> bool
+    ensures { IsUpload file → IsStampedFor file number caller octets.now → result ≡ true }
+{
     let Some(moment) = upload_time(octets) else {
         return false;
     };
@@ -113,7 +217,10 @@ fn is_stamped(file: FileBytes, octets: &[u8], number: u32, caller: Call) -> bool
 }
 
 /// The moment that a file without fault says it was stamped at, if it does.
-fn upload_time(file: &[u8]) -> Option<u32> {
+fn upload_time(file: &[u8]) -> Option<u32>
+    ensures { (items : List ItemValue) (body : List ℕ) → FileText items body file.now
+        → fault_code file.now ≡ None → result ≡ moment_in items }
+{
     let Ok(header) = check(file) else {
         return None;
     };

@@ -15,7 +15,6 @@ mod rehearsing;
 mod report;
 mod serving;
 mod stations;
-mod tasks;
 
 pub use generator::drive;
 pub use rehearsing::{RehearseStop, rehearse};

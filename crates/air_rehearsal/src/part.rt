@@ -1,14 +1,23 @@
 //! The part of a client in an event.
 
-ghost use Rattle.std.specs.Prelude.{◌≡◌, OnOk, IsTrue};
-ghost use Rattle.air_rehearsal.specs.Ready.{IsReadyParty, IsTheirs, MayDo};
+ghost use Rattle.std.specs.Prelude.{◌≡◌, ◌↔◌, None, OnOk, IsTrue};
+ghost use Rattle.disk_model.specs.Cuts.{cuts_by};
+ghost use Rattle.client_notes.specs.Notes.{task_count};
+ghost use Rattle.air_world.specs.Events.{ClientPart, ClientTakes};
+ghost use Rattle.air_world.specs.Lawful.{IsAllowed};
+ghost use Rattle.air_world.specs.Schedule.{Event};
+ghost use Rattle.air_rehearsal.specs.PartCalls.{ActsPart, BeCut, BeginsPart, KeepsOthers, TouchesPart};
+ghost use Rattle.air_rehearsal.specs.PartCalls.{uploads_by};
+ghost use Rattle.air_rehearsal.specs.Ready.{IsReadyParty, IsTheirs, KeepsParty, MayDo};
+ghost use Rattle.air_rehearsal.specs.Seats.{asks as asks_in};
+ghost use Rattle.air_rehearsal.specs.TakingPart.{IsPart, IsSeat, Seat, TakesPart};
+ghost use Rattle.air_rehearsal.specs.Worlds.{IsSteady};
 
-use crate::attempt::Attempt;
 use crate::cuts::Cut;
 use crate::party::Party;
-use crate::report::Report;
+use air_world::laws::sound_law;
 use client_notes::LONGEST_FILE;
-use client_notes::laws::armed_law;
+use client_notes::laws::{armed_law, images_law};
 use disk_model::{CutDisk, Disk, Halt};
 use px_base::{FileBytes, OutOfMemory};
 use std::alloc::Global;
@@ -19,10 +28,19 @@ const MOST_TOKENS: usize = 2_047;
 /// What a client does in an event.
 #[derive(Drop)]
 pub(crate) enum Part {
-    /// It is asked to send the file of an upload, or to go on with it.
+    /// It is asked to send the file of an upload.
     Upload {
         /// Which upload it is.
         upload: u32,
+        /// Its file.
+        file: FileBytes,
+    },
+    /// It is asked to go on with its last unfinished upload.
+    Resume {
+        /// The task.
+        task: u32,
+        /// Its number on the server; 0 where it has none.
+        number: u32,
         /// Its file.
         file: FileBytes,
     },
@@ -47,73 +65,72 @@ pub(crate) enum Part {
 
 impl Part {
     /// Whether the client is asked for something.
-    fn asks(&self) -> bool {
-        matches!(
-            self,
-            Part::Upload { .. } | Part::List { .. } | Part::Download { .. }
-        )
+    pub(crate) fn asks(&self) -> bool
+        ensures { result ≡ asks_in self.now }
+    {
+        match self {
+            Part::Upload { .. } | Part::Resume { .. } | Part::List { .. } | Part::Download { .. } =>
+                true,
+            Part::Hear { .. } | Part::Tick => false,
+        }
     }
 }
 
 impl Party {
     /// Whether the client may do this: it is asked only while nothing is under way.
     pub(crate) fn may_do(&self, part: &Part) -> bool
-        ensures { IsTrue result → MayDo self.now part.now }
+        ensures { IsTrue result ↔ MayDo self.now part.now }
     {
         match part {
-            Part::Upload { file, .. } => self.is_free() && file.len() <= LONGEST_FILE as usize,
+            Part::Upload { file, .. } | Part::Resume { file, .. } => {
+                self.is_free() && file.len() <= LONGEST_FILE as usize
+            }
             Part::List { tokens } => self.is_free() && tokens.len() <= MOST_TOKENS,
             Part::Download { number } => self.is_free() && *number >= 1,
             Part::Hear { .. } | Part::Tick => true,
         }
     }
 
-    /// The client takes part in an event over its disk, and what comes of it is counted. A cut that waits comes in it.
-    /// Takes memory.
+    /// The client takes part in an event over its disk. A cut that waits comes in it. Takes memory.
     pub(crate) fn take_part<B: CutDisk>(
         &mut self,
         alloc: Global,
         disk: &mut B,
-        attempt: &mut Attempt,
         part: Part,
-        report: &mut Report,
     ) -> Result<(), OutOfMemory>
         requires ready { IsReadyParty B.Disk self.old disk.old }
         requires may { MayDo self.old part }
-        ensures { OnOk result (IsReadyParty B.Disk self.new disk.new) }
+        ensures ready { OnOk result (IsReadyParty B.Disk self.new disk.new) }
+
+        // What becomes of the client of whichever world it is, and of the disk.
+        ensures takes { OnOk result ((seat : Seat) (event : Event) (whole : ClientPart) → IsSeat self.old seat
+            → IsAllowed seat.world event → ClientTakes seat.world event seat.c whole → IsPart seat part whole
+            → IsSteady B.Disk (cuts_by B.restarts B.arming B.plain B.is_starved) disk.old
+            → TakesPart B.Disk (cuts_by B.restarts B.arming B.plain B.is_starved) whole self.old self.new
+            disk.old disk.new) }
     {
-        if part.asks() {
-            report.count_asked();
-        }
         match self.cut {
-            Some(cut) => {
-                self.cut = None;
-                report.count_cut();
-                self.be_cut(alloc, disk, attempt, part, cut)
-            }
-            None => self.act(alloc, disk, attempt, part, report),
+            Some(cut) => self.be_cut(alloc, disk, part, cut)?,
+            None => self.act(alloc, disk, part)?,
         }
+        if disk.starved() {
+            return Err(OutOfMemory);
+        }
+        Ok(())
     }
 
-    /// The client does this, and sends what it has to send. An outcome is counted. Takes memory.
-    fn act<D: Disk>(
-        &mut self,
-        alloc: Global,
-        disk: &mut D,
-        attempt: &mut Attempt,
-        part: Part,
-        report: &mut Report,
-    ) -> Result<(), OutOfMemory>
+    /// The client does this, and sends what it has to send. Takes memory.
+    fn act<D: Disk>(&mut self, alloc: Global, disk: &mut D, part: Part) -> Result<(), OutOfMemory>
         requires ready { IsReadyParty D.Disk self.old disk.old }
         requires may { MayDo self.old part }
-        ensures { OnOk result (IsReadyParty D.Disk self.new disk.new) }
+        ensures ready { OnOk result (IsReadyParty D.Disk self.new disk.new) }
+        ensures acts { OnOk result ((seat : Seat) (event : Event) (whole : ClientPart) → IsSeat self.old seat
+            → IsAllowed seat.world event → ClientTakes seat.world event seat.c whole → IsPart seat part whole
+            → self.old.cut ≡ None → ActsPart D.Disk whole self.old self.new disk.old disk.new) }
     {
-        let was_free = self.is_free();
-        self.do_part(alloc, disk, attempt, part)?;
-        if !was_free {
-            report.count_outcome(self.client.outcome());
-        }
-        self.say(disk, attempt)
+        sound_law();
+        self.do_part(alloc, disk, part)?;
+        self.say(disk)
     }
 
     /// The client does this. Takes memory.
@@ -121,18 +138,22 @@ impl Party {
         &mut self,
         alloc: Global,
         disk: &mut D,
-        attempt: &mut Attempt,
         part: Part,
     ) -> Result<(), OutOfMemory>
         requires ready { IsReadyParty D.Disk self.old disk.old }
         requires may { MayDo self.old part }
-        ensures { OnOk result (IsTheirs D.Disk self.new disk.new) }
+        ensures theirs { OnOk result (IsTheirs D.Disk self.new disk.new) }
+        ensures begins { OnOk result ((seat : Seat) (whole : ClientPart) → IsSeat self.old seat
+            → IsPart seat part whole → BeginsPart D.Disk whole self.old self.new disk.old disk.new) }
     {
         match part {
             Part::Upload { upload, file } => self.ask_upload(alloc, disk, upload, file),
+            Part::Resume { task, number, file } => {
+                self.ask_resume(alloc, disk, task, number, file)
+            }
             Part::List { tokens } => self.ask_list(alloc, disk, tokens),
             Part::Download { number } => self.ask_download(alloc, disk, number),
-            Part::Hear { place } => self.hear(disk, attempt, place).map_err(no_memory),
+            Part::Hear { place } => self.hear(disk, place).map_err(no_memory),
             Part::Tick => {
                 self.tick(disk);
                 Ok(())
@@ -140,48 +161,67 @@ impl Party {
         }
     }
 
-    /// Power is cut where the client does this: nothing is sent, and it starts again from its notes. Takes memory.
+    /// Power is cut where the client does this: nothing is sent, and it starts again from its notes. No cut waits then.
+    /// Takes memory.
     fn be_cut<B: CutDisk>(
         &mut self,
         alloc: Global,
         disk: &mut B,
-        attempt: &mut Attempt,
         part: Part,
         cut: Cut,
     ) -> Result<(), OutOfMemory>
         requires ready { IsReadyParty B.Disk self.old disk.old }
         requires may { MayDo self.old part }
-        ensures { OnOk result (IsReadyParty B.Disk self.new disk.new) }
+        ensures ready { OnOk result (IsReadyParty B.Disk self.new disk.new) }
+        ensures cut { OnOk result ((seat : Seat) (whole : ClientPart) → IsSeat self.old seat
+            → IsPart seat part whole
+            → IsSteady B.Disk (cuts_by B.restarts B.arming B.plain B.is_starved) disk.old
+            → BeCut B.Disk (cuts_by B.restarts B.arming B.plain B.is_starved) cut.call whole self.new
+            disk.old disk.new) }
     {
         armed_law::<B>();
-        let k = self.k;
         cut.arm(disk);
-        let came = self.touch_disk(disk, attempt, &part);
+        images_law(self.client.notes(), disk);
+        let came = self.touch_disk(disk, &part);
         cut.strike(disk, came)?;
-        self.restart(alloc, disk, k)?;
-        if let Part::Upload { upload, .. } = part {
-            self.find_task(upload)?;
-        }
+        self.restart(alloc, disk)?;
+        self.note_part(&part)?;
+        self.cut = None;
         Ok(())
     }
 
-    /// The client does of this what its disk has to do with. Takes memory.
-    fn touch_disk<D: Disk>(
-        &mut self,
-        disk: &mut D,
-        attempt: &mut Attempt,
-        part: &Part,
-    ) -> Result<(), Halt>
-        requires ready { IsReadyParty D.Disk self.old disk.old }
-        requires may { MayDo self.old part.now }
+    /// Looks for the task of the upload that was asked, if one was. Takes memory.
+    fn note_part(&mut self, part: &Part) -> Result<(), OutOfMemory>
+        ensures keeps { KeepsParty self.old self.new }
+        ensures notes { OnOk result (self.new.uploads.items
+            ≡ uploads_by part.now (task_count self.old.client.notes.lists) self.old.uploads.items) }
     {
         match part {
-            Part::Upload { upload, file } => {
-                self.start(disk, *upload, file.as_slice())?;
-                Ok(())
-            }
-            Part::Hear { place } => self.hear(disk, attempt, *place),
-            Part::List { .. } | Part::Download { .. } | Part::Tick => Ok(()),
+            Part::Upload { upload, .. } => self.note_task(*upload),
+            Part::Resume { .. }
+            | Part::List { .. }
+            | Part::Download { .. }
+            | Part::Hear { .. }
+            | Part::Tick => Ok(()),
+        }
+    }
+
+    /// The client does of this what its disk has to do with. Takes memory.
+    fn touch_disk<D: Disk>(&mut self, disk: &mut D, part: &Part) -> Result<(), Halt>
+        requires ready { IsReadyParty D.Disk self.old disk.old }
+        requires may { MayDo self.old part.now }
+        ensures keeps { KeepsOthers self.old self.new }
+        ensures touches { (seat : Seat) (whole : ClientPart) → IsSeat self.old seat → IsPart seat part.now whole
+            → TouchesPart D.Disk whole self.new disk.old disk.new result }
+    {
+        images_law(self.client.notes(), disk);
+        match part {
+            Part::Upload { upload, file } => match self.start(disk, *upload, file.as_slice()) {
+                Ok(_) => Ok(()),
+                Err(halt) => Err(halt),
+            },
+            Part::Hear { place } => self.hear(disk, *place),
+            Part::Resume { .. } | Part::List { .. } | Part::Download { .. } | Part::Tick => Ok(()),
         }
     }
 }

@@ -1,14 +1,26 @@
 //! One event is played.
 
-ghost use Rattle.std.specs.Prelude.{◌≡◌, IfOk, OnOk};
+ghost use Rattle.std.specs.Prelude.{◌≡◌, IfOk, IsErr, OnOk, suc};
 ghost use Rattle.ax25_link.specs.Window.{IsGoodK};
-ghost use Rattle.air_rehearsal.specs.Ready.{AreReady, IsReadyServer, KeepsClients};
+ghost use Rattle.disk_model.specs.Cuts.{cuts_by};
+ghost use Rattle.air_schedule.specs.Events.{event_value};
+ghost use Rattle.air_world.specs.Events.{ClientPart};
+ghost use Rattle.air_world.specs.Lawful.{IsAllowed};
+ghost use Rattle.air_world.specs.Schedule.{ask_resume, ask_upload, break_client, cut_client};
+ghost use Rattle.air_world.specs.World.{World, next_moment};
+ghost use Rattle.air_rehearsal.specs.Playing.{GoesOn, IsBench, IsPlaying, PlaysEvent, bench_of};
+ghost use Rattle.air_rehearsal.specs.Ready.{AreReady, IsReadyServer};
+ghost use Rattle.air_rehearsal.specs.ServerEvents.{CanCount, CountsOn};
+ghost use Rattle.air_rehearsal.specs.Seats.{ComesAlways, CountsCut, CountsEvent, GoesApart, MayTake, TookPart};
+ghost use Rattle.air_rehearsal.specs.Seats.{clients_of};
 
 use crate::asking::{Upload, file_of};
 use crate::cuts::Cut;
 use crate::part::Part;
 use crate::stations::{Stations, place_of};
 use air_schedule::Event;
+use air_world::laws::sound_law;
+use client_notes::laws::images_law;
 use disk_model::CutDisk;
 use ftl0_server::Server;
 use px_base::{FileBytes, OutOfMemory};
@@ -27,32 +39,89 @@ impl Stations {
         requires clients { AreReady B.Disk self.old.parties.items disks.old }
         ensures server { IfOk result (λ server. IsReadyServer B.Disk self.new server disk.new) }
         ensures clients { OnOk result (AreReady B.Disk self.new.parties.items disks.new) }
+        ensures faults { OnOk result (CountsOn B.Disk disk.old disk.new) }
+
+        // What becomes of whichever world is played.
+        ensures plays { IfOk result (λ later. (world : World)
+            → IsPlaying B.Disk (cuts_by B.restarts B.arming B.plain B.is_starved) world
+            (bench_of self.old server disk.old disks.old) → CanCount B.Disk disk.old
+            → IsAllowed world (event_value event.now)
+            → PlaysEvent B.Disk (cuts_by B.restarts B.arming B.plain B.is_starved) world (event_value event.now)
+            (bench_of self.old server disk.old disks.old) (bench_of self.new later disk.new disks.new)) }
+    {
+        self.count_event();
+        self.go(server, disk, disks, event)
+    }
+
+    /// An event comes.
+    fn count_event(&mut self)
+        ensures { CountsEvent self.old self.new }
     {
         self.report.count_event();
+        self.moment = self.moment.wrapping_add(1);
+    }
+
+    /// Plays an event that was counted. Takes memory.
+    fn go<B: CutDisk>(
+        &mut self,
+        server: Server,
+        disk: &mut B,
+        disks: &mut [B],
+        event: &Event,
+    ) -> Result<Server, OutOfMemory>
+        requires server { IsReadyServer B.Disk self.old server disk.old }
+        requires clients { AreReady B.Disk self.old.parties.items disks.old }
+        ensures server { IfOk result (λ server. IsReadyServer B.Disk self.new server disk.new) }
+        ensures clients { OnOk result (AreReady B.Disk self.new.parties.items disks.new) }
+        ensures faults { OnOk result (CountsOn B.Disk disk.old disk.new) }
+        ensures goes { IfOk result (λ later. (world : World)
+            → IsBench B.Disk (cuts_by B.restarts B.arming B.plain B.is_starved) world
+            (bench_of self.old server disk.old disks.old) → CanCount B.Disk disk.old
+            → self.old.moment ≡ next_moment world → IsAllowed world (event_value event.now)
+            → GoesOn B.Disk (cuts_by B.restarts B.arming B.plain B.is_starved) world (event_value event.now)
+            (bench_of self.old server disk.old disks.old) (bench_of self.new later disk.new disks.new)) }
+    {
+        sound_law();
         match event {
             Event::ToServer {
                 client,
                 transmission,
-            } => self.to_server(server, disk, *client, *transmission),
-            Event::TickServer => self.tick_server(server, disk),
-            _ => match self.play_apart(disks, event) {
-                Ok(()) => Ok(server),
-                Err(OutOfMemory) => {
-                    server.close();
-                    Err(OutOfMemory)
+            } => match (place_of(*client), place_of(*transmission)) {
+                (Some(c), Some(place)) => {
+                    self.count_cut();
+                    self.to_server(server, disk, c, place)
                 }
+                _ => refuse(server),
+            },
+            Event::TickServer => {
+                self.count_cut();
+                self.tick_server(server, disk)
+            }
+            _ => match self.go_apart(disks, event) {
+                Ok(()) => Ok(server),
+                Err(OutOfMemory) => refuse(server),
             },
         }
     }
 
+    /// Counts a cut of the server's power, where one waits.
+    fn count_cut(&mut self)
+        ensures { CountsCut self.old self.new }
+    {
+        self.report.count_cut(self.cut.is_some());
+    }
+
     /// Plays an event in which the server takes no part. Takes memory.
-    fn play_apart<B: CutDisk>(&mut self, disks: &mut [B], event: &Event) -> Result<(), OutOfMemory>
+    fn go_apart<B: CutDisk>(&mut self, disks: &mut [B], event: &Event) -> Result<(), OutOfMemory>
         requires window { IsGoodK self.old.k }
         requires clients { AreReady B.Disk self.old.parties.items disks.old }
         ensures clients { OnOk result (AreReady B.Disk self.new.parties.items disks.new) }
         ensures me { self.new.me ≡ self.old.me }
         ensures k { self.new.k ≡ self.old.k }
+        ensures goes { OnOk result (GoesApart B.Disk (cuts_by B.restarts B.arming B.plain B.is_starved)
+            (event_value event.now) (clients_of self.old disks.old) (clients_of self.new disks.new)) }
     {
+        sound_law();
         match event {
             Event::BreakClient { client } => self.break_client(disks, *client),
             Event::CutServer { call, choice } => {
@@ -71,50 +140,63 @@ impl Stations {
                     call: *call,
                     choice: *choice,
                 };
-                self.note_cut(disks, *client, cut);
-                Ok(())
+                self.note_cut(disks, *client, cut)
             }
-            _ => self.play_at_client(disks, event),
+            _ => self.go_at_client(disks, event),
         }
     }
 
     /// A client's next event is to be cut so, in place of an earlier cut.
-    fn note_cut<B: CutDisk>(&mut self, _disks: &mut [B], client: u64, cut: Cut)
+    fn note_cut<B: CutDisk>(
+        &mut self,
+        _disks: &mut [B],
+        client: u64,
+        cut: Cut,
+    ) -> Result<(), OutOfMemory>
         requires { AreReady B.Disk self.old.parties.items _disks.old }
         ensures clients { AreReady B.Disk self.new.parties.items _disks.new }
         ensures me { self.new.me ≡ self.old.me }
         ensures k { self.new.k ≡ self.old.k }
+        ensures goes { OnOk result (GoesApart B.Disk (cuts_by B.restarts B.arming B.plain B.is_starved)
+            (cut_client client cut.call cut.choice) (clients_of self.old _disks.old)
+            (clients_of self.new _disks.new)) }
     {
+        sound_law();
         let Some(c) = place_of(client) else {
-            return;
+            return Err(OutOfMemory);
         };
-        if c < self.parties.len() {
-            self.parties[c].cut = Some(cut);
+        if c >= self.parties.len() {
+            return Err(OutOfMemory);
         }
+        self.parties[c].cut = Some(cut);
+        Ok(())
     }
 
     /// A client starts again from its notes. Takes memory.
     fn break_client<B: CutDisk>(&mut self, disks: &mut [B], client: u64) -> Result<(), OutOfMemory>
-        requires window { IsGoodK self.old.k }
-        requires clients { AreReady B.Disk self.old.parties.items disks.old }
+        requires { AreReady B.Disk self.old.parties.items disks.old }
         ensures clients { OnOk result (AreReady B.Disk self.new.parties.items disks.new) }
         ensures me { self.new.me ≡ self.old.me }
         ensures k { self.new.k ≡ self.old.k }
+        ensures goes { OnOk result (GoesApart B.Disk (cuts_by B.restarts B.arming B.plain B.is_starved)
+            (break_client client) (clients_of self.old disks.old) (clients_of self.new disks.new)) }
     {
+        sound_law();
         let alloc = self.alloc;
-        let k = self.k;
         let Some(c) = place_of(client) else {
-            return Ok(());
+            return Err(OutOfMemory);
         };
         if c >= self.parties.len() || c >= disks.len() {
-            return Ok(());
+            return Err(OutOfMemory);
         }
         let party = &mut self.parties[c];
-        party.restart(alloc, &mut disks[c], k)
+        party.break_off(alloc, &mut disks[c])?;
+        images_law(party.client.notes(), &disks[c]);
+        Ok(())
     }
 
     /// Plays an event in which a client takes part. Takes memory.
-    fn play_at_client<B: CutDisk>(
+    fn go_at_client<B: CutDisk>(
         &mut self,
         disks: &mut [B],
         event: &Event,
@@ -123,11 +205,42 @@ impl Stations {
         ensures clients { OnOk result (AreReady B.Disk self.new.parties.items disks.new) }
         ensures me { self.new.me ≡ self.old.me }
         ensures k { self.new.k ≡ self.old.k }
+        ensures goes { OnOk result (GoesApart B.Disk (cuts_by B.restarts B.arming B.plain B.is_starved)
+            (event_value event.now) (clients_of self.old disks.old) (clients_of self.new disks.new)) }
     {
-        match self.part_of(event)? {
-            Some((c, part)) => self.take_part(disks, c, part),
-            None => Ok(()),
+        sound_law();
+        match event {
+            Event::AskUpload { client, octets } => self.ask_upload(disks, *client, *octets),
+            _ => {
+                let (c, part) = self.part_of(event)?;
+                self.take_part(disks, c, part)
+            }
         }
+    }
+
+    /// A client is asked for a new upload, with a body of so many octets. Takes memory.
+    fn ask_upload<B: CutDisk>(
+        &mut self,
+        disks: &mut [B],
+        client: u64,
+        octets: u16,
+    ) -> Result<(), OutOfMemory>
+        requires { AreReady B.Disk self.old.parties.items disks.old }
+        ensures clients { OnOk result (AreReady B.Disk self.new.parties.items disks.new) }
+        ensures me { self.new.me ≡ self.old.me }
+        ensures k { self.new.k ≡ self.old.k }
+        ensures goes { OnOk result (GoesApart B.Disk (cuts_by B.restarts B.arming B.plain B.is_starved)
+            (ask_upload client octets) (clients_of self.old disks.old) (clients_of self.new disks.new)) }
+    {
+        sound_law();
+        let (Some(client), Ok(upload)) = (place_of(client), u32::try_from(self.uploads.len()))
+        else {
+            return Err(OutOfMemory);
+        };
+        let file = file_of(self.alloc, upload, octets)?;
+        self.take_part(disks, client, Part::Upload { upload, file })?;
+        self.uploads.push(Upload { client, octets })?;
+        Ok(())
     }
 
     /// The client at this place takes part in an event. Takes memory.
@@ -141,81 +254,87 @@ impl Stations {
         ensures clients { OnOk result (AreReady B.Disk self.new.parties.items disks.new) }
         ensures me { self.new.me ≡ self.old.me }
         ensures k { self.new.k ≡ self.old.k }
+        ensures took { OnOk result ((whole : ClientPart) →
+            (may : MayTake B.Disk (cuts_by B.restarts B.arming B.plain B.is_starved) c
+            (clients_of self.old disks.old) part whole)
+            → TookPart B.Disk (cuts_by B.restarts B.arming B.plain B.is_starved) c part whole
+            (clients_of self.old disks.old) (clients_of self.new disks.new) may) }
     {
         let alloc = self.alloc;
-        if c >= self.parties.len() || c >= self.attempts.len() || c >= disks.len() {
-            return Ok(());
-        }
-        if !self.parties[c].may_do(&part) {
-            return Ok(());
+        if c >= self.parties.len() || c >= disks.len() {
+            return Err(OutOfMemory);
         }
         let party = &mut self.parties[c];
-        let attempt = &mut self.attempts[c];
-        party.take_part(alloc, &mut disks[c], attempt, part, &mut self.report)
+        if !party.may_do(&part) {
+            return Err(OutOfMemory);
+        }
+        self.report.count_asked(part.asks());
+        self.report.count_cut(party.cut.is_some());
+        let was_free = party.is_free();
+        party.take_part(alloc, &mut disks[c], part)?;
+        images_law(party.client.notes(), &disks[c]);
+        if !was_free {
+            self.report.count_outcome(party.outcome());
+        }
+        Ok(())
     }
 
-    /// Which client takes part in an event, and how. An upload that is asked is one more upload. Takes memory.
-    fn part_of(&mut self, event: &Event) -> Result<Option<(usize, Part)>, OutOfMemory>
-        ensures { KeepsClients self.old self.new }
+    /// Which client takes part in an event, and how; no new upload is asked. Takes memory.
+    fn part_of(&self, event: &Event) -> Result<(usize, Part), OutOfMemory>
+        ensures { IfOk result (λ it. ComesAlways self.now (event_value event.now) it.0 it.1) }
     {
         match event {
-            Event::AskUpload { client, octets } => self.new_upload(*client, *octets),
             Event::AskResume { client } => self.old_upload(*client),
             Event::AskList { client, tokens } => {
                 let tokens = FileBytes::copy_of(self.alloc, tokens.as_slice())?;
-                Ok(part_at(place_of(*client), Part::List { tokens }))
+                part_at(*client, Part::List { tokens })
             }
-            Event::AskDownload { client, number } => Ok(part_at(
-                place_of(*client),
-                Part::Download { number: *number },
-            )),
+            Event::AskDownload { client, number } => {
+                part_at(*client, Part::Download { number: *number })
+            }
             Event::ToClient {
                 client,
                 transmission,
             } => match place_of(*transmission) {
-                Some(place) => Ok(part_at(place_of(*client), Part::Hear { place })),
-                None => Ok(None),
+                Some(place) => part_at(*client, Part::Hear { place }),
+                None => Err(OutOfMemory),
             },
-            Event::TickClient { client } => Ok(part_at(place_of(*client), Part::Tick)),
-            _ => Ok(None),
+            Event::TickClient { client } => part_at(*client, Part::Tick),
+            _ => Err(OutOfMemory),
         }
     }
 
-    /// A client is asked for a new upload, with a body of so many octets. Takes memory.
-    fn new_upload(&mut self, client: u64, octets: u16) -> Result<Option<(usize, Part)>, OutOfMemory>
-        ensures { KeepsClients self.old self.new }
+    /// A client is asked for its last unfinished upload again. Takes memory.
+    fn old_upload(&self, client: u64) -> Result<(usize, Part), OutOfMemory>
+        ensures { IfOk result (λ it. ComesAlways self.now (ask_resume client) it.0 it.1) }
     {
-        let Some(c) = place_of(client) else {
-            return Ok(None);
-        };
-        let Ok(upload) = u32::try_from(self.uploads.len()) else {
+        let Some(party) = self.party(client) else {
             return Err(OutOfMemory);
         };
-        let file = file_of(self.alloc, upload, octets)?;
-        self.uploads.push(Upload { client: c, octets })?;
-        Ok(Some((c, Part::Upload { upload, file })))
-    }
-
-    /// A client is asked for its last unfinished upload again. Takes memory.
-    fn old_upload(&self, client: u64) -> Result<Option<(usize, Part)>, OutOfMemory> {
-        let Some(c) = place_of(client) else {
-            return Ok(None);
+        let Some((task, number)) = party.last_going() else {
+            return Err(OutOfMemory);
         };
-        let Some(party) = self.party(client) else {
-            return Ok(None);
-        };
-        let Some(upload) = party.unfinished() else {
-            return Ok(None);
-        };
-        let Some(asked) = self.uploads.get(upload as usize) else {
-            return Ok(None);
-        };
-        let file = file_of(self.alloc, upload, asked.octets)?;
-        Ok(Some((c, Part::Upload { upload, file })))
+        match self.file_at(party, task)? {
+            Some(file) => part_at(client, Part::Resume { task, number, file }),
+            None => Err(OutOfMemory),
+        }
     }
 }
 
-/// The client at this place, if it is one, takes this part.
-fn part_at(c: Option<usize>, part: Part) -> Option<(usize, Part)> {
-    Some((c?, part))
+/// The client of this number takes this part.
+fn part_at(client: u64, part: Part) -> Result<(usize, Part), OutOfMemory>
+    ensures { IfOk result (λ it. (client ≡ suc it.0) × (it.1 ≡ part)) }
+{
+    match place_of(client) {
+        Some(c) => Ok((c, part)),
+        None => Err(OutOfMemory),
+    }
+}
+
+/// The server is closed where memory is wanting.
+fn refuse(server: Server) -> Result<Server, OutOfMemory>
+    ensures { IsErr result }
+{
+    server.close();
+    Err(OutOfMemory)
 }

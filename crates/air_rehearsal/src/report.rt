@@ -1,5 +1,8 @@
 //! What came of a rehearsal.
 
+ghost use Rattle.air_rehearsal.specs.Counting.{Tells, TellsThen, acked_more, asked_more, cut_more, event_more};
+ghost use Rattle.air_rehearsal.specs.Counting.{no_counts, outcome_more};
+
 use ftl0_client::Outcome;
 use std::fmt;
 
@@ -24,7 +27,9 @@ pub struct Report {
 
 impl Report {
     /// Before the first event.
-    pub(crate) fn new() -> Report {
+    pub(crate) fn new() -> Report
+        ensures { Tells result no_counts }
+    {
         Report {
             events: 0,
             asked: 0,
@@ -37,22 +42,34 @@ impl Report {
     }
 
     /// An event comes.
-    pub(crate) fn count_event(&mut self) {
+    pub(crate) fn count_event(&mut self)
+        ensures { TellsThen event_more self.old self.new }
+    {
         self.events = self.events.saturating_add(1);
     }
 
-    /// A client is asked for something.
-    pub(crate) fn count_asked(&mut self) {
-        self.asked = self.asked.saturating_add(1);
+    /// A client is asked for something, or it isn't.
+    pub(crate) fn count_asked(&mut self, is_asked: bool)
+        ensures { TellsThen (asked_more is_asked) self.old self.new }
+    {
+        if is_asked {
+            self.asked = self.asked.saturating_add(1);
+        }
     }
 
-    /// Power is cut.
-    pub(crate) fn count_cut(&mut self) {
-        self.cuts = self.cuts.saturating_add(1);
+    /// Power is cut, or it isn't.
+    pub(crate) fn count_cut(&mut self, is_cut: bool)
+        ensures { TellsThen (cut_more is_cut) self.old self.new }
+    {
+        if is_cut {
+            self.cuts = self.cuts.saturating_add(1);
+        }
     }
 
     /// What was asked came to this, if it isn't under way.
-    pub(crate) fn count_outcome(&mut self, outcome: Outcome) {
+    pub(crate) fn count_outcome(&mut self, outcome: Outcome)
+        ensures { TellsThen (outcome_more outcome) self.old self.new }
+    {
         match outcome {
             Outcome::Refused { .. } | Outcome::BadFile { .. } => {
                 self.refused = self.refused.saturating_add(1);
@@ -63,7 +80,9 @@ impl Report {
     }
 
     /// The server acknowledged a file, which is kept or not.
-    pub(crate) fn count_acked(&mut self, is_kept: bool) {
+    pub(crate) fn count_acked(&mut self, is_kept: bool)
+        ensures { TellsThen (acked_more is_kept) self.old self.new }
+    {
         self.acked = self.acked.saturating_add(1);
         if is_kept {
             self.kept = self.kept.saturating_add(1);
@@ -72,6 +91,11 @@ impl Report {
 }
 
 impl fmt::Display for Report {
+    ghost use Rattle.std.specs.Prelude.{Some};
+    ghost use Rattle.air_rehearsal.specs.Counting.{report_text};
+
+    ghost output = { λ report. Some (report_text report) };
+
     fn fmt<W: fmt::Write>(&self, f: &mut fmt::Formatter<W>) -> fmt::Result {
         let Report {
             events,
@@ -84,8 +108,7 @@ impl fmt::Display for Report {
         } = *self;
         write!(
             f,
-            "events {events} asked {asked} acked {acked} kept {kept} "
-        )?;
-        write!(f, "refused {refused} fetched {fetched} cuts {cuts}")
+            "events {events} asked {asked} acked {acked} kept {kept} refused {refused} fetched {fetched} cuts {cuts}"
+        )
     }
 }

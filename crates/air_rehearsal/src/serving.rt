@@ -1,42 +1,81 @@
 //! The events of the server.
 
-ghost use Rattle.std.specs.Prelude.{◌≡◌, IfOk, OnOk};
+ghost use Rattle.std.specs.Prelude.{◌≡◌, ℕ, suc, [], ◌∷◌, slice_get, false, IfOk, OnOk};
+ghost use Rattle.ax25_frames.specs.FrameText.{FrameText, FrameValue};
 ghost use Rattle.ax25_link.specs.Window.{IsGoodK};
-ghost use Rattle.air_rehearsal.specs.Ready.{IsReadyServer, IsUp, KeepsClients};
+ghost use Rattle.disk_model.specs.Cuts.{cuts_by};
+ghost use Rattle.ftl0_server.specs.Calls.{SameStore};
+ghost use Rattle.ftl0_server.specs.Server.{Server as ServerValue};
+ghost use Rattle.ftl0_server.specs.ServerState.{IsServer, server_pending};
+ghost use Rattle.air_world.specs.Lawful.{IsAllowed};
+ghost use Rattle.air_world.specs.Schedule.{tick_server, to_server};
+ghost use Rattle.air_world.specs.Sound.{Sound};
+ghost use Rattle.air_world.specs.World.{World, next_moment};
+ghost use Rattle.air_rehearsal.specs.Ready.{IsReadyServer, IsUp, KeepsAllButLanes, KeepsClients};
+ghost use Rattle.air_rehearsal.specs.ServerCalls.{AreTimed, ArmsFor, IsCutSo, IsTaken, IsTimed, RepliesAt};
+ghost use Rattle.air_rehearsal.specs.ServerCalls.{SendsByTimer, SendsReplies};
+ghost use Rattle.air_rehearsal.specs.ServerEvents.{AwaitsServer, CountsOn, ServesEvent, serving};
+ghost use Rattle.air_rehearsal.specs.Worlds.{PlaysWorld};
+ghost use Rattle.air_rehearsal.specs.declared.party.Party.{Party as PartyState};
 
+use crate::attempt::Attempt;
 use crate::cuts::Cut;
-use crate::party::frame_for;
-use crate::stations::{Stations, place_of};
+use crate::party::{Party, frame_for};
+use crate::stations::Stations;
+use air_world::laws::sound_law;
 use arrayvec::ArrayVec;
 use ax25_frames::read_frame;
 use disk_model::{CutDisk, Disk, Halt};
 use file_store::laws::armed_law;
 use ftl0_server::Server;
-use px_base::OutOfMemory;
+use px_base::{Call, OutOfMemory};
+use server_laws::{front_of_event_law, misses_law, step_law};
 
 impl Stations {
-    /// The server hears the transmission of this number of a client. Takes memory.
+    /// The server hears the transmission at this place of the client at that one, which may be delivered, at this
+    /// moment. Takes memory.
     pub(crate) fn to_server<B: CutDisk>(
         &mut self,
         server: Server,
         disk: &mut B,
-        client: u64,
-        transmission: u64,
+        c: usize,
+        place: usize,
     ) -> Result<Server, OutOfMemory>
         requires { IsReadyServer B.Disk self.old server disk.old }
         ensures server { IfOk result (λ server. IsReadyServer B.Disk self.new server disk.new) }
         ensures keeps { KeepsClients self.old self.new }
+        ensures faults { OnOk result (CountsOn B.Disk disk.old disk.new) }
+
+        // What becomes of the server of whichever world it is, of its disk and of what was sent.
+        ensures serves { IfOk result (λ later. (world : World)
+            → AwaitsServer B.Disk (cuts_by B.restarts B.arming B.plain B.is_starved) world
+            (serving self.old server disk.old) → IsAllowed world (to_server (suc c) (suc place))
+            → ServesEvent B.Disk (cuts_by B.restarts B.arming B.plain B.is_starved) world
+            (to_server (suc c) (suc place)) (serving self.old server disk.old) (serving self.new later disk.new)) }
     {
-        let (Some(c), Some(place)) = (place_of(client), place_of(transmission)) else {
-            return Ok(server);
-        };
+        misses_law();
+        front_of_event_law();
+        step_law();
+        sound_law();
         let mut server = server;
-        let cut = self.take_cut(&server, disk);
+        let cut = self.arm(&server, disk);
         let came = self.hear(&mut server, disk, c, place);
-        self.end_event(server, disk, cut, came)
+        self.cut = None;
+        match cut {
+            Some(cut) => self.be_cut(server, disk, cut, came),
+            None => {
+                if came.is_ok() && !disk.starved() {
+                    if let Ok(()) = self.reply(&mut server, disk, c) {
+                        return Ok(server);
+                    }
+                }
+                server.close();
+                Err(OutOfMemory)
+            }
+        }
     }
 
-    /// A tick of the server. Takes memory.
+    /// A tick of the server, at this moment. Takes memory.
     pub(crate) fn tick_server<B: CutDisk>(
         &mut self,
         server: Server,
@@ -45,31 +84,48 @@ impl Stations {
         requires { IsReadyServer B.Disk self.old server disk.old }
         ensures server { IfOk result (λ server. IsReadyServer B.Disk self.new server disk.new) }
         ensures keeps { KeepsClients self.old self.new }
+        ensures faults { OnOk result (CountsOn B.Disk disk.old disk.new) }
+        ensures serves { IfOk result (λ later. (world : World)
+            → AwaitsServer B.Disk (cuts_by B.restarts B.arming B.plain B.is_starved) world
+            (serving self.old server disk.old)
+            → ServesEvent B.Disk (cuts_by B.restarts B.arming B.plain B.is_starved) world
+            tick_server (serving self.old server disk.old) (serving self.new later disk.new)) }
     {
+        misses_law();
+        front_of_event_law();
+        step_law();
+        sound_law();
         let mut server = server;
-        let cut = self.take_cut(&server, disk);
-        let came = server.tick(disk, self.moment());
-        self.end_event(server, disk, cut, came)
-    }
-
-    /// The moment of the event: its number, from 1 on, as a clock of 32 bits tells it.
-    fn moment(&self) -> u32 {
-        (self.report.events % 4_294_967_296) as u32
+        let cut = self.arm(&server, disk);
+        let came = server.tick(disk, self.moment);
+        self.cut = None;
+        match cut {
+            Some(cut) => self.be_cut(server, disk, cut, came),
+            None => {
+                if came.is_ok() && !disk.starved() {
+                    if let Ok(()) = self.say(&mut server, disk) {
+                        return Ok(server);
+                    }
+                }
+                server.close();
+                Err(OutOfMemory)
+            }
+        }
     }
 
     /// The cut that comes in the server's event, if one waits: the disk is armed for it.
-    fn take_cut<B: CutDisk>(&mut self, _server: &Server, disk: &mut B) -> Option<Cut>
-        requires { IsReadyServer B.Disk self.old _server.now disk.old }
-        ensures ready { IsReadyServer B.Disk self.new _server.now disk.new }
-        ensures keeps { KeepsClients self.old self.new }
+    fn arm<B: CutDisk>(&self, _server: &Server, disk: &mut B) -> Option<Cut>
+        requires { IsReadyServer B.Disk self.now _server.now disk.old }
+        ensures ready { IsReadyServer B.Disk self.now _server.now disk.new }
+        ensures cut { result ≡ self.now.cut }
+        ensures arms { ArmsFor B.Disk (cuts_by B.restarts B.arming B.plain B.is_starved) self.now.cut
+            disk.old disk.new }
     {
         armed_law::<B>();
-        let cut = self.cut;
-        if let Some(cut) = cut {
-            self.cut = None;
+        if let Some(cut) = self.cut {
             cut.arm(disk);
         }
-        cut
+        self.cut
     }
 
     /// The server hears the transmission at this place of a client, which is delivered so. Takes memory.
@@ -83,12 +139,19 @@ impl Stations {
         requires { IsReadyServer D.Disk self.old server.old disk.old }
         ensures up { OnOk result (IsUp D.Disk self.new server.new disk.new) }
         ensures keeps { KeepsClients self.old self.new }
+        ensures cut { self.new.cut ≡ self.old.cut }
+        ensures faults { CountsOn D.Disk disk.old disk.new }
+        ensures takes { (world : World) → Sound world → PlaysWorld self.old server.old world
+            → self.old.moment ≡ next_moment world → IsAllowed world (to_server (suc c) (suc place))
+            → IsTaken D.Disk world (to_server (suc c) (suc place)) (serving self.old server.old disk.old)
+            (serving self.new server.new disk.new) result }
     {
-        let (me, moment) = (self.me, self.moment());
-        if c >= self.attempts.len() {
+        let (me, moment) = (self.me, self.moment);
+        if c >= self.parties.len() {
             return Ok(());
         }
-        let Some(octets) = self.attempts[c].from_client.deliver(place) else {
+        self.parties[c].attempt.from_client.deliver(place);
+        let Some(octets) = self.parties[c].attempt.from_client.octets(place) else {
             return Ok(());
         };
         match frame_for(me, octets) {
@@ -97,82 +160,121 @@ impl Stations {
         }
     }
 
-    /// The server has done its event so. It sends what it has to send; but where the event is cut nothing is sent,
-    /// power is lost, and the server starts again from its disk. Takes memory.
-    fn end_event<B: CutDisk>(
-        &mut self,
+    /// The server's event is cut: nothing is sent, power is lost, and the server starts again from its disk. Takes
+    /// memory.
+    fn be_cut<B: CutDisk>(
+        &self,
         server: Server,
         disk: &mut B,
-        cut: Option<Cut>,
+        cut: Cut,
         came: Result<(), Halt>,
     ) -> Result<Server, OutOfMemory>
-        requires window { IsGoodK self.old.k }
-        requires up { OnOk came (IsUp B.Disk self.old server disk.old) }
-        ensures server { IfOk result (λ server. IsReadyServer B.Disk self.new server disk.new) }
-        ensures keeps { KeepsClients self.old self.new }
+        requires window { IsGoodK self.now.k }
+        ensures server { IfOk result (λ server. IsReadyServer B.Disk self.now server disk.new) }
+        ensures cuts { IfOk result (IsCutSo B.Disk (cuts_by B.restarts B.arming B.plain B.is_starved) self.now came
+            disk.old disk.new) }
     {
-        match cut {
-            Some(cut) => {
-                server.close();
-                self.report.count_cut();
-                cut.strike(disk, came)?;
-                self.restart_server(disk)
-            }
-            None => self.go_on(server, disk, came),
-        }
-    }
-
-    /// The server has done its event, which isn't cut, and sends what it has to send. Takes memory.
-    fn go_on<D: Disk>(
-        &mut self,
-        server: Server,
-        disk: &mut D,
-        came: Result<(), Halt>,
-    ) -> Result<Server, OutOfMemory>
-        requires { OnOk came (IsUp D.Disk self.old server disk.old) }
-        ensures server { IfOk result (λ server. IsReadyServer D.Disk self.new server disk.new) }
-        ensures keeps { KeepsClients self.old self.new }
-    {
-        let mut server = server;
-        if came.is_ok() {
-            if let Ok(()) = self.say(&mut server, disk) {
-                return Ok(server);
-            }
-        }
         server.close();
-        Err(OutOfMemory)
+        cut.strike(disk, came)?;
+        let server = self.restart_server(disk)?;
+        if disk.starved() {
+            server.close();
+            return Err(OutOfMemory);
+        }
+        Ok(server)
     }
 
-    /// The server sends all that it has to send. Takes memory.
+    /// The server has heard a frame of the client at this place, and sends all that it has to send, which is for that
+    /// client. Takes memory.
+    fn reply<D: Disk>(
+        &mut self,
+        server: &mut Server,
+        _disk: &mut D,
+        c: usize,
+    ) -> Result<(), OutOfMemory>
+        requires { IsUp D.Disk self.old server.old _disk.old }
+        ensures ready { OnOk result (IsReadyServer D.Disk self.new server.new _disk.new) }
+        ensures keeps { KeepsClients self.old self.new }
+        ensures cut { self.new.cut ≡ self.old.cut }
+        ensures disk { _disk.new ≡ _disk.old }
+        ensures replies { OnOk result ((it : ServerValue) (party : PartyState) → IsServer server.old it
+            → slice_get self.old.parties.items c ≡ Some party
+            → RepliesAt c it server.new party self.old.parties.items self.new.parties.items) }
+    {
+        match self.parties.get_mut(c) {
+            Some(party) => reply_all(server, &mut party.attempt),
+            None => all_sent(server),
+        }
+    }
+
+    /// The server has counted a tick, and sends all that it has to send, each frame to the client that it is for.
+    /// Takes memory.
     fn say<D: Disk>(&mut self, server: &mut Server, _disk: &mut D) -> Result<(), OutOfMemory>
         requires { IsUp D.Disk self.old server.old _disk.old }
         ensures ready { OnOk result (IsReadyServer D.Disk self.new server.new _disk.new) }
         ensures keeps { KeepsClients self.old self.new }
+        ensures cut { self.new.cut ≡ self.old.cut }
+        ensures disk { _disk.new ≡ _disk.old }
+        ensures says { OnOk result ((it : ServerValue) → IsServer server.old it
+            → SendsByTimer it server.new self.old.parties.items self.new.parties.items) }
     {
         let mut out = ArrayVec::new();
         while server.next_out(&mut out) {
             self.send(out.as_slice())?;
         }
-        if server.pending() {
-            return Err(OutOfMemory);
-        }
-        Ok(())
+        all_sent(server)
     }
 
-    /// The server sends a frame with these octets to one of the clients. Takes memory.
+    /// The server sends a frame with these octets to one of the clients, by its timer. Takes memory.
     fn send(&mut self, octets: &[u8]) -> Result<(), OutOfMemory>
-        ensures { KeepsClients self.old self.new }
+        ensures keeps { KeepsClients self.old self.new }
+        ensures cut { self.new.cut ≡ self.old.cut }
+        ensures timed { OnOk result ((frame : FrameValue) → FrameText frame octets.now
+            → AreTimed (frame ∷ []) self.old.parties.items self.new.parties.items) }
     {
         let Ok(frame) = read_frame(octets) else {
             return Ok(());
         };
         let dest = frame.dest;
-        let Some(c) = self.parties.iter().position(|party| party.me == dest) else {
-            return Ok(());
-        };
-        if c >= self.attempts.len() {
-            return Ok(());
+        for i in 0..self.parties.len() {
+            send_to(&mut self.parties[i], dest, octets)?;
         }
-        self.attempts[c].send_to_client(octets, &frame.kind)
+        Ok(())
     }
+}
+
+/// The client is sent a frame with these octets by the server's timer, if it is the one with this call. Takes memory.
+fn send_to(party: &mut Party, dest: Call, octets: &[u8]) -> Result<(), OutOfMemory>
+    ensures keeps { KeepsAllButLanes party.old party.new }
+    ensures timed { OnOk result ((frame : FrameValue) → FrameText frame octets.now → frame.dest ≡ dest
+        → IsTimed (frame ∷ []) party.old party.new) }
+{
+    if dest == party.me {
+        party.attempt.time(octets)?;
+    }
+    Ok(())
+}
+
+/// The server sends all that it has to send, as replies in this attempt. Takes memory.
+fn reply_all(server: &mut Server, attempt: &mut Attempt) -> Result<(), OutOfMemory>
+    ensures silent { OnOk result (server_pending server.new ≡ false) }
+    ensures same { SameStore server.old server.new }
+    ensures replies { OnOk result ((it : ServerValue) → IsServer server.old it
+        → SendsReplies it server.new attempt.old attempt.new) }
+{
+    let mut out = ArrayVec::new();
+    while server.next_out(&mut out) {
+        attempt.reply(out.as_slice())?;
+    }
+    all_sent(server)
+}
+
+/// Nothing is left to be sent; or it fails, as for want of memory.
+fn all_sent(server: &Server) -> Result<(), OutOfMemory>
+    ensures { OnOk result (server_pending server.now ≡ false) }
+{
+    if server.pending() {
+        return Err(OutOfMemory);
+    }
+    Ok(())
 }

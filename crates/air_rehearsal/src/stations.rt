@@ -1,20 +1,35 @@
 //! The stations of a rehearsal, and which events may come.
 
-ghost use Rattle.std.specs.Prelude.{◌≡◌, IfOk};
-ghost use Rattle.ax25_link.specs.Window.{IsGoodK};
-ghost use Rattle.air_rehearsal.specs.Ready.{AreReady, IsReadyServer};
+ghost use Rattle.std.specs.Prelude.{◌≡◌, ◌↔◌, ◌≤◌, ℕ, List, length, false, IfOk, IsOk, IsTrue, ⊤};
+ghost use Rattle.std.specs.Option.{option_copied};
+ghost use Rattle.air_schedule.specs.Events.{event_value};
+ghost use Rattle.ax25_link.specs.Air.{Transmission};
+ghost use Rattle.air_attempt.specs.Lists.{Placed};
+ghost use Rattle.air_world.specs.Lawful.{HasParty, IsFree, IsPossible, MayCome};
+ghost use Rattle.air_world.specs.Sound.{Sound};
+ghost use Rattle.air_world.specs.World.{World};
+ghost use Rattle.ax25_link.specs.Window.{IsGoodK, window_of};
+ghost use Rattle.air_rehearsal.specs.LaneCalls.{MayDeliver};
+ghost use Rattle.air_rehearsal.specs.Lanes.{IsLane};
+ghost use Rattle.air_rehearsal.specs.Asking.{MayResume, MayTakeFile};
+ghost use Rattle.air_rehearsal.specs.Numbers.{numbered, place_numbered};
+ghost use Rattle.air_rehearsal.specs.Worlds.{PlaysStations};
+ghost use Rattle.disk_model.specs.Cuts.{cuts_by};
+ghost use Rattle.air_rehearsal.specs.Opening.{OpensAll, OpensClient, OpensFirst};
+ghost use Rattle.air_rehearsal.specs.Ready.{AreReady, IsReadyParty, IsReadyServer};
+ghost use Rattle.air_rehearsal.specs.ServerCalls.{IsRestarted, IsStarted};
 
 use crate::asking::Upload;
-use crate::attempt::Attempt;
 use crate::cuts::Cut;
 use crate::lane::Lane;
 use crate::party::Party;
 use crate::report::Report;
 use air_schedule::Event;
-use client_notes::MOST_TASKS;
+use client_notes::laws::images_law;
 use disk_model::CutDisk;
 use file_store::Limits;
 use ftl0_server::Server;
+use px_base::laws::one_call;
 use px_base::{Call, OutOfMemory};
 use std::alloc::Global;
 
@@ -33,12 +48,12 @@ pub(crate) struct Stations {
     /// How many I frames of each link may be outstanding.
     pub k: u8,
     pub parties: Vec<Party>,
-    /// The newest attempt of each client.
-    pub attempts: Vec<Attempt>,
     /// The uploads that were asked, in their order.
     pub uploads: Vec<Upload>,
     /// The cut that comes in the server's next event.
     pub cut: Option<Cut>,
+    /// The moment of the event: its number, from 1 on, as a clock of 32 bits tells it.
+    pub moment: u32,
     /// What came of the events so far, but for what is counted at the end.
     pub report: Report,
 }
@@ -51,26 +66,26 @@ impl Stations {
         k: u8,
         calls: &[Call],
     ) -> Result<Stations, OutOfMemory>
-        requires { IsGoodK k }
+        requires window { IsGoodK k }
+        requires enough { length calls.now ≤ length disks.old }
         ensures k { IfOk result (λ stations. stations.k ≡ k) }
         ensures ready { IfOk result (λ stations. AreReady B.Disk stations.parties.items disks.new) }
+        ensures opens { IfOk result (OpensAll B.Disk (cuts_by B.restarts B.arming B.plain B.is_starved) k calls.now
+            disks.old disks.new) }
     {
         let Ok(me) = Call::read(SERVER) else {
             return Err(OutOfMemory);
         };
+        one_call();
         let parties = open_parties(alloc, disks, me, k, calls)?;
-        let mut attempts = Vec::new(alloc);
-        for _ in 0..parties.len() {
-            attempts.push(Attempt::new(alloc))?;
-        }
         Ok(Stations {
             alloc,
             me,
             k,
             parties,
-            attempts,
             uploads: Vec::new(alloc),
             cut: None,
+            moment: 0,
             report: Report::new(),
         })
     }
@@ -78,16 +93,25 @@ impl Stations {
     /// The server starts for the first time: its disk isn't armed from then on. Takes memory.
     pub(crate) fn start<B: CutDisk>(&self, disk: &mut B) -> Result<Server, OutOfMemory>
         requires { IsGoodK self.now.k }
-        ensures { IfOk result (λ server. IsReadyServer B.Disk self.now server disk.new) }
+        ensures ready { IfOk result (λ server. IsReadyServer B.Disk self.now server disk.new) }
+        ensures starts { IfOk result (IsStarted B.Disk (cuts_by B.restarts B.arming B.plain B.is_starved) self.now
+            disk.old disk.new) }
+        ensures memory { IsOk result → B.is_starved disk.new ≡ false }
     {
         disk.arm(None);
-        self.restart_server(disk)
+        let server = self.restart_server(disk)?;
+        if disk.starved() {
+            server.close();
+            return Err(OutOfMemory);
+        }
+        Ok(server)
     }
 
     /// The server starts from the store of its disk. Takes memory.
     pub(crate) fn restart_server<B: CutDisk>(&self, disk: &mut B) -> Result<Server, OutOfMemory>
         requires { IsGoodK self.now.k }
-        ensures { IfOk result (λ server. IsReadyServer B.Disk self.now server disk.new) }
+        ensures ready { IfOk result (λ server. IsReadyServer B.Disk self.now server disk.new) }
+        ensures restarts { IfOk result (IsRestarted B.Disk self.now disk.old disk.new) }
     {
         match Server::start(self.alloc, disk, LIMITS, self.me, self.k) {
             Ok(server) => Ok(server),
@@ -96,17 +120,17 @@ impl Stations {
     }
 
     /// The client of this number.
-    pub(crate) fn party(&self, number: u64) -> Option<&Party> {
+    pub(crate) fn party(&self, number: u64) -> Option<&Party>
+        ensures { option_copied result ≡ numbered number self.now.parties.items }
+    {
         self.parties.get(place_of(number)?)
     }
 
-    /// The newest attempt of the client of this number.
-    pub(crate) fn attempt(&self, number: u64) -> Option<&Attempt> {
-        self.attempts.get(place_of(number)?)
-    }
-
     /// Whether an event may come: whether its client and its transmission are there, and it may be done or delivered.
-    pub(crate) fn allows(&self, event: &Event) -> bool {
+    pub(crate) fn allows(&self, event: &Event) -> bool
+        ensures { (world : World) → Sound world → PlaysStations self.now world →
+            IsTrue result ↔ IsPossible world (event_value event.now) }
+    {
         match event {
             Event::AskUpload { client, .. } => self.may_upload(*client),
             Event::AskResume { client } => self.may_resume(*client),
@@ -120,15 +144,29 @@ impl Stations {
                 client,
                 transmission,
             } => self.may_reach_client(*client, *transmission),
-            Event::TickClient { client } => self.party(*client).is_some(),
-            Event::BreakClient { client } => self.party(*client).is_some(),
-            Event::CutClient { client, .. } => self.party(*client).is_some(),
+            Event::TickClient { client } => self.has_party(*client),
+            Event::BreakClient { client } => self.has_party(*client),
+            Event::CutClient { client, .. } => self.has_party(*client),
             Event::TickServer | Event::CutServer { .. } => true,
         }
     }
 
+    /// Whether there is a client of this number.
+    fn has_party(&self, client: u64) -> bool
+        ensures { (world : World) → Sound world → PlaysStations self.now world →
+            IsTrue result ↔ HasParty world client (λ _. ⊤) }
+    {
+        match self.party(client) {
+            Some(_party) => true,
+            None => false,
+        }
+    }
+
     /// Whether there is a client of this number of which nothing that was asked is under way.
-    fn may_ask(&self, client: u64) -> bool {
+    fn may_ask(&self, client: u64) -> bool
+        ensures { (world : World) → Sound world → PlaysStations self.now world →
+            IsTrue result ↔ HasParty world client IsFree }
+    {
         match self.party(client) {
             Some(party) => party.is_free(),
             None => false,
@@ -136,33 +174,45 @@ impl Stations {
     }
 
     /// Whether it may be asked for a new file.
-    fn may_upload(&self, client: u64) -> bool {
+    fn may_upload(&self, client: u64) -> bool
+        ensures { (world : World) → Sound world → PlaysStations self.now world →
+            IsTrue result ↔ HasParty world client MayTakeFile }
+    {
         match self.party(client) {
-            Some(party) => { party.is_free() && party.tasks.uploads.len() < MOST_TASKS as usize }
+            Some(party) => party.is_free() && party.has_room(),
             None => false,
         }
     }
 
     /// Whether it may be asked for an unfinished upload.
-    fn may_resume(&self, client: u64) -> bool {
+    fn may_resume(&self, client: u64) -> bool
+        ensures { (world : World) → Sound world → PlaysStations self.now world →
+            IsTrue result ↔ HasParty world client MayResume }
+    {
         match self.party(client) {
-            Some(party) => party.is_free() && party.unfinished().is_some(),
+            Some(party) => party.is_free() && party.last_going().is_some(),
             None => false,
         }
     }
 
     /// Whether the transmission of this number of a client may be delivered.
-    fn may_reach_server(&self, client: u64, transmission: u64) -> bool {
-        match self.attempt(client) {
-            Some(attempt) => may_come(&attempt.from_client, transmission, self.k),
+    fn may_reach_server(&self, client: u64, transmission: u64) -> bool
+        ensures { (world : World) → Sound world → PlaysStations self.now world →
+            IsTrue result ↔ HasParty world client (MayCome (λ a. a.by_client) transmission) }
+    {
+        match self.party(client) {
+            Some(party) => may_come(&party.attempt.from_client, transmission, self.k),
             None => false,
         }
     }
 
     /// Whether the transmission of this number of the server may be delivered to a client.
-    fn may_reach_client(&self, client: u64, transmission: u64) -> bool {
-        match self.attempt(client) {
-            Some(attempt) => may_come(&attempt.from_server, transmission, self.k),
+    fn may_reach_client(&self, client: u64, transmission: u64) -> bool
+        ensures { (world : World) → Sound world → PlaysStations self.now world →
+            IsTrue result ↔ HasParty world client (MayCome (λ a. a.by_server) transmission) }
+    {
+        match self.party(client) {
+            Some(party) => may_come(&party.attempt.from_server, transmission, self.k),
             None => false,
         }
     }
@@ -176,22 +226,48 @@ fn open_parties<B: CutDisk>(
     k: u8,
     calls: &[Call],
 ) -> Result<Vec<Party>, OutOfMemory>
-    requires { IsGoodK k }
-    ensures { IfOk result (λ parties. AreReady B.Disk parties.items disks.new) }
+    requires window { IsGoodK k }
+    requires enough { length calls.now ≤ length disks.old }
+    ensures ready { IfOk result (λ parties. AreReady B.Disk parties.items disks.new) }
+    ensures opens { IfOk result (λ parties. OpensFirst B.Disk (cuts_by B.restarts B.arming B.plain B.is_starved)
+        server k (length calls.now) calls.now disks.old disks.new parties.items) }
 {
     let mut parties = Vec::new(alloc);
-    let count = calls.len().min(disks.len());
-    for c in 0..count {
-        let disk = &mut disks[c];
-        disk.arm(None);
-        let party = Party::open(alloc, disk, server, calls[c], k)?;
+    for c in 0..calls.len() {
+        let party = open_party(alloc, &mut disks[c], server, calls[c], k)?;
         parties.push(party)?;
     }
     Ok(parties)
 }
 
+/// The client with this call, over its disk, which isn't armed from then on. Takes memory.
+fn open_party<B: CutDisk>(
+    alloc: Global,
+    disk: &mut B,
+    server: Call,
+    me: Call,
+    k: u8,
+) -> Result<Party, OutOfMemory>
+    requires { IsGoodK k }
+    ensures ready { IfOk result (λ party. IsReadyParty B.Disk party disk.new) }
+    ensures opens { IfOk result (λ party. (c : ℕ) →
+        OpensClient B.Disk (cuts_by B.restarts B.arming B.plain B.is_starved) server k c me
+        (record { before = disk.old; after = disk.new; party = party })) }
+{
+    disk.arm(None);
+    let party = Party::open(alloc, disk, server, me, k)?;
+    if disk.starved() {
+        return Err(OutOfMemory);
+    }
+    images_law(party.client.notes(), disk);
+    Ok(party)
+}
+
 /// Whether the transmission of this number of those of a lane may be delivered.
-fn may_come(lane: &Lane, transmission: u64, k: u8) -> bool {
+fn may_come(lane: &Lane, transmission: u64, k: u8) -> bool
+    ensures { (list : List Transmission) → IsLane lane.now list →
+        IsTrue result ↔ Placed transmission (MayDeliver (window_of k) list) }
+{
     match place_of(transmission) {
         Some(place) => lane.is_lawful(place, k),
         None => false,
@@ -199,7 +275,9 @@ fn may_come(lane: &Lane, transmission: u64, k: u8) -> bool {
 }
 
 /// The place of what has this number.
-pub(crate) fn place_of(number: u64) -> Option<usize> {
+pub(crate) fn place_of(number: u64) -> Option<usize>
+    ensures { result ≡ place_numbered number }
+{
     match number {
         0 => None,
         _ => Some((number - 1) as usize),

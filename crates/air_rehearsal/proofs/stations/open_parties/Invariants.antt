@@ -1,7 +1,14 @@
--- The clients so far are ready, each over its disk.
-use Rattle.std.specs.Prelude.{◌≡◌, length}
+-- The clients so far are opened, each over its disk, and ready.
+use Rattle.disk_model.specs.Cuts.{cuts_by}
+use Rattle.air_rehearsal.specs.Opening.{OpensFirst}
 use Rattle.air_rehearsal.specs.Ready.{AreReady}
 use Rattle.air_rehearsal.proofs.stations.open_parties.Given as goal
 
 abbrev pub invariant-loop-c : goal.invariant-loop-c
-invariant-loop-c g l = AreReady g.B.Disk l.parties.items l.disks × (length l.parties.items ≡ l.c)
+invariant-loop-c g l =
+    record {
+      ready : AreReady g.B.Disk l.parties.items l.disks;
+      opens :
+          OpensFirst g.B.Disk (cuts_by g.B.CutDisk.restarts g.B.CutDisk.arming g.B.CutDisk.plain g.B.CutDisk.is_starved)
+          l.server l.k l.c l.calls l.fn.disks l.disks l.parties.items;
+    }

@@ -1,9 +1,19 @@
--- The name has an octet.
-use Rattle.std.proofs.Common.{rules, arith}
-use Rattle.std.proofs.lemmas.Fmt.{decimal_nonempty}
+-- The task of the file is begun, and then its upload is asked.
+use Rattle.std.proofs.Common.{sym, subst, List, ℕ}
+use Rattle.air_rehearsal.specs.TakingPart.{AsksNext}
+use Rattle.air_rehearsal.proofs.PartLemmas.{ok_then}
+use Rattle.air_rehearsal.proofs.UploadLemmas.{begins_upload}
 use Rattle.air_rehearsal.proofs.party.Party.ask_upload.Goals as goal
 
-pub start_task-begun-requires-clause-some : goal.start_task-begun-requires-clause-some
-start_task-begun-requires-clause-some g c =
-    let some = decimal_nonempty c.args.upload (omega (arith, c.ranges.upload.fits)) in
-    search (rules, arith, decimal_nonempty)
+pub returns-clause-begins : goal.returns-clause-begins
+returns-clause-begins g c =
+    ok_then c.note_task.result _ _
+    (λ uploads seat whole at_seat asked.
+    let asked_so =
+    subst (λ (file : List ℕ). AsksNext seat c.args.upload file whole) (sym c.as_slice.ensures) asked in
+    begins_upload g.D.Disk c.args.self.now c.start.new.self c.note_task.new.self seat c.args.upload c.args.file whole
+    c.in-Ok.task c.ask.new.self c.upload.result c.args.disk.now c.start.new.disk at_seat asked
+    (c.in-Ok.ensures.touches seat whole at_seat asked_so) (c.in-Ok.ensures.starts seat whole at_seat asked_so)
+    c.start.ensures.keeps c.in_ok-ask.ensures.asks c.upload.ensures c.in_ok-ask.ensures.notes.notes
+    c.note_task.ensures.keeps uploads)
+    c.note_task.ensures.notes

@@ -1,19 +1,34 @@
--- A cut that waits changes nothing that a client needs.
-use Rattle.std.proofs.Common.{◌<◌, length, rules, arith}
+use Rattle.std.proofs.Common.{refl, sym, ◌∙◌, arith}
+use Rattle.disk_model.specs.Cuts.{cuts_by}
+use Rattle.air_rehearsal.specs.Seats.{clients_of}
+use Rattle.air_rehearsal.proofs.PlayApart.{notes_cut}
+use Rattle.air_rehearsal.proofs.PlayParts.{number_at}
 use Rattle.air_rehearsal.proofs.ReadyLemmas.{read_at, ready_still}
 use Rattle.air_rehearsal.proofs.stations.Stations.note_cut.Goals as goal
 
-pub returns-then-c-len-clause-clients : goal.returns-then-c-len-clause-clients
-returns-then-c-len-clause-clients g c =
-    let within : c.in-Some.c < length c.args.self.now.parties.items = search (rules, arith) in
-    ready_still g.B.Disk _ _ c.requires c.in-Some.c c.index_mut.result.now _
-    (read_at c.args.self.now.parties.items c.in-Some.c c.index_mut.result.now within c.index_mut.ensures.value)
-    (λ disk was. record {
+pub returns-clause-clients : goal.returns-clause-clients
+returns-clause-clients g c =
+    ready_still g.B.Disk c.args.self.now.parties.items c.args._disks.now c.requires c.in-Some.c c.index_mut.result.now _
+    (read_at c.args.self.now.parties.items c.in-Some.c c.index_mut.result.now (omega (arith, c.len.ensures, c.if-c-len.false))
+    c.index_mut.ensures.value)
+    (λ disk ready.
+    record {
       theirs = record {
-        window = was.theirs.window;
-        me = was.theirs.me;
-        server = was.theirs.server;
-        may = was.theirs.may;
+        window = ready.theirs.window;
+        me = ready.theirs.me;
+        server = ready.theirs.server;
+        k = ready.theirs.k;
+        may = ready.theirs.may;
       };
-      quiet = was.quiet;
+      quiet = ready.quiet;
     })
+
+pub returns-clause-goes : goal.returns-clause-goes
+returns-clause-goes g c =
+    notes_cut g.B.Disk (cuts_by g.B.CutDisk.restarts g.B.CutDisk.arming g.B.CutDisk.plain g.B.CutDisk.is_starved)
+    c.sound_law.ensures g.met.B.Disk.content_is_image g.met.B.Disk.counts_now
+    (clients_of c.args.self.now c.args._disks.now) _ c.args.client c.in-Some.c c.args.cut c.index_mut.result.now
+    (number_at c.args.client c.in-Some.c (sym c.place_of.ensures ∙ c.in-Some.is))
+    (read_at c.args.self.now.parties.items c.in-Some.c c.index_mut.result.now (omega (arith, c.len.ensures, c.if-c-len.false))
+    c.index_mut.ensures.value)
+    refl refl refl refl

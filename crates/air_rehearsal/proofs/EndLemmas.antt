@@ -1,0 +1,117 @@
+-- The server's disk at the end: what is recovered from it is the world's store, and it stands for that then.
+use Rattle.std.proofs.Common.{◌≡◌, ℕ, ◌≤◌, List, true, false, Option, None, Some, IfSome, refl, sym, ◌∙◌, subst, arith}
+use Rattle.disk_model.specs.Disk.{IsTold}
+use Rattle.disk_model.specs.declared.disk.Disk.{Ghosts}
+use Rattle.file_journal.specs.Calls.{ChangesReads, IsQuietNow, images_now}
+use Rattle.file_journal.specs.Walk.{state}
+use Rattle.file_journal.proofs.Offered.{alike_on, alike_same, at_told, images_here, joined, reads, reads_now, told_weaker}
+use Rattle.file_entries.specs.Records.{store_form}
+use Rattle.file_store.specs.OnDisk.{kept_at}
+use Rattle.file_store.specs.Recovery.{IsRecovered}
+use Rattle.file_store.specs.State.{IsRead, IsReady, StandsFor, StoreState, standing_of, store_in}
+use Rattle.file_store.specs.Store.{Store}
+use Rattle.air_world.specs.World.{World, store_blocks}
+use Rattle.air_rehearsal.specs.Counting.{EndsSo}
+use Rattle.air_rehearsal.specs.Ending.{CountsAcked, LooksOnly}
+use Rattle.air_rehearsal.specs.Halfway.{TriesToStart}
+use Rattle.air_rehearsal.specs.Report.{all_tasks}
+use Rattle.air_rehearsal.specs.Standing.{StandsAlike, StandsNow}
+use Rattle.air_rehearsal.specs.Stations.{Station, the_server}
+use Rattle.air_rehearsal.specs.declared.report.Report.{Report as StoredReport}
+
+is-some : (content : Option (List ℕ)) → IsTold content → (octets : List ℕ) × (content ≡ Some octets)
+is-some None told = absurd (let e : false ≡ true = told in cc)
+is-some (Some octets) told = (octets, refl)
+
+told-by : (content : Option (List ℕ)) (octets : List ℕ) → content ≡ Some octets → IsTold content
+told-by content octets is = subst (λ (c : Option (List ℕ)). IsTold c) (sym is) refl
+
+module _ {D : Type 0} (g : Ghosts D) where
+  -- The store that is recovered from a disk that stands for the world's is that one.
+  pub recovered-store : (world : World) (disk mid : D) (store : StoreState)
+      → world.server.store.blocks ≡ store_blocks → StandsNow g the_server world disk
+      → IsRecovered g store_blocks disk mid store → store_in store ≡ world.server.store
+  recovered-store world disk mid store blocks stands recovered =
+      let found : standing_of store_blocks stands.content ≡ state (store_in store) =
+      at_told (λ (before : List ℕ). standing_of store_blocks before ≡ state (store_in store)) stands.content
+      stands.is_content recovered.content
+      in
+      let stood : standing_of store_blocks stands.content ≡ state world.server.store =
+      subst (λ (b : ℕ). standing_of b stands.content ≡ state world.server.store) blocks stands.stands
+      in
+      let same : state (store_in store) ≡ state world.server.store = sym found ∙ stood in
+      cc
+
+  -- A station that was to start from its disk was so behind reads too.
+  pub tries-reads : ((first second third : D) → g.lasts first second → g.lasts second third → g.lasts first third)
+      → (station : Station) (disk mid now : D) → TriesToStart g station disk mid → ChangesReads g mid now
+      → g.lasts mid now → TriesToStart g station disk now
+  tries-reads on station disk mid now tried only lasts = record {
+    told = alike_on (g.content disk) (g.content mid) (g.content now) tried.told
+        (alike_same (g.content mid) (g.content now) only.same_content);
+    since = told_weaker (g.content disk) _ _
+        (λ before told leaves.
+        joined g.moment g.images_since disk mid now (StandsAlike station before) leaves
+        (reads g.moment g.images_since mid now (StandsAlike station before) only.same_moment only.same_past))
+        tried.since;
+    lasts = on disk mid now tried.lasts lasts;
+  }
+
+  -- a quiet disk is quiet behind reads
+  quiet-reads : (mid now : D) → ChangesReads g mid now → IsQuietNow g mid → IsQuietNow g now
+  quiet-reads mid now only quiet =
+      subst (λ (c : Option (List ℕ)). IfSome c (λ octets. (image : List ℕ) → images_now g now image → image ≡ octets))
+      (sym only.same_content)
+      (told_weaker (g.content mid) _ _
+      (λ octets told each image here. each image (reads_now g mid now only image here)) quiet)
+
+  -- A disk on which a store stands that is the world's stands for the world.
+  pub stands-end : ((disk : D) → IfSome (g.content disk) (g.images disk))
+      → ((disk : D) (t : ℕ) (image : List ℕ) → t ≤ g.moment disk → g.images disk image → g.images_since disk t image)
+      → (world : World) (store : StoreState) (now : D) → store_in store ≡ world.server.store → IsRead store.journal
+      → IsReady g store now → IsTold (g.content now) → StandsNow g the_server world now
+  stands-end image-of counts world store now same read ready told =
+      let some = is-some (g.content now) told in
+      let here =
+      at_told (λ (octets : List ℕ). (image : List ℕ) → images_now g now image → StandsFor image (store_in store))
+      some.0 some.1
+      (images_here store_form g (kept_at store now)
+      (record { magic_is = read.magic_is; keeps = ready.stands_on }) ready.healthy)
+      in
+      let each : (image : List ℕ) → images_now g now image → StandsFor image world.server.store =
+      λ image left. subst (λ (it : Store). StandsFor image it) same (here image left)
+      in
+      let is-image = at_told (g.images now) some.0 some.1 (image-of now) in
+      record {
+        content = some.0;
+        is_content = some.1;
+        stands = each some.0 (counts now (g.moment now) some.0 (omega arith) is-image);
+        images = each;
+      }
+
+  -- The end, by the recovery and the reads behind it.
+  pub ends-so : ((first second third : D) → g.lasts first second → g.lasts second third → g.lasts first third)
+      → ((disk : D) → IfSome (g.content disk) (g.images disk))
+      → ((disk : D) (t : ℕ) (image : List ℕ) → t ≤ g.moment disk → g.images disk image → g.images_since disk t image)
+      → (world : World) (disk mid now : D) (store store_now : StoreState) (before report : StoredReport)
+      → StandsNow g the_server world disk → IsRead store.journal → IsRecovered g store_blocks disk mid store
+      → TriesToStart g the_server disk mid → LooksOnly g store store_now mid now
+      → store_in store ≡ world.server.store → CountsAcked (all_tasks world) before report
+      → EndsSo g world before disk now report
+  ends-so on image-of counts world disk mid now store store_now before report stands read recovered tried looks same
+      counted =
+      let all = tries-reads on the_server disk mid now tried looks.only looks.lasts in
+      let told : IsTold (g.content now) = all.told.1 (told-by (g.content disk) stands.content stands.is_content) in
+      let ready = subst (λ (it : StoreState). IsReady g it now) looks.stays.same looks.stays.ready in
+      record {
+        acked = counted.acked;
+        is_acked = counted.is_acked;
+        report_tells = counted.tells;
+        again = record {
+          told = all.told;
+          since = all.since;
+          quiet = quiet-reads mid now looks.only recovered.quiet;
+          lasts = all.lasts;
+        };
+        stands = stands-end image-of counts world store now same read ready told;
+      }

@@ -1,0 +1,72 @@
+-- The file of a task that was acknowledged: an upload without fault, which the server's store keeps.
+use Rattle.std.proofs.Common.{◌≡◌, ℕ, zero, suc, ◌+◌, List, [], ◌∷◌, Option, None, Some, refl, ap, sym, subst, ◌∙◌}
+use Rattle.std.specs.List.{AllByRecursion, slice_get}
+use Rattle.std.specs.Option.{option_and_then, option_map}
+use Rattle.std.proofs.lemmas.Option.{same_Some}
+use Rattle.client_notes.specs.Answers.{noted_as, noted_at, noted_by}
+use Rattle.client_notes.specs.Notes.{Lists, Task, task_of}
+use Rattle.client_notes.specs.declared.answers.Noted.TheVariants as noted
+use Rattle.client_notes.specs.declared.progress.Progress.{Progress}
+use Rattle.client_notes.specs.declared.progress.Progress.TheVariants as progress
+use Rattle.air_attempt.specs.Party.{Asked, IsFileOf, Party, upload_of}
+use Rattle.air_files.specs.Uploads.{IsGoodFile}
+use Rattle.air_world.specs.Sound.{Sound}
+use Rattle.air_world.specs.World.{World}
+use Rattle.air_rehearsal.specs.Ending.{IsUpload}
+use Rattle.air_rehearsal.specs.Worlds.{PlaysStations}
+use Rattle.air_rehearsal.specs.declared.stations.Stations.{Stations}
+use Rattle.air_rehearsal.proofs.PartiesLemmas.{upload-at}
+
+each-of : {X : Type 0} (P : X → Type 0) (xs : List X) → AllByRecursion P xs → (place : ℕ) (x : X)
+    → slice_get xs place ≡ Some x → P x
+each-of P [] all place x at = absurd cc
+each-of P (y ∷ ys) all zero x at = subst P (same_Some y x at) all.0
+each-of P (y ∷ ys) all (suc place) x at = each-of P ys all.1 place x at
+
+-- the upload that a task's file is of
+asked-of : (files : List Asked) (upload : Option ℕ) (file : List ℕ)
+    → option_map (λ (it : Asked). it.file) (option_and_then (slice_get files) upload) ≡ Some file
+    → (place : ℕ) × (asked : Asked) × (slice_get files place ≡ Some asked) × (asked.file ≡ file)
+asked-of files None file is = absurd cc
+asked-of files (Some place) file is = by (slice_get files place) refl is
+  where
+    by : (found : Option Asked) → slice_get files place ≡ found
+        → option_map (λ (it : Asked). it.file) found ≡ Some file
+        → (place : ℕ) × (asked : Asked) × (slice_get files place ≡ Some asked) × (asked.file ≡ file)
+    by None at is = absurd cc
+    by (Some asked) at is = (place, asked, at, same_Some asked.file file is)
+
+-- The file of a task is an upload of the schedule, and has no fault.
+pub task-upload : (self : Stations) (world : World) → PlaysStations self world → Sound world
+    → (party : Party) (task : ℕ) (file : List ℕ) → IsFileOf world.files party task file → IsUpload file
+task-upload self world plays sound party task file is =
+    let found = asked-of world.files (upload_of party task) file is in
+    let here =
+    upload-at 0 self.uploads.items found.0 found.1
+    (ap (λ (files : List Asked). slice_get files found.0) (sym plays.files_are) ∙ found.2)
+    in
+    let good : IsGoodFile found.1.file =
+    each-of (λ (asked : Asked). IsGoodFile asked.file) world.files sound.files found.0 found.1 found.2
+    in
+    let faultless : IsGoodFile file = subst IsGoodFile found.3 good in
+    record {
+      upload = 0 + found.0;
+      count = here.0.octets;
+      file_is = sym found.3 ∙ ap (λ (asked : Asked). asked.file) here.2;
+      faultless = faultless.faultless;
+    }
+
+-- What is noted of a task has its number.
+acked-by : (task other number known : ℕ) (how : Progress) → noted_by task known how ≡ noted.Acked other number
+    → other ≡ task
+acked-by task other number known progress.Going is = absurd (let no : ⊥ = cc is in no)
+acked-by task other number known progress.Acked is = cc is
+acked-by task other number known (progress.Refused code) is = absurd (let no : ⊥ = cc is in no)
+
+pub acked-number : (lists : Lists) (task other number : ℕ) → noted_at lists task ≡ Some (noted.Acked other number)
+    → other ≡ task
+acked-number lists task other number is = by (task_of lists task) is
+  where
+    by : (found : Option Task) → option_map (noted_as task) found ≡ Some (noted.Acked other number) → other ≡ task
+    by None is = absurd (let no : ⊥ = cc is in no)
+    by (Some entry) is = acked-by task other number entry.number entry.progress (same_Some _ _ is)

@@ -1,0 +1,105 @@
+-- What a client's part in an event does to its disk, in general, and what stays between two events.
+use Rattle.std.proofs.Common.{◌≡◌, ℕ, ◌<◌, List, [], length, refl, sym, subst, arith}
+use Rattle.std.proofs.Common.{Option, None, Some, Result, Ok, Err, false}
+use Rattle.std.specs.Prelude.{OnOk}
+use Rattle.disk_model.specs.Cuts.{Arming, Cuts, LastsSo, UsesUp, cut_state}
+use Rattle.disk_model.specs.declared.disk.Disk.{Ghosts}
+use Rattle.disk_model.specs.declared.halt.Halt.{Halt}
+use Rattle.file_journal.specs.Calls.{EachImage, TellsAlike}
+use Rattle.file_journal.proofs.Offered.{if_told, started, told_weaker}
+use Rattle.ax25_link.specs.Sending.{Sending, next_sending}
+use Rattle.client_notes.specs.Command.{NotesCommand}
+use Rattle.client_notes.specs.Notes.{Lists}
+use Rattle.client_notes.specs.Several as notes
+use Rattle.client_notes.specs.State.{StandsFor}
+use Rattle.ftl0_client.specs.Attempt.Attempted.{Attempted}
+use Rattle.ftl0_client.specs.Client.{Client, IsSilent, Refused, sends_by, sends_of_attempt, sends_of_link}
+use Rattle.air_world.specs.Cuts.{client_commands}
+use Rattle.air_world.specs.Events.{ClientPart}
+use Rattle.air_rehearsal.specs.PartCalls.{TouchesDisk}
+use Rattle.air_rehearsal.specs.TakingPart.{CarriesPart, HasAll}
+use Rattle.air_rehearsal.specs.Worlds.{IsSteady}
+
+-- ---- nothing to send
+
+-- nothing is to be sent by a client with whatever notes, where nothing was
+pub silent_noted : (it : Client) (lists : Lists) → IsSilent it → IsSilent (record it { lists = lists })
+silent_noted it lists silent = by it.stray silent
+  where
+    sent : (a : Attempted) (o : Option Sending) → sends_of_link it a o ≡ None
+        → sends_of_link (record it { lists = lists }) a o ≡ None
+    sent a None silent = refl
+    sent a (Some sending) silent = absurd (cc)
+
+    link : (attempt : Option Attempted) → sends_of_attempt it attempt ≡ None
+        → sends_of_attempt (record it { lists = lists }) attempt ≡ None
+    link None silent = refl
+    link (Some a) silent = sent a (next_sending it.window a.end) silent
+
+    by : (stray : Option Refused) → sends_by it stray ≡ None → sends_by (record it { lists = lists }) stray ≡ None
+    by None silent = link it.attempt silent
+    by (Some refusal) silent = absurd (cc)
+
+-- ---- a disk that isn't touched
+
+module _ {D : Type 0} (g : Ghosts D) (lasts : (disk : D) → g.lasts disk disk) where
+  pub carries_none : (whole : ClientPart) (disk : D) → CarriesPart g whole disk disk
+  carries_none whole disk = record {
+    told = (λ told. told, λ told. told);
+    since = if_told (g.content disk) _ (λ before told. started g.moment g.images_since disk _);
+    lasts = lasts disk;
+  }
+
+  -- where the part has no command, and its notes stand on the disk
+  pub touches_none : {T : Type 0} (whole : ClientPart) (disk : D) (came : Result T Halt) → client_commands whole ≡ []
+      → OnOk came (EachImage g disk (λ image. StandsFor image whole.party.client.lists))
+      → ((why : Halt) → came ≡ Err why → ⊥)
+      → TouchesDisk g whole disk disk came
+  touches_none {T} whole disk came none stands fine = record {
+    carries = carries_none whole disk;
+    reads = refl;
+    fails = λ failed. absurd (fine _ failed);
+    done = by came stands;
+  }
+    where
+      all : (image : List ℕ) → StandsFor image whole.party.client.lists → HasAll g whole image
+      all image stands =
+          subst
+          (λ (commands : List NotesCommand). notes.MakesBetween (length commands) (length commands)
+          whole.party.client.lists commands image) (sym none) (0, omega arith, omega arith, stands)
+
+      by : (came : Result T Halt) → OnOk came (EachImage g disk (λ image. StandsFor image whole.party.client.lists))
+          → OnOk came (EachImage g disk (HasAll g whole))
+      by (Ok done) stands =
+          told_weaker (g.content disk) _ _ (λ before told each image now. all image (each image now)) stands
+      by (Err why) stands = tt
+
+-- ---- between two events
+
+module _ {B : Type 0} (g : Ghosts B) (cuts : Cuts B) where
+  -- a disk that isn't armed stays so through calls that know of no arming, where memory was found
+  pub steady_on : (disk disk_now : B) → IsSteady g cuts disk → TellsAlike (g.content disk) (g.content disk_now)
+      → LastsSo (cut_state g cuts disk) (cut_state g cuts disk_now) → cuts.is_starved disk_now ≡ false
+      → IsSteady g cuts disk_now
+  steady_on disk disk_now steady told lasts memory =
+      let uses = lasts.uses steady.plain memory in
+      let unarmed = subst (λ (arming : Arming). UsesUp arming (cut_state g cuts disk).use_of (cut_state g cuts disk_now).use_of) steady.unarmed uses in
+      record {
+        told = told.1 steady.told;
+        plain = lasts.plain.1 steady.plain;
+        unarmed = unarmed.0;
+        memory = memory;
+        reads = subst (λ n. n < 18446744073709551615) (sym unarmed.1.reads) steady.reads;
+      }
+
+-- ---- what is answered
+
+-- where a call was answered Ok this holds, and so that does
+pub ok_then : {T E : Type 0} (result : Result T E) (P Q : Type 0) → (P → Q) → OnOk result P → OnOk result Q
+ok_then (Ok x) P Q step holds = step holds
+ok_then (Err e) P Q step holds = tt
+
+pub ok_both : {T E : Type 0} (result : Result T E) (P Q : Type 0) → OnOk result P → OnOk result Q
+    → OnOk result (P × Q)
+ok_both (Ok x) P Q one other = (one, other)
+ok_both (Err e) P Q one other = tt

@@ -1,0 +1,37 @@
+-- A client starts from its disk.
+use Rattle.std.proofs.Common.{◌≡◌, ℕ, [], refl, sym, ◌∙◌, Some, Ok}
+use Rattle.std.specs.Prelude.{IfSome}
+use Rattle.disk_model.specs.declared.disk.Disk.{Ghosts}
+use Rattle.file_journal.specs.Journal.{journal_of}
+use Rattle.file_journal.specs.Walk.{state}
+use Rattle.file_journal.proofs.Offered.{at_told}
+use Rattle.client_notes.specs.Notes.{no_notes}
+use Rattle.client_notes.specs.Recovery.{AnswersRecovery, IsRecovered}
+use Rattle.client_notes.specs.State.{NotesState, StandsFor}
+use Rattle.air_rehearsal.specs.Chain.{StartsAgain}
+use Rattle.air_rehearsal.specs.Stations.{client_at}
+
+module _ {D T : Type 0} (g : Ghosts D) (disk disk_now : D) (notes : NotesState) (x : T)
+    (recovered : IsRecovered g disk disk_now notes) (answers : AnswersRecovery {T = T} g (Ok x) disk disk_now) where
+  pub starts_again : (c : ℕ) → StartsAgain g (client_at c) disk disk_now
+  starts_again c = record {
+    told = answers.runs.told;
+    since = answers.since_start;
+    quiet = recovered.quiet;
+    lasts = answers.runs.lasts;
+  }
+
+  pub stands_before : IfSome (g.content disk) (λ before. StandsFor before notes.lists)
+  stands_before = recovered.content
+
+-- no octet stands for no notes
+empty_stands : StandsFor [] no_notes
+unfolding journal_of
+empty_stands = refl
+
+pub first_notes : {D : Type 0} (g : Ghosts D) (disk disk_now : D) (notes : NotesState)
+    → IsRecovered g disk disk_now notes → g.content disk ≡ Some [] → notes.lists ≡ no_notes
+first_notes g disk disk_now notes recovered is =
+    let stands = at_told (λ before. StandsFor before notes.lists) [] is recovered.content in
+    let same : state notes.lists ≡ state no_notes = sym stands ∙ empty_stands in
+    cc

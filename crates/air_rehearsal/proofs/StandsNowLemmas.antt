@@ -1,0 +1,73 @@
+-- What is ready on its disk stands there.
+use Rattle.std.specs.Prelude.{◌≡◌, ℕ, List, false, true, Option, None, Some, IfSome, refl}
+use Rattle.std.proofs.Common.{subst}
+use Rattle.disk_model.specs.Disk.{IsTold}
+use Rattle.disk_model.specs.declared.disk.Disk.{Ghosts}
+use Rattle.file_journal.specs.Calls.{EachImage, images_now}
+use Rattle.file_journal.specs.Walk.{stands_for, state}
+use Rattle.file_entries.specs.Records.{store_form}
+use Rattle.file_store.proofs.Offered.{own-number}
+use Rattle.file_store.specs.State.{IsRead, IsReady, StandsFor as StandsForStore, StoreState, store_in}
+use Rattle.file_store.specs.Store.{Store}
+use Rattle.client_notes.specs.Notes.{Lists}
+use Rattle.client_notes.specs.State as notes
+use Rattle.air_attempt.specs.Party.{Party}
+use Rattle.air_world.specs.World.{PartyAt, World}
+use Rattle.air_rehearsal.specs.Standing.{StandsNow}
+use Rattle.air_rehearsal.specs.Stations.{client_at, the_server}
+
+pub told_content : (content : Option (List ℕ)) → IsTold content → (octets : List ℕ) × (content ≡ Some octets)
+told_content None told = absurd (let e : false ≡ true = told in cc)
+told_content (Some octets) told = (octets, refl)
+
+pub some_has : (content : Option (List ℕ)) (octets : List ℕ) (P : List ℕ → Type 0) → content ≡ Some octets
+    → IfSome content P → P octets
+some_has content octets P is has = subst (λ (c : Option (List ℕ)). IfSome c P) is has
+
+module _ {D : Type 0} (g : Ghosts D) where
+  -- A store that is ready, on a disk that tells its content.
+  pub store_stands :
+      (self : StoreState) (disk : D) (world : World) → IsReady g self disk → IsRead self.journal
+      → IsTold (g.content disk) → store_in self ≡ world.server.store → StandsNow g the_server world disk
+  store_stands self disk world ready read told store_is =
+      let content = told_content (g.content disk) told in
+      let own : (image : List ℕ)
+      → stands_for store_form.fresh store_form.step self.journal.magic self.journal.blocks image ≡ state (store_in self)
+      → StandsForStore image world.server.store = λ image stands.
+      subst (λ (s : Store). StandsForStore image s) store_is
+      (own-number self.journal.blocks image (store_in self)
+      (subst
+      (λ (m : List ℕ).
+      stands_for store_form.fresh store_form.step m self.journal.blocks image ≡ state (store_in self))
+      read.magic_is stands)) in
+      record {
+        content = content.0;
+        is_content = content.1;
+        stands =
+            own content.0 (some_has (g.content disk) content.0 _ content.1 (ready.stands_on.content ready.healthy));
+        images = λ image since.
+            own image (some_has (g.content disk) content.0 _ content.1 (ready.stands_on.images ready.healthy) image since);
+      }
+
+  -- Notes that each image stands for, on a disk that tells its content, which is one.
+  pub notes_stand :
+      (lists : Lists) (disk : D) (world : World) (c : ℕ) (party : Party) → IsTold (g.content disk)
+      → IfSome (g.content disk) (images_now g disk)
+      → EachImage g disk (λ image. notes.StandsFor image lists) → PartyAt world c party
+      → lists ≡ party.client.lists → StandsNow g (client_at c) world disk
+  notes_stand lists disk world c party told is_image each at lists_are =
+      let content = told_content (g.content disk) told in
+      let own : (image : List ℕ) → images_now g disk image
+      → (it : Party) × PartyAt world c it × notes.StandsFor image it.client.lists = λ image since. (
+        party,
+        at,
+        subst (λ (l : Lists). notes.StandsFor image l) lists_are
+            (some_has (g.content disk) content.0 (λ _. (i : List ℕ) → images_now g disk i → notes.StandsFor i lists)
+            content.1 each image since),
+      ) in
+      record {
+        content = content.0;
+        is_content = content.1;
+        stands = own content.0 (some_has (g.content disk) content.0 (images_now g disk) content.1 is_image);
+        images = own;
+      }

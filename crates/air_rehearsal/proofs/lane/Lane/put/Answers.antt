@@ -1,0 +1,19 @@
+-- One frame more was sent, with these octets and this sort.
+use Rattle.std.proofs.Common.{[], ◌∷◌, ◌++◌, false, refl, subst, sym}
+use Rattle.ax25_frames.specs.FrameText.{FrameText}
+use Rattle.ax25_link.specs.Air.{fresh}
+use Rattle.air_rehearsal.specs.Lanes.{AreSentAs}
+use Rattle.air_rehearsal.specs.declared.lane.Sent.{Sent}
+use Rattle.air_rehearsal.proofs.LaneLemmas.{sent-more}
+use Rattle.air_rehearsal.proofs.lane.Lane.put.Goals as goal
+
+pub returns : goal.returns
+returns c list frame same text is =
+    let sent : Sent = record { octets = c.in_ok-octets.octets; sort = c.args.sort; is_delivered = false } in
+    subst (λ all. AreSentAs all (list ++ fresh frame ∷ [])) (sym c.in_ok-push.ensures.items)
+    (sent-more c.args.self.now.sent.items list same sent (fresh frame)
+    (record {
+      text = subst (FrameText frame) (sym c.in_ok-octets.ensures.items) text;
+      sort_is = is;
+      delivered_is = refl;
+    }))

@@ -1,0 +1,7 @@
+-- None of the tasks behind is one.
+use Rattle.air_rehearsal.specs.Drawn.{is_acked}
+use Rattle.air_rehearsal.proofs.LastTasks.{NonePasses}
+use Rattle.air_rehearsal.proofs.party.Party.last_acked.Given as goal
+
+abbrev pub invariant-loop-back : goal.invariant-loop-back
+invariant-loop-back l = NonePasses is_acked l.self.client.notes.lists l.back

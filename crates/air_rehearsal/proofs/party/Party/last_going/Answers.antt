@@ -1,0 +1,48 @@
+-- From the last task on, the first that is unfinished is the last one.
+use Rattle.std.proofs.Common.{◌≡◌, ℕ, ◌-◌, Some, ap, sym, subst, ◌∙◌, arith}
+use Rattle.client_notes.specs.Answers.{noted_at}
+use Rattle.client_notes.specs.Command.{is_going}
+use Rattle.client_notes.specs.Notes.{Lists, task_count}
+use Rattle.client_notes.specs.State.{NotesState}
+use Rattle.air_rehearsal.specs.NotedTasks.{number_if_going}
+use Rattle.air_rehearsal.specs.PartyCalls.{IsLastGoing}
+use Rattle.air_rehearsal.proofs.LastTasks.{NonePasses, going-found, going-more, none-going}
+use Rattle.air_rehearsal.proofs.party.Party.last_going.Goals as goal
+
+pub returns-in-Some-clause-last : goal.returns-in-Some-clause-last
+returns-in-Some-clause-last c seat is =
+    let lists = seat.party.client.lists in
+    let back = c.loop-back.back in
+    let same : c.notes-notes.result.now.lists ≡ lists =
+    ap (λ (notes : NotesState). notes.lists) c.notes-notes.ensures ∙ is.plays.client.lists in
+    let count : c.tasks.result ≡ task_count lists = c.tasks.ensures.count ∙ ap task_count same in
+    let end : c.tasks-back-end.result ≡ task_count lists = c.tasks-back-end.ensures.count ∙ ap task_count same in
+    let told : c.noted_task.result ≡ noted_at lists (task_count lists - back) =
+    c.noted_task.ensures ∙ ap (λ (l : Lists). noted_at l (c.tasks.result - back)) same
+    ∙ ap (λ (n : ℕ). noted_at lists (n - back)) count in
+    subst (λ (n : ℕ). IsLastGoing lists (Some (n - back, c.in-Some.number))) (sym count)
+    (going-found lists back (omega (arith, c.loop-back-test.true, end))
+    (subst (λ (l : Lists). NonePasses is_going l back) is.plays.client.lists c.loop-back.invariant) c.in-Some.number
+    (c.in-Some.ensures ∙ ap number_if_going told))
+
+pub loop-back-preserved : goal.loop-back-preserved
+loop-back-preserved c =
+    let lists = c.args.self.now.client.notes.lists in
+    let back = c.loop-back.back in
+    let same : c.notes-notes.result.now.lists ≡ lists = ap (λ (notes : NotesState). notes.lists) c.notes-notes.ensures in
+    let count : c.tasks.result ≡ task_count lists = c.tasks.ensures.count ∙ ap task_count same in
+    let end : c.tasks-back-end.result ≡ task_count lists = c.tasks-back-end.ensures.count ∙ ap task_count same in
+    let told : c.noted_task.result ≡ noted_at lists (task_count lists - back) =
+    c.noted_task.ensures ∙ ap (λ (l : Lists). noted_at l (c.tasks.result - back)) same
+    ∙ ap (λ (n : ℕ). noted_at lists (n - back)) count in
+    going-more lists back (omega (arith, c.loop-back-test.true, end)) c.loop-back.invariant
+    (c.in_default.ensures ∙ ap number_if_going told)
+
+pub returns-clause-last : goal.returns-clause-last
+returns-clause-last c seat is =
+    let lists = seat.party.client.lists in
+    let same : c.notes-notes.result.now.lists ≡ lists =
+    ap (λ (notes : NotesState). notes.lists) c.notes-notes.ensures ∙ is.plays.client.lists in
+    let end : c.tasks-back-end.result ≡ task_count lists = c.tasks-back-end.ensures.count ∙ ap task_count same in
+    none-going lists c.loop-back.back (omega (arith, c.loop-back-test.false, end))
+    (subst (λ (l : Lists). NonePasses is_going l c.loop-back.back) is.plays.client.lists c.loop-back.invariant)

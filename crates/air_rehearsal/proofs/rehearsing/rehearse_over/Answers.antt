@@ -1,0 +1,144 @@
+use Rattle.std.proofs.Common.{◌≡◌, ◌∷◌, ℕ, Ok, Err, IsErrAnd, Result, ◌+◌, ◌≤◌, length, sym, ap, ◌∙◌, subst, arith, refl}
+use Rattle.std.specs.Prelude.{List, map, slice_get, Some, false, true}
+use Rattle.std.specs.Option.{option_map}
+use Rattle.std.proofs.Common.{◌%◌}
+use Rattle.std.proofs.lemmas.List.{length-map}
+use Rattle.std.proofs.lemmas.Option.{slice_get-map, slice_get_read}
+use Rattle.disk_model.specs.Cuts.{cuts_by}
+use Rattle.px_base.specs.CallSign.{CallSign}
+use Rattle.air_world.specs.Schedule.{Event, IsInRange}
+use Rattle.air_schedule.specs.Events.{event_value}
+use Rattle.air_rehearsal.specs.Opening.{OpensAll}
+use Rattle.air_rehearsal.specs.Playing.{bench_of}
+use Rattle.air_rehearsal.specs.ServerEvents.{CanCount}
+use Rattle.air_rehearsal.specs.Stations.{the_server}
+use Rattle.air_rehearsal.specs.declared.rehearsing.RehearseStop.TheVariants as stop
+use Rattle.air_rehearsal.proofs.Along.{all_there, ends_there, goes_along, stops_there}
+use Rattle.air_rehearsal.proofs.FirstBench.{played_first}
+use Rattle.air_rehearsal.proofs.rehearsing.rehearse_over.Goals as goal
+
+-- want of memory is no unlawful event
+no_event :
+    {T : Type 0} (result : Result T stop.the_data) → IsErrAnd result (λ why. why ≡ stop.OutOfMemory) → (line : ℕ)
+    → result ≡ Err (stop.Unlawful line) → ⊥
+no_event (Ok it) memory line is = absurd memory
+no_event (Err (stop.Unlawful other)) memory line is = cc
+no_event (Err stop.OutOfMemory) memory line is = cc
+
+pub returns-in_err-stations-clause-unlawful : goal.returns-in_err-stations-clause-unlawful
+returns-in_err-stations-clause-unlawful g c = λ line is tell.
+    absurd (no_event c.from_residual.result c.from_residual.ensures.1 line is)
+
+pub returns-in_err-server-clause-unlawful : goal.returns-in_err-server-clause-unlawful
+returns-in_err-server-clause-unlawful g c = λ line is tell.
+    absurd (no_event c.from_residual-in_err-server.result c.from_residual-in_err-server.ensures.1 line is)
+
+-- the event at this place of the schedule
+event_at :
+    {C : Type 0} (value : C → Event) (code : List C) (events : List Event) (i : ℕ) (it : C)
+    → map value code ≡ events → slice_get code i ≡ Some it → slice_get events i ≡ Some (value it)
+event_at value code events i it are is =
+    ap (λ (xs : List Event). slice_get xs i) (sym are) ∙ slice_get-map value code i ∙ ap (option_map value) is
+
+pub loop-event-init : goal.loop-event-init
+loop-event-init g c =
+    let cuts = cuts_by g.B.CutDisk.restarts g.B.CutDisk.arming g.B.CutDisk.plain g.B.CutDisk.is_starved in
+    let it = c.args.schedule.now in
+    let opens = subst
+    (λ (k : ℕ). OpensAll g.B.Disk cuts k it.calls c.args.disks.now c.open.new.disks c.in_ok-stations.stations)
+    c.window.ensures (subst
+    (λ (calls : List CallSign). OpensAll g.B.Disk cuts c.window.result calls c.args.disks.now c.open.new.disks
+    c.in_ok-stations.stations) c.clients.ensures c.in_ok-stations.ensures.opens) in
+    record {
+      server = c.in_ok-server.ensures.ready;
+      clients = c.in_ok-stations.ensures.ready;
+      played = λ can. (
+        _,
+        played_first g.B.Disk cuts g.met.B.CutDisk.lasts_so g.met.B.Disk.content_is_image g.met.B.Disk.counts_now
+            c.sound_law.ensures it c.fits_law.ensures c.args.disk.now c.start.new.disk
+            c.args.disks.now c.open.new.disks c.requires c.in_ok-stations.stations c.in_ok-server.server
+            opens (c.in_ok-server.ensures.starts) (c.in_ok-server.ensures.memory refl),
+      );
+      line = (let same = ap length c.clients-2.ensures in let e : 2 + length c.clients-2.result.now ≡ 2 + length it.calls + 0 = omega (arith, same) in e);
+    }
+
+pub returns-then-not-allows-clause-unlawful : goal.returns-then-not-allows-clause-unlawful
+returns-then-not-allows-clause-unlawful g c = λ line is tell.
+    let cuts = cuts_by g.B.CutDisk.restarts g.B.CutDisk.arming g.B.CutDisk.plain g.B.CutDisk.is_starved in
+    let it = c.args.schedule.now in
+    let l = c.loop-event in
+    let played = l.invariant.played (tell l.disk refl) in
+    let bench = played.1.playing.bench in
+    stops_there g.B.Disk cuts it l.event-index g.met.B.CutDisk.lasts_so (c.args.disk.now ∷ c.args.disks.now)
+    (bench_of l.stations l.server l.disk l.disks) c.requires c.fits_law.ensures played _ line
+    (event_at event_value c.events-events.result.now it.events l.event-index _ c.events-events.ensures (slice_get_read c.events-events.result.now _ l.event-index _ refl c.loop-event-test.true c.event-item.is))
+    (λ allowed. let no : false ≡ true = (c.if-not-allows.ensures _ bench.sound bench.plays.stations).1 allowed.possible in cc)
+    (let same : line ≡ l.line = cc in same ∙ l.invariant.line)
+
+pub play-requires-clause-server : goal.play-requires-clause-server
+play-requires-clause-server g c = c.loop-event.invariant.server
+
+pub play-requires-clause-clients : goal.play-requires-clause-clients
+play-requires-clause-clients g c = c.loop-event.invariant.clients
+
+pub returns-in_err-server-2-clause-unlawful : goal.returns-in_err-server-2-clause-unlawful
+returns-in_err-server-2-clause-unlawful g c = λ line is tell.
+    absurd (no_event c.from_residual-in_err-server-2.result c.from_residual-in_err-server-2.ensures.1 line is)
+
+pub loop-event-preserved : goal.loop-event-preserved
+loop-event-preserved g c =
+    let cuts = cuts_by g.B.CutDisk.restarts g.B.CutDisk.arming g.B.CutDisk.plain g.B.CutDisk.is_starved in
+    let it = c.args.schedule.now in
+    let l = c.loop-event in
+    let came = c.in_ok-server-2.ensures in
+    record {
+      server = came.server;
+      clients = came.clients;
+      played = λ can.
+          let could : CanCount g.B.Disk l.disk = (let on = came.faults in omega (arith, on, can)) in
+          let played = l.invariant.played could in
+          goes_along g.B.Disk cuts it l.event-index (c.args.disk.now ∷ c.args.disks.now)
+          (bench_of l.stations l.server l.disk l.disks)
+          (bench_of c.play.new.self c.in_ok-server-2.server c.play.new.disk c.play.new.disks) _
+          (event_at event_value c.events-events.result.now it.events l.event-index _ c.events-events.ensures (slice_get_read c.events-events.result.now _ l.event-index _ refl c.loop-event-test.true c.event-item.is))
+          played (came.plays _ played.1.playing could (record {
+            in_range =
+                all_there IsInRange it.events l.event-index _ c.fits_law.ensures.in_range
+                (event_at event_value c.events-events.result.now it.events l.event-index _
+                c.events-events.ensures (slice_get_read c.events-events.result.now _ l.event-index _ refl c.loop-event-test.true c.event-item.is));
+            possible =
+                (c.if-not-allows.ensures _ played.1.playing.bench.sound played.1.playing.bench.plays.stations).0 refl;
+          }));
+      line =
+          (let was = l.invariant.line in
+          let few = c.fits_law.ensures.most in
+          let many = c.events-events.type_inv in
+          let e : (l.line + 1) % 18446744073709551616 ≡ 2 + length it.calls + (l.event-index + 1) =
+          omega (arith, was, few, many.0, many.1, c.loop-event-test.true, l.auto.event-index-end) in e);
+    }
+
+pub returns-in_err-end-clause-unlawful : goal.returns-in_err-end-clause-unlawful
+returns-in_err-end-clause-unlawful g c = λ line is tell.
+    absurd (no_event c.from_residual-in_err-end.result c.from_residual-in_err-end.ensures.1 line is)
+
+pub returns-clause-rehearsed : goal.returns-clause-rehearsed
+returns-clause-rehearsed g c = λ tell.
+    let cuts = cuts_by g.B.CutDisk.restarts g.B.CutDisk.arming g.B.CutDisk.plain g.B.CutDisk.is_starved in
+    let it = c.args.schedule.now in
+    let l = c.loop-event in
+    let lasts = g.met.B.CutDisk.lasts_so l.disk c.end.new.disk c.end.ensures.tries.lasts in
+    let could : CanCount g.B.Disk l.disk =
+    (let on = lasts.writes in let can = tell c.end.new.disk refl in omega (arith, on, can)) in
+    let played = l.invariant.played could in
+    let bench = played.1.playing.bench in
+    let ends = c.in_ok-end.ensures.ends _ bench.sound bench.plays.stations bench.plays.blocks (bench.stands the_server _ refl) in
+    ends_there g.B.Disk cuts it l.event-index g.met.B.CutDisk.lasts_so (c.args.disk.now ∷ c.args.disks.now)
+    (bench_of l.stations l.server l.disk l.disks) c.requires c.fits_law.ensures played
+    (record {
+      sound = c.sound_law.ensures;
+      parts = c.parts_law.ensures;
+      stores = c.stores_law.ensures;
+      schedules = c.schedule_law.ensures;
+      follows = c.follows_law.ensures;
+    })
+    c.end.new.disk c.in_ok-end.field-0 (let same = ap length c.events-events.ensures in let e : length it.events ≤ l.event-index = omega (arith, same, length-map c.events-events.result.now event_value, c.loop-event-test.false, l.auto.event-index-end) in e) ends

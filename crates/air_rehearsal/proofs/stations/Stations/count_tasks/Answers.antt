@@ -1,0 +1,28 @@
+-- One task more is counted.
+use Rattle.std.proofs.Common.{ℕ, ◌+◌, List, [], ◌∷◌, map, sym, subst, arith}
+use Rattle.std.specs.List.{range_with_len}
+use Rattle.std.proofs.lemmas.List.FromFn.{map-range_with_len_more}
+use Rattle.file_store.specs.State.{StoreState}
+use Rattle.air_rehearsal.specs.Ending.{CountsAcked, IsAtEnd}
+use Rattle.air_rehearsal.specs.Report.{ClientTask}
+use Rattle.air_rehearsal.proofs.AckedLemmas.{counts-append}
+use Rattle.air_rehearsal.proofs.LooksLemmas.{looks-on}
+use Rattle.air_rehearsal.proofs.stations.Stations.count_tasks.Goals as goal
+
+pub loop-before-preserved : goal.loop-before-preserved
+loop-before-preserved g c = record {
+  looks =
+      looks-on g.D.Disk g.met.D.Disk.lasts_on c.args.store.now c.loop-before.store c.count_task.new.store
+      c.args.disk.now c.loop-before.disk c.count_task.new.disk c.loop-before.invariant.looks c.count_task.ensures.looks;
+  counts = λ seat at.
+      let before = c.loop-before.before in
+      let of : ℕ → ClientTask = λ (task : ℕ). record { party = seat.party; task = task } in
+      let here =
+      subst (λ (store : StoreState). IsAtEnd c.args.self.now c.args.party.now store seat)
+      (sym c.loop-before.invariant.looks.stays.same) at
+      in
+      let more = map-range_with_len_more of 1 before (before + 1) (omega arith) in
+      subst (λ (tasks : List ClientTask). CountsAcked tasks c.args.report.now c.count_task.new.report) (sym more)
+      (counts-append (map of (range_with_len 1 before)) (of (before + 1) ∷ []) c.args.report.now c.loop-before.report
+      c.count_task.new.report (c.loop-before.invariant.counts seat at) (c.in_ok-count_task.ensures.counts seat here));
+}

@@ -1,0 +1,16 @@
+-- The tasks so far are counted, and nothing but reads was made.
+use Rattle.std.specs.Prelude.{map}
+use Rattle.std.specs.List.{range_with_len}
+use Rattle.air_rehearsal.specs.Ending.{CountsAcked, IsAtEnd, LooksOnly}
+use Rattle.air_rehearsal.specs.TakingPart.{Seat}
+use Rattle.air_rehearsal.proofs.stations.Stations.count_tasks.Given as goal
+
+abbrev pub invariant-loop-before : goal.invariant-loop-before
+invariant-loop-before g l =
+    record {
+      looks : LooksOnly g.D.Disk l.fn.store l.store l.fn.disk l.disk;
+      counts :
+          (seat : Seat) → IsAtEnd l.self l.party l.fn.store seat
+          → CountsAcked (map (λ task. record { party = seat.party; task = task }) (range_with_len 1 l.before))
+          l.fn.report l.report;
+    }

@@ -1,0 +1,40 @@
+-- The recovered store is the world's, and nothing but reads was made behind the recovery.
+use Rattle.air_rehearsal.specs.Stations.{the_server}
+use Rattle.air_rehearsal.proofs.EndLemmas.{tries-reads, ends-so, recovered-store}
+use Rattle.air_rehearsal.proofs.stations.Stations.end.Goals as goal
+
+pub returns-clause-ends : goal.returns-clause-ends
+returns-clause-ends g c world sound plays blocks stands =
+    let recovered = c.in-Ok.ensures.recovered in
+    let same =
+    recovered-store g.D.Disk world c.args.disk.now c.recover.new.disk c.in-Ok.store blocks stands recovered
+    in
+    ends-so g.D.Disk g.met.D.Disk.lasts_on g.met.D.Disk.content_is_image g.met.D.Disk.counts_now world c.args.disk.now
+    c.recover.new.disk c.count_all.new.disk c.in-Ok.store c.count_all.new.store c.args.self.now.report
+    c.count_all.new.report stands c.state_law.ensures.read recovered
+    (record {
+      told = c.recover.ensures.runs.told;
+      since = c.recover.ensures.since_start;
+      lasts = c.recover.ensures.runs.lasts;
+    })
+    c.count_all.ensures.looks same (c.in_ok-count_all.ensures.counts world sound plays same)
+
+pub returns-in_err-count_all-clause-tries : goal.returns-in_err-count_all-clause-tries
+returns-in_err-count_all-clause-tries g c =
+    tries-reads g.D.Disk g.met.D.Disk.lasts_on the_server c.args.disk.now c.recover.new.disk c.count_all.new.disk
+    (record {
+      told = c.recover.ensures.runs.told;
+      since = c.recover.ensures.since_start;
+      lasts = c.recover.ensures.runs.lasts;
+    })
+    c.count_all.ensures.looks.only c.count_all.ensures.looks.lasts
+
+pub returns-clause-tries : goal.returns-clause-tries
+returns-clause-tries g c =
+    tries-reads g.D.Disk g.met.D.Disk.lasts_on the_server c.args.disk.now c.recover.new.disk c.count_all.new.disk
+    (record {
+      told = c.recover.ensures.runs.told;
+      since = c.recover.ensures.since_start;
+      lasts = c.recover.ensures.runs.lasts;
+    })
+    c.count_all.ensures.looks.only c.count_all.ensures.looks.lasts
