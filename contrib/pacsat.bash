@@ -6,7 +6,7 @@ _pacsat_files() {
     case "$1" in
     send) echo 3 ;;
     fetch) echo 4 ;;
-    frames | pfh-show | pfh-check) echo 1 ;;
+    frames | pfh-show | pfh-check | rehearse) echo 1 ;;
     pfh-make | pfh-body) echo 1 2 ;;
     esac
 }
@@ -18,6 +18,7 @@ _pacsat_options() {
     session) echo --moment --blocks --polls ;;
     send | fetch | list) echo --k --polls ;;
     pfh-make) echo --name --ext --type --time --source --destination --title ;;
+    rehearse) echo --seed --count ;;
     esac
 }
 
@@ -35,7 +36,7 @@ _pacsat() {
     case "$at" in
     1) COMPREPLY=($(compgen -f -W "none --help --version" -- "$word")) ;;
     2) COMPREPLY=($(compgen -W "- none 127.0.0.1:8001" -- "$word")) ;;
-    3) COMPREPLY=($(compgen -W "serve session send fetch list frames pfh-make pfh-body pfh-show pfh-check" -- "$word")) ;;
+    3) COMPREPLY=($(compgen -W "serve session send fetch list frames pfh-make pfh-body pfh-show pfh-check rehearse" -- "$word")) ;;
     *)
         case "$before" in --*) return ;; esac
         case "$word" in

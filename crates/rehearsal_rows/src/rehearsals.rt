@@ -3,12 +3,16 @@
 ghost use Rattle.disk_model.specs.Cuts.{AreFresh, cuts_by};
 
 use crate::bench::{fuses, logs};
-use air_rehearsal::{RehearseStop, drive, rehearse};
-use air_schedule::{Schedule, ScheduleFault};
+use air_rehearsal::drive;
 use anyhow::{Context, Result, bail};
-use disk_model::{CutDisk, LogDisk};
-use row_words::Player;
+use disk_model::{CutDisk, LogDisk, MemoryDisk};
+use pacsat_cli::{Words, run};
+use px_base::{MemoryAir, MemoryClock, MemoryOut, MemoryShelf, Shelf};
+use row_words::{Player, read_words};
 use std::alloc::Global;
+
+/// The words that ask for a rehearsal of the schedule that the shelf has.
+const WORDS: &str = "none none rehearse schedule";
 
 /// Plays rows of rehearsals, each on its own.
 #[derive(Drop)]
@@ -20,6 +24,7 @@ impl Player for RehearsalRows {
         match kind {
             "text" => text(alloc, rest),
             "log" => log(alloc, rest),
+            "ticks" => ticks(alloc, rest),
             "seed" => seed(alloc, rest),
             "log-seed" => log_seed(alloc, rest),
             "seeds" => seeds(alloc, rest),
@@ -30,14 +35,27 @@ impl Player for RehearsalRows {
 
 /// `text TEXT`
 fn text(alloc: Global, text: &str) -> Result<String> {
-    let (shown, _) = played(alloc, text, fuses(alloc)?)?;
+    let text = with_lines(alloc, text)?;
+    let (shown, _) = played(alloc, WORDS, text.as_slice(), fuses(alloc)?)?;
     Ok(shown)
 }
 
 /// `log TEXT`
 fn log(alloc: Global, text: &str) -> Result<String> {
-    let (shown, bench) = played(alloc, text, logs(alloc)?)?;
+    let text = with_lines(alloc, text)?;
+    let (shown, bench) = played(alloc, WORDS, text.as_slice(), logs(alloc)?)?;
     with_restarts(alloc, shown, &bench)
+}
+
+/// `ticks COUNT TEXT`
+fn ticks(alloc: Global, text: &str) -> Result<String> {
+    let (count, text) = text.split_once(' ').context("no text")?;
+    let mut text = with_lines(alloc, text)?;
+    for _ in 0..count.parse::<u32>()? {
+        text.extend_from_slice(b"tick server\n")?;
+    }
+    let (shown, _) = played(alloc, WORDS, text.as_slice(), fuses(alloc)?)?;
+    Ok(format!(in alloc; "{} octets: {shown}", text.len())?)
 }
 
 /// A line, and behind it how often each of these disks lost power.
@@ -50,25 +68,29 @@ fn with_restarts(alloc: Global, mut shown: String, bench: &[LogDisk]) -> Result<
     Ok(shown)
 }
 
-/// What the schedule of a text comes to over these disks, and the disks then.
+/// What these words come to over these disks and a shelf that has this schedule: the number of the status, and what was
+/// shown. And the disks then.
 fn played<B: CutDisk + Drop>(
     alloc: Global,
-    text: &str,
+    words: &str,
+    schedule: &[u8],
     mut bench: Vec<B>,
 ) -> Result<(String, Vec<B>)>
     requires { AreFresh B.Disk (cuts_by B.restarts B.arming B.plain B.is_starved) bench.items }
 {
-    let text = with_lines(alloc, text)?;
-    let shown = match Schedule::read(alloc, text.as_slice()) {
-        Ok(schedule) => match rehearse(alloc, &schedule, &mut bench) {
-            Ok(report) => format!(in alloc; "{report}")?,
-            Err(RehearseStop::Unlawful { line }) => format!(in alloc; "bad schedule {line}")?,
-            Err(stop) => bail!("{stop}"),
-        },
-        Err(ScheduleFault::BadLine { line }) => format!(in alloc; "bad schedule {line}")?,
-        Err(fault) => bail!("{fault}"),
-    };
-    Ok((shown, bench))
+    let words: Words = read_words(alloc, words)?;
+    let mut disk = MemoryDisk::new(alloc, &[], &[])?;
+    let mut air = MemoryAir::new(alloc, Vec::new(alloc), &[])?;
+    let mut shelf = MemoryShelf::new(alloc, &[])?;
+    shelf.keep("schedule", schedule)?;
+    let mut out = MemoryOut::new(alloc, &[])?;
+    let mut clock = MemoryClock::new(alloc, &[1])?;
+    let number = run(
+        alloc, &words, &mut disk, &mut air, &mut shelf, &mut out, &mut clock, &mut bench,
+    )
+    .number();
+    let shown = std::str::from_utf8(out.shown())?.trim_end();
+    Ok((format!(in alloc; "{number} {shown}")?, bench))
 }
 
 /// The octets of a text, with an LF for each `|`.
@@ -82,28 +104,22 @@ fn with_lines(alloc: Global, text: &str) -> Result<Vec<u8>> {
 
 /// `seed N COUNT`
 fn seed(alloc: Global, text: &str) -> Result<String> {
-    let (shown, _) = drawn(alloc, text, fuses(alloc)?)?;
+    let words = drawing(alloc, text)?;
+    let (shown, _) = played(alloc, words.as_str(), &[], fuses(alloc)?)?;
     Ok(shown)
 }
 
 /// `log-seed N COUNT`
 fn log_seed(alloc: Global, text: &str) -> Result<String> {
-    let (shown, bench) = drawn(alloc, text, logs(alloc)?)?;
+    let words = drawing(alloc, text)?;
+    let (shown, bench) = played(alloc, words.as_str(), &[], logs(alloc)?)?;
     with_restarts(alloc, shown, &bench)
 }
 
-/// What is drawn by a number, in so many rounds, over these disks, and the disks then.
-fn drawn<B: CutDisk + Drop>(
-    alloc: Global,
-    text: &str,
-    mut bench: Vec<B>,
-) -> Result<(String, Vec<B>)>
-    requires { AreFresh B.Disk (cuts_by B.restarts B.arming B.plain B.is_starved) bench.items }
-{
+/// The words that ask for what is drawn by a number, in so many rounds.
+fn drawing(alloc: Global, text: &str) -> Result<String> {
     let (seed, count) = text.split_once(' ').context("no count")?;
-    let (seed, count) = (seed.parse::<u64>()?, count.parse::<u32>()?);
-    let report = drive(alloc, seed, count, &mut bench)?;
-    Ok((format!(in alloc; "{report}")?, bench))
+    Ok(format!(in alloc; "none none rehearse --seed {seed} --count {count}")?)
 }
 
 /// `seeds FIRST LAST COUNT`
