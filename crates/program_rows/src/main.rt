@@ -10,6 +10,7 @@
 mod air;
 mod client;
 mod command;
+mod rehearsal;
 mod run;
 mod startup;
 mod texts;
@@ -33,6 +34,7 @@ fn play<R: AllocGlobal + Files + Print>(rt: &R, family: &str) -> Result<()> {
         "client" => play_family(rt, family, &mut client::ClientRows::new()),
         "command" => play_family(rt, family, &mut command::CommandRows),
         "air" => play_family(rt, family, &mut air::AirRows::new()),
+        "rehearsal" => play_family(rt, family, &mut rehearsal::RehearsalRows),
         "startup" => play_family(rt, family, &mut startup::StartRows),
         "texts" => play_family(rt, family, &mut texts::TextRows),
         _ => bail!("no family {family}"),

@@ -11,3 +11,4 @@ mod row;
 mod standing;
 
 pub use row::RunRows;
+pub use standing::standing_text;

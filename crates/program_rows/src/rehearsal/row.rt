@@ -1,8 +1,9 @@
-//! Rows of rehearsals.
+//! A row of a rehearsal.
 
 ghost use Rattle.disk_model.specs.Cuts.{AreFresh, cuts_by};
 
-use crate::bench::{fuses, logs};
+use crate::rehearsal::bench::{fuses, logs};
+use crate::run::standing_text;
 use air_rehearsal::drive;
 use anyhow::{Context, Result, bail};
 use disk_model::{CutDisk, LogDisk, MemoryDisk};
@@ -44,7 +45,12 @@ fn text(alloc: Global, text: &str) -> Result<String> {
 fn log(alloc: Global, text: &str) -> Result<String> {
     let text = with_lines(alloc, text)?;
     let (shown, bench) = played(alloc, WORDS, text.as_slice(), logs(alloc)?)?;
-    with_restarts(alloc, shown, &bench)
+    let mut shown = with_restarts(alloc, shown, &bench)?;
+    for left in bench.first().context("no disk")?.restarts() {
+        let standing = standing_text(alloc, left.as_slice())?;
+        shown.push_str(format!(in alloc; " | {standing}")?.as_str())?;
+    }
+    Ok(shown)
 }
 
 /// `ticks COUNT TEXT`
