@@ -7,13 +7,16 @@ use Rattle.command_words.specs.declared.client.FetchRequest.{FetchRequest}
 use Rattle.command_words.specs.declared.client.ListRequest.{ListRequest}
 use Rattle.command_words.specs.declared.client.SendRequest.{SendRequest}
 use Rattle.command_words.specs.declared.disk.DiskWord.TheVariants.{Named}
+use Rattle.command_words.specs.declared.rehearse.RehearseRequest.{RehearseRequest}
+use Rattle.command_words.specs.declared.rehearse.RehearseRequest.TheVariants.{Drawn, Schedule}
 use Rattle.command_words.specs.declared.request.Request.{Request}
 use Rattle.command_words.specs.declared.request.Request.TheVariants.{Client, Frames, Serve, Session}
-use Rattle.command_words.specs.declared.request.Request.TheVariants.{PfhBody, PfhCheck, PfhMake, PfhShow}
+use Rattle.command_words.specs.declared.request.Request.TheVariants.{PfhBody, PfhCheck, PfhMake, PfhShow, Rehearse}
 use Rattle.command_words.specs.Clients.{ClientTerms, HexText}
 use Rattle.command_words.specs.Disks.{IsDiskOf}
+use Rattle.command_words.specs.Rehearsals.{DrawnText}
 use Rattle.command_words.specs.Words.{IsAir, IsFetch, IsList, IsSend, IsServe, IsSession}
-use Rattle.command_words.specs.Words.{IsBody, IsCheck, IsFrames, IsMake, IsShow}
+use Rattle.command_words.specs.Words.{IsBody, IsCheck, IsDrawn, IsFrames, IsMake, IsRehearsal, IsShow, NameText}
 
 -- the terms of each request of a client
 abbrev pub send_terms : SendRequest → ClientTerms
@@ -32,6 +35,16 @@ AsksClientFor words (client.Fetch asked) = IsFetch words (fetch_terms asked) ask
 AsksClientFor words (client.List asked) =
     (tokens : List ℕ) × HexText asked.hex.now tokens × IsList words (list_terms asked) tokens
 
+-- the words after `rehearse` ask for this: NAME alone for its schedule, and the options for rounds that are drawn
+abbrev pub IsRehearseText : List (List ℕ) → RehearseRequest → Type 0
+IsRehearseText others (Schedule name) = NameText name.now others
+IsRehearseText others (Drawn seed count) = DrawnText seed count others
+
+-- the words ask for this rehearsal
+abbrev pub AsksRehearseFor : List (List ℕ) → RehearseRequest → Type 0
+AsksRehearseFor words (Schedule name) = IsRehearsal words name.now
+AsksRehearseFor words (Drawn seed count) = IsDrawn words seed count
+
 -- the words ask for this
 abbrev pub AsksFor : List (List ℕ) → Request → Type 0
 AsksFor words (Session request) = IsSession words request
@@ -42,6 +55,7 @@ AsksFor words (PfhCheck name) = IsCheck words name.now
 AsksFor words (PfhShow name) = IsShow words name.now
 AsksFor words (PfhMake request) = IsMake words request.body.now request.kept.now (make_value request.header)
 AsksFor words (PfhBody request) = IsBody words request.name.now request.kept.now
+AsksFor words (Rehearse request) = AsksRehearseFor words request
 
 -- Behind a DISK that names a file, an AIR and this command, these words ask for this.
 abbrev pub AsksBehind : List ℕ → List (List ℕ) → Request → Type 0

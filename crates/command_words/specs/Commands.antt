@@ -1,12 +1,12 @@
 -- What the word COMMAND names.
-use Rattle.std.specs.Prelude.{◌≡◌, ℕ, List, Contains, codes}
+use Rattle.std.specs.Prelude.{◌≡◌, ℕ, List, codes}
 use Rattle.command_words.specs.declared.command.ClientCommand.{ClientCommand}
 use Rattle.command_words.specs.declared.command.ClientCommand.TheVariants as client
 use Rattle.command_words.specs.declared.command.CommandWord.{CommandWord}
 use Rattle.command_words.specs.declared.command.CommandWord.TheVariants as word
 use Rattle.command_words.specs.declared.command.NameCommand.{NameCommand}
 use Rattle.command_words.specs.declared.command.NameCommand.TheVariants.{Frames, PfhCheck, PfhShow}
-use Rattle.command_words.specs.Words.{AsksFetch, AsksList, AsksSend, unbuilt_commands}
+use Rattle.command_words.specs.Words.{AsksFetch, AsksList, AsksSend}
 
 -- the word of a command whose one place is a name
 abbrev pub word_of : NameCommand → List ℕ
@@ -28,7 +28,7 @@ IsCommandOf text (word.Client command) = text ≡ client_word command
 IsCommandOf text (word.Named command) = text ≡ word_of command
 IsCommandOf text word.PfhMake = text ≡ codes "pfh-make"
 IsCommandOf text word.PfhBody = text ≡ codes "pfh-body"
-IsCommandOf text word.Unbuilt = Contains unbuilt_commands text
+IsCommandOf text word.Rehearse = text ≡ codes "rehearse"
 
 -- the words ask for what this client's command does
 abbrev pub AsksBy : ClientCommand → List (List ℕ) → Type 0

@@ -9,4 +9,5 @@ pub mod Lines
 pub mod Making
 pub mod Numbers
 pub mod Refusals
+pub mod Rehearsals
 pub mod Words

@@ -14,6 +14,7 @@ use Rattle.command_words.specs.declared.terms.Terms.{Terms}
 use Rattle.command_words.specs.Clients.{ClientTerms, client_options}
 use Rattle.command_words.specs.Grammar.{Line, line_places, line_value}
 use Rattle.command_words.specs.Making.{MakeOptions, make_options, options_given}
+use Rattle.command_words.specs.Rehearsals.{rehearse_options}
 use Rattle.command_words.specs.Words.{BodyText, serve_options, session_options}
 
 -- an option with a value
@@ -63,6 +64,10 @@ make_app = command_of (codes "pfh-make") (codes "body" ∷ codes "kept" ∷ []) 
 -- the command `pfh-body`
 abbrev pub body_app : App
 body_app = command_of (codes "pfh-body") (codes "name" ∷ codes "out" ∷ []) []
+
+-- the command `rehearse`, where it names no schedule
+abbrev pub drawn_app : App
+drawn_app = command_of (codes "rehearse") [] rehearse_options
 
 -- an option's name is some text without `=`, and no place's
 abbrev pub is_option_name : List (List ℕ) → List ℕ → Bool
@@ -160,3 +165,9 @@ pub record MakeLine (texts : MakeTexts) (words : List (List ℕ)) : Type 0 where
 -- The words after `pfh-body` are these places.
 abbrev pub BodyLine : BodyRequest → List (List ℕ) → Type 0
 BodyLine asked words = BodyText asked.name.now asked.kept.now words
+
+-- The words after `rehearse` are no place, and give these values of the options.
+pub record DrawnLine (words : List (List ℕ)) (seed count : Option (List ℕ)) : Type 0 where
+  pub line : Line rehearse_options words 0
+  pub seed_given : line_value line (codes "seed") ≡ seed
+  pub count_given : line_value line (codes "count") ≡ count

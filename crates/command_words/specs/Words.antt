@@ -12,16 +12,13 @@ use Rattle.command_words.specs.Disks.{IsDiskOf}
 use Rattle.command_words.specs.Grammar.{Line, line_places, line_value}
 use Rattle.command_words.specs.Making.{MakeText}
 use Rattle.command_words.specs.Numbers.{GivesNumber, IsNumberOr, NumberText, default_blocks, default_k, default_polls}
+use Rattle.command_words.specs.Rehearsals.{DrawnText}
 
--- the commands that aren't built yet
-abbrev pub unbuilt_commands : List (List ℕ)
-unbuilt_commands = codes "rehearse" ∷ []
-
--- the commands that are built
-abbrev pub built_commands : List (List ℕ)
-built_commands =
+-- the commands
+abbrev pub commands : List (List ℕ)
+commands =
     codes "session" ∷ codes "serve" ∷ codes "send" ∷ codes "fetch" ∷ codes "list" ∷ codes "frames" ∷ codes "pfh-check"
-    ∷ codes "pfh-show" ∷ codes "pfh-make" ∷ codes "pfh-body" ∷ []
+    ∷ codes "pfh-show" ∷ codes "pfh-make" ∷ codes "pfh-body" ∷ codes "rehearse" ∷ []
 
 -- Host and port: text without a colon, a colon, and the number of a port.
 pub record IsHostPort (air : List ℕ) : Type 0 where
@@ -180,29 +177,31 @@ AsksMake words =
 abbrev pub AsksHeader : List (List ℕ) → Type 0
 AsksHeader words = ((name : List ℕ) × IsCheck words name) ⊎ (((name : List ℕ) × IsShow words name) ⊎ AsksMake words)
 
--- The words name a command that isn't built yet, with whatever other words.
-pub record IsUnbuilt (words : List (List ℕ)) : Type 0 where
-  pub disk : List ℕ
-  pub air : List ℕ
-  pub command : List ℕ
-  pub others : List (List ℕ)
-  pub written : words ≡ disk ∷ air ∷ command ∷ others
-  pub unbuilt : Contains unbuilt_commands command
+-- the words are `DISK AIR rehearse NAME`
+abbrev pub IsRehearsal : List (List ℕ) → List ℕ → Type 0
+IsRehearsal words name = IsNamed (codes "rehearse") words name
 
--- The words are in the command set. As long as a command isn't built, all of its words are taken to be.
+-- the words are `DISK AIR rehearse --seed N --count N`
+abbrev pub IsDrawn : List (List ℕ) → ℕ → ℕ → Type 0
+IsDrawn words seed count = NeedsNeither (codes "rehearse") (DrawnText seed count) words
+
+-- the words ask for a rehearsal: of the schedule of a name, or of rounds that are drawn
+abbrev pub AsksRehearse : List (List ℕ) → Type 0
+AsksRehearse words = ((name : List ℕ) × IsRehearsal words name) ⊎ ((seed count : ℕ) × IsDrawn words seed count)
+
+-- the words are in the command set
 abbrev pub InSet : List (List ℕ) → Type 0
 InSet words =
-    IsUnbuilt words
-    ⊎ (((asked : SessionRequest) × IsSession words asked)
+    ((asked : SessionRequest) × IsSession words asked)
     ⊎ (((asked : ServeRequest) × IsServe words asked)
-    ⊎ (AsksClient words ⊎ (((name : List ℕ) × IsFrames words name) ⊎ AsksHeader words))))
+    ⊎ (AsksClient words ⊎ (((name : List ℕ) × IsFrames words name) ⊎ (AsksHeader words ⊎ AsksRehearse words))))
 
 -- the words aren't in the command set
 abbrev pub IsUsage : List (List ℕ) → Type 0
 IsUsage words = InSet words → ⊥
 
--- the words name a command that is built
-abbrev pub NamesBuilt : List (List ℕ) → Type 0
-NamesBuilt words =
-    (disk air command : List ℕ) × (others : List (List ℕ))
-    × (words ≡ disk ∷ air ∷ command ∷ others) × Contains built_commands command
+-- the words name a command
+abbrev pub NamesCommand : List (List ℕ) → Type 0
+NamesCommand words =
+    (disk air command : List ℕ) × (others : List (List ℕ)) × (words ≡ disk ∷ air ∷ command ∷ others)
+    × Contains commands command

@@ -1,11 +1,9 @@
 //! The word COMMAND.
 
 ghost use Rattle.std.specs.Prelude.{◌≡◌, ℕ, List, IfNone, IfSome};
-ghost use Rattle.std.specs.List.{list_any};
-ghost use Rattle.std.specs.Str.{bytes_eq};
 ghost use Rattle.command_words.specs.Asked.{AsksFor};
 ghost use Rattle.command_words.specs.Commands.{IsCommandOf, client_word, word_of};
-ghost use Rattle.command_words.specs.Words.{IsNamed, unbuilt_commands};
+ghost use Rattle.command_words.specs.Words.{IsNamed};
 
 use crate::request::Request;
 
@@ -24,8 +22,8 @@ pub(crate) enum CommandWord {
     PfhMake,
     /// The body of a file.
     PfhBody,
-    /// What isn't built yet.
-    Unbuilt,
+    /// A rehearsal.
+    Rehearse,
 }
 
 /// The commands that have one place, a name, and no options, and that need neither disk nor air.
@@ -73,8 +71,8 @@ pub(crate) fn read_command(word: &str) -> Option<CommandWord>
     if word == "pfh-body" {
         return Some(CommandWord::PfhBody);
     }
-    if is_unbuilt(word) {
-        return Some(CommandWord::Unbuilt);
+    if word == "rehearse" {
+        return Some(CommandWord::Rehearse);
     }
     None
 }
@@ -111,13 +109,6 @@ fn read_client_command(word: &str) -> Option<ClientCommand>
         return Some(ClientCommand::List);
     }
     None
-}
-
-/// Whether this is one of the commands that aren't built yet.
-fn is_unbuilt(word: &str) -> bool
-    ensures { result ≡ list_any (bytes_eq word.now) unbuilt_commands }
-{
-    word == "rehearse"
 }
 
 impl NameCommand {

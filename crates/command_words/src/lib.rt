@@ -1,9 +1,9 @@
 //! The program's words, `DISK AIR COMMAND` and the words after it: the first three are read by place, and the others with
 //! `clap`.
 //!
-//! `specs/Words.antt` is the command set, as far as it is built, `specs/Grammar.antt` the grammar of the words after
-//! COMMAND, and `specs/Numbers.antt` that of numbers; `specs/Making.antt` says what `pfh-make` asks for. What a
-//! header may be made of is the rule of `header_tool`.
+//! `specs/Words.antt` is the command set, `specs/Grammar.antt` the grammar of the words after COMMAND, and
+//! `specs/Numbers.antt` that of numbers; `specs/Making.antt` says what `pfh-make` asks for. What a header may be made
+//! of is the rule of `header_tool`.
 #![tactic(auto)]
 
 mod air;
@@ -18,6 +18,7 @@ mod line;
 mod make;
 mod number;
 mod reason;
+mod rehearse;
 mod request;
 mod serve;
 mod terms;
@@ -29,6 +30,7 @@ pub use client::{ClientRequest, FetchRequest, ListRequest, SendRequest};
 pub use disk::DiskWord;
 pub use make::MakeRequest;
 pub use reason::refusal_text;
+pub use rehearse::RehearseRequest;
 pub use request::{BLOCKS, POLLS, Refusal, Request, SessionRequest, read};
 pub use serve::{K, ServeRequest};
 pub use words::Words;

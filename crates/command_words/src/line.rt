@@ -3,11 +3,12 @@
 ghost use Rattle.std.specs.Prelude.{◌≡◌, List, [], ◌∷◌, false, IfOk, codes, drop, map, option_copied, string_bytes};
 ghost use Rattle.clap.specs.Words.{app_of, kind_of, rule_of, with_rule};
 ghost use Rattle.command_words.specs.Grammar.{Line};
-ghost use Rattle.command_words.specs.Lines.{BodyLine, FindsLine, MakeLine, RefusesLine, ServeLine, SessionLine};
-ghost use Rattle.command_words.specs.Lines.{body_app, command_of, make_app, option_of, options_added, place_of};
-ghost use Rattle.command_words.specs.Lines.{serve_app, session_app};
+ghost use Rattle.command_words.specs.Lines.{BodyLine, DrawnLine, FindsLine, MakeLine, RefusesLine, ServeLine};
+ghost use Rattle.command_words.specs.Lines.{SessionLine, body_app, command_of, drawn_app, make_app, option_of};
+ghost use Rattle.command_words.specs.Lines.{options_added, place_of, serve_app, session_app};
 ghost use Rattle.command_words.specs.Making.{make_options};
 ghost use Rattle.command_words.specs.Refusals.{IsRefusedFor};
+ghost use Rattle.command_words.specs.Rehearsals.{rehearse_options};
 ghost use Rattle.command_words.specs.Words.{NameText, serve_options, session_options};
 
 use crate::body::BodyRequest;
@@ -63,6 +64,15 @@ pub(crate) struct MakeTexts<'a> {
     pub destination: Option<&'a str>,
     /// The value of `--title`.
     pub title: Option<&'a str>,
+}
+
+/// The options of `rehearse`.
+#[derive(Clone, Copy)]
+pub(crate) struct DrawnTexts<'a> {
+    /// The value of `--seed`.
+    pub seed: Option<&'a str>,
+    /// The value of `--count`.
+    pub count: Option<&'a str>,
 }
 
 /// Reads the words from `session` on. Takes memory.
@@ -160,6 +170,19 @@ pub(crate) fn read_body<'a>(alloc: Global, line: &'a [String]) -> Result<BodyReq
     Ok(BodyRequest { name, kept })
 }
 
+/// Reads the words from `rehearse` on that name no schedule. Takes memory.
+pub(crate) fn read_drawn<'a>(alloc: Global, line: &'a [String]) -> Result<DrawnTexts<'a>, Refusal>
+    ensures texts { IfOk result (λ texts. DrawnLine (drop 1 (map string_bytes line.now)) (option_copied texts.seed)
+        (option_copied texts.count)) }
+    ensures refused { IsRefusedFor result (Line rehearse_options (drop 1 (map string_bytes line.now)) 0 → ⊥) }
+{
+    let matches = read_line(drawn_command(alloc)?, line)?;
+    Ok(DrawnTexts {
+        seed: matches.get_str("seed"),
+        count: matches.get_str("count"),
+    })
+}
+
 /// The command `session` with its place and its options.
 pub(crate) fn session_command<'a>(alloc: Global) -> Result<Command<'a>, AllocError>
     ensures { IfOk result (λ command. app_of command ≡ session_app) }
@@ -198,6 +221,14 @@ pub(crate) fn body_command<'a>(alloc: Global) -> Result<Command<'a>, AllocError>
     ensures { IfOk result (λ command. app_of command ≡ body_app) }
 {
     line_command(alloc, "pfh-body", "name")?.arg(place(alloc, "out"))
+}
+
+/// The command `rehearse` with its options and no place.
+pub(crate) fn drawn_command<'a>(alloc: Global) -> Result<Command<'a>, AllocError>
+    ensures { IfOk result (λ command. app_of command ≡ drawn_app) }
+{
+    let command = Command::new(alloc, "rehearse").disable_help_flag(true);
+    with_options(alloc, command, &["seed", "count"])
 }
 
 /// A command with one place and no options yet.
@@ -266,7 +297,6 @@ pub(crate) fn read_line<'a>(
 fn refusal_of(error: &Error) -> Refusal
     ensures usage { result ≡ Refusal.Usage → kind_of error.now ≡ ErrorKind.OutOfMemory → ⊥ }
     ensures memory { result ≡ Refusal.OutOfMemory → kind_of error.now ≡ ErrorKind.OutOfMemory }
-    ensures built { result ≡ Refusal.NotBuilt → ⊥ }
 {
     match error.kind() {
         ErrorKind::OutOfMemory => Refusal::OutOfMemory,

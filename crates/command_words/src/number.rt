@@ -1,6 +1,6 @@
 //! Numbers among the words.
 
-ghost use Rattle.std.specs.Prelude.{◌≡◌, ℕ, ◌+◌, ◌-◌, ◌*◌, ◌<◌, ◌≤◌, ◌^◌, Option, IfNone, IfSome, SomeIff, option_copied};
+ghost use Rattle.std.specs.Prelude.{◌≡◌, ℕ, ◌+◌, ◌-◌, ◌*◌, ◌<◌, ◌≤◌, ◌^◌, Option, Some, IfNone, IfSome, SomeIff, option_copied};
 ghost use Rattle.std.specs.List.{AllByRecursion};
 ghost use Rattle.command_words.specs.Numbers.{GivesNumber, IsDigit, IsNumberOr, NumberText, number_after as digits_after};
 
@@ -18,6 +18,15 @@ pub(crate) fn optional_moment(value: Option<&str>) -> Option<Option<u32>>
         Some(text) => Some(Some(read_number(0, LAST_MOMENT, text)? as u32)),
         None => Some(None),
     }
+}
+
+/// The number of this range that an option's value writes, or nothing where none is given, or the value writes none.
+pub(crate) fn given_number(low: u64, high: u64, value: Option<&str>) -> Option<u64>
+    ensures some { IfSome result (λ number. GivesNumber low high (option_copied value.entry) (Some number)) }
+    ensures none { IfNone result ((number : ℕ) →
+        GivesNumber low high (option_copied value.entry) (Some number) → ⊥) }
+{
+    read_number(low, high, value?)
 }
 
 /// The number of this range that an option's value writes, or the one that stands for it where none is given; or nothing

@@ -3,7 +3,9 @@
 use crate::air::read_air;
 use crate::client_line::{client_command, fetch_command};
 use crate::command::{ClientCommand, CommandWord, read_command};
-use crate::line::{body_command, line_command, make_command, serve_command, session_command};
+use crate::line::{
+    body_command, drawn_command, line_command, make_command, serve_command, session_command,
+};
 use crate::words::Words;
 use clap::Command;
 use std::alloc::{AllocError, Global};
@@ -24,15 +26,28 @@ pub fn refusal_text(alloc: Global, words: &Words) -> Option<String> {
     let line = &words.as_slice()[2..];
     let parser = parser_of(alloc, asked, command.as_str()).ok()?;
     match parser.try_get_matches_from(line) {
-        Ok(_) => String::from_str(alloc, OUT_OF_RANGE).ok(),
+        Ok(_) => String::from_str(alloc, reason_behind(asked)).ok(),
         Err(error) => format!(in alloc; "{error}").ok(),
     }
 }
 
-/// What is said where `clap` takes the words.
+/// What is said of `rehearse` where `clap` takes its words as options: one is missing, or its number is out of range.
+const NOTHING_TO_REHEARSE: &str =
+    "rehearse wants the NAME of a schedule, or else both --seed, a number below 2^64, \
+     and --count, 1 to 1,000";
+
+/// What is said of the other commands where `clap` takes their words.
 const OUT_OF_RANGE: &str =
     "a call is none (capitals, digits, SSID), HEX isn't hexadecimal, a number is out of range, \
      a name, an extension or a text is too long, or there is no disk or air";
+
+/// Why words of this command are refused that `clap` takes.
+fn reason_behind(asked: CommandWord) -> &'static str {
+    match asked {
+        CommandWord::Rehearse => NOTHING_TO_REHEARSE,
+        _ => OUT_OF_RANGE,
+    }
+}
 
 /// What `clap` reads the words of this command by.
 fn parser_of<'a>(
@@ -47,6 +62,7 @@ fn parser_of<'a>(
         CommandWord::Client(_) => client_command(alloc, word),
         CommandWord::PfhMake => make_command(alloc),
         CommandWord::PfhBody => body_command(alloc),
-        CommandWord::Named(_) | CommandWord::Unbuilt => line_command(alloc, word, "name"),
+        CommandWord::Named(_) => line_command(alloc, word, "name"),
+        CommandWord::Rehearse => drawn_command(alloc),
     }
 }

@@ -7,7 +7,7 @@ ghost use Rattle.command_words.specs.Commands.{word_of};
 ghost use Rattle.command_words.specs.declared.request.Refusal.TheVariants.{OutOfMemory as refused_memory};
 ghost use Rattle.command_words.specs.Laws.{AsksSession};
 ghost use Rattle.command_words.specs.Refusals.{IsRefusedFor};
-ghost use Rattle.command_words.specs.Words.{IsNamed, IsUnbuilt, IsUsage, NamesBuilt, SessionText};
+ghost use Rattle.command_words.specs.Words.{IsNamed, IsUsage, NamesCommand, SessionText};
 
 use crate::air::{names_air, read_air};
 use crate::body::{BodyRequest, body_request};
@@ -17,6 +17,7 @@ use crate::disk::{DiskWord, read_disk};
 use crate::line;
 use crate::make::{MakeRequest, make_request};
 use crate::number::{number_or, optional_moment};
+use crate::rehearse::{RehearseRequest, rehearse_request};
 use crate::serve::{ServeRequest, serve_request};
 use crate::words::Words;
 use px_base::Call;
@@ -75,6 +76,8 @@ pub enum Request<'a> {
     PfhMake(MakeRequest<'a>),
     /// The body of a file.
     PfhBody(BodyRequest<'a>),
+    /// A rehearsal.
+    Rehearse(RehearseRequest<'a>),
 }
 
 /// Why the words ask for nothing.
@@ -83,9 +86,6 @@ pub enum Refusal {
     /// They aren't in the command set.
     #[error("the words are not in the command set")]
     Usage,
-    /// They are in the command set, and ask for what isn't built yet.
-    #[error("the words ask for what is not built yet")]
-    NotBuilt,
     /// There was no memory to read them.
     #[error("out of memory")]
     OutOfMemory,
@@ -109,14 +109,12 @@ struct SessionAsked {
 }
 
 /// Reads the program's words, `DISK AIR COMMAND` and those after it: what they ask for, or the refusal. They aren't in
-/// the command set exactly where the answer is `Usage`, and ask for what isn't built yet exactly where it is `NotBuilt`,
-/// but for want of memory (`OutOfMemory`); [`laws::one_meaning`](crate::laws::one_meaning) turns the clauses round.
-/// Takes memory where COMMAND is one that is built.
+/// the command set exactly where the answer is `Usage`, but for want of memory (`OutOfMemory`);
+/// [`laws::one_meaning`](crate::laws::one_meaning) turns the clauses round. Takes memory where COMMAND is a command.
 pub fn read(alloc: Global, words: &Words) -> Result<Request<'_>, Refusal>
     ensures asks { IfOk result (AsksFor words.now) }
     ensures usage { IsErrOf result Refusal.Usage → IsUsage words.now }
-    ensures unbuilt { IsErrOf result Refusal.NotBuilt → IsUnbuilt words.now }
-    ensures memory { IsErrOf result Refusal.OutOfMemory → NamesBuilt words.now }
+    ensures memory { IsErrOf result Refusal.OutOfMemory → NamesCommand words.now }
 {
     let texts = words.as_slice();
     let [disk, air, command, ..] = texts else {
@@ -132,7 +130,7 @@ pub fn read(alloc: Global, words: &Words) -> Result<Request<'_>, Refusal>
         Some(CommandWord::Named(named)) => name_request(alloc, named, air.as_str(), line),
         Some(CommandWord::PfhMake) => make_request(alloc, air.as_str(), line),
         Some(CommandWord::PfhBody) => body_request(alloc, air.as_str(), line),
-        Some(CommandWord::Unbuilt) => Err(Refusal::NotBuilt),
+        Some(CommandWord::Rehearse) => rehearse_request(alloc, air.as_str(), line),
         None => Err(Refusal::Usage),
     }
 }
