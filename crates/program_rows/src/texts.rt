@@ -38,10 +38,7 @@ fn joined<T: Display>(alloc: Global, values: &[T]) -> Result<String> {
 
 /// Why words are refused.
 fn words(alloc: Global) -> Result<String> {
-    joined(
-        alloc,
-        &[Refusal::Usage, Refusal::NotBuilt, Refusal::OutOfMemory],
-    )
+    joined(alloc, &[Refusal::Usage, Refusal::OutOfMemory])
 }
 
 /// The stops of a client's command.
