@@ -50,9 +50,17 @@ pub record SeenLab (B S O : Type 0) : Type 1 where
 abbrev pub seen_lab : {B S O : Type 0} → Ghosts B → Cuts B → ShelfGhosts S → OutGhosts O → SeenLab B S O
 seen_lab disk cuts shelf out = record { disk = disk; cuts = cuts; shelf = shelf; out = out }
 
--- these octets are the content of the name, where it is told what the shelf holds
+-- Where it is told what the shelf holds: these octets are the content of the name, or it has none, or that is too long.
 abbrev pub IsContent : Option Holding → List ℕ → List ℕ → Type 0
 IsContent held name octets = IfSome held (λ shelf. content_of shelf name ≡ Some octets)
+
+abbrev pub HasNoContent : Option Holding → List ℕ → Type 0
+HasNoContent held name = IfSome held (λ shelf. content_of shelf name ≡ None)
+
+abbrev pub IsTooLong : Option Holding → List ℕ → Type 0
+IsTooLong held name =
+    IfSome held
+    (λ shelf. (octets : List ℕ) × (content_of shelf name ≡ Some octets) × (most_text < length octets))
 
 -- The line of a report of which this holds was shown, or a front of it, where the output failed. Where memory was
 -- wanting nothing was shown. No other status comes.
@@ -94,10 +102,8 @@ module _ {B : Type 0} (g : Ghosts B) (cuts : Cuts B) where
   -- How the rehearsal of the schedule of this name ended: nothing was played where there is no content, where it is too
   -- long, or where the shelf failed; else it is the end of the content.
   abbrev pub RehearsalEnd : Option Holding → List ℕ → List B → List B → List ℕ → Status → Type 0
-  RehearsalEnd held name old new shown NoSuch =
-      IfSome held (λ shelf. content_of shelf name ≡ None) × (new ≡ old) × (shown ≡ [])
-  RehearsalEnd held name old new shown TooLong =
-      (octets : List ℕ) × IsContent held name octets × (most_text < length octets) × (new ≡ old) × (shown ≡ [])
+  RehearsalEnd held name old new shown NoSuch = HasNoContent held name × (new ≡ old) × (shown ≡ [])
+  RehearsalEnd held name old new shown TooLong = IsTooLong held name × (new ≡ old) × (shown ≡ [])
   RehearsalEnd held name old new shown Shelf = (new ≡ old) × (shown ≡ [])
   RehearsalEnd held name old new shown OutOfMemory = shown ≡ []
   RehearsalEnd held name old new shown status =

@@ -28,6 +28,7 @@ use crate::rehearsing::run_rehearsal;
 use crate::serving::{run_serve, run_session};
 use crate::task::{Task, task_of};
 use crate::{Status, Words};
+use air_schedule::laws::one_schedule;
 use command_words::Refusal;
 use command_words::laws::one_meaning;
 use disk_model::{CutDisk, Disk};
@@ -181,14 +182,15 @@ pub fn run<D: Disk, A: Air, S: Shelf, O: Out, C: Clock, B: CutDisk>(
     ensures unshown { result ≡ Status.Done → (AsksShown words.now → ⊥) → out.new ≡ out.old }
     ensures shown { (AsksShown words.now → ⊥) → Shows O.shown O.faults out.old out.new (line_of result) }
 {
-    // The words ask for one thing, what is acknowledged stands, and a client has one run over what is heard, in which what
-    // became of its job stays.
+    // The words ask for one thing, what is acknowledged stands, a client has one run over what is heard, in which what became
+    // of its job stays, and a text is the text of one schedule.
     one_meaning();
     session_acknowledges_law::<D, A, C>();
     server_acknowledges_law::<D, A, C>();
     one_run_law();
     one_step_law();
     stays_law();
+    one_schedule();
     let request = match command_words::read(alloc, words) {
         Ok(request) => request,
         Err(refusal) => {
