@@ -11,6 +11,7 @@ mod Machine
 mod Meanings
 mod OneMeaning
 mod Readings
+mod RehearseTexts
 mod Rules
 mod Uses
 mod WordKinds

@@ -1,6 +1,6 @@
 -- What the clauses of `clap` say of the words from COMMAND on.
 use Rattle.std.proofs.Common.{◌≡◌, true, List, [], ◌∷◌, length, map, drop, Option, None, Some, refl, sym, ap, ◌∙◌, string_bytes, codes, option_copied, option_map, Bor, Result, Err}
-use Rattle.std.specs.Prelude.{IsErrOf, slice_get}
+use Rattle.std.specs.Prelude.{slice_get}
 use Rattle.std.specs.List.{AllByRecursion}
 use Rattle.std.specs.declared.string.String.{String}
 use Rattle.clap.specs.Walk.{first_of, rows_of}
@@ -10,13 +10,12 @@ use Rattle.clap.specs.Takes.{takes}
 use Rattle.clap.specs.Faults.{fault_of, is_simple_and_free}
 use Rattle.clap.specs.declared.parser.matches.ArgMatches.{ArgMatches}
 use Rattle.clap.proofs.WalkLemmas.{first_value-rows}
-use Rattle.command_words.specs.Refusals.{IsRefusedFor}
 use Rattle.command_words.specs.declared.request.Refusal.{Refusal}
-use Rattle.command_words.specs.declared.request.Refusal.TheVariants.{NotBuilt, Usage}
 use Rattle.command_words.specs.Clients.{client_options}
 use Rattle.command_words.specs.Grammar.{Line}
-use Rattle.command_words.specs.Lines.{body_app, IsFound, IsLine, are_apart, client_app, client_places, command_of, fetch_app, fetch_places, make_app, serve_app, session_app}
+use Rattle.command_words.specs.Lines.{body_app, IsFound, IsLine, are_apart, client_app, client_places, command_of, drawn_app, fetch_app, fetch_places, make_app, serve_app, session_app}
 use Rattle.command_words.specs.Making.{make_options}
+use Rattle.command_words.specs.Rehearsals.{rehearse_options}
 use Rattle.command_words.specs.Words.{serve_options, session_options}
 use Rattle.command_words.proofs.Uses.{Text, Uses, values}
 use Rattle.command_words.proofs.Machine.{is_name-from}
@@ -92,6 +91,9 @@ make_line app e = record { command = codes "pfh-make"; written = e; placed = ref
 pub body_line : (app : App) → app ≡ body_app → IsLine app (codes "name" ∷ codes "out" ∷ []) []
 body_line app e = record { command = codes "pfh-body"; written = e; placed = refl; apart = refl }
 
+pub drawn_line : (app : App) → app ≡ drawn_app → IsLine app [] rehearse_options
+drawn_line app e = record { command = codes "rehearse"; written = e; placed = refl; apart = refl }
+
 -- the texts behind what is got
 copied-map : (o : Option (Bor Text)) → option_copied o ≡ option_map (λ s. s.now) o
 copied-map None = refl
@@ -104,7 +106,3 @@ value_got value first got found same = sym found ∙ sym same ∙ sym (copied-ma
 -- a refusal that is handed on is the same one
 pub handed_on : {T U : Type 0} {refusal cause : Refusal} → ◌≡◌ {A = Result T Refusal} (Err refusal) (Err cause) → ◌≡◌ {A = Result U Refusal} (Err refusal) (Err cause)
 handed_on {refusal = refusal} {cause = cause} e = let same : refusal ≡ cause = cc in ap (λ (r : Refusal). Err r) same
-
--- words are refused for this, where usage is answered only then, and never that the command isn't built
-pub refused_for : {T P : Type 0} {result : Result T Refusal} → (IsErrOf result Usage → P) → (IsErrOf result NotBuilt → ⊥) → IsRefusedFor result P
-refused_for usage built = record { usage = usage; built = built }

@@ -28,10 +28,10 @@ use Rattle.command_words.specs.declared.air.AirWord.TheVariants.{HostPort, Nothi
 use Rattle.command_words.specs.Disks.{IsDiskOf}
 use Rattle.command_words.specs.declared.disk.DiskWord.{DiskWord}
 use Rattle.command_words.specs.declared.disk.DiskWord.TheVariants.{Fresh, Named}
-use Rattle.command_words.specs.Words.{AreInRange, CallGiven, InSet, IsAir, IsBody, IsHostPort, IsMake, IsNamed, IsUnbuilt, IsUsage, NeedsAir, NeedsNeither, ServeText, SessionText, serve_options, session_options, unbuilt_commands}
+use Rattle.command_words.specs.Words.{AreInRange, AsksRehearse, CallGiven, InSet, IsAir, IsBody, IsHostPort, IsMake, IsNamed, IsUsage, NeedsAir, NeedsNeither, ServeText, SessionText, serve_options, session_options}
 use Rattle.command_words.proofs.Bytes.{has_byte-append}
 use Rattle.command_words.proofs.Uses.{Text, Uses, text_eq, text_same, values}
-use Rattle.command_words.proofs.Machine.{is_name, is_name-from}
+use Rattle.command_words.proofs.Machine.{is_name}
 use Rattle.command_words.proofs.Rules.{AreApart}
 use Rattle.command_words.proofs.Readings.{all_good, apart_names, apart_places, line-run, line_places_are, line_value_is, no_values, some_texts, uses_in}
 
@@ -318,21 +318,21 @@ AreOf (word.Client command) words = AsksBy command words
 AreOf (word.Named command) words = (name : Text) × IsNamed (word_of command) words name
 AreOf word.PfhMake words = (body kept : Text) × (spec : MakeValue) × IsMake words body kept spec
 AreOf word.PfhBody words = (name kept : Text) × IsBody words name kept
-AreOf word.Unbuilt words = IsUnbuilt words
+AreOf word.Rehearse words = AsksRehearse words
 
 -- words in the command set are those of some command,
 pub of_set : {words : List Text} → InSet words → (command : CommandWord) × AreOf command words
-of_set (inl unbuilt) = (word.Unbuilt, unbuilt)
-of_set (inr (inl session)) = (word.Session, session)
-of_set (inr (inr (inl serve))) = (word.Serve, serve)
-of_set (inr (inr (inr (inl (inl send))))) = (word.Client client.Send, send)
-of_set (inr (inr (inr (inl (inr (inl fetch)))))) = (word.Client client.Fetch, fetch)
-of_set (inr (inr (inr (inl (inr (inr list)))))) = (word.Client client.List, list)
-of_set (inr (inr (inr (inr (inl frames))))) = (word.Named Frames, frames)
-of_set (inr (inr (inr (inr (inr (inl check)))))) = (word.Named PfhCheck, check)
-of_set (inr (inr (inr (inr (inr (inr (inl show))))))) = (word.Named PfhShow, show)
-of_set (inr (inr (inr (inr (inr (inr (inr (inl make)))))))) = (word.PfhMake, make)
-of_set (inr (inr (inr (inr (inr (inr (inr (inr body)))))))) = (word.PfhBody, body)
+of_set (inl session) = (word.Session, session)
+of_set (inr (inl serve)) = (word.Serve, serve)
+of_set (inr (inr (inl (inl send)))) = (word.Client client.Send, send)
+of_set (inr (inr (inl (inr (inl fetch))))) = (word.Client client.Fetch, fetch)
+of_set (inr (inr (inl (inr (inr list))))) = (word.Client client.List, list)
+of_set (inr (inr (inr (inl frames)))) = (word.Named Frames, frames)
+of_set (inr (inr (inr (inr (inl (inl check)))))) = (word.Named PfhCheck, check)
+of_set (inr (inr (inr (inr (inl (inr (inl show))))))) = (word.Named PfhShow, show)
+of_set (inr (inr (inr (inr (inl (inr (inr (inl make)))))))) = (word.PfhMake, make)
+of_set (inr (inr (inr (inr (inl (inr (inr (inr body)))))))) = (word.PfhBody, body)
+of_set (inr (inr (inr (inr (inr rehearse))))) = (word.Rehearse, rehearse)
 
 -- which their third word names
 pub third_word : {words : List Text} (command : CommandWord) → AreOf command words
@@ -345,7 +345,8 @@ third_word (word.Client client.List) (terms, tokens, asks) = (asks.disk, asks.ai
 third_word (word.Named command) (name, asks) = (asks.disk, asks.air, word_of command, asks.others, asks.written, refl)
 third_word word.PfhMake (body, kept, spec, asks) = (asks.disk, asks.air, codes "pfh-make", asks.others, asks.written, refl)
 third_word word.PfhBody (name, kept, asks) = (asks.disk, asks.air, codes "pfh-body", asks.others, asks.written, refl)
-third_word word.Unbuilt other = (other.disk, other.air, other.command, other.others, other.written, other.unbuilt)
+third_word word.Rehearse (inl (name, asks)) = (asks.disk, asks.air, codes "rehearse", asks.others, asks.written, refl)
+third_word word.Rehearse (inr (seed, count, asks)) = (asks.disk, asks.air, codes "rehearse", asks.others, asks.written, refl)
 
 pub command_in : {words : List Text} {d a c : Text} {others : List Text} → words ≡ d ∷ a ∷ c ∷ others → (command : CommandWord) → AreOf command words
     → IsCommandOf c command
@@ -357,8 +358,7 @@ command_in {c = c} whole command asks =
 -- the command that a word names, if it names one
 abbrev pub named_by : Text → Option CommandWord
 named_by c =
-    cond (is_name unbuilt_commands c) (Some word.Unbuilt)
-    (cond (bytes_eq c (codes "session")) (Some word.Session)
+    cond (bytes_eq c (codes "session")) (Some word.Session)
     (cond (bytes_eq c (codes "serve")) (Some word.Serve)
     (cond (bytes_eq c (codes "send")) (Some (word.Client client.Send))
     (cond (bytes_eq c (codes "fetch")) (Some (word.Client client.Fetch))
@@ -367,7 +367,8 @@ named_by c =
     (cond (bytes_eq c (codes "pfh-check")) (Some (word.Named PfhCheck))
     (cond (bytes_eq c (codes "pfh-show")) (Some (word.Named PfhShow))
     (cond (bytes_eq c (codes "pfh-make")) (Some word.PfhMake)
-    (cond (bytes_eq c (codes "pfh-body")) (Some word.PfhBody) None))))))))))
+    (cond (bytes_eq c (codes "pfh-body")) (Some word.PfhBody)
+    (cond (bytes_eq c (codes "rehearse")) (Some word.Rehearse) None))))))))))
 
 pub names : (c : Text) (command : CommandWord) → IsCommandOf c command → named_by c ≡ Some command
 names c word.Session is = ap named_by is
@@ -380,7 +381,7 @@ names c (word.Named PfhCheck) is = ap named_by is
 names c (word.Named PfhShow) is = ap named_by is
 names c word.PfhMake is = ap named_by is
 names c word.PfhBody is = ap named_by is
-names c word.Unbuilt is = rw (is_name-from unbuilt_commands c is) refl
+names c word.Rehearse is = ap named_by is
 
 one_command : (c : Text) (one other : CommandWord) → IsCommandOf c one → IsCommandOf c other → one ≡ other
 one_command c one other is also = let same : Some one ≡ Some other = sym (names c one is) ∙ names c other also in cc
@@ -422,6 +423,10 @@ make_usage whole none = usage_of word.PfhMake refl whole (λ (body, kept, spec, 
 pub body_usage : {words : List Text} {d a : Text} {others : List Text} → words ≡ d ∷ a ∷ codes "pfh-body" ∷ others
     → ((name kept : Text) → IsBody (d ∷ a ∷ codes "pfh-body" ∷ others) name kept → ⊥) → IsUsage words
 body_usage whole none = usage_of word.PfhBody refl whole (λ (name, kept, asks). none name kept asks)
+
+pub rehearse_usage : {words : List Text} {d a : Text} {others : List Text} → words ≡ d ∷ a ∷ codes "rehearse" ∷ others
+    → (AsksRehearse (d ∷ a ∷ codes "rehearse" ∷ others) → ⊥) → IsUsage words
+rehearse_usage whole none = usage_of word.Rehearse refl whole none
 
 -- nor where their command is none
 pub no_command_usage : {words : List Text} {d a c : Text} {others : List Text} → words ≡ d ∷ a ∷ c ∷ others

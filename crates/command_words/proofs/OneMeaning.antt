@@ -13,16 +13,16 @@ use Rattle.command_words.specs.declared.command.NameCommand.TheVariants.{Frames,
 use Rattle.command_words.specs.Disks.{IsDiskOf}
 use Rattle.command_words.specs.declared.disk.DiskWord.{DiskWord}
 use Rattle.command_words.specs.Grammar.{line_value}
-use Rattle.command_words.specs.Laws.{AsksFrames, AsksServe, AsksSession, Determined, OnlyBody, OnlyMake, OnlyOne}
+use Rattle.command_words.specs.Laws.{AsksFrames, AsksServe, AsksSession, Determined, OnlyBody, OnlyDrawn, OnlyMake, OnlyOne}
 use Rattle.command_words.specs.Making.{options_given}
 use Rattle.command_words.specs.Numbers.{GivesNumber, default_blocks, default_k, default_polls}
 use Rattle.command_words.specs.declared.request.SessionRequest.{SessionRequest}
 use Rattle.command_words.specs.declared.serve.ServeRequest.{ServeRequest}
-use Rattle.command_words.specs.Words.{AsksClient, AsksHeader, CallGiven, IsAir, IsNamed, IsServe, IsSession, IsUnbuilt, IsUsage, NameText, NeedsAir, NeedsNeither, unbuilt_commands}
+use Rattle.command_words.specs.Words.{AsksClient, AsksHeader, AsksRehearse, CallGiven, IsAir, IsDrawn, IsNamed, IsRehearsal, IsServe, IsSession, IsUsage, NameText, NeedsAir, NeedsNeither}
 use Rattle.command_words.proofs.Uses.{Text, text_eq, text_same}
-use Rattle.command_words.proofs.Machine.{is_name, is_name-from, is_name-to}
-use Rattle.command_words.proofs.Meanings.{AreOf, air_from, air_in, air_text, body_usage, client_usage, disk_in, disk_of, make_says, make_usage, name_usage, neither_from, neither_text, no_command_usage, not_both, number_one, of_set, one_disk, same_call, same_places, says_one, serve_given, serve_usage, session_given, session_usage, third_word}
+use Rattle.command_words.proofs.Meanings.{AreOf, air_from, air_in, air_text, body_usage, client_usage, disk_in, disk_of, make_says, make_usage, name_usage, neither_from, neither_text, no_command_usage, not_both, number_one, of_set, one_disk, rehearse_usage, same_call, same_places, says_one, serve_given, serve_usage, session_given, session_usage, third_word}
 use Rattle.command_words.proofs.ClientTexts.{by_decided, fetch_same, list_same, send_same}
+use Rattle.command_words.proofs.RehearseTexts.{drawn_decided, drawn_same, name_drawn, rehearse_form, rehearse_text}
 use Rattle.command_words.proofs.Decided.{Decided, air_decided, body_decided, file_decided, make_decided, name_decided, serve_decided, session_decided}
 
 -- ---- two lines
@@ -100,29 +100,38 @@ client_headers words client (inr (inl show)) = client_apart words (word.Named Pf
 client_headers words client (inr (inr (inl make))) = client_apart words word.PfhMake (λ command same. cc) make client
 client_headers words client (inr (inr (inr body))) = client_apart words word.PfhBody (λ command same. cc) body client
 
+-- words of one command are its others, whatever is said of them
+neither_same : {command : Text} {P Q : List Text → Type 0} {words : List Text} → NeedsNeither command P words → NeedsNeither command Q words
+    → (others : List Text) × P others × Q others
+neither_same {Q = Q} one two =
+    let e = one.written in
+    let f = two.written in
+    let same : two.others ≡ one.others = cc in
+    (one.others, one.text, subst Q same two.text)
+
 pub only_one : (words : List Text) → OnlyOne words
 only_one words = record {
-  usage_unbuilt = λ usage unbuilt. usage (inl unbuilt);
-  usage_session = λ usage session. usage (inr (inl session));
-  usage_serve = λ usage serve. usage (inr (inr (inl serve)));
-  usage_client = λ usage client. usage (inr (inr (inr (inl client))));
-  usage_frames = λ usage frames. usage (inr (inr (inr (inr (inl frames)))));
-  usage_header = λ usage header. usage (inr (inr (inr (inr (inr header)))));
-  unbuilt_session = λ unbuilt session. not_both words word.Unbuilt word.Session (λ same. cc) unbuilt session;
-  unbuilt_serve = λ unbuilt serve. not_both words word.Unbuilt word.Serve (λ same. cc) unbuilt serve;
-  unbuilt_client = λ unbuilt client. client_apart words word.Unbuilt (λ command same. cc) unbuilt client;
-  unbuilt_frames = λ unbuilt frames. not_both words word.Unbuilt (word.Named Frames) (λ same. cc) unbuilt frames;
-  unbuilt_header = λ unbuilt header. header_apart words word.Unbuilt (λ same. cc) (λ same. cc) (λ same. cc) (λ same. cc) unbuilt header;
+  usage_session = λ usage session. usage (inl session);
+  usage_serve = λ usage serve. usage (inr (inl serve));
+  usage_client = λ usage client. usage (inr (inr (inl client)));
+  usage_frames = λ usage frames. usage (inr (inr (inr (inl frames))));
+  usage_header = λ usage header. usage (inr (inr (inr (inr (inl header)))));
+  usage_rehearse = λ usage rehearse. usage (inr (inr (inr (inr (inr rehearse)))));
   session_serve = λ session serve. not_both words word.Session word.Serve (λ same. cc) session serve;
   session_client = λ session client. client_apart words word.Session (λ command same. cc) session client;
   session_frames = λ session frames. not_both words word.Session (word.Named Frames) (λ same. cc) session frames;
   session_header = λ session header. header_apart words word.Session (λ same. cc) (λ same. cc) (λ same. cc) (λ same. cc) session header;
+  session_rehearse = λ session rehearse. not_both words word.Session word.Rehearse (λ same. cc) session rehearse;
   serve_client = λ serve client. client_apart words word.Serve (λ command same. cc) serve client;
   serve_frames = λ serve frames. not_both words word.Serve (word.Named Frames) (λ same. cc) serve frames;
   serve_header = λ serve header. header_apart words word.Serve (λ same. cc) (λ same. cc) (λ same. cc) (λ same. cc) serve header;
+  serve_rehearse = λ serve rehearse. not_both words word.Serve word.Rehearse (λ same. cc) serve rehearse;
   client_frames = λ client frames. client_apart words (word.Named Frames) (λ command same. cc) frames client;
   client_header = λ client header. client_headers words client header;
+  client_rehearse = λ client rehearse. client_apart words word.Rehearse (λ command same. cc) rehearse client;
   frames_header = λ frames header. header_apart words (word.Named Frames) (λ same. cc) (λ same. cc) (λ same. cc) (λ same. cc) frames header;
+  frames_rehearse = λ frames rehearse. not_both words (word.Named Frames) word.Rehearse (λ same. cc) frames rehearse;
+  header_rehearse = λ header rehearse. header_apart words word.Rehearse (λ same. cc) (λ same. cc) (λ same. cc) (λ same. cc) rehearse header;
   send_fetch = λ send fetch. not_both words (word.Client client.Send) (word.Client client.Fetch) (λ same. cc) send fetch;
   send_list = λ send list. not_both words (word.Client client.Send) (word.Client client.List) (λ same. cc) send list;
   fetch_list = λ fetch list. not_both words (word.Client client.Fetch) (word.Client client.List) (λ same. cc) fetch list;
@@ -132,6 +141,7 @@ only_one words = record {
   check_body = λ name other kept check body. not_both words (word.Named PfhCheck) word.PfhBody (λ same. cc) (name, check) (other, kept, body);
   show_body = λ name other kept show body. not_both words (word.Named PfhShow) word.PfhBody (λ same. cc) (name, show) (other, kept, body);
   make_body = λ body kept name other spec make is. not_both words word.PfhMake word.PfhBody (λ same. cc) (body, kept, spec, make) (name, other, is);
+  rehearsal_drawn = λ name seed count named drawn. let (others, first, second) = neither_same named drawn in name_drawn name seed count first second;
 }
 
 -- ---- determined
@@ -141,15 +151,6 @@ name_same : {others : List Text} (name other : Text) → NameText name others �
 name_same name other one two =
     let same : name ∷ [] ≡ other ∷ [] = sym one.place ∙ same_places [] (codes "name" ∷ []) refl refl one.line two.line ∙ two.place in
     cc
-
--- words of one command are its others, whatever is said of them
-neither_same : {command : Text} {P Q : List Text → Type 0} {words : List Text} → NeedsNeither command P words → NeedsNeither command Q words
-    → (others : List Text) × P others × Q others
-neither_same {Q = Q} one two =
-    let e = one.written in
-    let f = two.written in
-    let same : two.others ≡ one.others = cc in
-    (one.others, one.text, subst Q same two.text)
 
 named_same : (command : Text) (words : List Text) (name other : Text) → IsNamed command words name → IsNamed command words other → name ≡ other
 named_same command words name other one two =
@@ -185,12 +186,14 @@ determined words = record {
   show = λ name other one two. named_same (codes "pfh-show") words name other one two;
   make = λ body other kept another spec later one two. make_same words body other kept another spec later one two;
   body = λ name other kept another one two. body_same words name other kept another one two;
+  rehearsal = λ name other one two. named_same (codes "rehearse") words name other one two;
+  drawn = λ seed other count more one two. let (others, first, second) = neither_same one two in drawn_same first second;
 }
 
 -- ---- some meaning
 
 abbrev Meant : List Text → Type 0
-Meant words = IsUsage words ⊎ (IsUnbuilt words ⊎ (AsksSession words ⊎ (AsksServe words ⊎ (AsksClient words ⊎ (AsksFrames words ⊎ AsksHeader words)))))
+Meant words = IsUsage words ⊎ (AsksSession words ⊎ (AsksServe words ⊎ (AsksClient words ⊎ (AsksFrames words ⊎ (AsksHeader words ⊎ AsksRehearse words)))))
 
 -- too few words
 few : (words : List Text) → length words ≤ 2 → IsUsage words
@@ -206,7 +209,7 @@ session_meant disk air others = elim (session_decided others) [
     | inr none ↦ inl (session_usage refl (λ (asked, asks). none (air_in asks)))
     | inl form ↦
         let (which, named) = disk_of disk in
-        inr (inr (inl (record { disk = which; caller = caller; moment = moment; blocks = blocks; polls = polls }, air_from disk air others named form text)))
+        inr (inl (record { disk = which; caller = caller; moment = moment; blocks = blocks; polls = polls }, air_from disk air others named form text))
   ]
 ]
 
@@ -217,7 +220,7 @@ serve_meant disk air others = elim (serve_decided others) [
     | inr none ↦ inl (serve_usage refl (λ (asked, asks). none (air_in asks)))
     | inl form ↦ elim (file_decided disk) [
       | inr none ↦ inl (serve_usage refl (λ (asked, asks). none (disk_in asks)))
-      | inl named ↦ inr (inr (inr (inl (record { me = me; k = k; blocks = blocks; polls = polls }, air_from disk air others named form text))))
+      | inl named ↦ inr (inr (inl (record { me = me; k = k; blocks = blocks; polls = polls }, air_from disk air others named form text)))
     ]
   ]
 ]
@@ -230,7 +233,7 @@ by_asks client.List asks = inr (inr asks)
 -- words of a client's command
 client_meant : (command : ClientCommand) (disk air : Text) (others : List Text) → Meant (disk ∷ air ∷ client_word command ∷ others)
 client_meant command disk air others = elim (by_decided command disk air others) [
-  | inl asks ↦ inr (inr (inr (inr (inl (by_asks command asks)))))
+  | inl asks ↦ inr (inr (inr (inl (by_asks command asks))))
   | inr none ↦ inl (client_usage command refl none)
 ]
 
@@ -260,15 +263,15 @@ named_meant command disk air others asked = elim (name_decided others) [
 ]
 
 command_meant : (command : NameCommand) (disk air : Text) (others : List Text) → Meant (disk ∷ air ∷ word_of command ∷ others)
-command_meant Frames disk air others = named_meant Frames disk air others (λ name asks. inr (inr (inr (inr (inr (inl (name, asks)))))))
-command_meant PfhCheck disk air others = named_meant PfhCheck disk air others (λ name asks. inr (inr (inr (inr (inr (inr (inl (name, asks))))))))
-command_meant PfhShow disk air others = named_meant PfhShow disk air others (λ name asks. inr (inr (inr (inr (inr (inr (inr (inl (name, asks)))))))))
+command_meant Frames disk air others = named_meant Frames disk air others (λ name asks. inr (inr (inr (inr (inl (name, asks))))))
+command_meant PfhCheck disk air others = named_meant PfhCheck disk air others (λ name asks. inr (inr (inr (inr (inr (inl (inl (name, asks))))))))
+command_meant PfhShow disk air others = named_meant PfhShow disk air others (λ name asks. inr (inr (inr (inr (inr (inl (inr (inl (name, asks)))))))))
 
 make_meant : (disk air : Text) (others : List Text) → Meant (disk ∷ air ∷ codes "pfh-make" ∷ others)
 make_meant disk air others = elim (make_decided others) [
   | inr none ↦ inl (make_usage refl (λ body kept spec asks. none (body, kept, spec, (neither_text asks).0)))
   | inl (body, kept, spec, text) ↦ elim (form_decided air) [
-    | inl is ↦ inr (inr (inr (inr (inr (inr (inr (inr (inl (body, kept, spec, neither_from disk air others is text)))))))))
+    | inl is ↦ inr (inr (inr (inr (inr (inl (inr (inr (inl (body, kept, spec, neither_from disk air others is text)))))))))
     | inr none ↦ inl (make_usage refl (λ b k other asks. none (neither_text asks).1))
   ]
 ]
@@ -277,8 +280,21 @@ body_meant : (disk air : Text) (others : List Text) → Meant (disk ∷ air ∷ 
 body_meant disk air others = elim (body_decided others) [
   | inr none ↦ inl (body_usage refl (λ name kept asks. none (name, kept, (neither_text asks).0)))
   | inl (name, kept, text) ↦ elim (form_decided air) [
-    | inl is ↦ inr (inr (inr (inr (inr (inr (inr (inr (inr (name, kept, neither_from disk air others is text)))))))))
+    | inl is ↦ inr (inr (inr (inr (inr (inl (inr (inr (inr (name, kept, neither_from disk air others is text)))))))))
     | inr none ↦ inl (body_usage refl (λ n k asks. none (neither_text asks).1))
+  ]
+]
+
+-- words of `rehearse` with a NAME, or with the two options
+rehearse_meant : (disk air : Text) (others : List Text) → Meant (disk ∷ air ∷ codes "rehearse" ∷ others)
+rehearse_meant disk air others = elim (form_decided air) [
+  | inr none ↦ inl (rehearse_usage refl (λ asks. none (rehearse_form asks)))
+  | inl form ↦ elim (name_decided others) [
+    | inl (name, text) ↦ inr (inr (inr (inr (inr (inr (inl (name, neither_from disk air others form text)))))))
+    | inr no_name ↦ elim (drawn_decided others) [
+      | inl (seed, count, text) ↦ inr (inr (inr (inr (inr (inr (inr (seed, count, neither_from disk air others form text)))))))
+      | inr no_draws ↦ inl (rehearse_usage refl (λ asks. rehearse_text asks (λ name text. no_name (name, text)) (λ seed count text. no_draws (seed, count, text))))
+    ]
   ]
 ]
 
@@ -322,9 +338,9 @@ name_word_decided c = elim (cases_Bool (bytes_eq c (codes "frames"))) [
 
 -- each word names a command or none
 command_decided : (c : Text) → Decided ((command : CommandWord) × IsCommandOf c command)
-command_decided c = elim (cases_Bool (is_name unbuilt_commands c)) [
-  | inl is ↦ inl (word.Unbuilt, is_name-to unbuilt_commands c is)
-  | inr no_other ↦ elim (cases_Bool (bytes_eq c (codes "session"))) [
+command_decided c = elim (cases_Bool (bytes_eq c (codes "rehearse"))) [
+  | inl is ↦ inl (word.Rehearse, text_same c (codes "rehearse") is)
+  | inr no_rehearsal ↦ elim (cases_Bool (bytes_eq c (codes "session"))) [
     | inl is ↦ inl (word.Session, text_same c (codes "session") is)
     | inr no_session ↦ elim (cases_Bool (bytes_eq c (codes "serve"))) [
       | inl is ↦ inl (word.Serve, text_same c (codes "serve") is)
@@ -336,7 +352,7 @@ command_decided c = elim (cases_Bool (is_name unbuilt_commands c)) [
             | inl (command, is) ↦ inl (word.Client command, is)
             | inr no_client ↦ elim (name_word_decided c) [
               | inl (command, is) ↦ inl (word.Named command, is)
-              | inr no_name ↦ inr (λ (command, is). none command is no_other no_session no_serve no_make no_body no_client no_name)
+              | inr no_name ↦ inr (λ (command, is). none command is no_rehearsal no_session no_serve no_make no_body no_client no_name)
             ]
           ]
         ]
@@ -345,16 +361,16 @@ command_decided c = elim (cases_Bool (is_name unbuilt_commands c)) [
   ]
 ]
   where
-    none : (command : CommandWord) → IsCommandOf c command → is_name unbuilt_commands c ≡ false → bytes_eq c (codes "session") ≡ false
+    none : (command : CommandWord) → IsCommandOf c command → bytes_eq c (codes "rehearse") ≡ false → bytes_eq c (codes "session") ≡ false
         → bytes_eq c (codes "serve") ≡ false → bytes_eq c (codes "pfh-make") ≡ false → bytes_eq c (codes "pfh-body") ≡ false → ((command : ClientCommand) × (c ≡ client_word command) → ⊥)
         → ((command : NameCommand) × (c ≡ word_of command) → ⊥) → ⊥
-    none word.Session is no_other no_session no_serve no_make no_body no_client no_name = true≢false (sym (text_eq c (codes "session") is) ∙ no_session)
-    none word.Serve is no_other no_session no_serve no_make no_body no_client no_name = true≢false (sym (text_eq c (codes "serve") is) ∙ no_serve)
-    none (word.Client command) is no_other no_session no_serve no_make no_body no_client no_name = no_client (command, is)
-    none (word.Named command) is no_other no_session no_serve no_make no_body no_client no_name = no_name (command, is)
-    none word.PfhMake is no_other no_session no_serve no_make no_body no_client no_name = true≢false (sym (text_eq c (codes "pfh-make") is) ∙ no_make)
-    none word.PfhBody is no_other no_session no_serve no_make no_body no_client no_name = true≢false (sym (text_eq c (codes "pfh-body") is) ∙ no_body)
-    none word.Unbuilt is no_other no_session no_serve no_make no_body no_client no_name = true≢false (sym (is_name-from unbuilt_commands c is) ∙ no_other)
+    none word.Session is no_rehearsal no_session no_serve no_make no_body no_client no_name = true≢false (sym (text_eq c (codes "session") is) ∙ no_session)
+    none word.Serve is no_rehearsal no_session no_serve no_make no_body no_client no_name = true≢false (sym (text_eq c (codes "serve") is) ∙ no_serve)
+    none (word.Client command) is no_rehearsal no_session no_serve no_make no_body no_client no_name = no_client (command, is)
+    none (word.Named command) is no_rehearsal no_session no_serve no_make no_body no_client no_name = no_name (command, is)
+    none word.PfhMake is no_rehearsal no_session no_serve no_make no_body no_client no_name = true≢false (sym (text_eq c (codes "pfh-make") is) ∙ no_make)
+    none word.PfhBody is no_rehearsal no_session no_serve no_make no_body no_client no_name = true≢false (sym (text_eq c (codes "pfh-body") is) ∙ no_body)
+    none word.Rehearse is no_rehearsal no_session no_serve no_make no_body no_client no_name = true≢false (sym (text_eq c (codes "rehearse") is) ∙ no_rehearsal)
 
 meant_by : (d a c : Text) (others : List Text) (command : CommandWord) → IsCommandOf c command → Meant (d ∷ a ∷ c ∷ others)
 meant_by d a c others word.Session is = subst (λ (t : Text). Meant (d ∷ a ∷ t ∷ others)) (sym is) (session_meant d a others)
@@ -363,7 +379,7 @@ meant_by d a c others (word.Client command) is = subst (λ (t : Text). Meant (d 
 meant_by d a c others (word.Named command) is = subst (λ (t : Text). Meant (d ∷ a ∷ t ∷ others)) (sym is) (command_meant command d a others)
 meant_by d a c others word.PfhMake is = subst (λ (t : Text). Meant (d ∷ a ∷ t ∷ others)) (sym is) (make_meant d a others)
 meant_by d a c others word.PfhBody is = subst (λ (t : Text). Meant (d ∷ a ∷ t ∷ others)) (sym is) (body_meant d a others)
-meant_by d a c others word.Unbuilt is = inr (inl (record { disk = d; air = a; command = c; others = others; written = refl; unbuilt = is }))
+meant_by d a c others word.Rehearse is = subst (λ (t : Text). Meant (d ∷ a ∷ t ∷ others)) (sym is) (rehearse_meant d a others)
 
 pub has_meaning : (words : List Text) → Meant words
 has_meaning [] = inl (few [] (omega arith))

@@ -20,8 +20,8 @@ AsksServe words = (asked : ServeRequest) × IsServe words asked
 abbrev pub AsksFrames : List (List ℕ) → Type 0
 AsksFrames words = (name : List ℕ) × IsFrames words name
 
--- Each list of words isn't in the command set, or asks for a session, for a service, for something of a client, for frames,
--- for a header or for a rehearsal.
+-- Each list of words isn't in the command set, or asks for a session, for a service, for something of a client, for
+-- frames, for a header or for a rehearsal.
 abbrev pub HasMeaning : Type 0
 HasMeaning =
     (words : List (List ℕ))

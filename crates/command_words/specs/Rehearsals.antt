@@ -13,8 +13,8 @@ pub record AreDrawable (seed count : ℕ) : Type 0 where
   pub some_count : 1 ≤ count
   pub most_count : count ≤ 1000
 
--- The words after `rehearse` are the two options, each once, and no place. Their numbers are in their ranges, which follows
--- from what gives them.
+-- The words after `rehearse` are the two options, each once, and no place. Their numbers are in their ranges, which
+-- follows from what gives them.
 pub record DrawnText (seed count : ℕ) (others : List (List ℕ)) : Type 0 where
   pub line : Line rehearse_options others 0
   pub seed_given : GivesNumber 0 18446744073709551615 (line_value line (codes "seed")) (Some seed)

@@ -2,8 +2,8 @@
 //! `clap`.
 //!
 //! `specs/Words.antt` is the command set, `specs/Grammar.antt` the grammar of the words after COMMAND, and
-//! `specs/Numbers.antt` that of numbers; `specs/Making.antt` says what `pfh-make` asks for. What a header may be made of is
-//! the rule of `header_tool`.
+//! `specs/Numbers.antt` that of numbers; `specs/Making.antt` says what `pfh-make` asks for. What a header may be made
+//! of is the rule of `header_tool`.
 #![tactic(auto)]
 
 mod air;

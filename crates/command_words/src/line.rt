@@ -3,9 +3,9 @@
 ghost use Rattle.std.specs.Prelude.{◌≡◌, List, [], ◌∷◌, false, IfOk, codes, drop, map, option_copied, string_bytes};
 ghost use Rattle.clap.specs.Words.{app_of, kind_of, rule_of, with_rule};
 ghost use Rattle.command_words.specs.Grammar.{Line};
-ghost use Rattle.command_words.specs.Lines.{BodyLine, DrawnLine, FindsLine, MakeLine, RefusesLine, ServeLine, SessionLine};
-ghost use Rattle.command_words.specs.Lines.{body_app, command_of, drawn_app, make_app, option_of, options_added, place_of};
-ghost use Rattle.command_words.specs.Lines.{serve_app, session_app};
+ghost use Rattle.command_words.specs.Lines.{BodyLine, DrawnLine, FindsLine, MakeLine, RefusesLine, ServeLine};
+ghost use Rattle.command_words.specs.Lines.{SessionLine, body_app, command_of, drawn_app, make_app, option_of};
+ghost use Rattle.command_words.specs.Lines.{options_added, place_of, serve_app, session_app};
 ghost use Rattle.command_words.specs.Making.{make_options};
 ghost use Rattle.command_words.specs.Refusals.{IsRefusedFor};
 ghost use Rattle.command_words.specs.Rehearsals.{rehearse_options};

@@ -20,7 +20,7 @@ pub(crate) fn optional_moment(value: Option<&str>) -> Option<Option<u32>>
     }
 }
 
-/// The number of this range that an option's value writes, or nothing where none is given or the value writes none.
+/// The number of this range that an option's value writes, or nothing where none is given, or the value writes none.
 pub(crate) fn given_number(low: u64, high: u64, value: Option<&str>) -> Option<u64>
     ensures some { IfSome result (λ number. GivesNumber low high (option_copied value.entry) (Some number)) }
     ensures none { IfNone result ((number : ℕ) →

@@ -4,7 +4,7 @@ ghost use Rattle.std.specs.Prelude.{◌∷◌, ℕ, List, IfOk, codes, drop, map
 ghost use Rattle.command_words.specs.Asked.{AsksFor, IsRehearseText};
 ghost use Rattle.command_words.specs.Refusals.{IsRefusedFor};
 ghost use Rattle.command_words.specs.Rehearsals.{DrawnText};
-ghost use Rattle.command_words.specs.Words.{AsksRehearse};
+ghost use Rattle.command_words.specs.Words.{AsksRehearse, NameText};
 
 use crate::air::read_air;
 use crate::line;
@@ -53,8 +53,10 @@ pub(crate) fn rehearse_request<'a>(
 /// Reads the line from `rehearse` on: a NAME, or else the two options. Takes memory.
 fn read_texts<'a>(alloc: Global, line: &'a [String]) -> Result<RehearseRequest<'a>, Refusal>
     ensures text { IfOk result (IsRehearseText (drop 1 (map string_bytes line.now))) }
-    ensures refused { IsRefusedFor result ((request : RehearseRequest) →
-        IsRehearseText (drop 1 (map string_bytes line.now)) request → ⊥) }
+    ensures no_name { IsRefusedFor result ((name : List ℕ) →
+        NameText name (drop 1 (map string_bytes line.now)) → ⊥) }
+    ensures no_draws { IsRefusedFor result ((seed count : ℕ) →
+        DrawnText seed count (drop 1 (map string_bytes line.now)) → ⊥) }
 {
     match line::read_name(alloc, "rehearse", line) {
         Ok(name) => Ok(RehearseRequest::Schedule { name }),

@@ -1,9 +1,9 @@
 -- What the line gives are the terms that its texts give, a number and a name.
-use Rattle.std.proofs.Common.{ℕ, List, refl, subst, rules}
+use Rattle.std.proofs.Common.{ℕ, List, refl, subst}
 use Rattle.std.proofs.lemmas.Result.{err_from_is_err_and}
 use Rattle.command_words.specs.Lines.{fetch_places}
 use Rattle.command_words.specs.Numbers.{NumberText}
-use Rattle.command_words.proofs.LineLemmas.{handed_on, refused_for}
+use Rattle.command_words.proofs.LineLemmas.{handed_on}
 use Rattle.command_words.proofs.Meanings.{air_from}
 use Rattle.command_words.proofs.ClientTexts.{client_agrees, client_from, number_of}
 use Rattle.command_words.proofs.client.fetch_request.Goals as goal
@@ -11,17 +11,17 @@ use Rattle.command_words.proofs.client.fetch_request.Goals as goal
 pub returns-in_err-texts-clause-refused : goal.returns-in_err-texts-clause-refused
 returns-in_err-texts-clause-refused c =
     let p = err_from_is_err_and c.from_residual.result c.from_residual.ensures.1 in
-    refused_for (rw (p.1, p.2) (λ usage terms number name text. c.in_err-texts.ensures.refused.usage (handed_on usage) text.text.line)) (search rules)
+    rw (p.1, p.2) (λ usage terms number name text. c.in_err-texts.ensures.refused (handed_on usage) text.text.line)
 
 pub returns-in_default-clause-refused : goal.returns-in_default-clause-refused
-returns-in_default-clause-refused c = refused_for (λ usage terms number name text.
-    c.in_default.ensures.none terms (client_agrees fetch_places refl refl c.in_ok-texts.ensures.texts text.text).1) (search rules)
+returns-in_default-clause-refused c = λ usage terms number name text.
+    c.in_default.ensures.none terms (client_agrees fetch_places refl refl c.in_ok-texts.ensures.texts text.text).1
 
 pub returns-in_default-read_number-clause-refused :
     goal.returns-in_default-read_number-clause-refused
-returns-in_default-read_number-clause-refused c = refused_for (λ usage terms number name text.
+returns-in_default-read_number-clause-refused c = λ usage terms number name text.
     c.in_default-read_number.ensures.none number
-    (subst (λ (t : List ℕ). NumberText 1 4294967295 t number) (number_of c.in_ok-texts.ensures.texts text.text) text.in_range)) (search rules)
+    (subst (λ (t : List ℕ). NumberText 1 4294967295 t number) (number_of c.in_ok-texts.ensures.texts text.text) text.in_range)
 
 pub returns-clause-asks : goal.returns-clause-asks
 returns-clause-asks c = λ disk air named form.

@@ -1,18 +1,18 @@
 -- AIR has one of its forms, and the line gives the NAME.
-use Rattle.std.proofs.Common.{◌∙◌, ap, not, rules}
+use Rattle.std.proofs.Common.{◌∙◌, ap, not}
 use Rattle.std.proofs.lemmas.Result.{err_from_is_err_and}
-use Rattle.command_words.proofs.LineLemmas.{handed_on, refused_for}
+use Rattle.command_words.proofs.LineLemmas.{handed_on}
 use Rattle.command_words.proofs.Meanings.{air_read, air_unread, neither_from, neither_text}
 use Rattle.command_words.proofs.request.name_request.Goals as goal
 
 pub returns-then-is_none-clause-refused : goal.returns-then-is_none-clause-refused
-returns-then-is_none-clause-refused c = refused_for (λ usage disk name asks.
-    air_unread c.args.air.now c.read_air.result c.read_air.ensures.none (c.is_none.ensures ∙ ap not c.if-is_none.true) (neither_text asks).1) (search rules)
+returns-then-is_none-clause-refused c = λ usage disk name asks.
+    air_unread c.args.air.now c.read_air.result c.read_air.ensures.none (c.is_none.ensures ∙ ap not c.if-is_none.true) (neither_text asks).1
 
 pub returns-in_err-name-clause-refused : goal.returns-in_err-name-clause-refused
 returns-in_err-name-clause-refused c =
     let p = err_from_is_err_and c.from_residual.result c.from_residual.ensures.1 in
-    refused_for (rw (p.1, p.2) (λ usage disk name asks. c.in_err-name.ensures.refused.usage (handed_on usage) (neither_text asks).0.line)) (search rules)
+    rw (p.1, p.2) (λ usage disk name asks. c.in_err-name.ensures.refused (handed_on usage) (neither_text asks).0.line)
 
 pub returns-clause-asks : goal.returns-clause-asks
 returns-clause-asks c = λ disk.

@@ -6,11 +6,11 @@ use Rattle.command_words.specs.Asked.{AsksFor}
 use Rattle.command_words.specs.Commands.{client_word, word_of}
 use Rattle.command_words.specs.declared.command.ClientCommand.{ClientCommand}
 use Rattle.command_words.specs.declared.command.ClientCommand.TheVariants as client
-use Rattle.command_words.specs.Words.{built_commands}
+use Rattle.command_words.specs.Words.{commands}
 use Rattle.command_words.specs.declared.command.NameCommand.{NameCommand}
 use Rattle.command_words.specs.declared.command.NameCommand.TheVariants.{Frames, PfhCheck, PfhShow}
 use Rattle.command_words.proofs.Uses.{Text}
-use Rattle.command_words.proofs.Meanings.{body_usage, client_usage, make_usage, name_usage, no_command_usage, serve_usage, session_usage, three_words}
+use Rattle.command_words.proofs.Meanings.{body_usage, client_usage, make_usage, name_usage, no_command_usage, rehearse_usage, serve_usage, session_usage, three_words}
 use Rattle.command_words.proofs.request.read.Goals as goal
 
 -- ---- a session
@@ -25,8 +25,7 @@ session_words c =
 pub returns-in-Some-Session : goal.returns-in-Some-Session
 returns-in-Some-Session c = record {
   asks = subst (λ (ws : List Text). IfOk c.session_request.result (AsksFor ws)) (sym (session_words c)) c.session_request.ensures.asks;
-  usage = λ usage. session_usage (session_words c) (c.session_request.ensures.refused.usage usage);
-  unbuilt = λ unbuilt. absurd (c.session_request.ensures.refused.built unbuilt);
+  usage = λ usage. session_usage (session_words c) (c.session_request.ensures.refused usage);
   memory = λ _. (_, _, _, _, session_words c, (0, lit< tt, refl));
 }
 
@@ -42,8 +41,7 @@ serve_words c =
 pub returns-in-Some-Serve : goal.returns-in-Some-Serve
 returns-in-Some-Serve c = record {
   asks = subst (λ (ws : List Text). IfOk c.serve_request.result (AsksFor ws)) (sym (serve_words c)) c.serve_request.ensures.asks;
-  usage = λ usage. serve_usage (serve_words c) (c.serve_request.ensures.refused.usage usage);
-  unbuilt = λ unbuilt. absurd (c.serve_request.ensures.refused.built unbuilt);
+  usage = λ usage. serve_usage (serve_words c) (c.serve_request.ensures.refused usage);
   memory = λ _. (_, _, _, _, serve_words c, (1, lit< tt, refl));
 }
 
@@ -56,18 +54,17 @@ client_words c =
     c.as_str-in-Some-Client.ensures.value c.as_str-in-Some-Client-2.ensures.value
     (sym (rw c.in-Some-Client.field-0-is at c.in-Some-Client.ensures.some) ∙ c.as_str.ensures.value)
 
--- which is one of the built ones
-client_built : (command : ClientCommand) → Contains built_commands (client_word command)
-client_built client.Send = (2, lit< tt, refl)
-client_built client.Fetch = (3, lit< tt, refl)
-client_built client.List = (4, lit< tt, refl)
+-- which is one of the commands
+client_known : (command : ClientCommand) → Contains commands (client_word command)
+client_known client.Send = (2, lit< tt, refl)
+client_known client.Fetch = (3, lit< tt, refl)
+client_known client.List = (4, lit< tt, refl)
 
 pub returns-in-Some-Client : goal.returns-in-Some-Client
 returns-in-Some-Client c = record {
   asks = subst (λ (ws : List Text). IfOk c.client_request.result (AsksFor ws)) (sym (client_words c)) c.client_request.ensures.asks;
-  usage = λ usage. client_usage c.in-Some-Client.asked (client_words c) (c.client_request.ensures.refused.usage usage);
-  unbuilt = λ unbuilt. absurd (c.client_request.ensures.refused.built unbuilt);
-  memory = λ _. (_, _, _, _, client_words c, client_built c.in-Some-Client.asked);
+  usage = λ usage. client_usage c.in-Some-Client.asked (client_words c) (c.client_request.ensures.refused usage);
+  memory = λ _. (_, _, _, _, client_words c, client_known c.in-Some-Client.asked);
 }
 
 -- ---- a command with a name
@@ -78,19 +75,18 @@ name_words c =
     sym c.as_slice-texts.ensures ∙ three_words c.as_slice-texts.result.now c.disk-item.result c.air-item.result c.command-item.result _ _ _ c.in-len3-up.len_at_least c.disk-item.is c.air-item.is c.command-item.is
     refl c.as_str-in-Some-Named.ensures.value (sym (rw c.in-Some-Named.field-0-is at c.in-Some-Named.ensures.some) ∙ c.as_str.ensures.value)
 
--- which is one of the built ones
-name_built : (command : NameCommand) → Contains built_commands (word_of command)
-name_built Frames = (5, lit< tt, refl)
-name_built PfhCheck = (6, lit< tt, refl)
-name_built PfhShow = (7, lit< tt, refl)
+-- which is one of the commands
+name_known : (command : NameCommand) → Contains commands (word_of command)
+name_known Frames = (5, lit< tt, refl)
+name_known PfhCheck = (6, lit< tt, refl)
+name_known PfhShow = (7, lit< tt, refl)
 
 pub returns-in-Some-Named : goal.returns-in-Some-Named
 returns-in-Some-Named c = record {
   asks = subst (λ (ws : List Text). IfOk c.name_request.result (AsksFor ws)) (sym (name_words c))
       (IfOk-weaker c.name_request.result _ _ (λ request asks. asks (string_bytes c.disk-item.result)) c.name_request.ensures.asks);
-  usage = λ usage. name_usage c.in-Some-Named.named (name_words c) (c.name_request.ensures.refused.usage usage (string_bytes c.disk-item.result));
-  unbuilt = λ unbuilt. absurd (c.name_request.ensures.refused.built unbuilt);
-  memory = λ _. (_, _, _, _, name_words c, name_built c.in-Some-Named.named);
+  usage = λ usage. name_usage c.in-Some-Named.named (name_words c) (c.name_request.ensures.refused usage (string_bytes c.disk-item.result));
+  memory = λ _. (_, _, _, _, name_words c, name_known c.in-Some-Named.named);
 }
 
 -- ---- `pfh-make`
@@ -105,8 +101,7 @@ pub returns-in-Some-PfhMake : goal.returns-in-Some-PfhMake
 returns-in-Some-PfhMake c = record {
   asks = subst (λ (ws : List Text). IfOk c.make_request.result (AsksFor ws)) (sym (make_words c))
       (IfOk-weaker c.make_request.result _ _ (λ request asks. asks (string_bytes c.disk-item.result)) c.make_request.ensures.asks);
-  usage = λ usage. make_usage (make_words c) (c.make_request.ensures.refused.usage usage (string_bytes c.disk-item.result));
-  unbuilt = λ unbuilt. absurd (c.make_request.ensures.refused.built unbuilt);
+  usage = λ usage. make_usage (make_words c) (c.make_request.ensures.refused usage (string_bytes c.disk-item.result));
   memory = λ _. (_, _, _, _, make_words c, (8, lit< tt, refl));
 }
 
@@ -122,24 +117,27 @@ pub returns-in-Some-PfhBody : goal.returns-in-Some-PfhBody
 returns-in-Some-PfhBody c = record {
   asks = subst (λ (ws : List Text). IfOk c.body_request.result (AsksFor ws)) (sym (body_words c))
       (IfOk-weaker c.body_request.result _ _ (λ request asks. asks (string_bytes c.disk-item.result)) c.body_request.ensures.asks);
-  usage = λ usage. body_usage (body_words c) (c.body_request.ensures.refused.usage usage (string_bytes c.disk-item.result));
-  unbuilt = λ unbuilt. absurd (c.body_request.ensures.refused.built unbuilt);
+  usage = λ usage. body_usage (body_words c) (c.body_request.ensures.refused usage (string_bytes c.disk-item.result));
   memory = λ _. (_, _, _, _, body_words c, (9, lit< tt, refl));
 }
 
--- ---- what isn't built, and what is no command
+-- ---- a rehearsal
 
-pub returns-in-Some-Unbuilt-clause-unbuilt : goal.returns-in-Some-Unbuilt-clause-unbuilt
-returns-in-Some-Unbuilt-clause-unbuilt c = λ unbuilt. record {
-  disk = string_bytes c.disk-item.result;
-  air = string_bytes c.air-item.result;
-  command = c.as_str.result.now;
-  others = drop 1 (map string_bytes (take (length c.as_slice-texts.result.now - 2) (drop 2 c.as_slice-texts.result.now)));
-  written =
-      sym c.as_slice-texts.ensures ∙ three_words c.as_slice-texts.result.now c.disk-item.result c.air-item.result c.command-item.result _ _ _ c.in-len3-up.len_at_least c.disk-item.is c.air-item.is c.command-item.is
-      refl refl c.as_str.ensures.value;
-  unbuilt = rw c.in-Some-Unbuilt.field-0-is at c.in-Some-Unbuilt.ensures.some;
+rehearse_words : (c : goal.After-rehearse_request)
+    → c.args.words.now ≡ string_bytes c.disk-item.result ∷ c.as_str-in-Some-Rehearse.result.now ∷ codes "rehearse" ∷ drop 1 (map string_bytes (take (length c.as_slice-texts.result.now - 2) (drop 2 c.as_slice-texts.result.now)))
+rehearse_words c =
+    sym c.as_slice-texts.ensures ∙ three_words c.as_slice-texts.result.now c.disk-item.result c.air-item.result c.command-item.result _ _ _ c.in-len3-up.len_at_least c.disk-item.is c.air-item.is c.command-item.is
+    refl c.as_str-in-Some-Rehearse.ensures.value (sym (rw c.in-Some-Rehearse.field-0-is at c.in-Some-Rehearse.ensures.some) ∙ c.as_str.ensures.value)
+
+pub returns-in-Some-Rehearse : goal.returns-in-Some-Rehearse
+returns-in-Some-Rehearse c = record {
+  asks = subst (λ (ws : List Text). IfOk c.rehearse_request.result (AsksFor ws)) (sym (rehearse_words c))
+      (IfOk-weaker c.rehearse_request.result _ _ (λ request asks. asks (string_bytes c.disk-item.result)) c.rehearse_request.ensures.asks);
+  usage = λ usage. rehearse_usage (rehearse_words c) (c.rehearse_request.ensures.refused usage (string_bytes c.disk-item.result));
+  memory = λ _. (_, _, _, _, rehearse_words c, (10, lit< tt, refl));
 }
+
+-- ---- what is no command
 
 pub returns-in-None-clause-usage : goal.returns-in-None-clause-usage
 returns-in-None-clause-usage c = λ usage. no_command_usage

@@ -1,33 +1,32 @@
 -- What the line gives are the numbers and the call that its texts write.
-use Rattle.std.proofs.Common.{rules}
 use Rattle.std.proofs.lemmas.Result.{err_from_is_err_and}
-use Rattle.command_words.proofs.LineLemmas.{handed_on, refused_for}
+use Rattle.command_words.proofs.LineLemmas.{handed_on}
 use Rattle.command_words.proofs.Meanings.{session_agrees, session_from}
 use Rattle.command_words.proofs.request.read_texts.Goals as goal
 
 pub returns-in_err-texts-clause-refused : goal.returns-in_err-texts-clause-refused
 returns-in_err-texts-clause-refused c =
     let p = err_from_is_err_and c.from_residual.result c.from_residual.ensures.1 in
-    refused_for (rw (p.1, p.2) (λ usage caller moment blocks polls text. c.in_err-texts.ensures.refused.usage (handed_on usage) text.line)) (search rules)
+    rw (p.1, p.2) (λ usage caller moment blocks polls text. c.in_err-texts.ensures.refused (handed_on usage) text.line)
 
 pub returns-in_default-clause-refused : goal.returns-in_default-clause-refused
-returns-in_default-clause-refused c = refused_for (λ usage caller moment blocks polls text.
-    c.in_default.ensures.bad.none caller (session_agrees c.in_ok-texts.ensures.texts text).0.called) (search rules)
+returns-in_default-clause-refused c = λ usage caller moment blocks polls text.
+    c.in_default.ensures.bad.none caller (session_agrees c.in_ok-texts.ensures.texts text).0.called
 
 pub returns-in_default-optional_moment-clause-refused :
     goal.returns-in_default-optional_moment-clause-refused
-returns-in_default-optional_moment-clause-refused c = refused_for (λ usage caller moment blocks polls text.
-    c.in_default-optional_moment.ensures.none moment (session_agrees c.in_ok-texts.ensures.texts text).1) (search rules)
+returns-in_default-optional_moment-clause-refused c = λ usage caller moment blocks polls text.
+    c.in_default-optional_moment.ensures.none moment (session_agrees c.in_ok-texts.ensures.texts text).1
 
 pub returns-in_default-number_or-clause-refused :
     goal.returns-in_default-number_or-clause-refused
-returns-in_default-number_or-clause-refused c = refused_for (λ usage caller moment blocks polls text.
-    c.in_default-number_or.ensures.none blocks (rw c.from.ensures (session_agrees c.in_ok-texts.ensures.texts text).0.blocks_given)) (search rules)
+returns-in_default-number_or-clause-refused c = λ usage caller moment blocks polls text.
+    c.in_default-number_or.ensures.none blocks (rw c.from.ensures (session_agrees c.in_ok-texts.ensures.texts text).0.blocks_given)
 
 pub returns-in_default-number_or-2-clause-refused :
     goal.returns-in_default-number_or-2-clause-refused
-returns-in_default-number_or-2-clause-refused c = refused_for (λ usage caller moment blocks polls text.
-    c.in_default-number_or-2.ensures.none polls (session_agrees c.in_ok-texts.ensures.texts text).0.polls_given) (search rules)
+returns-in_default-number_or-2-clause-refused c = λ usage caller moment blocks polls text.
+    c.in_default-number_or-2.ensures.none polls (session_agrees c.in_ok-texts.ensures.texts text).0.polls_given
 
 pub returns-clause-text : goal.returns-clause-text
 returns-clause-text c =
