@@ -1,5 +1,5 @@
 -- The values found are those of the options.
-use Rattle.std.proofs.Common.{[], ◌∷◌, codes, lit<, refl}
+use Rattle.std.proofs.Common.{[], codes, lit<, refl}
 use Rattle.std.proofs.lemmas.Result.{err_from_is_err_and}
 use Rattle.clap.specs.Words.{app_of}
 use Rattle.command_words.specs.Rehearsals.{rehearse_options}
