@@ -15,7 +15,7 @@ use Rattle.air_rehearsal.specs.Rehearsed.{IsUnlawful}
 use Rattle.air_rehearsal.specs.declared.report.Report.{Report}
 use Rattle.pacsat_cli.specs.declared.status.Status.{Status}
 use Rattle.pacsat_cli.specs.declared.status.Status.TheVariants.{Done, NoSuch, OutOfMemory, Out, Shelf, BadSchedule, TooLong}
-use Rattle.pacsat_cli.specs.Rehearsing.{ContentEnd, EndsExactly, IsContent, IsUnlawfulAt, PlaysText, RehearsalEnd, ReportShown, ShowsReport, TextEnd, most_text, report_line, says_report}
+use Rattle.pacsat_cli.specs.Rehearsing.{ContentEnd, DrawnEnd, EndsExactly, IsContent, IsUnlawfulAt, PlaysText, RehearsalEnd, ReportShown, ShowsReport, TextEnd, most_text, report_line, says_report}
 use Rattle.pacsat_cli.specs.Run.{IsUnless}
 use Rattle.pacsat_cli.specs.Stops.{status_of_load}
 use Rattle.pacsat_cli.proofs.Loading.{loaded, long, none}
@@ -82,23 +82,6 @@ module _ {B : Type 0} (g : Ghosts B) (cuts : Cuts B) where
       (λ text h. record { most = most; ends = text-end octets old new text s h })
       (report-shown o before now (PlaysText g cuts octets old new) report s plays shown)
 
-  -- what was loaded is the content of the name
-  content-is : (held : Option Holding) (name octets : List ℕ) → Loads held name most_text (Ok octets) → IsContent held name octets
-  content-is None name octets loads = tt
-  content-is (Some shelf) name octets loads = loaded most_text (content_of shelf name) octets loads
-
-  named-end : (held : Option Holding) (name octets : List ℕ) (old new : List B) (text : List ℕ) (s : Status) → Loads held name most_text (Ok octets) → ContentEnd g cuts octets old new text s → RehearsalEnd g cuts held name old new text s
-  named-end held name octets old new text NoSuch loads h = absurd h.ends
-  named-end held name octets old new text TooLong loads h = absurd h.ends
-  named-end held name octets old new text Shelf loads h = absurd h.ends
-  named-end held name octets old new text OutOfMemory loads h = h.ends
-  named-end held name octets old new text s loads h = (octets, content-is held name octets loads, h)
-
-  pub loaded-named : {O : Type 0} (o : OutGhosts O) (before now : O) (held : Option Holding) (name octets : List ℕ) (old new : List B) (s : Status) → Loads held name most_text (Ok octets) → ReportShown o (ContentEnd g cuts octets old new) before now s → ReportShown o (RehearsalEnd g cuts held name old new) before now s
-  loaded-named o before now held name octets old new s loads shown =
-      ends-so o before (ContentEnd g cuts octets old new) (RehearsalEnd g cuts held name old new) now s
-      (λ text. named-end held name octets old new text s loads) shown
-
   -- nothing was loaded
   unloaded-end : (held : Option Holding) (name : List ℕ) (old : List B) (why : ShelfRefusal) → Loads held name most_text (Err why) → RehearsalEnd g cuts held name old old [] (status_of_load why)
   unloaded-end None name old refusal.NoSuch loads = (tt, refl, refl)
@@ -107,6 +90,17 @@ module _ {B : Type 0} (g : Ghosts B) (cuts : Cuts B) where
   unloaded-end (Some shelf) name old refusal.TooLong loads = (long most_text (content_of shelf name) loads, refl, refl)
   unloaded-end held name old refusal.Fault loads = (refl, refl)
   unloaded-end held name old refusal.OutOfMemory loads = refl
+
+  -- what came of a text, or of what is drawn, is no fault of the shelf
+  pub content-no_shelf : (octets : List ℕ) (old new : List B) (text : List ℕ) (s : Status) → ContentEnd g cuts octets old new text s → s ≡ Shelf → ⊥
+  content-no_shelf octets old new text s h is =
+      let At : Status → Type 0 = λ t. ContentEnd g cuts octets old new text t in
+      (subst At is h).ends
+
+  pub drawn-no_shelf : (seed count : ℕ) (old new : List B) (text : List ℕ) (s : Status) → DrawnEnd g cuts seed count old new text s → s ≡ Shelf → ⊥
+  drawn-no_shelf seed count old new text s h is =
+      let At : Status → Type 0 = λ t. DrawnEnd g cuts seed count old new text t in
+      subst At is h
 
   silent : (why : ShelfRefusal) → says_report (status_of_load why) ≡ false
   silent refusal.NoSuch = refl

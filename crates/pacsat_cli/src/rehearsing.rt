@@ -1,11 +1,9 @@
 //! The command that plays a rehearsal, `rehearse`: a schedule that the shelf has, or one that is drawn by a number.
 
-ghost use Rattle.std.specs.Prelude.{◌≡◌, ◌≤◌, Err, IfOk, length};
+ghost use Rattle.std.specs.Prelude.{◌≡◌, ◌≤◌, length};
 ghost use Rattle.disk_model.specs.Cuts.{AreFresh, cuts_by};
-ghost use Rattle.air_rehearsal.specs.Generator.{DrivenBy};
-ghost use Rattle.air_rehearsal.specs.Rehearsed.{CanTell};
-ghost use Rattle.pacsat_cli.specs.Rehearsing.{ContentEnd, DrawnEnd, PlayEnd, PlaysText, RehearsalEnd, ReportShown};
-ghost use Rattle.pacsat_cli.specs.Rehearsing.{ShowsReport, TextEnd, most_text};
+ghost use Rattle.pacsat_cli.specs.Rehearsing.{ContentEnd, DrawnEnd, PlayEnd, RehearsalEnd, ReportShown, ShowsReport};
+ghost use Rattle.pacsat_cli.specs.Rehearsing.{most_text};
 ghost use Rattle.pacsat_cli.specs.Run.{HasStatusCause, Stays};
 
 use crate::Status;
@@ -31,8 +29,8 @@ pub(crate) fn run_rehearsal<B: CutDisk, S: Shelf, O: Out>(
     requires { AreFresh B.Disk (cuts_by B.restarts B.arming B.plain B.is_starved) bench.old.items }
     ensures shown { ReportShown O.Out (PlayEnd B.Disk (cuts_by B.restarts B.arming B.plain B.is_starved)
         (S.held shelf.old) request.now bench.old.items bench.new.items) out.old out.new result }
-    ensures held { Stays S.held shelf.old shelf.new }
-    ensures shelf { HasStatusCause Status.Shelf (S.faults shelf.old) (S.faults shelf.new) result }
+    ensures shelf { Stays S.held shelf.old shelf.new
+        × HasStatusCause Status.Shelf (S.faults shelf.old) (S.faults shelf.new) result }
 {
     match request {
         RehearseRequest::Schedule { name } => play_named(alloc, name, bench, shelf, out),
@@ -51,8 +49,8 @@ fn play_named<B: CutDisk, S: Shelf, O: Out>(
     requires { AreFresh B.Disk (cuts_by B.restarts B.arming B.plain B.is_starved) bench.old.items }
     ensures shown { ReportShown O.Out (RehearsalEnd B.Disk (cuts_by B.restarts B.arming B.plain B.is_starved)
         (S.held shelf.old) name.now bench.old.items bench.new.items) out.old out.new result }
-    ensures held { Stays S.held shelf.old shelf.new }
-    ensures shelf { HasStatusCause Status.Shelf (S.faults shelf.old) (S.faults shelf.new) result }
+    ensures shelf { Stays S.held shelf.old shelf.new
+        × HasStatusCause Status.Shelf (S.faults shelf.old) (S.faults shelf.new) result }
 {
     match shelf.load(alloc, name, MOST_TEXT) {
         Ok(text) => play_text(alloc, text.as_slice(), bench, out),
@@ -69,9 +67,8 @@ fn play_text<B: CutDisk, O: Out>(
 ) -> Status
     requires fresh { AreFresh B.Disk (cuts_by B.restarts B.arming B.plain B.is_starved) bench.old.items }
     requires most { length text.now ≤ most_text }
-    ensures shown { ReportShown O.Out (ContentEnd B.Disk (cuts_by B.restarts B.arming B.plain B.is_starved)
+    ensures { ReportShown O.Out (ContentEnd B.Disk (cuts_by B.restarts B.arming B.plain B.is_starved)
         text.now bench.old.items bench.new.items) out.old out.new result }
-    ensures no_shelf { result ≡ Status.Shelf → ⊥ }
 {
     let schedule = match Schedule::read(alloc, text) {
         Ok(schedule) => schedule,
@@ -94,9 +91,8 @@ fn play_drawn<B: CutDisk, O: Out>(
     out: &mut O,
 ) -> Status
     requires { AreFresh B.Disk (cuts_by B.restarts B.arming B.plain B.is_starved) bench.old.items }
-    ensures shown { ReportShown O.Out (DrawnEnd B.Disk (cuts_by B.restarts B.arming B.plain B.is_starved)
+    ensures { ReportShown O.Out (DrawnEnd B.Disk (cuts_by B.restarts B.arming B.plain B.is_starved)
         seed count bench.old.items bench.new.items) out.old out.new result }
-    ensures no_shelf { result ≡ Status.Shelf → ⊥ }
 {
     match drive(alloc, seed, count, bench) {
         Ok(report) => show_report(alloc, &report, out),
@@ -106,8 +102,7 @@ fn play_drawn<B: CutDisk, O: Out>(
 
 /// Shows the line of a report. Takes memory for it.
 fn show_report<O: Out>(alloc: Global, report: &Report, out: &mut O) -> Status
-    ensures shown { ReportShown O.Out (ShowsReport (λ told. told ≡ report.now)) out.old out.new result }
-    ensures no_shelf { result ≡ Status.Shelf → ⊥ }
+    ensures { ReportShown O.Out (ShowsReport (λ told. told ≡ report.now)) out.old out.new result }
 {
     let Ok(line) = format!(in alloc; "{report}\n") else {
         return Status::OutOfMemory;

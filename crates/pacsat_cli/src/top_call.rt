@@ -44,9 +44,9 @@ use std::alloc::Global;
 /// The commands are `serve`, the server of up to eight sessions on the air, with a store on the disk; `session`,
 /// one session over FTL0 octets without a link, with a store on the disk, or, where DISK is `none`, on a fresh one in
 /// memory; `send`, `fetch` and `list`, the commands of a client of a server on the air, with its notes on the disk; `frames`,
-/// `pfh-show` and `pfh-check`, which show a text of a file on the shelf; `pfh-make` and `pfh-body`, which make a file of
-/// one on the shelf, with a header or without it, and keep it there; and `rehearse`, which plays a schedule of the shelf,
-/// or one that is drawn, over the nine disks of the bench, the server's and those of eight clients. Takes memory.
+/// `pfh-show` and `pfh-check`, which show a text of a file on the shelf; `pfh-make` and `pfh-body`, which make a file
+/// of one on the shelf, with a header or without it, and keep it there; and `rehearse`, which plays a schedule of the
+/// shelf, or one that is drawn, over the nine disks of the bench, the server's and those of eight clients. Takes memory.
 pub fn run<D: Disk, A: Air, S: Shelf, O: Out, C: Clock, B: CutDisk>(
     alloc: Global,
     words: &Words,
@@ -58,8 +58,8 @@ pub fn run<D: Disk, A: Air, S: Shelf, O: Out, C: Clock, B: CutDisk>(
     bench: &mut Vec<B>,
 ) -> Status
     requires { AreFresh B.Disk (cuts_by B.restarts B.arming B.plain B.is_starved) bench.old.items }
-    // Usage comes exactly by the words, but for want of memory to read those of a command; then nothing is touched. What
-    // the shelf holds stays, but for a file that is made or fetched.
+    // Usage comes exactly by the words, but for want of memory to read those of a command; then nothing is touched.
+    // What the shelf holds stays, but for a file that is made or fetched.
     ensures usage { result ≡ Status.Usage → IsUsage words.now }
     ensures usage_told { IsUsage words.now → IsUnless result Status.Usage (Status.OutOfMemory ∷ []) }
     ensures unread { IsUsage words.now → result ≡ Status.OutOfMemory → NamesCommand words.now }
@@ -149,10 +149,10 @@ pub fn run<D: Disk, A: Air, S: Shelf, O: Out, C: Clock, B: CutDisk>(
     ensures body { RunsBody words.now S.held shelf.old shelf.new result }
     ensures made_alone { AsksMake words.now → (air.new ≡ air.old) × (clock.new ≡ clock.old) }
 
-    // `rehearse` plays the schedule that the shelf has under the name, or one that is drawn, over the bench, and shows the
-    // line of its report: each event could come in its turn, what is promised of uploads and downloads holds after each,
-    // and in all that a crash leaves of the server's disk. Or it ends with a status that has its cause, by the content of
-    // the name exactly. No other command touches the bench; and it touches neither disk nor air nor clock.
+    // `rehearse` plays the schedule that the shelf has under the name, or one that is drawn, over the bench, and shows
+    // the line of its report: each event could come in its turn, what is promised of uploads and downloads holds after
+    // each, and in all that a crash leaves of the server's disk. Or it ends with a status that has its cause, by the
+    // content of the name exactly. No other command touches the bench; and it touches neither disk nor air nor clock.
     ensures rehearsal { Rehearses words.now
         (seen_lab B.Disk (cuts_by B.restarts B.arming B.plain B.is_starved) S.Shelf O.Out)
         (lab bench.old.items shelf.old out.old) (lab bench.new.items shelf.new out.new) result }
@@ -177,13 +177,13 @@ pub fn run<D: Disk, A: Air, S: Shelf, O: Out, C: Clock, B: CutDisk>(
         → IsDoneAtEnd A.Air D.read_faults D.write_faults air.old air.new disk.old disk.new }
     ensures done { result ≡ Status.Done → Stays S.faults shelf.old shelf.new × Stays O.faults out.old out.new }
 
-    // But for the text of a file, a client's command and a rehearsal the status's line alone is shown, or the output's count
-    // of faults rose.
+    // But for the text of a file, a client's command and a rehearsal the status's line alone is shown, or the output's
+    // count of faults rose.
     ensures unshown { result ≡ Status.Done → (AsksShown words.now → ⊥) → out.new ≡ out.old }
     ensures shown { (AsksShown words.now → ⊥) → Shows O.shown O.faults out.old out.new (line_of result) }
 {
-    // The words ask for one thing, what is acknowledged stands, a client has one run over what is heard, in which what became
-    // of its job stays, and a text is the text of one schedule.
+    // The words ask for one thing, what is acknowledged stands, a client has one run over what is heard, in which what
+    // became of its job stays, and a text is the text of one schedule.
     one_meaning();
     session_acknowledges_law::<D, A, C>();
     server_acknowledges_law::<D, A, C>();

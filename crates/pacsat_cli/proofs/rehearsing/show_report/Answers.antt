@@ -3,8 +3,8 @@ use Rattle.std.proofs.Common.{◌≡◌, List, ℕ}
 use Rattle.pacsat_cli.proofs.RehearsalEnds.{front-put}
 use Rattle.pacsat_cli.proofs.rehearsing.show_report.Goals as goal
 
-pub returns-clause-shown : goal.returns-clause-shown
-returns-clause-shown g c =
+pub returns : goal.returns
+returns g c =
     let front = rw c.as_bytes.ensures.value at c.in-Err.ensures.err in
     let line = rw c.in-Ok.ensures.ok at front in
     front-put g.O.Out c.args.out.now c.put.new.self c.args.report.now line c.in-Err.ensures.faults.rose

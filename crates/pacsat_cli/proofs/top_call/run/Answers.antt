@@ -456,7 +456,7 @@ returns-in-Rehearse g c =
       usage_told = λ usage. absurd (only.usage_rehearse usage rehearse);
       unread = λ usage. absurd (only.usage_rehearse usage rehearse);
       untouched = λ usage. absurd (only.usage_rehearse usage rehearse);
-      held = λ _. ran.ensures.held;
+      held = λ _. ran.ensures.shelf.0;
       session = λ asked is. absurd (only.session_rehearse (asked, is) rehearse);
       session_alone = λ session. absurd (only.session_rehearse session rehearse);
       serve = λ asked is. absurd (only.serve_rehearse (asked, is) rehearse);
@@ -493,7 +493,7 @@ returns-in-Rehearse g c =
       air_read = record { rose = λ e. absurd (isnt status.AirRead refl e); same = λ _ _. same (g.A.Air.read_faults c.args.air.now) };
       air_write = record { rose = λ e. absurd (isnt status.AirWrite refl e); same = λ _ _ _ _. same (g.A.Air.write_faults c.args.air.now) };
       disk = record { asked = λ e. absurd (isnt status.Disk refl e); rose = λ e. absurd (isnt status.Disk refl e); same = λ _. same (g.D.Disk.write_faults c.args.disk.now); same_reads = λ _ _. same (g.D.Disk.read_faults c.args.disk.now); no_less = (omega arith, omega arith) };
-      shelf = ran.ensures.shelf;
+      shelf = ran.ensures.shelf.1;
       out = play-rose g.O.Out c.args.out.now ran.new.out ran.result ends ran.ensures.shown c.show_line-in-Rehearse.new.out line.no_fewer_faults;
       bad_store = record {
         asked = λ bad e. absurd (isnt (status.BadStore bad) refl e);
@@ -503,7 +503,7 @@ returns-in-Rehearse g c =
       };
       node_done = λ node. absurd (node-rehearse words only node rehearse);
       done = λ e. (
-        ran.ensures.shelf.same (λ f. let other = sym e in cc),
+        ran.ensures.shelf.1.same (λ f. let other = sym e in cc),
         play-done g.O.Out c.args.out.now ran.new.out ran.result ends ran.ensures.shown c.show_line-in-Rehearse.new.out (λ d. line.no_line (ap line_of d)) e,
       );
       unshown = λ _ others. absurd (others (inr (inr rehearse)));
