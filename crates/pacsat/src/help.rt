@@ -21,6 +21,8 @@ usage: pacsat DISK AIR serve ME [--k N] [--blocks N] [--polls N]
        pacsat DISK AIR pfh-body NAME OUT
        pacsat DISK AIR pfh-show NAME
        pacsat DISK AIR pfh-check NAME
+       pacsat DISK AIR rehearse NAME
+       pacsat DISK AIR rehearse --seed N --count N
        pacsat --version | --help
 ";
 
@@ -42,6 +44,7 @@ pfh-make   makes the file NAME of BODY and a header
 pfh-body   keeps the body of the file NAME as OUT
 pfh-show   shows the header of NAME, and whether the file keeps all rules
 pfh-check  shows the latter alone
+rehearse   plays the schedule NAME, or a drawn one, and shows what came of it
 
 PACSAT_LOG=off|info|frames in the environment sets what is shown on standard error
 where AIR is a host and port: nothing, what happens (without it), or each frame too.

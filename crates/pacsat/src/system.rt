@@ -7,7 +7,7 @@ use crate::cause::Ended;
 use crate::help;
 use air_log::{Level, LoggedAir, Watcher};
 use command_words::{ClientRequest, Request, read};
-use pacsat_cli::{Host, NotHeld, Status, Words, WordsRefusal, end_with, run};
+use pacsat_cli::{Host, NotHeld, Status, Words, WordsRefusal, end_with, fresh_bench, run};
 use px_base::{Air, Call, Out};
 use real_outside::{
     FileDisk, FolderShelf, NullFile, StandardStreams, StdAir, StdOut, SystemClock, TcpAir,
@@ -103,8 +103,8 @@ impl<'a> Host for System<'a> {
     }
 }
 
-/// Does what the words ask for, over the file `disk`, this air and this output for text, the working folder and the
-/// system's clock. A command that uses no disk doesn't open the file.
+/// Does what the words ask for, over the file `disk`, this air and this output for text, the working folder, the
+/// system's clock, and disks in memory for a rehearsal. A command that uses no disk doesn't open the file.
 fn run_over<A: Air, O: Out>(
     rt: &HostRuntime,
     words: &Words,
@@ -115,15 +115,19 @@ fn run_over<A: Air, O: Out>(
     let mut file = FileDisk::new(rt, disk);
     let mut shelf = FolderShelf::new(rt);
     let mut clock = SystemClock::new(rt);
-    let status = run(
-        rt.alloc(),
-        words,
-        &mut file,
-        air,
-        &mut shelf,
-        text,
-        &mut clock,
-    );
+    let status = match fresh_bench(rt.alloc()) {
+        Ok(mut bench) => run(
+            rt.alloc(),
+            words,
+            &mut file,
+            air,
+            &mut shelf,
+            text,
+            &mut clock,
+            &mut bench,
+        ),
+        Err(_refused) => end_with(Status::OutOfMemory, text),
+    };
     Ended {
         status,
         disk: file.device().files().last_error(),

@@ -68,7 +68,7 @@ stop-back stop.TooLong = refl
 -- whether a client's command can end with this status: with what is of a stop, or done
 abbrev pub is_client_status : Status → Bool
 is_client_status status.Usage = false
-is_client_status status.NotBuilt = false
+is_client_status (status.BadSchedule line) = false
 is_client_status (status.Refused by.Shown) = false
 is_client_status s = true
 

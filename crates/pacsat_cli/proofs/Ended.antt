@@ -152,7 +152,7 @@ memory-not_disk status.Spent e = absurd (cc)
 memory-not_disk status.Out e = absurd (cc)
 memory-not_disk status.Shelf e = absurd (cc)
 memory-not_disk status.TooLong e = absurd (cc)
-memory-not_disk status.NotBuilt e = absurd (cc)
+memory-not_disk (status.BadSchedule line) e = absurd (cc)
 
 pub heard-not_bad : (memory : Bool) (ended : Result Served NodeStop) (polls : ℕ) (turns : List Turn) (why : BadStore) → TurnsBy ended polls turns → mended memory (status_of ended) ≡ status.BadStore why → ⊥
 heard-not_bad memory (Ok served) polls turns why h e = absurd (cc)

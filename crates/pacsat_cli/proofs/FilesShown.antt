@@ -91,7 +91,7 @@ module _ {O : Type 0} (shown : O → Option (List ℕ)) (faults : O → ℕ) (co
   end-loaded None octets text s loads end = tt
   end-loaded (Some shelf) octets text s loads end =
       let P : Option (List ℕ) → Type 0 = λ content. FileEnd command content text s in
-      subst P (sym (loaded (content_of shelf name) octets loads)) end
+      subst P (sym (loaded most_octets (content_of shelf name) octets loads)) end
 
   -- the octets that were shown are the content of the name
   pub loaded-shown : (now : O) (octets : List ℕ) (s : Status) → Loads held name most_octets (Ok octets) → OctetsShown shown faults command octets before now s → FileShown shown faults command held name before now s
@@ -107,8 +107,8 @@ module _ {O : Type 0} (shown : O → Option (List ℕ)) (faults : O → ℕ) (co
 
   end-unloaded : (why : ShelfRefusal) (there : Option Holding) → Loads there name most_octets (Err why) → IfSome there (λ shelf. FileEnd command (content_of shelf name) [] (status_of_load why))
   end-unloaded why None loads = tt
-  end-unloaded refusal.NoSuch (Some shelf) loads = (none (content_of shelf name) loads, refl)
-  end-unloaded refusal.TooLong (Some shelf) loads = let h = long (content_of shelf name) loads in (h.0, h.1, h.2, refl)
+  end-unloaded refusal.NoSuch (Some shelf) loads = (none most_octets (content_of shelf name) loads, refl)
+  end-unloaded refusal.TooLong (Some shelf) loads = let h = long most_octets (content_of shelf name) loads in (h.0, h.1, h.2, refl)
   end-unloaded refusal.Fault (Some shelf) loads = refl
   end-unloaded refusal.OutOfMemory (Some shelf) loads = refl
 

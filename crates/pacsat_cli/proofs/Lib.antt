@@ -13,10 +13,12 @@ mod MemorySession
 mod NodeEnds
 mod OneTask
 mod OpenTurns
+mod RehearsalEnds
 mod RunClient
 mod RunFile
 mod RunMake
 mod RunRefused
+mod RunRehearsal
 mod RunServe
 mod RunSession
 mod Starting

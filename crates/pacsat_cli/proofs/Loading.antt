@@ -4,29 +4,28 @@ use Rattle.std.proofs.lemmas.Bool.Decides.{leb_tells}
 use Rattle.std.specs.Prelude.{Option, None, Some, Ok, Err, nat_le, if◌then◌else◌}
 use Rattle.px_base.specs.declared.shelf.ShelfRefusal.TheVariants as refusal
 use Rattle.px_base.specs.Shelves.{AnswersOf}
-use Rattle.pacsat_cli.specs.Files.{most_octets}
 
 -- what was loaded is the content
 loaded-some : (b : Bool) (content octets : List ℕ) → Ok octets ≡ (if b then Ok content else Err refusal.TooLong) → content ≡ octets
 loaded-some true content octets e = cc
 loaded-some false content octets e = absurd (cc)
 
-pub loaded : (content : Option (List ℕ)) (octets : List ℕ) → AnswersOf content most_octets (Ok octets) → content ≡ Some octets
-loaded None octets answer = absurd (elim answer [ inl e ↦ cc | inr hindered ↦ elim hindered [ inl e ↦ cc | inr e ↦ cc ] ])
-loaded (Some content) octets answer = elim answer [
+pub loaded : (most : ℕ) (content : Option (List ℕ)) (octets : List ℕ) → AnswersOf content most (Ok octets) → content ≡ Some octets
+loaded most None octets answer = absurd (elim answer [ inl e ↦ cc | inr hindered ↦ elim hindered [ inl e ↦ cc | inr e ↦ cc ] ])
+loaded most (Some content) octets answer = elim answer [
   | inl e ↦ ap Some (loaded-some _ content octets e)
   | inr hindered ↦ absurd (elim hindered [ inl e ↦ cc | inr e ↦ cc ])
 ]
 
 -- content of which a load says that it is too long is that
-long-some : (b : Bool) (content : List ℕ) → nat_le (length content) most_octets ≡ b → Err refusal.TooLong ≡ (if b then Ok content else Err refusal.TooLong) → most_octets < length content
-long-some true content test e = absurd (cc)
-long-some false content test e = elim (leb_tells (length content) most_octets) [ inl p ↦ absurd (let t = p.0 in cc) | inr q ↦ q.1 ]
+long-some : (most : ℕ) (b : Bool) (content : List ℕ) → nat_le (length content) most ≡ b → Err refusal.TooLong ≡ (if b then Ok content else Err refusal.TooLong) → most < length content
+long-some most true content test e = absurd (cc)
+long-some most false content test e = elim (leb_tells (length content) most) [ inl p ↦ absurd (let t = p.0 in cc) | inr q ↦ q.1 ]
 
-pub long : (content : Option (List ℕ)) → AnswersOf content most_octets (Err refusal.TooLong) → (octets : List ℕ) × (content ≡ Some octets) × (most_octets < length octets)
-long None answer = absurd (elim answer [ inl e ↦ cc | inr hindered ↦ elim hindered [ inl e ↦ cc | inr e ↦ cc ] ])
-long (Some content) answer = elim answer [
-  | inl e ↦ (content, refl, long-some _ content refl e)
+pub long : (most : ℕ) (content : Option (List ℕ)) → AnswersOf content most (Err refusal.TooLong) → (octets : List ℕ) × (content ≡ Some octets) × (most < length octets)
+long most None answer = absurd (elim answer [ inl e ↦ cc | inr hindered ↦ elim hindered [ inl e ↦ cc | inr e ↦ cc ] ])
+long most (Some content) answer = elim answer [
+  | inl e ↦ (content, refl, long-some most _ content refl e)
   | inr hindered ↦ absurd (elim hindered [ inl e ↦ cc | inr e ↦ cc ])
 ]
 
@@ -35,9 +34,9 @@ none-some : (b : Bool) (content : List ℕ) → Err refusal.NoSuch ≡ (if b the
 none-some true content e = cc
 none-some false content e = cc
 
-pub none : (content : Option (List ℕ)) → AnswersOf content most_octets (Err refusal.NoSuch) → content ≡ None
-none None answer = refl
-none (Some content) answer = absurd (elim answer [
+pub none : (most : ℕ) (content : Option (List ℕ)) → AnswersOf content most (Err refusal.NoSuch) → content ≡ None
+none most None answer = refl
+none most (Some content) answer = absurd (elim answer [
   | inl e ↦ none-some _ content e
   | inr hindered ↦ elim hindered [ inl e ↦ cc | inr e ↦ cc ]
 ])

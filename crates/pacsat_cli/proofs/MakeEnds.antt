@@ -20,7 +20,7 @@ use Rattle.pacsat_cli.proofs.Loading.{loaded, long, none}
 -- what holds of the octets that were loaded holds of the content
 told-of : (P : Option (List ℕ) → Type 0) (held : Option Holding) (name octets : List ℕ) → Loads held name most_octets (Ok octets) → P (Some octets) → IfSome held (λ shelf. P (content_of shelf name))
 told-of P None name octets loads h = tt
-told-of P (Some shelf) name octets loads h = subst P (sym (loaded (content_of shelf name) octets loads)) h
+told-of P (Some shelf) name octets loads h = subst P (sym (loaded most_octets (content_of shelf name) octets loads)) h
 
 there : (held : Option Holding) (name octets : List ℕ) → Loads held name most_octets (Ok octets) → IfSome held (λ shelf. content_of shelf name ≡ Some octets)
 there held name octets loads = told-of (λ content. content ≡ Some octets) held name octets loads refl
@@ -78,8 +78,8 @@ long_status octets above = elim (leb_tells (length octets) most_octets) [
 
 unloaded_told : (why : ShelfRefusal) (held : Option Holding) (name : List ℕ) → Loads held name most_octets (Err why) → IfSome held (λ shelf. IsOrHindered (body_status (content_of shelf name)) (status_of_load why))
 unloaded_told why None name loads = tt
-unloaded_told refusal.NoSuch (Some shelf) name loads = inl (sym (ap body_status (none (content_of shelf name) loads)))
-unloaded_told refusal.TooLong (Some shelf) name loads = let h = long (content_of shelf name) loads in inl (sym (ap body_status h.1 ∙ long_status h.0 h.2))
+unloaded_told refusal.NoSuch (Some shelf) name loads = inl (sym (ap body_status (none most_octets (content_of shelf name) loads)))
+unloaded_told refusal.TooLong (Some shelf) name loads = let h = long most_octets (content_of shelf name) loads in inl (sym (ap body_status h.1 ∙ long_status h.0 h.2))
 unloaded_told refusal.Fault (Some shelf) name loads = inr (0, omega arith, refl)
 unloaded_told refusal.OutOfMemory (Some shelf) name loads = inr (1, omega arith, refl)
 

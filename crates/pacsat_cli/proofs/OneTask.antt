@@ -1,24 +1,18 @@
 -- Words ask for one thing to do.
 use Rattle.std.proofs.Common.{◌≡◌, ℕ, List, refl, inl, inr}
 use Rattle.command_words.specs.Laws.{AsksServe, AsksSession, Determined, OnlyOne}
-use Rattle.command_words.specs.Words.{AsksClient, AsksMake, IsUnbuilt, IsUsage}
+use Rattle.command_words.specs.Words.{AsksClient, AsksMake, AsksRehearse, IsUsage}
 use Rattle.pacsat_cli.specs.declared.files.FileCommand.{FileCommand}
 use Rattle.pacsat_cli.specs.declared.files.FileCommand.TheVariants.{Frames, Show, Check}
-use Rattle.pacsat_cli.specs.Run.{AreRefused}
 use Rattle.pacsat_cli.specs.Sessions.{AsksNode, AsksStore}
 use Rattle.pacsat_cli.specs.Tasks.{AsksFile, AsksText}
 
 module _ (words : List (List ℕ)) (only : OnlyOne words) where
-  -- words that ask for the text of a file are in the command set and built, and ask for no session and no service
+  -- words that ask for the text of a file are in the command set, and ask for no session and no service
   pub usage-file : IsUsage words → AsksFile words → ⊥
   usage-file usage (Frames, name, is) = only.usage_frames usage (name, is)
   usage-file usage (Show, name, is) = only.usage_header usage (inr (inl (name, is)))
   usage-file usage (Check, name, is) = only.usage_header usage (inl (name, is))
-
-  pub unbuilt-file : IsUnbuilt words → AsksFile words → ⊥
-  unbuilt-file unbuilt (Frames, name, is) = only.unbuilt_frames unbuilt (name, is)
-  unbuilt-file unbuilt (Show, name, is) = only.unbuilt_header unbuilt (inr (inl (name, is)))
-  unbuilt-file unbuilt (Check, name, is) = only.unbuilt_header unbuilt (inl (name, is))
 
   pub session-file : AsksSession words → AsksFile words → ⊥
   session-file session (Frames, name, is) = only.session_frames session (name, is)
@@ -45,9 +39,6 @@ module _ (words : List (List ℕ)) (only : OnlyOne words) where
   pub usage-make : IsUsage words → AsksMake words → ⊥
   usage-make usage make = only.usage_header usage (inr (inr make))
 
-  pub unbuilt-make : IsUnbuilt words → AsksMake words → ⊥
-  unbuilt-make unbuilt make = only.unbuilt_header unbuilt (inr (inr make))
-
   pub session-make : AsksSession words → AsksMake words → ⊥
   session-make session make = only.session_header session (inr (inr make))
 
@@ -72,8 +63,17 @@ module _ (words : List (List ℕ)) (only : OnlyOne words) where
   pub store-client : AsksStore words → AsksClient words → ⊥
   store-client store client = elim store [ inl session ↦ only.session_client (session.0, session.1) client | inr serve ↦ only.serve_client serve client ]
 
-  pub refused-client : AreRefused words → AsksClient words → ⊥
-  refused-client refused client = elim refused [ inl usage ↦ only.usage_client usage client | inr unbuilt ↦ only.unbuilt_client unbuilt client ]
+  -- nor a rehearsal
+  pub file-rehearse : AsksFile words → AsksRehearse words → ⊥
+  file-rehearse (Frames, name, is) rehearse = only.frames_rehearse (name, is) rehearse
+  file-rehearse (Show, name, is) rehearse = only.header_rehearse (inr (inl (name, is))) rehearse
+  file-rehearse (Check, name, is) rehearse = only.header_rehearse (inl (name, is)) rehearse
+
+  pub make-rehearse : AsksMake words → AsksRehearse words → ⊥
+  make-rehearse make rehearse = only.header_rehearse (inr (inr make)) rehearse
+
+  pub node-rehearse : AsksNode words → AsksRehearse words → ⊥
+  node-rehearse node rehearse = elim node [ inl session ↦ only.session_rehearse session rehearse | inr serve ↦ only.serve_rehearse serve rehearse ]
 
   -- they ask for one text of one file
   pub one-text : Determined words → (command other : FileCommand) (name another : List ℕ) → AsksText words command name → AsksText words other another → (command ≡ other) × (name ≡ another)

@@ -11,7 +11,7 @@ use Rattle.command_words.specs.declared.request.SessionRequest.{SessionRequest}
 use Rattle.command_words.specs.declared.serve.ServeRequest.{ServeRequest}
 use Rattle.px_base.proofs.Told.{Gains-none}
 use Rattle.command_words.specs.Laws.{OnlyOne}
-use Rattle.command_words.specs.Words.{AsksClient, AsksMake, IsServe, IsSession, IsUnbuilt, IsUsage, NamesBuilt}
+use Rattle.command_words.specs.Words.{AsksClient, AsksMake, AsksRehearse, IsServe, IsSession, IsUsage, NamesCommand}
 use Rattle.command_words.specs.declared.request.Refusal.{Refusal}
 use Rattle.command_words.specs.declared.request.Refusal.TheVariants as refusal
 use Rattle.header_tool.specs.Made.{MakeValue}
@@ -30,82 +30,64 @@ use Rattle.pacsat_cli.specs.Status.{line_of}
 use Rattle.pacsat_cli.specs.Stops.{status_of_refusal}
 use Rattle.pacsat_cli.specs.Tasks.{AsksText, RunsBody, RunsFile, RunsMake, WhereHeld}
 use Rattle.pacsat_cli.proofs.NodeEnds.{Goes, is_early_status, node-complete}
-use Rattle.pacsat_cli.proofs.OneTask.{unbuilt-file, unbuilt-make, usage-file, usage-make}
+use Rattle.pacsat_cli.proofs.OneTask.{usage-file, usage-make}
 
 -- why words were refused
 abbrev pub MeansOf : List (List ℕ) → Refusal → Type 0
 MeansOf words refusal.Usage = IsUsage words
-MeansOf words refusal.NotBuilt = IsUnbuilt words
-MeansOf words refusal.OutOfMemory = NamesBuilt words
+MeansOf words refusal.OutOfMemory = NamesCommand words
 
-pub means : {R : Type 0} (words : List (List ℕ)) (why : Refusal) (result : Result R Refusal) → result ≡ Err why → (result ≡ Err refusal.Usage → IsUsage words) → (result ≡ Err refusal.NotBuilt → IsUnbuilt words) → (result ≡ Err refusal.OutOfMemory → NamesBuilt words) → MeansOf words why
-means words refusal.Usage result is a b c = a is
-means words refusal.NotBuilt result is a b c = b is
-means words refusal.OutOfMemory result is a b c = c is
+pub means : {R : Type 0} (words : List (List ℕ)) (why : Refusal) (result : Result R Refusal) → result ≡ Err why → (result ≡ Err refusal.Usage → IsUsage words) → (result ≡ Err refusal.OutOfMemory → NamesCommand words) → MeansOf words why
+means words refusal.Usage result is a b = a is
+means words refusal.OutOfMemory result is a b = b is
 
 -- whether words can be refused with this status
 abbrev pub is_refusal_status : Status → Bool
 is_refusal_status status.Usage = true
-is_refusal_status status.NotBuilt = true
 is_refusal_status status.OutOfMemory = true
 is_refusal_status s = false
 
 pub refused-not : (why : Refusal) (other : Status) → is_refusal_status other ≡ false → status_of_refusal why ≡ other → ⊥
 refused-not refusal.Usage other isnt is = let same = ap is_refusal_status is in absurd (cc)
-refused-not refusal.NotBuilt other isnt is = let same = ap is_refusal_status is in absurd (cc)
 refused-not refusal.OutOfMemory other isnt is = let same = ap is_refusal_status is in absurd (cc)
 
 module _ (words : List (List ℕ)) (only : OnlyOne words) where
   pub refused-usage : (why : Refusal) → MeansOf words why → status_of_refusal why ≡ status.Usage → IsUsage words
   refused-usage refusal.Usage h is = h
-  refused-usage refusal.NotBuilt h is = absurd (cc)
   refused-usage refusal.OutOfMemory h is = absurd (cc)
 
   pub refused-usage_told : (why : Refusal) → MeansOf words why → IsUsage words → IsUnless (status_of_refusal why) status.Usage (status.OutOfMemory ∷ [])
   refused-usage_told refusal.Usage h usage = inl refl
-  refused-usage_told refusal.NotBuilt h usage = absurd (only.usage_unbuilt usage h)
   refused-usage_told refusal.OutOfMemory h usage = inr (0, omega arith, refl)
 
-  pub refused-unbuilt : (why : Refusal) → MeansOf words why → IsUnbuilt words → IsUnless (status_of_refusal why) status.NotBuilt (status.OutOfMemory ∷ [])
-  refused-unbuilt refusal.Usage h unbuilt = absurd (only.usage_unbuilt h unbuilt)
-  refused-unbuilt refusal.NotBuilt h unbuilt = inl refl
-  refused-unbuilt refusal.OutOfMemory h unbuilt = inr (0, omega arith, refl)
-
-  pub refused-unbuilt_told : (why : Refusal) → MeansOf words why → status_of_refusal why ≡ status.NotBuilt → IsUnbuilt words
-  refused-unbuilt_told refusal.Usage h is = absurd (cc)
-  refused-unbuilt_told refusal.NotBuilt h is = h
-  refused-unbuilt_told refusal.OutOfMemory h is = absurd (cc)
-
-  pub refused-unread : (why : Refusal) → MeansOf words why → status_of_refusal why ≡ status.OutOfMemory → NamesBuilt words
+  pub refused-unread : (why : Refusal) → MeansOf words why → status_of_refusal why ≡ status.OutOfMemory → NamesCommand words
   refused-unread refusal.Usage h is = absurd (cc)
-  refused-unread refusal.NotBuilt h is = absurd (cc)
   refused-unread refusal.OutOfMemory h is = h
 
-  -- words that ask for something that is built are refused only for want of memory
+  -- words that ask for something are refused only for want of memory
   session-memory : (why : Refusal) → MeansOf words why → (asked : SessionRequest) → IsSession words asked → status_of_refusal why ≡ status.OutOfMemory
   session-memory refusal.Usage h asked is = absurd (only.usage_session h (asked, is))
-  session-memory refusal.NotBuilt h asked is = absurd (only.unbuilt_session h (asked, is))
   session-memory refusal.OutOfMemory h asked is = refl
 
   serve-memory : (why : Refusal) → MeansOf words why → (asked : ServeRequest) → IsServe words asked → status_of_refusal why ≡ status.OutOfMemory
   serve-memory refusal.Usage h asked is = absurd (only.usage_serve h (asked, is))
-  serve-memory refusal.NotBuilt h asked is = absurd (only.unbuilt_serve h (asked, is))
   serve-memory refusal.OutOfMemory h asked is = refl
 
   file-memory : (why : Refusal) → MeansOf words why → (command : FileCommand) (name : List ℕ) → AsksText words command name → status_of_refusal why ≡ status.OutOfMemory
   file-memory refusal.Usage h command name is = absurd (usage-file words only h (command, name, is))
-  file-memory refusal.NotBuilt h command name is = absurd (unbuilt-file words only h (command, name, is))
   file-memory refusal.OutOfMemory h command name is = refl
 
   make-memory : (why : Refusal) → MeansOf words why → AsksMake words → status_of_refusal why ≡ status.OutOfMemory
   make-memory refusal.Usage h make = absurd (usage-make words only h make)
-  make-memory refusal.NotBuilt h make = absurd (unbuilt-make words only h make)
   make-memory refusal.OutOfMemory h make = refl
 
   client-memory : (why : Refusal) → MeansOf words why → AsksClient words → status_of_refusal why ≡ status.OutOfMemory
   client-memory refusal.Usage h client = absurd (only.usage_client h client)
-  client-memory refusal.NotBuilt h client = absurd (only.unbuilt_client h client)
   client-memory refusal.OutOfMemory h client = refl
+
+  pub rehearse-memory : (why : Refusal) → MeansOf words why → AsksRehearse words → status_of_refusal why ≡ status.OutOfMemory
+  rehearse-memory refusal.Usage h rehearse = absurd (only.usage_rehearse h rehearse)
+  rehearse-memory refusal.OutOfMemory h rehearse = refl
 
   module _ (why : Refusal) (h : MeansOf words why) where
     module _ {A : Type 0} (air : AirGhosts A) (before : A) where

@@ -4,6 +4,7 @@ pub mod Clients
 pub mod Exactly
 pub mod Files
 pub mod Making
+pub mod Rehearsing
 pub mod Run
 pub mod Servers
 pub mod Sessions

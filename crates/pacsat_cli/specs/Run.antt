@@ -1,7 +1,6 @@
 -- What a run of the program did, whatever its words ask for.
 use Rattle.std.specs.Prelude.{◌≡◌, ◌⊎◌, ℕ, List, Contains, Option}
 use Rattle.px_base.specs.Outside.{Gains, GainsPrefix, Rose}
-use Rattle.command_words.specs.Words.{IsUnbuilt, IsUsage}
 use Rattle.pacsat_cli.specs.declared.status.Status.{Status}
 
 -- what is seen so of an object stayed
@@ -16,10 +15,6 @@ IsUnless result status others = (result ≡ status) ⊎ Contains others result
 pub record HasStatusCause (fault : Status) (before now : ℕ) (status : Status) : Type 0 where
   pub rose : status ≡ fault → Rose before now
   pub same : (status ≡ fault → ⊥) → now ≡ before
-
--- The words aren't in the command set, or ask for what isn't built yet.
-abbrev pub AreRefused : List (List ℕ) → Type 0
-AreRefused words = IsUsage words ⊎ IsUnbuilt words
 
 -- These octets were shown, and the output's count of faults is as it was; or the count rose, and some prefix of them was
 -- shown.

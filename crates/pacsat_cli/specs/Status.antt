@@ -7,7 +7,7 @@ use Rattle.pacsat_cli.specs.declared.status.BadStore.TheVariants.{NotAStore, Dam
 use Rattle.pacsat_cli.specs.declared.status.RefusedBy.{RefusedBy}
 use Rattle.pacsat_cli.specs.declared.status.RefusedBy.TheVariants.{Shown, Server, Fault}
 use Rattle.pacsat_cli.specs.declared.status.Status.{Status}
-use Rattle.pacsat_cli.specs.declared.status.Status.TheVariants.{Done, Refused, Usage, AirRead, AirWrite, Disk, NoSuch, FileChanged, BadStore as bad_store, OutOfMemory, Spent, Out, Shelf, LinkDown, Strange, NotesFull, TooLong, NotBuilt}
+use Rattle.pacsat_cli.specs.declared.status.Status.TheVariants.{Done, Refused, Usage, AirRead, AirWrite, Disk, NoSuch, FileChanged, BadStore as bad_store, OutOfMemory, Spent, Out, Shelf, LinkDown, BadSchedule, Strange, NotesFull, TooLong}
 
 abbrev pub number_of : Status → ℕ
 number_of Done = 0
@@ -24,10 +24,10 @@ number_of Spent = 10
 number_of Out = 11
 number_of Shelf = 12
 number_of LinkDown = 13
+number_of (BadSchedule line) = 14
 number_of (Strange kind) = 15
 number_of NotesFull = 16
 number_of TooLong = 17
-number_of NotBuilt = 18
 
 -- The line of content that is no store: its first eight octets in hexadecimal digits, in lower case; or the place of the
 -- damage in decimal digits.
@@ -68,7 +68,7 @@ line_of Spent = codes "spent\n"
 line_of Out = codes "out\n"
 line_of Shelf = codes "shelf\n"
 line_of LinkDown = codes "link down\n"
+line_of (BadSchedule line) = numbered_line (codes "bad schedule ") line
 line_of (Strange kind) = numbered_line (codes "strange packet ") kind
 line_of NotesFull = codes "notes full\n"
 line_of TooLong = codes "too long\n"
-line_of NotBuilt = codes "not built\n"

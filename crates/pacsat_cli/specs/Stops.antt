@@ -13,7 +13,7 @@ use Rattle.uploader.specs.declared.stop.SendStop.TheVariants as stop
 use Rattle.pacsat_cli.specs.declared.status.BadStore.TheVariants.{NotAStore, Damaged}
 use Rattle.pacsat_cli.specs.declared.status.RefusedBy.TheVariants.{Fault, Server}
 use Rattle.pacsat_cli.specs.declared.status.Status.{Status}
-use Rattle.pacsat_cli.specs.declared.status.Status.TheVariants.{Done, Refused, Usage, AirRead, AirWrite, Disk, NoSuch, FileChanged, BadStore, OutOfMemory, Spent, Out, Shelf, LinkDown, Strange, NotesFull, TooLong, NotBuilt}
+use Rattle.pacsat_cli.specs.declared.status.Status.TheVariants.{Done, Refused, Usage, AirRead, AirWrite, Disk, NoSuch, FileChanged, BadStore, OutOfMemory, Spent, Out, Shelf, LinkDown, Strange, NotesFull, TooLong}
 
 -- the status of a session or a service that ended so
 abbrev pub status_of : Result Served NodeStop → Status
@@ -59,7 +59,6 @@ status_of_end (Err why) = status_of_stop why
 -- the status of words that were refused
 abbrev pub status_of_refusal : Refusal → Status
 status_of_refusal refusal.Usage = Usage
-status_of_refusal refusal.NotBuilt = NotBuilt
 status_of_refusal refusal.OutOfMemory = OutOfMemory
 
 -- the status of a file that the shelf didn't load

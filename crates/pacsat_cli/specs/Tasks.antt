@@ -1,9 +1,9 @@
 -- What the words ask a run to do, and what a run did of it.
 use Rattle.std.specs.Prelude.{◌≡◌, ◌⊎◌, ℕ, List, Option, Some}
 use Rattle.px_base.specs.Shelves.{Holding, content_of}
-use Rattle.command_words.specs.Asked.{AsksClientFor}
-use Rattle.command_words.specs.Words.{AsksClient, AsksFetch, AsksMake, IsBody, IsMake, IsServe, IsSession}
-use Rattle.command_words.specs.Words.{IsCheck, IsFrames, IsShow}
+use Rattle.command_words.specs.Asked.{AsksClientFor, AsksRehearseFor}
+use Rattle.command_words.specs.Words.{AsksClient, AsksFetch, AsksMake, AsksRehearse, IsBody, IsMake, IsServe}
+use Rattle.command_words.specs.Words.{IsCheck, IsFrames, IsSession, IsShow}
 use Rattle.header_tool.specs.Made.{MakeValue, make_value}
 use Rattle.pacsat_cli.specs.declared.files.FileCommand.{FileCommand}
 use Rattle.pacsat_cli.specs.declared.files.FileCommand.TheVariants as command
@@ -11,7 +11,7 @@ use Rattle.pacsat_cli.specs.declared.making.MakeCommand.{MakeCommand}
 use Rattle.pacsat_cli.specs.declared.making.MakeCommand.TheVariants as making
 use Rattle.pacsat_cli.specs.declared.status.Status.{Status}
 use Rattle.pacsat_cli.specs.declared.task.Task.{Task}
-use Rattle.pacsat_cli.specs.declared.task.Task.TheVariants.{Session, Serve, File, Make, Client}
+use Rattle.pacsat_cli.specs.declared.task.Task.TheVariants.{Session, Serve, File, Make, Client, Rehearse}
 use Rattle.pacsat_cli.specs.Bodies.{BodyRan}
 use Rattle.pacsat_cli.specs.Files.{FileRan}
 use Rattle.pacsat_cli.specs.Making.{IsPossible, MakeRan}
@@ -49,14 +49,15 @@ AsksTask words (Serve request) = IsServe words request
 AsksTask words (File command name) = AsksText words command name.now
 AsksTask words (Make command) = AsksMaking words command
 AsksTask words (Client request) = AsksClientFor words request.now
+AsksTask words (Rehearse request) = AsksRehearseFor words request.now
 
 -- the words ask for a file that is kept on the shelf: one that is made, or one that is fetched
 abbrev pub AsksKept : List (List ℕ) → Type 0
 AsksKept words = AsksMake words ⊎ AsksFetch words
 
--- the words ask for something that is shown: the text of a file, or what comes of a client's command
+-- the words ask for something that is shown: the text of a file, or what comes of a client's command or of a rehearsal
 abbrev pub AsksShown : List (List ℕ) → Type 0
-AsksShown words = AsksFile words ⊎ AsksClient words
+AsksShown words = AsksFile words ⊎ (AsksClient words ⊎ AsksRehearse words)
 
 -- where the words ask for the text of a file, it is shown so
 abbrev pub RunsFile : {S O : Type 0} → List (List ℕ) → (S → Option Holding) → (O → Option (List ℕ)) → (O → ℕ) → S → O → O → Status → Type 0

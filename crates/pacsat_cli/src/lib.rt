@@ -1,16 +1,19 @@
 //! The program's one top call, `run`, and what it is made of: the session or the service of a node, the commands of a
-//! client, the texts of files, and the making of a file.
+//! client, the texts of files, the making of a file, and a rehearsal.
 #![tactic(auto)]
 
+mod bench;
 mod clients;
 mod files;
 mod making;
+mod rehearsing;
 mod serving;
 mod startup;
 mod status;
 mod task;
 mod top_call;
 
+pub use bench::fresh_bench;
 pub use command_words::Words;
 pub use startup::{Host, HostCall, MemoryHost, NotHeld, WordsRefusal, start};
 pub use status::{BadStore, RefusedBy, Status};

@@ -1,6 +1,6 @@
 //! How a run of the program ended.
 
-ghost use Rattle.std.specs.Prelude.{◌≡◌, ◌+◌, ◌≤◌, ◌++◌, decimal, length};
+ghost use Rattle.std.specs.Prelude.{◌≡◌, ◌+◌, ◌≤◌, ◌++◌, codes, decimal, length};
 ghost use Rattle.arrayvec.specs.ArrayVec.{array_vec_len};
 ghost use Rattle.hex.specs.Hex.{encode_lower};
 ghost use Rattle.pacsat_cli.specs.Status.{bad_line, changed_line, line_of, number_of, numbered_line, refused_line, sum_text};
@@ -50,7 +50,7 @@ pub enum RefusedBy {
     },
 }
 
-/// How a run of the program ended. The statuses of commands that aren't built yet come with them.
+/// How a run of the program ended.
 #[derive(Clone, Copy, Debug, PartialEq, Eq)]
 pub enum Status {
     /// The command did what it says; a node that serves read the end of the air.
@@ -88,6 +88,11 @@ pub enum Status {
     /// The link to the server went down before anything became of what was asked, or the end of the air was read before
     /// (AX.25 2.0, 2.4).
     LinkDown,
+    /// The content of the name is no schedule, or an event of it may not come where it stands.
+    BadSchedule {
+        /// The number of the first line that can't be a schedule's, or of the event's, from 1 on.
+        line: u64,
+    },
     /// The server said a packet that has no place in what was asked, or a malformed one; or the reply to it didn't fit the
     /// link.
     Strange {
@@ -98,8 +103,6 @@ pub enum Status {
     NotesFull,
     /// The content of the name is longer than may be.
     TooLong,
-    /// A word asks for what isn't built yet.
-    NotBuilt,
 }
 
 impl Status {
@@ -122,10 +125,10 @@ impl Status {
             Status::Out => 11,
             Status::Shelf => 12,
             Status::LinkDown => 13,
+            Status::BadSchedule { .. } => 14,
             Status::Strange { .. } => 15,
             Status::NotesFull => 16,
             Status::TooLong => 17,
-            Status::NotBuilt => 18,
         }
     }
 
@@ -149,10 +152,10 @@ impl Status {
             Status::Out => text("out\n"),
             Status::Shelf => text("shelf\n"),
             Status::LinkDown => text("link down\n"),
+            Status::BadSchedule { line } => line_of_schedule(*line),
             Status::Strange { kind } => numbered("strange packet ", u32::from(*kind)),
             Status::NotesFull => text("notes full\n"),
             Status::TooLong => text("too long\n"),
-            Status::NotBuilt => text("not built\n"),
         }
     }
 }
@@ -175,6 +178,17 @@ pub(crate) fn numbered(words: &str, number: u32) -> Line
     let mut line = Line::new();
     push(&mut line, words.as_bytes());
     push_number(&mut line, number);
+    push(&mut line, b"\n");
+    line
+}
+
+/// The line of content that is no lawful schedule, by the line of that.
+fn line_of_schedule(number: u64) -> Line
+    ensures { result.items ≡ numbered_line (codes "bad schedule ") number }
+{
+    let mut line = Line::new();
+    push(&mut line, b"bad schedule ");
+    push(&mut line, Buffer::new().format(number).as_bytes());
     push(&mut line, b"\n");
     line
 }

@@ -7,7 +7,8 @@ ghost use Rattle.pacsat_cli.specs.Tasks.{AsksTask};
 use crate::files::FileCommand;
 use crate::making::MakeCommand;
 use command_words::{
-    ClientRequest, FetchRequest, ListRequest, Request, SendRequest, ServeRequest, SessionRequest,
+    ClientRequest, FetchRequest, ListRequest, RehearseRequest, Request, SendRequest, ServeRequest,
+    SessionRequest,
 };
 
 /// What a run does, by what the words ask for.
@@ -28,6 +29,8 @@ pub(crate) enum Task<'a> {
     Make(MakeCommand<'a>),
     /// Carries out a client's command.
     Client(&'a ClientRequest<'a>),
+    /// Plays a rehearsal.
+    Rehearse(&'a RehearseRequest<'a>),
 }
 
 /// What is done for this request.
@@ -52,5 +55,6 @@ pub(crate) fn task_of<'a>(request: &'a Request<'a>) -> Task<'a>
         Request::PfhMake(make) => Task::Make(MakeCommand::Make(*make)),
         Request::PfhBody(body) => Task::Make(MakeCommand::Body(*body)),
         Request::Client(client) => Task::Client(client),
+        Request::Rehearse(rehearsal) => Task::Rehearse(rehearsal),
     }
 }

@@ -1,8 +1,9 @@
 //! The top call.
 
 ghost use Rattle.std.specs.Prelude.{◌≡◌, ◌≤◌, [], ◌∷◌};
+ghost use Rattle.disk_model.specs.Cuts.{AreFresh, cuts_by};
 ghost use Rattle.command_words.specs.Laws.{AsksServe, AsksSession};
-ghost use Rattle.command_words.specs.Words.{AsksClient, AsksList, AsksMake, IsUnbuilt, IsUsage, NamesBuilt};
+ghost use Rattle.command_words.specs.Words.{AsksClient, AsksList, AsksMake, AsksRehearse, IsUsage, NamesCommand};
 ghost use Rattle.px_base.specs.Outside.{Rose};
 ghost use Rattle.node.specs.Lent.{lent, seen};
 ghost use Rattle.pacsat_cli.specs.Acknowledged.{ServiceStands, SessionStands};
@@ -10,7 +11,8 @@ ghost use Rattle.pacsat_cli.specs.Clients.{RunsFetch, RunsList, RunsSend, outsid
 ghost use Rattle.pacsat_cli.specs.Exactly.{FetchEndsExactly, ListEndsExactly, SendEndsExactly, SendRefuses};
 ghost use Rattle.pacsat_cli.specs.Exactly.{SendStarts};
 ghost use Rattle.pacsat_cli.specs.Files.{IsNoSuchBy, IsShownBy, IsTooLongBy};
-ghost use Rattle.pacsat_cli.specs.Run.{AreRefused, HasStatusCause, IsUnless, Shows, Stays};
+ghost use Rattle.pacsat_cli.specs.Rehearsing.{Rehearses, lab, seen_lab};
+ghost use Rattle.pacsat_cli.specs.Run.{HasStatusCause, IsUnless, Shows, Stays};
 ghost use Rattle.pacsat_cli.specs.Servers.{RunsServe, WhereServed};
 ghost use Rattle.pacsat_cli.specs.Sessions.{AsksDisk, AsksMoment, AsksNode, HasDiskCause, HasReadCause, HasStoreCause};
 ghost use Rattle.pacsat_cli.specs.Sessions.{HasWriteCause};
@@ -22,27 +24,30 @@ ghost use Rattle.pacsat_cli.specs.Tasks.{AsksFile, AsksKept, AsksShown, RunsBody
 use crate::clients::run_client;
 use crate::files::run_file;
 use crate::making::run_making;
+use crate::rehearsing::run_rehearsal;
 use crate::serving::{run_serve, run_session};
 use crate::task::{Task, task_of};
 use crate::{Status, Words};
+use air_schedule::laws::one_schedule;
 use command_words::Refusal;
 use command_words::laws::one_meaning;
-use disk_model::Disk;
+use disk_model::{CutDisk, Disk};
 use ftl0_client::laws::{one_step_law, stays_law};
 use node::laws::one_run_law;
 use px_base::{Air, Clock, Out, Shelf};
 use server_node::laws::{server_acknowledges_law, session_acknowledges_law};
 use std::alloc::Global;
 
-/// Does what the words ask for, over this disk, air, shelf, output and clock, and shows the status's line on the output.
+/// Does what the words ask for, over this disk, air, shelf, output, clock and bench, and shows the status's line on the
+/// output.
 ///
-/// These commands are built: `serve`, the server of up to eight sessions on the air, with a store on the disk; `session`,
+/// The commands are `serve`, the server of up to eight sessions on the air, with a store on the disk; `session`,
 /// one session over FTL0 octets without a link, with a store on the disk, or, where DISK is `none`, on a fresh one in
 /// memory; `send`, `fetch` and `list`, the commands of a client of a server on the air, with its notes on the disk; `frames`,
-/// `pfh-show` and `pfh-check`, which show a text of a file on the shelf; and `pfh-make` and `pfh-body`, which make a
-/// file of one on the shelf, with a header or without it, and keep it there. A place for a bench after the clock comes
-/// with the command that uses it. Takes memory.
-pub fn run<D: Disk, A: Air, S: Shelf, O: Out, C: Clock>(
+/// `pfh-show` and `pfh-check`, which show a text of a file on the shelf; `pfh-make` and `pfh-body`, which make a file
+/// of one on the shelf, with a header or without it, and keep it there; and `rehearse`, which plays a schedule of the
+/// shelf, or one that is drawn, over the nine disks of the bench, the server's and those of eight clients. Takes memory.
+pub fn run<D: Disk, A: Air, S: Shelf, O: Out, C: Clock, B: CutDisk>(
     alloc: Global,
     words: &Words,
     disk: &mut D,
@@ -50,16 +55,15 @@ pub fn run<D: Disk, A: Air, S: Shelf, O: Out, C: Clock>(
     shelf: &mut S,
     out: &mut O,
     clock: &mut C,
+    bench: &mut Vec<B>,
 ) -> Status
-    // Usage comes exactly by the words, and words that ask for what isn't built yet give NotBuilt, both but for want of
-    // memory to read the words of a command that is built; then nothing is touched. What the shelf holds stays, but for
-    // a file that is made or fetched.
+    requires { AreFresh B.Disk (cuts_by B.restarts B.arming B.plain B.is_starved) bench.old.items }
+    // Usage comes exactly by the words, but for want of memory to read those of a command; then nothing is touched.
+    // What the shelf holds stays, but for a file that is made or fetched.
     ensures usage { result ≡ Status.Usage → IsUsage words.now }
     ensures usage_told { IsUsage words.now → IsUnless result Status.Usage (Status.OutOfMemory ∷ []) }
-    ensures unbuilt { result ≡ Status.NotBuilt → IsUnbuilt words.now }
-    ensures unbuilt_words { IsUnbuilt words.now → IsUnless result Status.NotBuilt (Status.OutOfMemory ∷ []) }
-    ensures unread { AreRefused words.now → result ≡ Status.OutOfMemory → NamesBuilt words.now }
-    ensures untouched { AreRefused words.now → (air.new ≡ air.old) × (shelf.new ≡ shelf.old) × (clock.new ≡ clock.old) }
+    ensures unread { IsUsage words.now → result ≡ Status.OutOfMemory → NamesCommand words.now }
+    ensures untouched { IsUsage words.now → (air.new ≡ air.old) × (shelf.new ≡ shelf.old) × (clock.new ≡ clock.old) }
     ensures held { (AsksKept words.now → ⊥) → Stays S.held shelf.old shelf.new }
 
     // A session says LOGIN_RESP, and for each packet of the octets heard the replies of its table and all that is due right
@@ -145,6 +149,15 @@ pub fn run<D: Disk, A: Air, S: Shelf, O: Out, C: Clock>(
     ensures body { RunsBody words.now S.held shelf.old shelf.new result }
     ensures made_alone { AsksMake words.now → (air.new ≡ air.old) × (clock.new ≡ clock.old) }
 
+    // `rehearse` plays the schedule that the shelf has under the name, or one that is drawn, over the bench, and shows
+    // the line of its report: each event could come in its turn, what is promised of uploads and downloads holds after
+    // each, and in all that a crash leaves of the server's disk. Or it ends with a status that has its cause, by the
+    // content of the name exactly. No other command touches the bench; and it touches neither disk nor air nor clock.
+    ensures rehearsal { Rehearses words.now
+        (seen_lab B.Disk (cuts_by B.restarts B.arming B.plain B.is_starved) S.Shelf O.Out)
+        (lab bench.old.items shelf.old out.old) (lab bench.new.items shelf.new out.new) result }
+    ensures rehearsal_alone { AsksRehearse words.now → (air.new ≡ air.old) × (clock.new ≡ clock.old) }
+
     // A fault is answered only where its count rose; and where it isn't answered, its count stayed, but for the
     // status's line, for a reply that was to be said after a fault of the disk, for a read of the disk that was told by
     // code 3, and for an air that failed when a client's command had its outcome.
@@ -164,19 +177,20 @@ pub fn run<D: Disk, A: Air, S: Shelf, O: Out, C: Clock>(
         → IsDoneAtEnd A.Air D.read_faults D.write_faults air.old air.new disk.old disk.new }
     ensures done { result ≡ Status.Done → Stays S.faults shelf.old shelf.new × Stays O.faults out.old out.new }
 
-    // But for the text of a file and a client's command the status's line alone is shown, or the output's count of faults
-    // rose.
+    // But for the text of a file, a client's command and a rehearsal the status's line alone is shown, or the output's
+    // count of faults rose.
     ensures unshown { result ≡ Status.Done → (AsksShown words.now → ⊥) → out.new ≡ out.old }
     ensures shown { (AsksShown words.now → ⊥) → Shows O.shown O.faults out.old out.new (line_of result) }
 {
-    // The words ask for one thing, what is acknowledged stands, and a client has one run over what is heard, in which what
-    // became of its job stays.
+    // The words ask for one thing, what is acknowledged stands, a client has one run over what is heard, in which what
+    // became of its job stays, and a text is the text of one schedule.
     one_meaning();
     session_acknowledges_law::<D, A, C>();
     server_acknowledges_law::<D, A, C>();
     one_run_law();
     one_step_law();
     stays_law();
+    one_schedule();
     let request = match command_words::read(alloc, words) {
         Ok(request) => request,
         Err(refusal) => {
@@ -211,6 +225,11 @@ pub fn run<D: Disk, A: Air, S: Shelf, O: Out, C: Clock>(
             show_line(status, out);
             status
         }
+        Task::Rehearse(request) => {
+            let status = run_rehearsal(alloc, request, bench, shelf, out);
+            show_line(status, out);
+            status
+        }
     }
 }
 
@@ -242,7 +261,6 @@ fn status_of_refused(refusal: Refusal) -> Status
 {
     match refusal {
         Refusal::Usage => Status::Usage,
-        Refusal::NotBuilt => Status::NotBuilt,
         Refusal::OutOfMemory => Status::OutOfMemory,
     }
 }

@@ -7,7 +7,7 @@ ghost use Rattle.std.specs.Prelude.{◌≤◌, length, IfOk};
 
 use anyhow::{Context, Result};
 use disk_model::MemoryDisk;
-use pacsat_cli::{Words, run};
+use pacsat_cli::{Words, fresh_bench, run};
 use px_base::{MemoryAir, MemoryClock, MemoryOut, MemoryShelf, Shelf};
 use row_words::{Player, read_numbers, read_words, written};
 use std::alloc::Global;
@@ -55,7 +55,11 @@ fn run_over(
     let mut disk = MemoryDisk::new(alloc, &[], &[])?;
     let mut air = MemoryAir::new(alloc, Vec::new(alloc), &[])?;
     let mut clock = MemoryClock::new(alloc, read_moments(alloc, moments)?.as_slice())?;
-    let number = run(alloc, words, &mut disk, &mut air, shelf, out, &mut clock).number();
+    let mut bench = fresh_bench(alloc)?;
+    let status = run(
+        alloc, words, &mut disk, &mut air, shelf, out, &mut clock, &mut bench,
+    );
+    let number = status.number();
     let said = hex::encode(alloc, air.said())?;
     let shown = shown_text(alloc, out.shown())?;
     Ok(format!(in alloc; "{number};{said};{shown}")?)

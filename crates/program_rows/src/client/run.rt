@@ -2,7 +2,7 @@
 
 use anyhow::{Context, Result};
 use disk_model::Disk;
-use pacsat_cli::{Words, run};
+use pacsat_cli::{Words, fresh_bench, run};
 use px_base::{FileBytes, MemoryAir, MemoryClock, MemoryOut, MemoryShelf, Shelf};
 use row_words::{OverDisk, Script, read_numbers};
 use std::alloc::Global;
@@ -108,6 +108,7 @@ impl OverDisk for Run<'_> {
 
     /// Runs the words over this disk, and gives the status's number.
     fn over<D: Disk>(&mut self, alloc: Global, disk: &mut D) -> Result<u8> {
+        let mut bench = fresh_bench(alloc)?;
         let status = run(
             alloc,
             self.words,
@@ -116,6 +117,7 @@ impl OverDisk for Run<'_> {
             &mut self.shelf,
             &mut self.out,
             &mut self.clock,
+            &mut bench,
         );
         Ok(status.number())
     }

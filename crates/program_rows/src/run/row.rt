@@ -3,7 +3,7 @@
 use crate::run::standing::standing_text;
 use anyhow::{Context, Result};
 use disk_model::{Disk, MemoryDisk};
-use pacsat_cli::{Words, run};
+use pacsat_cli::{Words, fresh_bench, run};
 use px_base::{MemoryAir, MemoryClock, MemoryOut, MemoryShelf};
 use row_words::{OverDisk, Player, Script, disk_after, octets_before, read_numbers, read_words};
 use std::alloc::Global;
@@ -90,7 +90,9 @@ fn run_over<D: Disk>(
     clock: &mut MemoryClock,
 ) -> Result<u8> {
     let mut shelf = MemoryShelf::new(alloc, &[])?;
-    Ok(run(alloc, words, disk, air, &mut shelf, out, clock).number())
+    let mut bench = fresh_bench(alloc)?;
+    let status = run(alloc, words, disk, air, &mut shelf, out, clock, &mut bench);
+    Ok(status.number())
 }
 
 /// The text that was shown, without its line feed.

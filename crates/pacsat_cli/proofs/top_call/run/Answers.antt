@@ -1,9 +1,11 @@
 -- Each task by what it did, and refused words by why they were.
 use Rattle.std.proofs.Common.{◌≡◌, ℕ, List, refl, ap, sym, arith, inl, inr, Err}
 use Rattle.command_words.specs.Laws.{AsksServe, AsksSession}
-use Rattle.command_words.specs.Words.{AsksClient, AsksMake}
+use Rattle.command_words.specs.Words.{AsksClient, AsksMake, AsksRehearse}
 use Rattle.pacsat_cli.specs.declared.files.FileCommand.{FileCommand}
 use Rattle.pacsat_cli.specs.declared.status.Status.TheVariants as status
+use Rattle.disk_model.specs.Cuts.{cuts_by}
+use Rattle.pacsat_cli.specs.Rehearsing.{PlayEnd, lab, seen_lab}
 use Rattle.pacsat_cli.specs.Status.{line_of}
 use Rattle.pacsat_cli.specs.Stops.{status_of_refusal}
 use Rattle.pacsat_cli.specs.Tasks.{AsksFile, AsksText}
@@ -11,11 +13,12 @@ use Rattle.node.specs.Lent.{lent, seen}
 use Rattle.pacsat_cli.proofs.Acknowledged.{service-stands, session-stands}
 use Rattle.pacsat_cli.proofs.ExactCarried.{fetch-exactly, list-exactly}
 use Rattle.pacsat_cli.proofs.ExactSend.{send-exactly, send-refuses, send-starts}
-use Rattle.pacsat_cli.proofs.OneTask.{file-client, file-make, make-client, node-client, refused-client, node-file, node-make, one-text, serve-file, serve-make, session-file, session-make, unbuilt-file, unbuilt-make, usage-file, usage-make}
+use Rattle.pacsat_cli.proofs.OneTask.{file-client, file-make, file-rehearse, make-client, make-rehearse, node-client, node-file, node-make, node-rehearse, one-text, serve-file, serve-make, session-file, session-make, usage-file, usage-make}
 use Rattle.pacsat_cli.proofs.RunClient.{asks-client, client-alone, client-did, client-done, client-fetches, client-held, client-lists, client-not, client-rose, client-sends, client-store, may-run}
 use Rattle.pacsat_cli.proofs.RunFile.{file-done, file-no_such, file-not, file-rose, file-runs, file-shown, file-too_long}
 use Rattle.pacsat_cli.proofs.RunMake.{asks-make, body-runs, make-not, make-runs, may-make}
-use Rattle.pacsat_cli.proofs.RunRefused.{means, refused-bad_store, refused-body, refused-complete, refused-disk, refused-fetch, refused-files, refused-list, refused-made, refused-no_such, refused-not, refused-send, refused-serve, refused-serve_complete, refused-serve_spent, refused-session, refused-shown, refused-spent, refused-too_long, refused-unbuilt, refused-unbuilt_told, refused-unread, refused-usage, refused-usage_told}
+use Rattle.pacsat_cli.proofs.RunRefused.{means, refused-bad_store, refused-body, refused-complete, refused-disk, refused-fetch, refused-files, refused-list, refused-made, refused-no_such, refused-not, refused-send, refused-serve, refused-serve_complete, refused-serve_spent, refused-session, refused-shown, refused-spent, refused-too_long, refused-unread, refused-usage, refused-usage_told, rehearse-memory}
+use Rattle.pacsat_cli.proofs.RunRehearsal.{asks-rehearse, no-rehearsal, play-done, play-not, play-rose, refused-rehearsal, rehearses}
 use Rattle.pacsat_cli.proofs.RunServe.{serve-bad_store, serve-complete, serve-disk, serve-done, serve-not, serve-read, serve-runs, serve-spent, serve-write}
 use Rattle.pacsat_cli.proofs.RunSession.{asked_moment, most_blocks, session-alone, session-bad_store, session-complete, session-disk, session-done, session-not, session-read, session-runs, session-spent, session-write, some_blocks}
 use Rattle.pacsat_cli.proofs.top_call.run.Goals as goal
@@ -30,7 +33,7 @@ returns-in-Err g c =
     let words = c.args.words.now in
     let only = c.one_meaning.ensures.only_one words in
     let refused = c.in-Err.ensures in
-    let h = means words why (Err why) refl refused.usage refused.unbuilt refused.memory in
+    let h = means words why (Err why) refl refused.usage refused.memory in
     let line = rw c.status_of_refused-status.ensures at c.show_line.ensures in
     let held = g.S.Shelf.held c.args.shelf.now in
     let send = refused-send words only why h (seen g.D.Disk g.A.Air g.C.Clock.given) g.S.Shelf g.O.Out (lent c.args.disk.now c.args.air.now c.args.clock.now) c.args.shelf.now c.args.out.now c.show_line.new.out line.shown line.no_line in
@@ -40,8 +43,6 @@ returns-in-Err g c =
     (record {
       usage = refused-usage words only why h;
       usage_told = refused-usage_told words only why h;
-      unbuilt = refused-unbuilt_told words only why h;
-      unbuilt_words = refused-unbuilt words only why h;
       unread = λ _. refused-unread words only why h;
       untouched = λ _. (same c.args.air.now, same c.args.shelf.now, same c.args.clock.now);
       held = λ _. same (g.S.Shelf.held c.args.shelf.now);
@@ -74,6 +75,10 @@ returns-in-Err g c =
       made = refused-made words only why h g.S.Shelf.held c.args.shelf.now;
       body = refused-body words only why h g.S.Shelf.held c.args.shelf.now;
       made_alone = λ _. (same c.args.air.now, same c.args.clock.now);
+      rehearsal =
+          refused-rehearsal words (seen_lab g.B.Disk (cuts_by g.B.CutDisk.restarts g.B.CutDisk.arming g.B.CutDisk.plain g.B.CutDisk.is_starved) g.S.Shelf g.O.Out) (lab c.args.bench.now.items c.args.shelf.now c.args.out.now) (lab c.args.bench.now.items c.args.shelf.now c.show_line.new.out) (status_of_refusal why) c.one_schedule.ensures
+          (rehearse-memory words only why h) refl line.shown line.no_line;
+      rehearsal_alone = λ _. (same c.args.air.now, same c.args.clock.now);
       air_read = record { rose = λ e. absurd (refused-not why status.AirRead refl e); same = λ _ _. same (g.A.Air.read_faults c.args.air.now) };
       air_write = record { rose = λ e. absurd (refused-not why status.AirWrite refl e); same = λ _ _ _ _. same (g.A.Air.write_faults c.args.air.now) };
       disk = refused-disk words only why h g.D.Disk.read_faults g.D.Disk.write_faults c.args.disk.now c.args.air.now;
@@ -108,10 +113,8 @@ returns-in-Session g c =
     record {
       usage = λ e. absurd (isnt status.Usage refl e);
       usage_told = λ usage. absurd (only.usage_session usage session);
-      unbuilt = λ e. absurd (isnt status.NotBuilt refl e);
-      unbuilt_words = λ unbuilt. absurd (only.unbuilt_session unbuilt session);
-      unread = λ refused. absurd (elim refused [ inl usage ↦ only.usage_session usage session | inr unbuilt ↦ only.unbuilt_session unbuilt session ]);
-      untouched = λ refused. absurd (elim refused [ inl usage ↦ only.usage_session usage session | inr unbuilt ↦ only.unbuilt_session unbuilt session ]);
+      unread = λ usage. absurd (only.usage_session usage session);
+      untouched = λ usage. absurd (only.usage_session usage session);
       held = λ _. same (g.S.Shelf.held c.args.shelf.now);
       session = runs;
       session_alone = λ _. same c.args.shelf.now;
@@ -142,6 +145,8 @@ returns-in-Session g c =
       made = λ body name spec is. absurd (session-make words only session (inl (body, name, spec, is)));
       body = λ name kept is. absurd (session-make words only session (inr (name, kept, is)));
       made_alone = λ make. absurd (session-make words only session make);
+      rehearsal = no-rehearsal words (seen_lab g.B.Disk (cuts_by g.B.CutDisk.restarts g.B.CutDisk.arming g.B.CutDisk.plain g.B.CutDisk.is_starved) g.S.Shelf g.O.Out) (lab c.args.bench.now.items c.args.shelf.now c.args.out.now) (lab c.args.bench.now.items c.args.shelf.now c.show_line-in-Session.new.out) ran.result (only.session_rehearse session) refl;
+      rehearsal_alone = λ rehearse. absurd (only.session_rehearse session rehearse);
       air_read = session-read g.D.Disk g.A.Air g.C.Clock.given c.args.disk.now ran.new.disk c.args.air.now ran.new.air c.args.clock.now ran.new.clock asked ran.result words asks only determined over;
       air_write = session-write g.D.Disk g.A.Air g.C.Clock.given c.args.disk.now ran.new.disk c.args.air.now ran.new.air c.args.clock.now ran.new.clock asked ran.result words asks only determined over;
       disk = session-disk g.D.Disk g.A.Air g.C.Clock.given c.args.disk.now ran.new.disk c.args.air.now ran.new.air c.args.clock.now ran.new.clock asked ran.result words asks only determined over;
@@ -175,10 +180,8 @@ returns-in-Serve g c =
     record {
       usage = λ e. absurd (isnt status.Usage refl e);
       usage_told = λ usage. absurd (only.usage_serve usage serve);
-      unbuilt = λ e. absurd (isnt status.NotBuilt refl e);
-      unbuilt_words = λ unbuilt. absurd (only.unbuilt_serve unbuilt serve);
-      unread = λ refused. absurd (elim refused [ inl usage ↦ only.usage_serve usage serve | inr unbuilt ↦ only.unbuilt_serve unbuilt serve ]);
-      untouched = λ refused. absurd (elim refused [ inl usage ↦ only.usage_serve usage serve | inr unbuilt ↦ only.unbuilt_serve unbuilt serve ]);
+      unread = λ usage. absurd (only.usage_serve usage serve);
+      untouched = λ usage. absurd (only.usage_serve usage serve);
       held = λ _. same (g.S.Shelf.held c.args.shelf.now);
       session = λ other is. absurd (only.session_serve (other, is) serve);
       session_alone = λ session. absurd (only.session_serve session serve);
@@ -209,6 +212,8 @@ returns-in-Serve g c =
       made = λ body name spec is. absurd (serve-make words only serve (inl (body, name, spec, is)));
       body = λ name kept is. absurd (serve-make words only serve (inr (name, kept, is)));
       made_alone = λ make. absurd (serve-make words only serve make);
+      rehearsal = no-rehearsal words (seen_lab g.B.Disk (cuts_by g.B.CutDisk.restarts g.B.CutDisk.arming g.B.CutDisk.plain g.B.CutDisk.is_starved) g.S.Shelf g.O.Out) (lab c.args.bench.now.items c.args.shelf.now c.args.out.now) (lab c.args.bench.now.items c.args.shelf.now c.show_line-in-Serve.new.out) ran.result (only.serve_rehearse serve) refl;
+      rehearsal_alone = λ rehearse. absurd (only.serve_rehearse serve rehearse);
       air_read = serve-read g.D.Disk g.A.Air g.C.Clock.given c.args.disk.now ran.new.disk c.args.air.now ran.new.air c.args.clock.now ran.new.clock asked ran.result words asks only determined over;
       air_write = serve-write g.D.Disk g.A.Air g.C.Clock.given c.args.disk.now ran.new.disk c.args.air.now ran.new.air c.args.clock.now ran.new.clock asked ran.result words asks only determined over;
       disk = serve-disk g.D.Disk g.A.Air g.C.Clock.given c.args.disk.now ran.new.disk c.args.air.now ran.new.air c.args.clock.now ran.new.clock asked ran.result words asks only determined over;
@@ -237,10 +242,8 @@ returns-in-File g c =
     record {
       usage = λ e. absurd (isnt status.Usage refl e);
       usage_told = λ usage. absurd (usage-file words only usage file);
-      unbuilt = λ e. absurd (isnt status.NotBuilt refl e);
-      unbuilt_words = λ unbuilt. absurd (unbuilt-file words only unbuilt file);
-      unread = λ refused. absurd (elim refused [ inl usage ↦ usage-file words only usage file | inr unbuilt ↦ unbuilt-file words only unbuilt file ]);
-      untouched = λ refused. absurd (elim refused [ inl usage ↦ usage-file words only usage file | inr unbuilt ↦ unbuilt-file words only unbuilt file ]);
+      unread = λ usage. absurd (usage-file words only usage file);
+      untouched = λ usage. absurd (usage-file words only usage file);
       held = λ _. ran.ensures.held;
       session = λ asked is. absurd (session-file words only (asked, is) file);
       session_alone = λ session. absurd (session-file words only session file);
@@ -273,6 +276,8 @@ returns-in-File g c =
       made = λ body kept asked is. absurd (file-make words only file (inl (body, kept, asked, is)));
       body = λ name kept is. absurd (file-make words only file (inr (name, kept, is)));
       made_alone = λ make. absurd (file-make words only file make);
+      rehearsal = no-rehearsal words (seen_lab g.B.Disk (cuts_by g.B.CutDisk.restarts g.B.CutDisk.arming g.B.CutDisk.plain g.B.CutDisk.is_starved) g.S.Shelf g.O.Out) (lab c.args.bench.now.items c.args.shelf.now c.args.out.now) (lab c.args.bench.now.items ran.new.shelf c.show_line-in-File.new.out) ran.result (file-rehearse words only file) refl;
+      rehearsal_alone = λ rehearse. absurd (file-rehearse words only file rehearse);
       air_read = record { rose = λ e. absurd (isnt status.AirRead refl e); same = λ _ _. same (g.A.Air.read_faults c.args.air.now) };
       air_write = record { rose = λ e. absurd (isnt status.AirWrite refl e); same = λ _ _ _ _. same (g.A.Air.write_faults c.args.air.now) };
       disk = record { asked = λ e. absurd (isnt status.Disk refl e); rose = λ e. absurd (isnt status.Disk refl e); same = λ _. same (g.D.Disk.write_faults c.args.disk.now); same_reads = λ _ _. same (g.D.Disk.read_faults c.args.disk.now); no_less = (omega arith, omega arith) };
@@ -311,10 +316,8 @@ returns-in-Make g c =
     record {
       usage = λ e. absurd (isnt status.Usage refl e);
       usage_told = λ usage. absurd (usage-make words only usage make);
-      unbuilt = λ e. absurd (isnt status.NotBuilt refl e);
-      unbuilt_words = λ unbuilt. absurd (unbuilt-make words only unbuilt make);
-      unread = λ refused. absurd (elim refused [ inl usage ↦ usage-make words only usage make | inr unbuilt ↦ unbuilt-make words only unbuilt make ]);
-      untouched = λ refused. absurd (elim refused [ inl usage ↦ usage-make words only usage make | inr unbuilt ↦ unbuilt-make words only unbuilt make ]);
+      unread = λ usage. absurd (usage-make words only usage make);
+      untouched = λ usage. absurd (usage-make words only usage make);
       held = λ others. absurd (others (inl make));
       session = λ session is. absurd (session-make words only (session, is) make);
       session_alone = λ session. absurd (session-make words only session make);
@@ -345,6 +348,8 @@ returns-in-Make g c =
       made = make-runs words g.S.Shelf.held c.args.shelf.now ran.new.shelf ran.result only determined command asks made;
       body = body-runs words g.S.Shelf.held c.args.shelf.now ran.new.shelf ran.result only determined command asks made;
       made_alone = λ _. (same c.args.air.now, same c.args.clock.now);
+      rehearsal = no-rehearsal words (seen_lab g.B.Disk (cuts_by g.B.CutDisk.restarts g.B.CutDisk.arming g.B.CutDisk.plain g.B.CutDisk.is_starved) g.S.Shelf g.O.Out) (lab c.args.bench.now.items c.args.shelf.now c.args.out.now) (lab c.args.bench.now.items ran.new.shelf c.show_line-in-Make.new.out) ran.result (make-rehearse words only make) refl;
+      rehearsal_alone = λ rehearse. absurd (make-rehearse words only make rehearse);
       air_read = record { rose = λ e. absurd (isnt status.AirRead refl e); same = λ _ _. same (g.A.Air.read_faults c.args.air.now) };
       air_write = record { rose = λ e. absurd (isnt status.AirWrite refl e); same = λ _ _ _ _. same (g.A.Air.write_faults c.args.air.now) };
       disk = record { asked = λ e. absurd (isnt status.Disk refl e); rose = λ e. absurd (isnt status.Disk refl e); same = λ _. same (g.D.Disk.write_faults c.args.disk.now); same_reads = λ _ _. same (g.D.Disk.read_faults c.args.disk.now); no_less = (omega arith, omega arith) };
@@ -386,10 +391,8 @@ returns-in-Client g c =
     record {
       usage = λ e. absurd (isnt status.Usage refl e);
       usage_told = λ usage. absurd (only.usage_client usage client);
-      unbuilt = λ e. absurd (isnt status.NotBuilt refl e);
-      unbuilt_words = λ unbuilt. absurd (only.unbuilt_client unbuilt client);
-      unread = λ refused. absurd (refused-client words only refused client);
-      untouched = λ refused. absurd (refused-client words only refused client);
+      unread = λ usage. absurd (only.usage_client usage client);
+      untouched = λ usage. absurd (only.usage_client usage client);
       held = client-held (seen g.D.Disk g.A.Air g.C.Clock.given) g.S.Shelf g.O.Out (lent c.args.disk.now c.args.air.now c.args.clock.now) (lent ran.new.disk ran.new.air ran.new.clock) c.args.shelf.now ran.new.shelf c.args.out.now ran.new.out c.show_line-in-Client.new.out words ran.result request asks ran.ensures;
       session = λ other is. absurd (only.session_client (other, is) client);
       session_alone = λ session. absurd (only.session_client session client);
@@ -420,6 +423,8 @@ returns-in-Client g c =
       made = λ body kept spec is. absurd (make-client words only (inl (body, kept, spec, is)) client);
       body = λ name kept is. absurd (make-client words only (inr (name, kept, is)) client);
       made_alone = λ make. absurd (make-client words only make client);
+      rehearsal = no-rehearsal words (seen_lab g.B.Disk (cuts_by g.B.CutDisk.restarts g.B.CutDisk.arming g.B.CutDisk.plain g.B.CutDisk.is_starved) g.S.Shelf g.O.Out) (lab c.args.bench.now.items c.args.shelf.now c.args.out.now) (lab c.args.bench.now.items ran.new.shelf c.show_line-in-Client.new.out) ran.result (only.client_rehearse client) refl;
+      rehearsal_alone = λ rehearse. absurd (only.client_rehearse client rehearse);
       air_read = did.read;
       air_write = did.write;
       disk = did.disk;
@@ -428,6 +433,79 @@ returns-in-Client g c =
       bad_store = client-store (seen g.D.Disk g.A.Air g.C.Clock.given) g.S.Shelf g.O.Out (lent c.args.disk.now c.args.air.now c.args.clock.now) (lent ran.new.disk ran.new.air ran.new.clock) c.args.shelf.now ran.new.shelf c.args.out.now ran.new.out c.show_line-in-Client.new.out words ran.result did client only;
       node_done = λ node. absurd (node-client words only node client);
       done = client-done (seen g.D.Disk g.A.Air g.C.Clock.given) g.S.Shelf g.O.Out (lent c.args.disk.now c.args.air.now c.args.clock.now) (lent ran.new.disk ran.new.air ran.new.clock) c.args.shelf.now ran.new.shelf c.args.out.now ran.new.out c.show_line-in-Client.new.out words ran.result did line.no_line;
-      unshown = λ _ others. absurd (others (inr client));
-      shown = λ others. absurd (others (inr client));
+      unshown = λ _ others. absurd (others (inr (inl client)));
+      shown = λ others. absurd (others (inr (inl client)));
+    }
+
+pub returns-in-Rehearse : goal.returns-in-Rehearse
+returns-in-Rehearse g c =
+    let request = c.in-Rehearse.request.now in
+    let words = c.args.words.now in
+    let asks = c.in-Rehearse.ensures words c.in-Ok.ensures.asks in
+    let only = c.one_meaning.ensures.only_one words in
+    let determined = c.one_meaning.ensures.determined words in
+    let rehearse : AsksRehearse words = asks-rehearse words request asks in
+    let ran = c.run_rehearsal-status in
+    let line = c.show_line-in-Rehearse.ensures in
+    let held = g.S.Shelf.held c.args.shelf.now in
+    let cuts = cuts_by g.B.CutDisk.restarts g.B.CutDisk.arming g.B.CutDisk.plain g.B.CutDisk.is_starved in
+    let ends = PlayEnd g.B.Disk cuts held request c.args.bench.now.items ran.new.bench.items in
+    let isnt = play-not g.B.Disk cuts g.O.Out held request c.args.bench.now.items ran.new.bench.items c.args.out.now ran.new.out ran.result ran.ensures.shown in
+    record {
+      usage = λ e. absurd (isnt status.Usage refl e);
+      usage_told = λ usage. absurd (only.usage_rehearse usage rehearse);
+      unread = λ usage. absurd (only.usage_rehearse usage rehearse);
+      untouched = λ usage. absurd (only.usage_rehearse usage rehearse);
+      held = λ _. ran.ensures.shelf.0;
+      session = λ asked is. absurd (only.session_rehearse (asked, is) rehearse);
+      session_alone = λ session. absurd (only.session_rehearse session rehearse);
+      serve = λ asked is. absurd (only.serve_rehearse (asked, is) rehearse);
+      serve_alone = λ serve. absurd (only.serve_rehearse serve rehearse);
+      clock_unasked = λ _. same c.args.clock.now;
+      send = λ asked name is. absurd (only.client_rehearse (inl (asked, name, is)) rehearse);
+      fetch = λ asked number name is. absurd (only.client_rehearse (inr (inl (asked, number, name, is))) rehearse);
+      list = λ asked tokens is. absurd (only.client_rehearse (inr (inr (asked, tokens, is))) rehearse);
+      list_alone = λ asks. absurd (only.client_rehearse (inr (inr asks)) rehearse);
+      send_refuses = λ asked name is. absurd (only.client_rehearse (inl (asked, name, is)) rehearse);
+      send_starts = λ of. absurd (only.client_rehearse (inl (of.asked, of.name, of.asks)) rehearse);
+      send_exactly = λ of. absurd (only.client_rehearse (inl (of.asked, of.name, of.asks)) rehearse);
+      fetch_exactly = λ led. absurd (only.client_rehearse (inr (inl (led.asked, led.number, led.name, led.asks))) rehearse);
+      list_exactly = λ led. absurd (only.client_rehearse (inr (inr (led.asked, led.tokens, led.asks))) rehearse);
+      session_acknowledged = λ _ _ _. inl (same c.args.air.now);
+      serve_acknowledged = λ _ _. inl (same c.args.air.now);
+      disk_alone = λ _. same c.args.disk.now;
+      complete = λ told. absurd (only.session_rehearse (told.asked, told.asks) rehearse);
+      spent = λ told. absurd (only.session_rehearse (told.asked, told.asks) rehearse);
+      serve_complete = λ told. absurd (only.serve_rehearse (told.asked, told.asks) rehearse);
+      serve_spent = λ told. absurd (only.serve_rehearse (told.asked, told.asks) rehearse);
+      files = λ command name is. absurd (file-rehearse words only (command, name, is) rehearse);
+      files_alone = λ file. absurd (file-rehearse words only file rehearse);
+      no_such = λ command name shelf is. absurd (file-rehearse words only (command, name, is) rehearse);
+      too_long = λ command name shelf is. absurd (file-rehearse words only (command, name, is) rehearse);
+      files_done = λ command name shelf is. absurd (file-rehearse words only (command, name, is) rehearse);
+      made = λ body kept asked is. absurd (make-rehearse words only (inl (body, kept, asked, is)) rehearse);
+      body = λ name kept is. absurd (make-rehearse words only (inr (name, kept, is)) rehearse);
+      made_alone = λ make. absurd (make-rehearse words only make rehearse);
+      rehearsal =
+          rehearses words (seen_lab g.B.Disk (cuts_by g.B.CutDisk.restarts g.B.CutDisk.arming g.B.CutDisk.plain g.B.CutDisk.is_starved) g.S.Shelf g.O.Out) (lab c.args.bench.now.items c.args.shelf.now c.args.out.now) (lab ran.new.bench.items ran.new.shelf c.show_line-in-Rehearse.new.out) ran.result
+          c.one_schedule.ensures only determined ran.new.out line.shown line.no_line request asks ran.ensures.shown;
+      rehearsal_alone = λ _. (same c.args.air.now, same c.args.clock.now);
+      air_read = record { rose = λ e. absurd (isnt status.AirRead refl e); same = λ _ _. same (g.A.Air.read_faults c.args.air.now) };
+      air_write = record { rose = λ e. absurd (isnt status.AirWrite refl e); same = λ _ _ _ _. same (g.A.Air.write_faults c.args.air.now) };
+      disk = record { asked = λ e. absurd (isnt status.Disk refl e); rose = λ e. absurd (isnt status.Disk refl e); same = λ _. same (g.D.Disk.write_faults c.args.disk.now); same_reads = λ _ _. same (g.D.Disk.read_faults c.args.disk.now); no_less = (omega arith, omega arith) };
+      shelf = ran.ensures.shelf.1;
+      out = play-rose g.O.Out c.args.out.now ran.new.out ran.result ends ran.ensures.shown c.show_line-in-Rehearse.new.out line.no_fewer_faults;
+      bad_store = record {
+        asked = λ bad e. absurd (isnt (status.BadStore bad) refl e);
+        exact = λ asked is named disk_not memory_not. absurd (only.session_rehearse (asked, is) rehearse);
+        exact_served = λ asked is disk_not memory_not. absurd (only.serve_rehearse (asked, is) rehearse);
+        exact_notes = λ client. absurd (only.client_rehearse client rehearse);
+      };
+      node_done = λ node. absurd (node-rehearse words only node rehearse);
+      done = λ e. (
+        ran.ensures.shelf.1.same (λ f. let other = sym e in cc),
+        play-done g.O.Out c.args.out.now ran.new.out ran.result ends ran.ensures.shown c.show_line-in-Rehearse.new.out (λ d. line.no_line (ap line_of d)) e,
+      );
+      unshown = λ _ others. absurd (others (inr (inr rehearse)));
+      shown = λ others. absurd (others (inr (inr rehearse)));
     }

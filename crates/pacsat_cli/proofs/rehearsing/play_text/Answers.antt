@@ -1,0 +1,12 @@
+-- The text is that of a schedule, which was played to its end.
+use Rattle.disk_model.specs.Cuts.{cuts_by}
+use Rattle.pacsat_cli.proofs.RehearsalEnds.{played-text}
+use Rattle.pacsat_cli.proofs.rehearsing.play_text.Goals as goal
+
+pub returns-in-Ok-rehearse : goal.returns-in-Ok-rehearse
+returns-in-Ok-rehearse g c =
+    played-text g.B.Disk (cuts_by g.B.CutDisk.restarts g.B.CutDisk.arming g.B.CutDisk.plain g.B.CutDisk.is_starved) g.O.Out
+    c.args.out.now c.show_report.new.out c.args.text.now c.args.bench.now.items c.rehearse.new.bench.items
+    c.in-Ok-rehearse.report c.show_report.result c.requires.most
+    (record { schedule = c.in-Ok.schedule; text = c.in-Ok.ensures.read; rehearsed = c.in-Ok-rehearse.ensures.rehearsed })
+    c.show_report.ensures
