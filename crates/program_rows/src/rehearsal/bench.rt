@@ -1,26 +1,15 @@
-//! The disks of a rehearsal.
+//! The disks of a rehearsal, where they tell what their power cuts left.
 
 ghost use Rattle.std.specs.List.{All};
 ghost use Rattle.std.specs.Prelude.{IfOk, OnOk, ◌+◌, ◌≡◌, length};
 ghost use Rattle.disk_model.specs.Cuts.{AreFresh, IsFresh, cuts_by};
 
 use anyhow::Result;
-use disk_model::laws::{fresh_law, fresh_log_law};
+use disk_model::laws::fresh_log_law;
 use disk_model::{CutDisk, Disk, FuseDisk, LogDisk, MemoryDisk};
 use std::alloc::Global;
 
-/// A disk without octets.
-fn fuse(alloc: Global) -> Result<FuseDisk>
-    ensures { IfOk result (λ disk. IsFresh ⟦<FuseDisk as Disk>⟧
-        (cuts_by ⟦<FuseDisk as CutDisk>⟧.restarts ⟦<FuseDisk as CutDisk>⟧.arming
-        ⟦<FuseDisk as CutDisk>⟧.plain ⟦<FuseDisk as CutDisk>⟧.is_starved) disk) }
-{
-    let disk = FuseDisk::new(MemoryDisk::new(alloc, &[], &[])?, 0);
-    fresh_law(&disk, 0);
-    Ok(disk)
-}
-
-/// Such a disk that tells what its power cuts left.
+/// A disk without octets that tells what its power cuts left.
 fn log(alloc: Global) -> Result<LogDisk>
     ensures { IfOk result (λ disk. IsFresh ⟦<LogDisk as Disk>⟧
         (cuts_by ⟦<LogDisk as CutDisk>⟧.restarts ⟦<LogDisk as CutDisk>⟧.arming
@@ -44,25 +33,6 @@ fn add<B: CutDisk + Drop>(bench: &mut Vec<B>, disk: B) -> Result<()>
 }
 
 /// The server's disk, and those of eight clients.
-pub fn fuses(alloc: Global) -> Result<Vec<FuseDisk>>
-    ensures { IfOk result (λ bench. AreFresh ⟦<FuseDisk as Disk>⟧
-        (cuts_by ⟦<FuseDisk as CutDisk>⟧.restarts ⟦<FuseDisk as CutDisk>⟧.arming
-        ⟦<FuseDisk as CutDisk>⟧.plain ⟦<FuseDisk as CutDisk>⟧.is_starved) bench.items) }
-{
-    let mut bench = Vec::new(alloc);
-    add(&mut bench, fuse(alloc)?)?;
-    add(&mut bench, fuse(alloc)?)?;
-    add(&mut bench, fuse(alloc)?)?;
-    add(&mut bench, fuse(alloc)?)?;
-    add(&mut bench, fuse(alloc)?)?;
-    add(&mut bench, fuse(alloc)?)?;
-    add(&mut bench, fuse(alloc)?)?;
-    add(&mut bench, fuse(alloc)?)?;
-    add(&mut bench, fuse(alloc)?)?;
-    Ok(bench)
-}
-
-/// Such disks that tell what their power cuts left.
 pub fn logs(alloc: Global) -> Result<Vec<LogDisk>>
     ensures { IfOk result (λ bench. AreFresh ⟦<LogDisk as Disk>⟧
         (cuts_by ⟦<LogDisk as CutDisk>⟧.restarts ⟦<LogDisk as CutDisk>⟧.arming

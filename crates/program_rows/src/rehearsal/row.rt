@@ -2,12 +2,12 @@
 
 ghost use Rattle.disk_model.specs.Cuts.{AreFresh, cuts_by};
 
-use crate::rehearsal::bench::{fuses, logs};
+use crate::rehearsal::bench::logs;
 use crate::run::standing_text;
 use air_rehearsal::drive;
 use anyhow::{Context, Result, bail};
 use disk_model::{CutDisk, LogDisk, MemoryDisk};
-use pacsat_cli::{Words, run};
+use pacsat_cli::{Words, fresh_bench, run};
 use px_base::{MemoryAir, MemoryClock, MemoryOut, MemoryShelf, Shelf};
 use row_words::{Player, read_words};
 use std::alloc::Global;
@@ -37,7 +37,7 @@ impl Player for RehearsalRows {
 /// `text TEXT`
 fn text(alloc: Global, text: &str) -> Result<String> {
     let text = with_lines(alloc, text)?;
-    let (shown, _) = played(alloc, WORDS, text.as_slice(), fuses(alloc)?)?;
+    let (shown, _) = played(alloc, WORDS, text.as_slice(), fresh_bench(alloc)?)?;
     Ok(shown)
 }
 
@@ -60,7 +60,7 @@ fn ticks(alloc: Global, text: &str) -> Result<String> {
     for _ in 0..count.parse::<u32>()? {
         text.extend_from_slice(b"tick server\n")?;
     }
-    let (shown, _) = played(alloc, WORDS, text.as_slice(), fuses(alloc)?)?;
+    let (shown, _) = played(alloc, WORDS, text.as_slice(), fresh_bench(alloc)?)?;
     Ok(format!(in alloc; "{} octets: {shown}", text.len())?)
 }
 
@@ -111,7 +111,7 @@ fn with_lines(alloc: Global, text: &str) -> Result<Vec<u8>> {
 /// `seed N COUNT`
 fn seed(alloc: Global, text: &str) -> Result<String> {
     let words = drawing(alloc, text)?;
-    let (shown, _) = played(alloc, words.as_str(), &[], fuses(alloc)?)?;
+    let (shown, _) = played(alloc, words.as_str(), &[], fresh_bench(alloc)?)?;
     Ok(shown)
 }
 
@@ -136,7 +136,7 @@ fn seeds(alloc: Global, text: &str) -> Result<String> {
     let count = count.parse::<u32>()?;
     let (mut acked, mut cuts, mut fetched, mut not_kept) = (0u64, 0u64, 0u64, 0u64);
     for seed in first..=last {
-        let mut bench = fuses(alloc)?;
+        let mut bench = fresh_bench(alloc)?;
         let report = drive(alloc, seed, count, &mut bench)?;
         acked = acked.saturating_add(report.acked);
         cuts = cuts.saturating_add(report.cuts);
