@@ -10,7 +10,6 @@ use Rattle.node.specs.Laws.{OneRunLaw}
 use Rattle.node.specs.Lent.{Lent, Seen}
 use Rattle.uploader.specs.Notes.{Lists}
 use Rattle.uploader.specs.StoreFault.{StoreFault}
-use Rattle.uploader.specs.StoreFault.TheVariants as fault
 use Rattle.ftl0_client.specs.Table.{JobState}
 use Rattle.ftl0_client.specs.Going.{StaysLaw}
 use Rattle.ftl0_client.specs.Laws.{OneStepLaw}

@@ -1,6 +1,6 @@
 -- How a rehearsal ends, step by step: by its report, by the text of its schedule, and by the content of the name.
 use Rattle.std.proofs.Common.{◌≡◌, ◌⊎◌, ℕ, ◌<◌, ◌≤◌, List, [], ◌∷◌, length, refl, ap, sym, subst, ◌∙◌, inl, inr, arith, false}
-use Rattle.std.specs.Prelude.{Contains, Option, None, Some, Ok, Err}
+use Rattle.std.specs.Prelude.{Contains, Option, None, Some, Err}
 use Rattle.px_base.specs.Outside.{Gains, GainsPrefix, Rose}
 use Rattle.px_base.specs.Shelves.{Holding, Loads, content_of}
 use Rattle.px_base.specs.declared.out.Out.{Ghosts as OutGhosts}
@@ -15,10 +15,10 @@ use Rattle.air_rehearsal.specs.Rehearsed.{IsUnlawful}
 use Rattle.air_rehearsal.specs.declared.report.Report.{Report}
 use Rattle.pacsat_cli.specs.declared.status.Status.{Status}
 use Rattle.pacsat_cli.specs.declared.status.Status.TheVariants.{Done, NoSuch, OutOfMemory, Out, Shelf, BadSchedule, TooLong}
-use Rattle.pacsat_cli.specs.Rehearsing.{ContentEnd, DrawnEnd, EndsExactly, IsContent, IsUnlawfulAt, PlaysText, RehearsalEnd, ReportShown, ShowsReport, TextEnd, most_text, report_line, says_report}
+use Rattle.pacsat_cli.specs.Rehearsing.{ContentEnd, EndsExactly, IsUnlawfulAt, PlaysText, RehearsalEnd, ReportShown, ShowsReport, TextEnd, most_text, report_line, says_report}
 use Rattle.pacsat_cli.specs.Run.{IsUnless}
 use Rattle.pacsat_cli.specs.Stops.{status_of_load}
-use Rattle.pacsat_cli.proofs.Loading.{loaded, long, none}
+use Rattle.pacsat_cli.proofs.Loading.{long, none}
 
 module _ {O : Type 0} (o : OutGhosts O) (before : O) where
   -- all of a report's line was put
@@ -91,16 +91,11 @@ module _ {B : Type 0} (g : Ghosts B) (cuts : Cuts B) where
   unloaded-end held name old refusal.Fault loads = (refl, refl)
   unloaded-end held name old refusal.OutOfMemory loads = refl
 
-  -- what came of a text, or of what is drawn, is no fault of the shelf
+  -- what came of a text is no fault of the shelf
   pub content-no_shelf : (octets : List ℕ) (old new : List B) (text : List ℕ) (s : Status) → ContentEnd g cuts octets old new text s → s ≡ Shelf → ⊥
   content-no_shelf octets old new text s h is =
       let At : Status → Type 0 = λ t. ContentEnd g cuts octets old new text t in
       (subst At is h).ends
-
-  pub drawn-no_shelf : (seed count : ℕ) (old new : List B) (text : List ℕ) (s : Status) → DrawnEnd g cuts seed count old new text s → s ≡ Shelf → ⊥
-  drawn-no_shelf seed count old new text s h is =
-      let At : Status → Type 0 = λ t. DrawnEnd g cuts seed count old new text t in
-      subst At is h
 
   silent : (why : ShelfRefusal) → says_report (status_of_load why) ≡ false
   silent refusal.NoSuch = refl

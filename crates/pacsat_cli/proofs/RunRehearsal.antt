@@ -1,6 +1,6 @@
 -- What a run did, where the words ask for a rehearsal, and where they don't.
 use Rattle.std.proofs.Common.{◌≡◌, ℕ, ◌≤◌, List, [], refl, ap, sym, subst, ◌∙◌, inl, inr, arith, Bool, true, false}
-use Rattle.std.specs.Prelude.{Option, Some}
+use Rattle.std.specs.Prelude.{Option}
 use Rattle.px_base.specs.Outside.{Rose}
 use Rattle.px_base.specs.Shelves.{Holding}
 use Rattle.px_base.specs.declared.out.Out.{Ghosts as OutGhosts}
@@ -14,7 +14,7 @@ use Rattle.command_words.specs.declared.rehearse.RehearseRequest.{RehearseReques
 use Rattle.command_words.specs.declared.rehearse.RehearseRequest.TheVariants.{Drawn, Schedule}
 use Rattle.pacsat_cli.specs.declared.status.Status.{Status}
 use Rattle.pacsat_cli.specs.declared.status.Status.TheVariants as status
-use Rattle.pacsat_cli.specs.Rehearsing.{DrawnEnd, Lab, PlayEnd, RehearsalEnd, Rehearses, ReportRan, ReportShown, RunsExactly, RunsNamed, SeenLab, says_report}
+use Rattle.pacsat_cli.specs.Rehearsing.{DrawnEnd, Lab, PlayEnd, RehearsalEnd, Rehearses, ReportShown, RunsExactly, RunsNamed, SeenLab}
 use Rattle.pacsat_cli.specs.Run.{Shows}
 use Rattle.pacsat_cli.specs.Status.{line_of}
 use Rattle.pacsat_cli.proofs.RehearsalEnds.{exactly, none-put}

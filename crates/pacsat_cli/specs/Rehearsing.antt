@@ -1,6 +1,6 @@
 -- What a run of the program plays where the words ask for a rehearsal, what it shows of it, and why it ends.
 use Rattle.std.specs.Prelude.{◌≡◌, ◌⊎◌, ℕ, ◌<◌, ◌≤◌, List, [], ◌∷◌, ◌++◌, codes, length, Contains}
-use Rattle.std.specs.Prelude.{Option, None, Some, IfSome, Bool, true, false, IsTrue}
+use Rattle.std.specs.Prelude.{Option, None, Some, IfSome, Bool, true, false}
 use Rattle.px_base.specs.Octets.{IsFront}
 use Rattle.px_base.specs.Outside.{Gains}
 use Rattle.px_base.specs.Shelves.{Holding, content_of}

@@ -1,5 +1,4 @@
 -- A front of the line was put.
-use Rattle.std.proofs.Common.{◌≡◌, List, ℕ}
 use Rattle.pacsat_cli.proofs.RehearsalEnds.{front-put}
 use Rattle.pacsat_cli.proofs.rehearsing.show_report.Goals as goal
 
