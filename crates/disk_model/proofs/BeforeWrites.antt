@@ -5,7 +5,7 @@ use Rattle.std.proofs.lemmas.Bool.{cases_lt}
 use Rattle.std.proofs.lemmas.List.Elements.{All-tail}
 use Rattle.disk_model.specs.Surface.{AllLeaveOpen, Closes, IsImage, Surface, overlay, quiet_surface, surface_after, surface_after_call, with_range, write_over}
 use Rattle.disk_model.specs.Open.{IsClosed, LeaveOpen}
-use Rattle.disk_model.specs.Undone.{StandsOpen, Undoes, before_writes, call_of, calls_of, synced_before, undone}
+use Rattle.disk_model.specs.Undone.{StandsOpen, Undoes, before_writes, call_of, calls_of, found_by, synced_before, undone}
 use Rattle.disk_model.specs.declared.disk_call.DiskCall.{DiskCall}
 use Rattle.disk_model.specs.declared.disk_call.DiskCall.TheVariants as call
 use Rattle.disk_model.specs.declared.open_write.OpenWrite.{OpenWrite}
@@ -55,10 +55,6 @@ undone_front (write ∷ earlier) kept end octets others within within_others sam
     undone_front earlier (take before kept) end (overlay octets write.at found) (overlay others write.at found)
     (omega (arith, within, length-overlay octets write.at found)) (omega (arith, within_others, length-overlay others write.at found))
     (overlay_front end octets others write.at found within within_others same)
-
--- the octets that a write finds
-abbrev pub found_by : List ℕ → ℕ → List ℕ → List ℕ
-found_by old at octets = take (length octets) (drop at old)
 
 length-found_by : (old : List ℕ) (at : ℕ) (octets : List ℕ) → length (found_by old at octets) ≡ min (length octets) (length old - at)
 length-found_by old at octets = omega (arith, length-take (length octets) (drop at old), length-drop at old)

@@ -1,7 +1,7 @@
 -- The octets before writes that were kept.
-use Rattle.std.specs.Prelude.{◌≡◌, ℕ, ◌-◌, ◌≤◌, List, [], ◌∷◌, length, map, reverse, take, drop}
+use Rattle.std.specs.Prelude.{◌≡◌, ℕ, ◌+◌, ◌-◌, ◌^◌, ◌≤◌, List, [], ◌∷◌, ◌++◌, length, map, reverse, take, drop}
 use Rattle.disk_model.specs.Open.{IsClosed, StandsSince, standing}
-use Rattle.disk_model.specs.Surface.{Surface, overlay}
+use Rattle.disk_model.specs.Surface.{Surface, overlay, write_over}
 use Rattle.disk_model.specs.declared.disk_call.DiskCall.{DiskCall}
 use Rattle.disk_model.specs.declared.disk_call.DiskCall.TheVariants as call
 use Rattle.disk_model.specs.declared.open_write.OpenWrite.{OpenWrite}
@@ -27,6 +27,16 @@ before_writes writes kept octets = undone (reverse writes) kept octets
 -- So many octets were synced before these writes: these.
 abbrev pub synced_before : ℕ → List OpenWrite → List ℕ → List ℕ → List ℕ
 synced_before count writes kept octets = take count (before_writes writes kept octets)
+
+-- the octets that a write finds in its range
+abbrev pub found_by : List ℕ → ℕ → List ℕ → List ℕ
+found_by old at octets = take (length octets) (drop at old)
+
+-- The octets are written over what is there, and what they found is kept behind the rest.
+pub record WritesKeeping (at : ℕ) (octets old new kept kept_now : List ℕ) : Type 0 where
+  pub ends : at + length octets ≤ 2 ^ 63
+  pub written : new ≡ write_over old at octets
+  pub found : kept_now ≡ kept ++ found_by old at octets
 
 -- what stands on a disk where so many octets were synced before these writes, and a read gives these octets
 abbrev pub standing_open : ℕ → List OpenWrite → List ℕ → List ℕ → Surface

@@ -1,33 +1,31 @@
 //! How writes are undone.
 
-ghost use Rattle.std.specs.Prelude.{◌≡◌, ◌+◌, ◌≤◌, ◌^◌, ◌++◌, length, take, drop, IfOk, OnOk, OnErr};
-ghost use Rattle.disk_model.specs.Surface.{overlay, write_over};
-ghost use Rattle.disk_model.specs.Undone.{before_writes};
+ghost use Rattle.std.specs.Prelude.{◌≡◌, ◌++◌, length, take, drop, IfOk, OnOk, OnErr};
+ghost use Rattle.disk_model.specs.Surface.{overlay};
+ghost use Rattle.disk_model.specs.Undone.{WritesKeeping, before_writes, found_by};
 
 use crate::open_write::OpenWrite;
 use crate::overwriting::overwrite;
 use px_base::OutOfMemory;
 
-/// Writes octets over what is there, as `overwrite` does, and puts those that stood in their range behind the ones that
-/// were kept. It gives how many these are. Where there is no memory, or where they would end past the most octets of a
-/// disk, it changes nothing. Takes memory.
+/// Writes octets over the present ones, as `overwrite` does, and puts those that stood in their range behind the ones
+/// that were kept. It gives how many these are. Where there is no memory, or where they would end past the most octets
+/// of a disk, it changes nothing. Takes memory.
 pub(crate) fn overwrite_keeping(
-    octets: &mut Vec<u8>,
+    present: &mut Vec<u8>,
     kept: &mut Vec<u8>,
     at: u64,
     bytes: &[u8],
 ) -> Result<usize, OutOfMemory>
-    ensures ends { OnOk result (at + length bytes.now ≤ 2 ^ 63) }
-    ensures octets { OnOk result (octets.new.items ≡ write_over octets.old.items at bytes.now) }
-    ensures kept { OnOk result
-        (kept.new.items ≡ kept.old.items ++ take (length bytes.now) (drop at octets.old.items)) }
-    ensures found { IfOk result (λ found. found ≡ length (take (length bytes.now) (drop at octets.old.items))) }
-    ensures octets_stay { OnErr result (octets.new.items ≡ octets.old.items) }
-    ensures kept_stay { OnErr result (kept.new.items ≡ kept.old.items) }
+    ensures ok { OnOk result
+        (WritesKeeping at bytes.now present.old.items present.new.items kept.old.items kept.new.items) }
+    ensures found { IfOk result (λ found. found ≡ length (found_by present.old.items at bytes.now)) }
+    ensures present { OnErr result (present.new.items ≡ present.old.items) }
+    ensures kept { OnErr result (kept.new.items ≡ kept.old.items) }
 {
     let before = kept.len();
-    keep_range(kept, octets.as_slice(), at, bytes.len() as u64)?;
-    if overwrite(octets, at, bytes).is_err() {
+    keep_range(kept, present.as_slice(), at, bytes.len() as u64)?;
+    if overwrite(present, at, bytes).is_err() {
         kept.truncate(before);
         return Err(OutOfMemory);
     }
