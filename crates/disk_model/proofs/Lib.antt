@@ -1,4 +1,5 @@
 mod Armed
+mod BeforeWrites
 mod Crashes
 mod Ranges
 mod Steps

@@ -1,17 +1,16 @@
 -- What stands in the ranges that are open.
-use Rattle.std.proofs.Common.{Bool, true, false, ◌≡◌, ◌⊎◌, inl, inr, ⊎_elim, ℕ, ◌+◌, ◌-◌, ◌^◌, ◌<◌, ◌≤◌, min, List, [], ◌∷◌, ◌++◌, length, get_or, take, drop, refl, sym, ◌∙◌, ap, subst, arith, fold}
-use Rattle.std.proofs.lemmas.Bool.{cases_Bool}
+use Rattle.std.proofs.Common.{◌≡◌, ◌⊎◌, inl, inr, ⊎_elim, ℕ, ◌+◌, ◌-◌, ◌^◌, ◌<◌, ◌≤◌, min, List, [], ◌∷◌, ◌++◌, length, get_or, take, drop, refl, sym, ◌∙◌, ap, subst, arith}
 use Rattle.std.proofs.lemmas.List.{places, ext_get_or, get_or-drop, get_or-take, length-append, length-drop, length-take, take-append-le, take-append-drop, take_all}
 use Rattle.std.proofs.Math.Nat.{le_refl}
 use Rattle.std.proofs.Math.Seq.{drop-append_seam}
-use Rattle.std.proofs.lemmas.List.Elements.{All-tail, All-append}
+use Rattle.std.proofs.lemmas.List.Elements.{All-append}
 use Rattle.px_base.specs.Octets.{IsOctets}
 use Rattle.disk_model.specs.Crash.{IsCrash}
-use Rattle.disk_model.specs.Open.{DifferInRanges, IsClosed, SameBut, StandsSince, inside_of, open_ranges, standing}
-use Rattle.disk_model.specs.Surface.{AllLeaveOpen, Closes, IsImage, IsInRange, IsOpen, Surface, count_of, left_by, overlay, place_of, quiet_surface, surface_after, surface_after_call, with_ranges, write_over}
+use Rattle.disk_model.specs.Open.{IsClosed, StandsSince, inside_of, standing}
+use Rattle.disk_model.specs.Surface.{AllLeaveOpen, Closes, IsImage, IsInRange, IsOpen, Surface, left_by, overlay, quiet_surface, surface_after, surface_after_call, with_ranges, write_over}
 use Rattle.disk_model.specs.declared.disk_call.DiskCall.{DiskCall}
 use Rattle.disk_model.specs.declared.disk_call.DiskCall.TheVariants as call
-use Rattle.disk_model.proofs.Crashes.{NextCall, inside_or_not, synced_kept}
+use Rattle.disk_model.proofs.Crashes.{inside_or_not}
 use Rattle.disk_model.proofs.Surfaces.{images_of_this_content, surface_after-push}
 use Rattle.disk_model.proofs.Writes.{get_or-write_over_outside, length-write_over}
 
@@ -22,35 +21,7 @@ open_or_not (write ∷ earlier) place = elim (inside_or_not write.0 write.1 plac
   | inr outside ↦ elim (open_or_not earlier place) [ inl before ↦ inl (inr before) | inr shut ↦ inr (⊎_elim outside shut) ]
 ]
 
-writes_same : (surface other : Surface) (calls : List DiskCall) → surface.writes ≡ other.writes → AllLeaveOpen calls → (fold surface_after_call surface calls).writes ≡ (fold surface_after_call other calls).writes
-writes_same surface other [] same open_calls = same
-writes_same surface other (done ∷ calls) same open_calls =
-    writes_same (surface_after_call surface done) (surface_after_call other done) calls (one done (open_calls 0 done (omega arith))) (All-tail (λ (d : DiskCall). Closes d → ⊥) done calls open_calls)
-  where
-    one : (d : DiskCall) → (Closes d → ⊥) → (surface_after_call surface d).writes ≡ (surface_after_call other d).writes
-    one (call.Write at octets) leaves = ap (λ (l : List (ℕ × ℕ)). (at, length octets) ∷ l) same
-    one (call.TornWrite at count) leaves = ap (λ (l : List (ℕ × ℕ)). (at, count) ∷ l) same
-    one call.Sync leaves = absurd (leaves tt)
-    one call.FailedSync leaves = same
-    one (call.PowerCut inside behind) leaves = absurd (leaves tt)
-
--- what was synced makes no difference to the ranges
-pub open_ranges_is : (first : List ℕ) (calls : List DiskCall) → AllLeaveOpen calls → (surface_after first calls).writes ≡ open_ranges calls
-open_ranges_is first calls = writes_same (quiet_surface first) (quiet_surface []) calls refl
-
-open_of-call : (surface : Surface) (done : DiskCall) (place : ℕ) → (Closes done → ⊥) → IsOpen (surface_after_call surface done).writes place → IsInRange (place_of done) (count_of done) place ⊎ IsOpen surface.writes place
-open_of-call surface (call.Write at written) place leaves reached = reached
-open_of-call surface (call.TornWrite at count) place leaves reached = reached
-open_of-call surface call.Sync place leaves reached = absurd (leaves tt)
-open_of-call surface call.FailedSync place leaves reached = inr reached
-open_of-call surface (call.PowerCut inside behind) place leaves reached = absurd (leaves tt)
-
--- one call more
-pub open_next : (calls : List DiskCall) (i : ℕ) (done : DiskCall) (place : ℕ) → NextCall [] calls i done → IsOpen (open_ranges (take (i + 1) calls)) place → IsInRange (place_of done) (count_of done) place ⊎ IsOpen (open_ranges (take i calls)) place
-open_next calls i done place next reached =
-    open_of-call (surface_after [] (take i calls)) done place next.no_sync (subst (λ (s : Surface). IsOpen s.writes place) next.after reached)
-
-length-overlay : (old : List ℕ) (at : ℕ) (octets : List ℕ) → length (overlay old at octets) ≡ length old
+pub length-overlay : (old : List ℕ) (at : ℕ) (octets : List ℕ) → length (overlay old at octets) ≡ length old
 length-overlay old at octets = omega (arith, length-take (length old) (write_over old at octets), length-write_over old at octets)
 
 length-with_ranges : (ranges : List (ℕ × ℕ)) (octets old : List ℕ) → length (with_ranges ranges octets old) ≡ length old
@@ -60,15 +31,15 @@ length-with_ranges (write ∷ earlier) octets old =
     length-overlay (with_ranges earlier (take before octets) old) write.0 (drop before octets)
     ∙ length-with_ranges earlier (take before octets) old
 
-overlay_inside : (old : List ℕ) (at : ℕ) (octets : List ℕ) (place : ℕ) → at ≤ place → place < at + length octets → place < length old → get_or (overlay old at octets) place 0 ≡ get_or octets (place - at) 0
+pub overlay_inside : (old : List ℕ) (at : ℕ) (octets : List ℕ) (place : ℕ) → at ≤ place → place < at + length octets → place < length old → get_or (overlay old at octets) place 0 ≡ get_or octets (place - at) 0
 overlay_inside old at octets place from to within = grind (arith, places)
 
-overlay_outside : (old : List ℕ) (at : ℕ) (octets : List ℕ) (place : ℕ) → place < length old → ((at ≤ place) × (place < at + length octets) → ⊥) → get_or (overlay old at octets) place 0 ≡ get_or old place 0
+pub overlay_outside : (old : List ℕ) (at : ℕ) (octets : List ℕ) (place : ℕ) → place < length old → ((at ≤ place) × (place < at + length octets) → ⊥) → get_or (overlay old at octets) place 0 ≡ get_or old place 0
 overlay_outside old at octets place within outside =
     get_or-take (length old) (write_over old at octets) place 0 within ∙ get_or-write_over_outside old at octets place within outside
 
 -- the octets of the latest range stand behind the others
-parted : (front part : List ℕ) (count : ℕ) → count ≡ length part → (take (length (front ++ part) - count) (front ++ part) ≡ front) × (drop (length (front ++ part) - count) (front ++ part) ≡ part)
+pub parted : (front part : List ℕ) (count : ℕ) → count ≡ length part → (take (length (front ++ part) - count) (front ++ part) ≡ front) × (drop (length (front ++ part) - count) (front ++ part) ≡ part)
 parted front part count is = (
   ap (λ (n : ℕ). take n (front ++ part)) here ∙ take-append-le (length front) front part (le_refl (length front)) ∙ take_all (length front) front (le_refl (length front)),
   ap (λ (n : ℕ). drop n (front ++ part)) here ∙ drop-append_seam front part,
@@ -192,28 +163,6 @@ closes_now first calls synced since none is = subst (IsClosed first calls synced
   open_calls = λ k d below. absurd (omega (arith, below));
 })
 
--- what was synced, and what may be left, are the same but in the open ranges
-pub synced_same_but : (synced : List ℕ) (calls : List DiskCall) (image : List ℕ) → AllLeaveOpen calls → IsImage (surface_after synced calls) image → SameBut (length synced) (open_ranges calls) synced image
-synced_same_but synced calls image open_calls is = λ place below shut.
-    let was = synced_kept (quiet_surface synced) calls open_calls in
-    let size = ap length was in
-    let here = is.kept place (omega (arith, below, size)) (subst (λ (l : List (ℕ × ℕ)). IsOpen l place → ⊥) (sym (open_ranges_is synced calls open_calls)) shut) in
-    sym (here ∙ ap (λ (l : List ℕ). get_or l place 0) was)
-
-pub images_same_but : (synced : List ℕ) (calls : List DiskCall) (image other : List ℕ) → AllLeaveOpen calls → IsImage (surface_after synced calls) image → IsImage (surface_after synced calls) other → SameBut (length synced) (open_ranges calls) image other
-images_same_but synced calls image other open_calls is is_other = λ place below shut.
-    sym (synced_same_but synced calls image open_calls is place below shut) ∙ synced_same_but synced calls other open_calls is_other place below shut
-
--- a disk that isn't down isn't lost
-pub not_lost : (lost down : Bool) → (lost ≡ true → down ≡ true) → down ≡ false → lost ≡ false
-not_lost lost down is up = elim (cases_Bool lost) [ inl set ↦ absurd (let e : true ≡ false = sym (is set) ∙ up in cc) | inr clear ↦ clear ]
-
--- what was synced is no longer than what may be left
-pub synced_no_longer : (synced : List ℕ) (calls : List DiskCall) (image : List ℕ) → AllLeaveOpen calls → IsImage (surface_after synced calls) image → length synced ≤ length image
-synced_no_longer synced calls image open_calls is =
-    let size = ap length (synced_kept (quiet_surface synced) calls open_calls) in
-    omega (arith, size, is.no_shorter)
-
 pub quiet_image : (octets : List ℕ) → IsOctets octets → IsImage (quiet_surface octets) octets
 quiet_image octets small = record { octets = small; no_shorter = omega arith; no_longer = omega arith; kept = λ place below shut. refl }
 
@@ -239,25 +188,7 @@ cut_left first calls synced since present pick left closes content crash = recor
     here : IsCrash (surface_after first calls) pick left
     here = subst (λ (s : Surface). IsCrash s pick left) (ap (standing synced since) content ∙ closes.stands) crash
 
--- what is left, and what a read gave, differ in the open ranges alone
-pub left_differs : (synced : List ℕ) (calls : List DiskCall) (present left : List ℕ) → StandsSince synced calls present → IsImage (surface_after synced calls) left → DifferInRanges (length synced) calls present left
-left_differs synced calls present left stands is = record {
-  within = synced_no_longer synced calls left stands.open_calls is;
-  most = omega (arith, is.no_longer, stands.most);
-  same = images_same_but synced calls present left stands.open_calls stands.image is;
-  open_calls = stands.open_calls;
-}
-
--- what was synced, and what a read gives, too
-pub synced_differs : (synced : List ℕ) (calls : List DiskCall) (present : List ℕ) → StandsSince synced calls present → DifferInRanges (length synced) calls synced present
-synced_differs synced calls present stands = record {
-  within = synced_no_longer synced calls present stands.open_calls stands.image;
-  most = omega (arith, stands.image.no_longer, stands.most);
-  same = synced_same_but synced calls present stands.open_calls stands.image;
-  open_calls = stands.open_calls;
-}
-
--- the record of a disk that isn't lost
+-- the record of a disk
 pub stands_since : (first : List ℕ) (calls : List DiskCall) (synced : List ℕ) (since : List DiskCall) (present : List ℕ) → IsClosed first calls synced since
     → IsImage (surface_after first calls) present → (surface_after first calls).most ≤ 2 ^ 63 → StandsSince synced since present
 stands_since first calls synced since present closes image most = record {

@@ -14,3 +14,4 @@ pub mod Open
 pub mod Promised
 pub mod Surface
 pub mod Told
+pub mod Undone

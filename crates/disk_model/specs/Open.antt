@@ -1,28 +1,12 @@
--- The ranges that calls leave open, and the octets that stand there.
-use Rattle.std.specs.Prelude.{◌≡◌, ℕ, ◌<◌, ◌≤◌, ◌^◌, List, [], ◌∷◌, ◌++◌, length, take, drop, slice_index}
-use Rattle.disk_model.specs.Surface.{AllLeaveOpen, IsImage, IsOpen, Surface, surface_after}
+-- What calls leave open, and the octets that stand there.
+use Rattle.std.specs.Prelude.{◌≡◌, ℕ, ◌≤◌, ◌^◌, List, [], ◌∷◌, ◌++◌, take, drop}
+use Rattle.disk_model.specs.Surface.{AllLeaveOpen, IsImage, Surface, surface_after}
 use Rattle.disk_model.specs.declared.disk_call.DiskCall.{DiskCall}
-
--- the ranges that calls leave open, the latest first
-abbrev pub open_ranges : List DiskCall → List (ℕ × ℕ)
-open_ranges calls = (surface_after [] calls).writes
 
 -- the octets in these ranges, range by range, those of the latest range last
 abbrev pub inside_of : List (ℕ × ℕ) → List ℕ → List ℕ
 inside_of [] octets = []
 inside_of (write ∷ earlier) octets = inside_of earlier octets ++ take write.1 (drop write.0 octets)
-
--- Before this end the octets are the same but for those in the ranges.
-abbrev pub SameBut : ℕ → List (ℕ × ℕ) → List ℕ → List ℕ → Type 0
-SameBut end ranges octets others =
-    (place : ℕ) → place < end → (IsOpen ranges place → ⊥) → slice_index octets place ≡ slice_index others place
-
--- Before this length the octets are the same as others but for those in the ranges that these calls left open.
-pub record DifferInRanges (length_is : ℕ) (calls : List DiskCall) (octets others : List ℕ) : Type 0 where
-  pub within : length_is ≤ length others
-  pub most : length others ≤ 2 ^ 63
-  pub same : SameBut length_is (open_ranges calls) octets others
-  pub open_calls : AllLeaveOpen calls
 
 -- None of the calls closed anything, and they end within the most octets of a disk.
 pub record LeaveOpen (synced : List ℕ) (calls : List DiskCall) : Type 0 where

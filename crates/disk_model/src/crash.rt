@@ -1,14 +1,16 @@
 //! What a crash leaves, as a number picks it.
 
-ghost use Rattle.std.specs.Prelude.{◌≡◌, ◌+◌, ◌/◌, ◌%◌, ◌≤◌, ◌^◌, ℕ, Some, length, OnErr, OnOk};
+ghost use Rattle.std.specs.Prelude.{◌≡◌, ◌/◌, ◌%◌, ◌≤◌, ◌^◌, ℕ, Some, length, OnErr, OnOk};
 ghost use Rattle.disk_model.specs.Crash.{IsCrash, IsFilled, Tears};
 ghost use Rattle.px_base.specs.Octets.{IsOctets};
-ghost use Rattle.disk_model.specs.Open.{LeaveOpen, StandsSince, standing};
-ghost use Rattle.disk_model.specs.Surface.{IsImage, count_of, place_of, surface_after};
+ghost use Rattle.disk_model.specs.Open.{LeaveOpen};
+ghost use Rattle.disk_model.specs.Surface.{IsImage, surface_after};
+ghost use Rattle.disk_model.specs.Undone.{StandsOpen, calls_of, standing_open, synced_before};
 
-use crate::open_ranges::copy_open;
 use crate::open_write::{OpenWrite, Written};
+use crate::undoing::undo;
 use px_base::OutOfMemory;
+use std::alloc::Global;
 
 /// What becomes of the octets that may be any octet: each is this one, or is drawn.
 #[derive(Clone, Copy)]
@@ -69,101 +71,105 @@ impl Pick {
     }
 }
 
-/// How many octets there have been at most, where these were synced before these calls.
-fn greatest_length(synced: &[u8], calls: &[OpenWrite]) -> u64
-    requires { LeaveOpen synced.now calls.now }
-    ensures most { result ≡ (surface_after synced.now calls.now).most }
+/// How many octets there have been at most, where these were synced before these writes.
+fn greatest_length(synced: &[u8], writes: &[OpenWrite]) -> u64
+    requires { LeaveOpen synced.now (calls_of writes.now) }
+    ensures most { result ≡ (surface_after synced.now (calls_of writes.now)).most }
     ensures least { length synced.now ≤ result }
 {
     let mut most = synced.len() as u64;
-    for call in calls {
-        most = most.max(call.end());
+    for write in writes {
+        most = most.max(write.end());
     }
     most
 }
 
-/// Turns the octets that were synced before these writes, and the present ones, into what a crash leaves, as this
-/// number picks it. It costs the octets in the ranges of these writes, and those behind what was synced. Where there is
-/// no memory, the present ones stay.
+/// Turns the present octets into what a crash leaves, as this number picks it, where so many of them were synced before
+/// these writes, which found the octets that are kept. It costs the octets in the ranges of these writes, and those
+/// behind what was synced. It changes nothing where there is no memory.
 pub(crate) fn lose_power(
-    synced: &mut Vec<u8>,
+    alloc: Global,
     present: &mut Vec<u8>,
-    calls: &[OpenWrite],
-    kept: &[u8],
+    synced: usize,
+    writes: &[OpenWrite],
+    kept: &mut [u8],
     pick: u64,
 ) -> Result<(), OutOfMemory>
-    requires { StandsSince synced.old.items calls.now present.old.items }
+    requires { StandsOpen synced writes.now kept.old present.old.items }
     ensures crash { OnOk result
-        (IsCrash (standing synced.old.items calls.now present.old.items) pick synced.new.items) }
-    ensures present { OnOk result (present.new.items ≡ synced.new.items) }
-    ensures err { OnErr result (present.new.items ≡ present.old.items) }
-{
-    let shared = synced.len();
-    crash(synced, present.as_slice(), calls, kept, pick)?;
-    copy_open(present, synced.as_slice(), shared, calls)
-}
-
-/// Turns the octets that were synced before these writes into what a crash leaves, as this number picks it, where a
-/// read gives the present ones. It changes nothing where there is no memory.
-fn crash(
-    synced: &mut Vec<u8>,
-    present: &[u8],
-    calls: &[OpenWrite],
-    kept: &[u8],
-    pick: u64,
-) -> Result<(), OutOfMemory>
-    requires { StandsSince synced.old.items calls.now present.now }
-    ensures ok { OnOk result (IsCrash (standing synced.old.items calls.now present.now) pick synced.new.items) }
-    ensures err { OnErr result (synced.new.items ≡ synced.old.items) }
+        (IsCrash (standing_open synced writes.now kept.old present.old.items) pick present.new.items) }
+    ensures octets { OnErr result (present.new.items ≡ present.old.items) }
+    ensures kept { OnErr result (kept.new ≡ kept.old) }
 {
     if pick % 4 == 0 {
+        restore(present, synced, writes, kept);
         return Ok(());
     }
     if pick % 4 == 1 {
-        let shared = synced.len();
-        return copy_open(synced, present, shared, calls);
+        return Ok(());
     }
-    let written = Written {
-        writes: calls,
-        kept,
-        present,
-    };
-    tear_all(synced, calls, &written, Pick::new(pick))
+    tear_all(alloc, present, synced, writes, kept, Pick::new(pick))
 }
 
-/// Turns the octets that were synced before these writes into what a crash leaves of them.
+/// Turns the present octets into those that were synced, where so many were before these writes.
+fn restore(present: &mut Vec<u8>, synced: usize, writes: &[OpenWrite], kept: &mut [u8])
+    ensures synced { present.new.items ≡ synced_before synced writes.now kept.old present.old.items }
+    ensures octets { IsOctets present.new.items }
+{
+    undo(present.as_mut_slice(), writes, kept);
+    present.truncate(synced);
+}
+
+/// The same where other octets are put in the ranges of these writes.
 fn tear_all(
-    image: &mut Vec<u8>,
-    calls: &[OpenWrite],
-    written: &Written<'_>,
+    alloc: Global,
+    present: &mut Vec<u8>,
+    synced: usize,
+    writes: &[OpenWrite],
+    kept: &mut [u8],
     pick: Pick,
 ) -> Result<(), OutOfMemory>
-    requires { LeaveOpen image.old.items calls.now }
-    ensures image { OnOk result (IsImage (surface_after image.old.items calls.now) image.new.items) }
-    ensures filled { (octet : ℕ) → pick.octet ≡ Some octet
-        → OnOk result (IsFilled (surface_after image.old.items calls.now) octet image.new.items) }
-    ensures err { OnErr result (image.new.items ≡ image.old.items) }
+    requires { StandsOpen synced writes.now kept.old present.old.items }
+    ensures image { OnOk result
+        (IsImage (standing_open synced writes.now kept.old present.old.items) present.new.items) }
+    ensures filled { (octet : ℕ) → pick.octet ≡ Some octet → OnOk result
+        (IsFilled (standing_open synced writes.now kept.old present.old.items) octet present.new.items) }
+    ensures octets { OnErr result (present.new.items ≡ present.old.items) }
+    ensures kept { OnErr result (kept.new ≡ kept.old) }
 {
     let mut pick = pick;
-    let least = image.len() as u64;
-    let length = pick.length(least, greatest_length(image.as_slice(), calls));
-    image.resize(length as usize, pick.octet(0, 0))?;
-    for call in calls {
-        tear(image, call, written, &mut pick);
+    let greatest = greatest_length(&present[..synced], writes);
+    let length = pick.length(synced as u64, greatest) as usize;
+    let mut behind = Vec::with_capacity(alloc, present.len() - synced)?;
+    present.reserve(length.saturating_sub(present.len()))?;
+    undo(present.as_mut_slice(), writes, kept);
+    behind.extend_from_slice(&present[synced..]).unwrap();
+    present.truncate(synced);
+    present.resize(length, pick.octet(0, 0)).unwrap();
+    let mut rest: &[u8] = kept;
+    for write in writes {
+        let (over, later) = rest.split_at(write.found.min(rest.len()));
+        let written = Written {
+            over,
+            behind: behind.as_slice(),
+            synced,
+        };
+        tear(present.as_mut_slice(), write, &written, &mut pick);
+        rest = later;
     }
     Ok(())
 }
 
 /// Puts other octets in the range of a write, as picked for each; those past the end are left out.
-fn tear(image: &mut [u8], call: &OpenWrite, written: &Written<'_>, pick: &mut Pick)
-    ensures tears { Tears (place_of call.now) (count_of call.now) pick.old.octet image.old image.new }
+fn tear(image: &mut [u8], write: &OpenWrite, written: &Written<'_>, pick: &mut Pick)
+    ensures tears { Tears write.now.at write.now.count pick.old.octet image.old image.new }
     ensures same { pick.new.octet ≡ pick.old.octet }
     ensures octets { IsOctets image.new }
 {
     let length = image.len() as u64;
-    for place in call.place().min(length)..call.end().min(length) {
+    for place in write.at.min(length)..write.end().min(length) {
         let old = image[place as usize];
-        let new = call.octet(written, place).unwrap_or(old);
+        let new = written.octet(write, place).unwrap_or(old);
         image[place as usize] = pick.octet(old, new);
     }
 }

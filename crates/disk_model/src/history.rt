@@ -3,44 +3,41 @@
 ghost use Rattle.std.specs.Prelude.{◌≡◌, ◌+◌, ◌<◌, ◌≤◌, ◌^◌, ℕ, List, [], ◌∷◌, ◌++◌, length, vec_capacity};
 ghost use Rattle.std.specs.Prelude.{vec_len, false, true, IfOk, MatchResult, OnOk, OnErr};
 ghost use Rattle.disk_model.specs.Calls.{LosesWrite, RecordsCut};
-ghost use Rattle.disk_model.specs.Open.{IsClosed};
 ghost use Rattle.disk_model.specs.Surface.{IsImage, surface_after, sync_of, write_of};
+ghost use Rattle.disk_model.specs.Undone.{Undoes};
 ghost use Rattle.disk_model.specs.declared.disk_call.DiskCall.TheVariants as DiskCall;
 
 use crate::crash::lose_power;
 use crate::limits::ends_within;
-use crate::open_ranges::{catch_up, range_of};
-use crate::open_write::{Found, OpenWrite};
-use crate::overwriting::overwrite;
+use crate::open_write::OpenWrite;
 use crate::past::{First, Past, Told};
+use crate::undoing::overwrite_keeping;
 use px_base::OutOfMemory;
 use std::alloc::Global;
 
 /// What a new disk has room for beside its octets, so that short ones never move as they grow.
 const ROOM: usize = 131_072;
 
-/// What was done to a disk, for proofs alone; the octets that a read gives, those that were synced last, and the writes
-/// since then, with what they found; and whether the disk is down. While it isn't, there is room for one write more, so
-/// that one that finds no memory leaves its range open. A disk that is lost, by a power cut that found no memory, is
-/// down from then on, and nothing is known of what was synced.
+/// What was done to a disk, for proofs alone; the octets that a read gives, how many were synced last, and the writes
+/// since then with the octets that they found, by which they can be undone; and whether the disk is down. While it
+/// isn't, there is room for one write more, so that one that finds no memory leaves its range open.
 #[derive(Drop)]
 pub(crate) struct History {
     alloc: Global,
     past: Past,
     present: Vec<u8>,
-    synced: Vec<u8>,
+    /// How many octets were synced last.
+    synced: usize,
     /// The writes since then, in order.
     writes: Vec<OpenWrite>,
-    /// The octets that those that passed found in their ranges, but for the first one, one write behind another.
+    /// The octets that these found, one write behind another.
     kept: Vec<u8>,
     down: bool,
-    lost: bool,
     ghost content: { present.items ≡ (surface_after past.first past.calls).content },
     ghost image: { IsImage (surface_after past.first past.calls) present.items },
     ghost most: { (surface_after past.first past.calls).most ≤ 2 ^ 63 },
     ghost room: { down ≡ false → vec_len writes < vec_capacity writes },
-    ghost lost_is_down: { lost ≡ true → down ≡ true },
-    ghost closes: { lost ≡ false → IsClosed past.first past.calls synced.items writes.items },
+    ghost undoes: { Undoes past.first past.calls synced writes.items kept.items present.items },
 }
 
 impl History {
@@ -54,11 +51,10 @@ impl History {
             alloc,
             past: Past::new(&First { bytes }),
             present: octets_with_room(alloc, bytes)?,
-            synced: octets_with_room(alloc, bytes)?,
+            synced: bytes.len(),
             writes: Vec::with_capacity(alloc, 1)?,
             kept: Vec::new(alloc),
             down: false,
-            lost: false,
         })
     }
 
@@ -90,16 +86,14 @@ impl History {
         ensures down { self.new.down ≡ self.old.down }
     {
         self.writes.reserve(2)?;
-        let found = Found {
-            earlier: self.writes.len(),
-            kept: self.kept.len(),
+        let found = overwrite_keeping(&mut self.present, &mut self.kept, at, bytes)?;
+        let written = OpenWrite {
+            at,
+            count: bytes.len() as u64,
+            found,
+            passed: true,
         };
-        let here = range_of(self.present.as_slice(), at, bytes.len() as u64);
-        keep_found(&mut self.kept, here, found.earlier)?;
-        overwrite(&mut self.present, at, bytes)?;
-        self.writes
-            .push(OpenWrite::new(at, bytes.len() as u64, Some(found)))
-            .unwrap();
+        self.writes.push(written).unwrap();
         self.past = self.past.then(&Told::Write { at, bytes });
         Ok(())
     }
@@ -111,10 +105,15 @@ impl History {
         ensures first { self.new.past.first ≡ self.old.past.first }
         ensures calls { self.new.past.calls ≡ self.old.past.calls ++ DiskCall.TornWrite at count ∷ [] }
         ensures down { self.new.down ≡ true }
-        ensures lost { self.new.lost ≡ self.old.lost }
     {
         self.down = true;
-        self.writes.push(OpenWrite::new(at, count, None)).unwrap();
+        let torn = OpenWrite {
+            at,
+            count,
+            found: 0,
+            passed: false,
+        };
+        self.writes.push(torn).unwrap();
         self.past = self.past.then(&Told::TornWrite { at, count });
     }
 
@@ -156,7 +155,7 @@ impl History {
         Ok(())
     }
 
-    /// Syncs what was written, or fails to. It changes nothing where there is no memory, or where the disk is down.
+    /// Syncs what was written, or fails to. It changes nothing where the disk is down.
     pub(crate) fn sync(&mut self, fails: bool) -> Result<(), OutOfMemory>
         ensures first { self.new.past.first ≡ self.old.past.first }
         ensures up { OnOk result (self.old.down ≡ false) }
@@ -171,19 +170,15 @@ impl History {
             self.past = self.past.then(&Told::FailedSync);
             return Ok(());
         }
-        catch_up(
-            &mut self.synced,
-            self.present.as_slice(),
-            self.writes.as_slice(),
-        )?;
         self.past = self.past.then(&Told::Sync);
+        self.synced = self.present.len();
         self.writes.clear();
         self.kept.clear();
         Ok(())
     }
 
     /// Loses power: what is left is picked by this number. It costs the octets in the open ranges, and those behind
-    /// what was synced. Where there is no memory, its record and what a read gives stay, and it may be lost.
+    /// what was synced. It changes nothing where there is no memory.
     pub(crate) fn lose_power(&mut self, pick: u64) -> Result<(), OutOfMemory>
         ensures first { self.new.past.first ≡ self.old.past.first }
         ensures calls { MatchResult result
@@ -191,37 +186,24 @@ impl History {
             (λ _. self.new.past.calls ≡ self.old.past.calls) }
         ensures up { OnOk result (self.new.down ≡ false) }
     {
-        if self.lost {
-            return Err(OutOfMemory);
-        }
         self.writes.reserve(1)?;
-        self.down = true;
-        self.lost = true;
         lose_power(
-            &mut self.synced,
+            self.alloc,
             &mut self.present,
+            self.synced,
             self.writes.as_slice(),
-            self.kept.as_slice(),
+            self.kept.as_mut_slice(),
             pick,
         )?;
         self.past = self.past.then(&Told::PowerCut {
-            left: self.synced.as_slice(),
+            left: self.present.as_slice(),
         });
+        self.synced = self.present.len();
         self.writes.clear();
         self.kept.clear();
         self.down = false;
-        self.lost = false;
         Ok(())
     }
-}
-
-/// Keeps the octets that a write finds, unless no write came before it since the last sync: those of the first one
-/// aren't asked for. Takes memory.
-fn keep_found(kept: &mut Vec<u8>, here: &[u8], earlier: usize) -> Result<(), OutOfMemory> {
-    if earlier > 0 {
-        kept.extend_from_slice(here)?;
-    }
-    Ok(())
 }
 
 /// These octets, with room for more.

@@ -12,10 +12,10 @@ pub mod laws;
 mod limits;
 mod log_disk;
 mod memory_disk;
-mod open_ranges;
 mod open_write;
 mod overwriting;
 mod past;
+mod undoing;
 
 pub use cut_disk::CutDisk;
 pub use disk::{Disk, DiskFault};

@@ -15,9 +15,9 @@ use crate::{Disk, DiskFault};
 use px_base::{CallCounter, FaultCount, OutOfMemory};
 use std::alloc::Global;
 
-/// A disk in memory. Its calls are numbered together from 1; one whose number is listed fails. A call that finds no
-/// memory fails too: a write then leaves its range open, and the disk is down; a sync changes nothing. A write that
-/// would end past 2^63 is want of memory as well, and changes nothing.
+/// A disk in memory. Its calls are numbered together from 1; one whose number is listed fails. A write that finds no
+/// memory fails too: it leaves its range open, and the disk is down. A write that would end past 2^63 is want of memory
+/// as well, and changes nothing.
 #[derive(Drop)]
 pub struct MemoryDisk {
     history: History,
@@ -135,7 +135,7 @@ impl MemoryDisk {
 
     /// Loses power: what is left is picked by this number, as `crash` does, and stands on the disk then, which is up.
     /// It isn't a call that is numbered. It costs the octets in the open ranges, and those behind what was synced.
-    /// Where it finds no memory, a read gives what it gave, and the disk may be down.
+    /// Where it finds no memory, a read gives what it gave.
     pub fn power_cut(&mut self, pick: u64)
         ensures { IsPowerCut (state self.old) (state self.new) pick }
     {
@@ -208,7 +208,7 @@ impl Disk for MemoryDisk {
 
     /// Writes octets; a gap before them is filled with zeros. A call that is listed fails, and leaves its range open;
     /// so does one that finds no memory, and the disk is down from then on. One that would end past 2^63, or comes
-    /// when the disk is down, fails and changes nothing. It costs the octets written.
+    /// when the disk is down, fails and changes nothing. It costs the octets written, and those that they find.
     fn write_at(&mut self, at: u64, bytes: &[u8]) -> Result<(), DiskFault>
         ensures promises { PromisesWrite it.ghosts at bytes.now self.old self.new result }
         ensures writing { IsWriting (state self.old) (state self.new) at bytes.now result }
@@ -216,8 +216,8 @@ impl Disk for MemoryDisk {
         self.record_write(at, bytes)
     }
 
-    /// Syncs what was written; a call that is listed, finds no memory or comes when the disk is down, fails and changes
-    /// nothing. It costs the octets written since the last one.
+    /// Syncs what was written; a call that is listed or comes when the disk is down fails and changes nothing. It copies
+    /// no octet.
     fn sync(&mut self) -> Result<(), DiskFault>
         ensures promises { PromisesSync it.ghosts self.old self.new result }
         ensures syncing { IsSyncing (state self.old) (state self.new) result }

@@ -41,7 +41,7 @@ impl CallCounter {
         ensures listed { IsTrue result ↔ IsListed self.now }
         ensures none { self.now.failing ≡ [] → result ≡ false }
     {
-        self.failing.contains(&self.numbered.saturating_add(1))
+        !self.failing.is_empty() && self.failing.contains(&self.numbered.saturating_add(1))
     }
 
     /// Numbers a call, and says whether it is listed to fail.

@@ -1,22 +1,42 @@
-use Rattle.std.proofs.Common.{◌≡◌, ℕ, length, sym, subst, arith}
-use Rattle.disk_model.specs.Open.{DifferInRanges}
-use Rattle.disk_model.specs.Surface.{surface_after}
-use Rattle.disk_model.proofs.Ranges.{left_differs, synced_no_longer}
-use Rattle.disk_model.proofs.Surfaces.{images_of_this_content}
+use Rattle.std.proofs.Common.{List, ℕ, length, get_or, refl, sym, ◌∙◌, ap, arith}
+use Rattle.disk_model.specs.Surface.{quiet_surface, surface_after}
+use Rattle.disk_model.specs.Undone.{calls_of, standing_open, synced_before}
+use Rattle.disk_model.proofs.Crashes.{crash_of, synced_kept}
+use Rattle.disk_model.proofs.Surfaces.{images_of_other_content}
 use Rattle.disk_model.proofs.crash.lose_power.Goals as goal
 
-pub copy_open-requires-clause-within : goal.copy_open-requires-clause-within
-copy_open-requires-clause-within c =
-    let size = synced_no_longer c.args.synced.now.items c.args.calls.now c.args.present.now.items c.requires.open_calls c.requires.image in
-    omega (arith, size)
+pub returns-then-pick-eq0-clause-crash : goal.returns-then-pick-eq0-clause-crash
+returns-then-pick-eq0-clause-crash c =
+    let writes = c.args.writes.now in
+    let synced = synced_before c.args.synced writes c.args.kept.now c.args.present.now.items in
+    let left = c.restore.ensures.synced in
+    let same = synced_kept (quiet_surface synced) (calls_of writes) c.requires.since.open_calls in
+    let size = ap length same in
+    let left_size = ap length left in
+    record {
+      left = record {
+        octets = c.restore.ensures.octets;
+        no_shorter = omega (arith, size, left_size);
+        no_longer = omega (arith, size, left_size, c.requires.since.image.no_shorter, c.requires.since.image.no_longer);
+        kept = λ place below shut. ap (λ (l : List ℕ). get_or l place 0) (left ∙ sym same);
+      };
+      synced = λ is. left ∙ sym same;
+      written = λ is. absurd (omega (arith, is, c.if-pick-eq0.true));
+      filled = λ is. absurd (omega (arith, is, c.if-pick-eq0.true));
+    }
 
-pub copy_open-requires-clause-others : goal.copy_open-requires-clause-others
-copy_open-requires-clause-others c =
-    let synced = c.args.synced.now.items in
-    let calls = c.args.calls.now in
+pub returns-then-pick-eq1-clause-crash : goal.returns-then-pick-eq1-clause-crash
+returns-then-pick-eq1-clause-crash c =
     let present = c.args.present.now.items in
-    let left = images_of_this_content (surface_after synced calls) c.as_slice.result.now c.crash.new.synced.items c.in_ok-crash.ensures.ok.left in
-    let size : length synced ≡ c.len-shared.result = omega arith in
-    subst (λ (n : ℕ). DifferInRanges n calls present c.as_slice-2.result.now) size
-    (subst (DifferInRanges (length synced) calls present) (sym c.as_slice-2.ensures.value)
-    (left_differs synced calls present c.crash.new.synced.items c.requires left))
+    let surface = surface_after (synced_before c.args.synced c.args.writes.now c.args.kept.now present) (calls_of c.args.writes.now) in
+    record {
+      left = images_of_other_content surface present present c.requires.since.image;
+      synced = λ is. absurd (omega (arith, is, c.if-pick-eq1.true));
+      written = λ is. refl;
+      filled = λ is. absurd (omega (arith, is, c.if-pick-eq1.true));
+    }
+
+pub returns-clause-crash : goal.returns-clause-crash
+returns-clause-crash c =
+    crash_of (standing_open c.args.synced c.args.writes.now c.args.kept.now c.args.present.now.items) c.args.pick c.tear_all.result _ c.tear_all.ensures.image
+    (λ is. c.tear_all.ensures.filled _ (c.new.ensures is)) c.if-pick-eq0.false c.if-pick-eq1.false

@@ -1,39 +1,91 @@
-use Rattle.std.proofs.Common.{◌≡◌, ◌+◌, ◌++◌, List, ℕ, length, take, drop, sym, ◌∙◌, ap, subst, arith}
+use Rattle.std.proofs.Common.{◌≡◌, ◌-◌, ◌++◌, List, ℕ, false, length, get_or, take, drop, replicate, refl, sym, ◌∙◌, ap, subst, arith, rules}
 use Rattle.std.proofs.lemmas.Grind.{common_steps}
 use Rattle.std.proofs.lemmas.List.{take_all}
 use Rattle.px_base.specs.Octets.{IsOctets}
-use Rattle.disk_model.specs.Crash.{IsFilled, Tears}
-use Rattle.disk_model.specs.Surface.{Surface, count_of, place_of, surface_after}
-use Rattle.disk_model.proofs.Crashes.{IsTorn, tears_same, next_call, synced_next, torn_next}
+use Rattle.disk_model.specs.Surface.{Surface, quiet_surface, surface_after, with_range}
+use Rattle.disk_model.specs.Undone.{before_writes, calls_of, synced_before}
+use Rattle.disk_model.specs.declared.open_write.OpenWrite.{OpenWrite}
+use Rattle.disk_model.proofs.BeforeWrites.{filled_behind, greatest_same, leaves_open, length-synced_before, write_next}
+use Rattle.disk_model.proofs.Crashes.{IsTorn, synced_kept, tears_same, with_range_torn}
 use Rattle.disk_model.proofs.crash.tear_all.Goals as goal
 
-pub loop-call-preserved : goal.loop-call-preserved
-loop-call-preserved c =
-    let here = c.loop-call.invariant in
-    let synced = c.args.image.now.items in
-    let calls = c.args.calls.now in
-    let i = c.loop-call.call-index in
-    let done = c.call-item.result in
-    let new : take c.loop-call.image.len (c.tear.new.image ++ drop (length c.tear.new.image) c.loop-call.image.items) ≡ c.tear.new.image = grind (arith, common_steps) in
-    let next = next_call synced calls i done c.requires.open_calls c.loop-call-test.true c.call-item.is in
-    let tears : Tears (place_of done) (count_of done) c.args.pick.octet c.loop-call.image.items c.tear.new.image =
-    tears_same (place_of done) (count_of done) c.loop-call.pick.octet c.args.pick.octet c.deref_mut.result.now c.loop-call.image.items c.tear.new.image here.same c.deref_mut.ensures.value
-    c.tear.ensures.tears in
-    let torn = torn_next synced calls i done c.args.pick.octet c.loop-call.image.items c.tear.new.image next tears here.torn in
+pub greatest_length-greatest-requires : goal.greatest_length-greatest-requires
+greatest_length-greatest-requires c =
+    leaves_open c.args.synced c.args.writes.now c.args.kept.now c.args.present.now.items c.deref.result.now c.deref.ensures.value c.requires
+
+pub length-length-requires-clause-most : goal.length-length-requires-clause-most
+length-length-requires-clause-most c =
+    let here = leaves_open c.args.synced c.args.writes.now c.args.kept.now c.args.present.now.items c.deref.result.now c.deref.ensures.value c.requires in
+    omega (arith, here.most, c.greatest_length-greatest.ensures.most)
+
+pub loop-write-init : goal.loop-write-init
+loop-write-init c =
+    let writes = c.args.writes.now in
+    let synced = synced_before c.args.synced writes c.args.kept.now c.args.present.now.items in
+    let whole : take c.reserve.new.self.len (c.undo.new.octets ++ drop (length c.undo.new.octets) c.reserve.new.self.items) ≡ c.undo.new.octets = grind (arith, common_steps) in
+    let front : c.truncate.new.self.items ≡ synced =
+    c.truncate.ensures.items ∙ ap (take c.args.synced) (whole ∙ c.undo.ensures ∙ ap (before_writes writes c.args.kept.now) (c.as_mut_slice.ensures.value ∙ c.in_ok-reserve.ensures.items)) in
+    let size = length-synced_before c.args.synced writes c.args.kept.now c.args.present.now.items c.requires.within in
+    let length_is = c.length-length.result in
+    let filled : c.resize.new.self.items ≡ take length_is c.truncate.new.self.items ++ replicate (length_is - c.truncate.new.self.len) c.octet.result = grind (arith, common_steps) in
+    let all : take length_is synced ≡ synced = take_all length_is synced (omega (arith, size, c.length-length.ensures.least)) in
+    record {
+      size = grind (arith, common_steps);
+      octets = search rules;
+      same = c.octet.ensures.same ∙ c.length-length.ensures.same;
+      synced = refl;
+      torn =
+          filled_behind synced c.args.pick.octet (length_is - c.truncate.new.self.len) c.octet.result c.resize.new.self.items
+          (filled ∙ ap (λ (l : List ℕ). take length_is l ++ replicate (length_is - c.truncate.new.self.len) c.octet.result) front ∙ ap (λ (l : List ℕ). l ++ replicate (length_is - c.truncate.new.self.len) c.octet.result) all)
+          (λ wanted is. c.octet.ensures.filled wanted (c.length-length.ensures.same ∙ is));
+    }
+
+pub loop-write-preserved : goal.loop-write-preserved
+loop-write-preserved c =
+    let here = c.loop-write.invariant in
+    let writes = c.args.writes.now in
+    let synced = synced_before c.args.synced writes c.args.kept.now c.args.present.now.items in
+    let i = c.loop-write.write-index in
+    let none : OpenWrite = record { at = 0; count = 0; found = 0; passed = false } in
+    let after = write_next synced writes i none c.loop-write-test.true in
+    let new : take c.loop-write.present.len (c.tear.new.image ++ drop (length c.tear.new.image) c.loop-write.present.items) ≡ c.tear.new.image = grind (arith, common_steps) in
+    let tears = tears_same _ _ c.loop-write.pick.octet c.args.pick.octet c.as_mut_slice-in-loop-write.result.now c.loop-write.present.items c.tear.new.image here.same c.as_mut_slice-in-loop-write.ensures.value c.tear.ensures.tears in
+    let torn = with_range_torn (surface_after synced (calls_of (take i writes))) _ _ c.args.pick.octet c.loop-write.present.items c.tear.new.image tears here.torn in
     record {
       size = ap length new ∙ tears.size ∙ here.size;
       octets = subst IsOctets (sym new) c.tear.ensures.octets;
       same = c.tear.ensures.same ∙ here.same;
-      synced = synced_next synced calls i done next ∙ here.synced;
-      torn = subst (IsTorn (surface_after synced (take (i + 1) calls)) c.args.pick.octet) (sym new) torn;
+      synced = ap (λ (s : Surface). s.synced) after ∙ here.synced;
+      torn =
+          subst (λ (s : Surface). IsTorn s c.args.pick.octet (take c.loop-write.present.len (c.tear.new.image ++ drop (length c.tear.new.image) c.loop-write.present.items))) (sym after)
+          (subst (IsTorn (with_range (surface_after synced (calls_of (take i writes))) (get_or writes i none).at (get_or writes i none).count) c.args.pick.octet) (sym new) torn);
+    }
+
+pub returns-clause-image : goal.returns-clause-image
+returns-clause-image c =
+    let here = c.loop-write.invariant in
+    let writes = c.args.writes.now in
+    let present = c.args.present.now.items in
+    let synced = synced_before c.args.synced writes c.args.kept.now present in
+    let torn = subst (λ (l : List OpenWrite). IsTorn (surface_after synced (calls_of l)) c.args.pick.octet c.loop-write.present.items) (take_all c.loop-write.write-index writes c.loop-write-test.false) here.torn in
+    let same = ap length (synced_kept (quiet_surface synced) (calls_of writes) c.requires.since.open_calls) in
+    let most = greatest_same c.args.synced writes c.args.kept.now present c.deref.result.now c.deref.ensures.value c.requires in
+    record {
+      octets = here.octets;
+      no_shorter = omega (arith, same, length-synced_before c.args.synced writes c.args.kept.now present c.requires.within, c.length-length.ensures.least, here.size);
+      no_longer = omega (arith, most, c.greatest_length-greatest.ensures.most, c.length-length.ensures.greatest, here.size);
+      kept = torn.kept;
     }
 
 pub returns-clause-filled : goal.returns-clause-filled
 returns-clause-filled c = λ octet is.
-    let here = c.loop-call.invariant in
-    let surface_is = ap (surface_after c.args.image.now.items) (take_all c.loop-call.call-index c.args.calls.now c.loop-call-test.false) in
-    let same_most = ap (λ (s : Surface). s.most) surface_is in
-    let greatest : c.greatest_length.result ≡ (surface_after c.args.image.now.items (take c.loop-call.call-index c.args.calls.now)).most =
-    let e = ap (λ (l : List ℕ). (surface_after l c.args.calls.now).most) c.as_slice.ensures.value in omega (arith, e, same_most) in
-    subst (λ (s : Surface). IsFilled s octet c.loop-call.image.items) surface_is
-    (record { size = here.size ∙ c.length-length.ensures.filled octet is ∙ greatest; each = λ place. here.torn.filled octet place is })
+    let here = c.loop-write.invariant in
+    let writes = c.args.writes.now in
+    let present = c.args.present.now.items in
+    let synced = synced_before c.args.synced writes c.args.kept.now present in
+    let torn = subst (λ (l : List OpenWrite). IsTorn (surface_after synced (calls_of l)) c.args.pick.octet c.loop-write.present.items) (take_all c.loop-write.write-index writes c.loop-write-test.false) here.torn in
+    let most = greatest_same c.args.synced writes c.args.kept.now present c.deref.result.now c.deref.ensures.value c.requires in
+    record {
+      size = here.size ∙ c.length-length.ensures.filled octet is ∙ c.greatest_length-greatest.ensures.most ∙ most;
+      each = λ place. torn.filled octet place is;
+    }

@@ -2,14 +2,15 @@ use Rattle.std.proofs.Common.{◌≡◌, length, take}
 use Rattle.px_base.specs.Octets.{IsOctets}
 use Rattle.disk_model.proofs.Crashes.{IsTorn}
 use Rattle.disk_model.specs.Surface.{surface_after}
+use Rattle.disk_model.specs.Undone.{calls_of, synced_before}
 use Rattle.disk_model.proofs.crash.tear_all.Given as goal
 
-abbrev pub invariant-loop-call : goal.invariant-loop-call
-invariant-loop-call l =
+abbrev pub invariant-loop-write : goal.invariant-loop-write
+invariant-loop-write l =
     record {
-      size : length l.image.items ≡ l.length;
-      octets : IsOctets l.image.items;
+      size : length l.present.items ≡ l.length;
+      octets : IsOctets l.present.items;
       same : l.pick.octet ≡ l.fn.pick.octet;
-      synced : (surface_after l.fn.image.items (take l.call-index l.calls)).synced ≡ l.fn.image.items;
-      torn : IsTorn (surface_after l.fn.image.items (take l.call-index l.calls)) l.fn.pick.octet l.image.items;
+      synced : (surface_after (synced_before l.synced l.writes l.fn.kept l.fn.present.items) (calls_of (take l.write-index l.writes))).synced ≡ synced_before l.synced l.writes l.fn.kept l.fn.present.items;
+      torn : IsTorn (surface_after (synced_before l.synced l.writes l.fn.kept l.fn.present.items) (calls_of (take l.write-index l.writes))) l.fn.pick.octet l.present.items;
     }

@@ -1,10 +1,13 @@
-use Rattle.std.proofs.Common.{List, ℕ, sym, subst, arith}
+use Rattle.std.proofs.Common.{List, ℕ, false, sym, refl, subst, arith}
 use Rattle.std.proofs.lemmas.Grind.{common_steps}
-use Rattle.disk_model.specs.Open.{IsClosed}
-use Rattle.disk_model.proofs.Ranges.{closes_torn_write}
+use Rattle.disk_model.specs.Undone.{Undoes}
+use Rattle.disk_model.specs.declared.open_write.OpenWrite.{OpenWrite}
+use Rattle.disk_model.proofs.BeforeWrites.{undoes_torn}
 use Rattle.disk_model.proofs.history.History.break_off.Goals as goal
 
-pub invariant_of-self-clause-closes : goal.invariant_of-self-clause-closes
-invariant_of-self-clause-closes c = λ kept.
-    subst (λ (f : List ℕ). IsClosed f c.then-self.result.calls c.args.self.now.synced.items c.push.new.self.items) (sym c.then-self.ensures.0)
-    (closes_torn_write _ _ _ _ _ _ c.args.at c.args.count c.then-self.ensures.1 (grind (arith, common_steps)) (c.args.self.now.closes kept))
+pub invariant_of-self-clause-undoes : goal.invariant_of-self-clause-undoes
+invariant_of-self-clause-undoes c =
+    let was = c.args.self.now in
+    let torn : OpenWrite = record { at = c.args.at; count = c.args.count; found = 0; passed = false } in
+    subst (λ (f : List ℕ). Undoes f c.then-self.result.calls was.synced c.push.new.self.items was.kept.items was.present.items) (sym c.then-self.ensures.0)
+    (undoes_torn _ _ _ _ _ _ _ _ torn c.then-self.ensures.1 (grind (arith, common_steps)) refl was.undoes)

@@ -1,15 +1,11 @@
-use Rattle.std.proofs.Common.{List, length, sym, subst}
-use Rattle.disk_model.specs.Open.{DifferInRanges}
-use Rattle.disk_model.specs.declared.disk_call.DiskCall.{DiskCall}
-use Rattle.disk_model.proofs.Ranges.{not_lost, stands_since, synced_differs}
+use Rattle.std.proofs.Common.{List, ℕ, sym, subst}
+use Rattle.disk_model.specs.Undone.{Undoes}
+use Rattle.disk_model.proofs.BeforeWrites.{undoes_failed_sync}
 use Rattle.disk_model.proofs.history.History.sync.Goals as goal
 
--- what was synced and the present octets differ in the ranges that are open
-pub catch_up-requires : goal.catch_up-requires
-catch_up-requires c =
+pub invariant_of-self-clause-undoes : goal.invariant_of-self-clause-undoes
+invariant_of-self-clause-undoes c =
     let was = c.args.self.now in
-    let closes = was.closes (not_lost was.lost was.down was.lost_is_down c.if-self.false) in
-    let stands = stands_since was.past.first was.past.calls was.synced.items was.writes.items was.present.items closes was.image was.most in
-    subst (λ (l : List DiskCall). DifferInRanges (length was.synced.items) l was.synced.items c.as_slice.result.now) (sym c.as_slice-2.ensures.value)
-    (subst (DifferInRanges (length was.synced.items) was.writes.items was.synced.items) (sym c.as_slice.ensures.value)
-    (synced_differs was.synced.items was.writes.items was.present.items stands))
+    let now = c.then-self.result in
+    subst (λ (f : List ℕ). Undoes f now.calls was.synced was.writes.items was.kept.items was.present.items) (sym c.then-self.ensures.0)
+    (undoes_failed_sync was.past.first was.past.calls now.calls was.synced was.writes.items was.kept.items was.present.items c.then-self.ensures.1 was.undoes)
