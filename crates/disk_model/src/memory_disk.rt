@@ -216,8 +216,8 @@ impl Disk for MemoryDisk {
         self.record_write(at, bytes)
     }
 
-    /// Syncs what was written; a call that is listed or comes when the disk is down fails and changes nothing. It copies
-    /// no octet.
+    /// Syncs what was written; a call that is listed or comes when the disk is down fails and changes nothing. It
+    /// copies no octet.
     fn sync(&mut self) -> Result<(), DiskFault>
         ensures promises { PromisesSync it.ghosts self.old self.new result }
         ensures syncing { IsSyncing (state self.old) (state self.new) result }

@@ -8,24 +8,24 @@ use crate::open_write::OpenWrite;
 use crate::overwriting::overwrite;
 use px_base::OutOfMemory;
 
-/// Writes octets over the present ones, as `overwrite` does, and puts those that stood in their range behind the ones
+/// Writes octets over the content, as `overwrite` does, and puts those that stood in their range behind the ones
 /// that were kept. It gives how many these are. Where there is no memory, or where they would end past the most octets
 /// of a disk, it changes nothing. Takes memory.
 pub(crate) fn overwrite_keeping(
-    present: &mut Vec<u8>,
+    content: &mut Vec<u8>,
     kept: &mut Vec<u8>,
     at: u64,
     bytes: &[u8],
 ) -> Result<usize, OutOfMemory>
     ensures ok { OnOk result
-        (WritesKeeping at bytes.now present.old.items present.new.items kept.old.items kept.new.items) }
-    ensures found { IfOk result (λ found. found ≡ length (found_by present.old.items at bytes.now)) }
-    ensures present { OnErr result (present.new.items ≡ present.old.items) }
+        (WritesKeeping at bytes.now content.old.items content.new.items kept.old.items kept.new.items) }
+    ensures found { IfOk result (λ found. found ≡ length (found_by content.old.items at bytes.now)) }
+    ensures content { OnErr result (content.new.items ≡ content.old.items) }
     ensures kept { OnErr result (kept.new.items ≡ kept.old.items) }
 {
     let before = kept.len();
-    keep_range(kept, present.as_slice(), at, bytes.len() as u64)?;
-    if overwrite(present, at, bytes).is_err() {
+    keep_range(kept, content.as_slice(), at, bytes.len() as u64)?;
+    if overwrite(content, at, bytes).is_err() {
         kept.truncate(before);
         return Err(OutOfMemory);
     }
