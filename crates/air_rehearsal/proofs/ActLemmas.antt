@@ -7,7 +7,7 @@ use Rattle.disk_model.specs.declared.disk.Disk.{Ghosts}
 use Rattle.ftl0_client.specs.Client.{ClientEvent, IsSilent}
 use Rattle.ftl0_client.specs.ClientState.{IsClient}
 use Rattle.ftl0_client.specs.ClientStep.{happening}
-use Rattle.air_attempt.specs.Party.{Party, newest}
+use Rattle.air_attempt.specs.Party.{Party}
 use Rattle.air_attempt.specs.Transfers.{ClientDid}
 use Rattle.air_world.specs.Events.{ClientPart, ClientTakes, part_with}
 use Rattle.air_world.specs.Lawful.{IsAllowed}
@@ -35,7 +35,7 @@ begins_still g lasts self new seat whole coming disk at_seat is client attempt_i
     subst (λ (p : ClientPart). BeginsPart g p self new disk disk) (sym is)
     (record {
       client = client;
-      lanes = subst (λ attempt. HasLanes attempt (lanes_of (newest seat.party))) (sym attempt_is) at_seat.plays.lanes;
+      lanes = subst (λ attempt. HasLanes attempt (lanes_of seat.party.attempts)) (sym attempt_is) at_seat.plays.lanes;
       uploads = ap (λ uploads. uploads.items) uploads_are ∙ at_seat.plays.uploads_are ∙ sym (append-nil seat.party.uploads);
       cut = cut_is;
       carries = carries_none g lasts (part_with seat.party coming) disk;
@@ -48,7 +48,7 @@ module _ {D : Type 0} (g : Ghosts D) (law : ClientLanesLaw) (self begun new : St
     (allowed : IsAllowed seat.world event) (takes : ClientTakes seat.world event seat.c whole)
     (is_part : IsPart seat part whole) (none : self.cut ≡ None)
     (begins : BeginsPart g whole self begun disk disk_then)
-    (says : SaysAll (happening (client_started whole) whole.coming).after (lanes_of (newest whole.party)) new) where
+    (says : SaysAll (happening (client_started whole) whole.coming).after (lanes_of whole.party.attempts) new) where
   but : whole.party ≡ record seat.party { attempts = whole.party.attempts }
   but = party_but seat part whole is_part
 

@@ -1,6 +1,6 @@
 -- What is so of the client of a number, in the world that the stations play.
 use Rattle.std.proofs.Common.{◌≡◌, ℕ, zero, suc, List, [], Bool, true, false, Option, None, Some}
-use Rattle.std.proofs.Common.{refl, sym, ap, subst, ◌∙◌}
+use Rattle.std.proofs.Common.{length, refl, sym, ap, subst, ◌∙◌}
 use Rattle.std.specs.Prelude.{◌↔◌, IsTrue, is_some}
 use Rattle.std.specs.List.{slice_get}
 use Rattle.std.proofs.lemmas.Bool.{both_ways}
@@ -16,7 +16,7 @@ use Rattle.air_world.specs.Lawful.{HasParty, MayCome, last_unfinished}
 use Rattle.air_world.specs.Sound.{Sound}
 use Rattle.air_world.specs.World.{PartyAt, World}
 use Rattle.air_rehearsal.specs.LaneCalls.{MayDeliver}
-use Rattle.air_rehearsal.specs.Lanes.{Lanes, lanes_of, no_lanes}
+use Rattle.air_rehearsal.specs.Lanes.{Lanes, lanes_by, lanes_of}
 use Rattle.air_rehearsal.specs.Numbers.{numbered}
 use Rattle.air_rehearsal.specs.PartyCalls.{IsLastGoing}
 use Rattle.air_rehearsal.specs.TakingPart.{IsSeat}
@@ -45,7 +45,7 @@ some-placed w list (suc place) t placed = (t, placed)
 
 -- ---- what has a number
 
-numbered-some :
+pub numbered-some :
     {X : Type 0} (items : List X) (number : ℕ) (x : X) → Some x ≡ numbered number items
     → (place : ℕ) × (number ≡ suc place) × (slice_get items place ≡ Some x)
 numbered-some items zero x is = absurd (none-some x (sym is))
@@ -115,10 +115,11 @@ module _ (self : Stations) (world : World) (sound : Sound world) (plays : PlaysS
 
   -- a transmission may be delivered where it may of the lane of the client's current attempt
   module _ (sent : Attempt → List Transmission) (lane : Lanes → List Transmission)
-      (is_sent : (a : Attempt) → lane (lanes_of (Some a)) ≡ sent a) (is_empty : lane no_lanes ≡ []) (number : ℕ) where
+      (is_sent : (a : Attempt) (count : ℕ) → lane (lanes_by (Some a) count) ≡ sent a)
+      (is_empty : (count : ℕ) → lane (lanes_by None count) ≡ []) (number : ℕ) where
     pub may-come :
         (stored : StoredParty) (client : ℕ) (is : Bool) (it : Has client stored)
-        → ((list : List Transmission) → list ≡ lane (lanes_of (newest it.party))
+        → ((list : List Transmission) → list ≡ lane (lanes_of it.party.attempts)
         → IsTrue is ↔ Placed number (MayDeliver (window_of self.k) list))
         → IsTrue is ↔ MayCome sent number it.party
     may-come stored client is it right = by (newest it.party) refl
@@ -134,12 +135,12 @@ module _ (self : Stations) (world : World) (sound : Sound world) (plays : PlaysS
 
         by : (current : Option Attempt) → newest it.party ≡ current → IsTrue is ↔ MayCome sent number it.party
         by None current =
-            let here = right [] (sym is_empty ∙ ap (λ o. lane (lanes_of o)) (sym current)) in (
+            let here = right [] (sym (is_empty (length it.party.attempts)) ∙ ap (λ o. lane (lanes_by o (length it.party.attempts))) (sym current)) in (
               λ yes_is. absurd (none-placed (window_of self.k) number (here.0 yes_is)),
               λ may. absurd (none-some may.0 (sym current ∙ may.2)),
             )
         by (Some a) current =
-            let here = right (sent a) (sym (is_sent a) ∙ ap (λ o. lane (lanes_of o)) (sym current)) in (
+            let here = right (sent a) (sym (is_sent a (length it.party.attempts)) ∙ ap (λ o. lane (lanes_by o (length it.party.attempts))) (sym current)) in (
               λ yes_is.
                   let placed =
                   placed-some a.window (sent a) number

@@ -98,4 +98,4 @@ module _ {B : Type 0} (g : Ghosts B) (cuts : Cuts B) (schedule : Schedule) (i : 
         subst (λ (events : List Event). Rehearsed g cuts (until events schedule) bench (disk_now ∷ at.disks) report)
         (take_all i schedule.events all)
         (finished g cuts lasts_so front played.0 bench at fresh played.1 (front_schedule is_schedule) laws disk_now
-        report ends)
+        report ends).0

@@ -1,6 +1,6 @@
 -- The clients of a rehearsal and those of the world that they play, one by one.
-use Rattle.std.specs.Prelude.{◌≡◌, ◌≢◌, ◌⊎◌, ℕ, zero, suc, List, [], ◌∷◌, length, slice_get, slice_set, Some, refl}
-use Rattle.std.proofs.Common.{sym, ap, ◌∙◌, inl, inr, arith}
+use Rattle.std.specs.Prelude.{◌≡◌, ℕ, zero, suc, List, [], ◌∷◌, length, slice_get, slice_set, Some, refl}
+use Rattle.std.proofs.Common.{sym, ap, ◌∙◌}
 use Rattle.std.proofs.lemmas.Option.{same_Some}
 use Rattle.air_attempt.specs.Party.{Party}
 use Rattle.air_rehearsal.specs.Ready.{KeepParties, KeepsAllButLanes}
@@ -49,15 +49,3 @@ pub set_count : {X : Type 0} (xs : List X) (c : ℕ) (x : X) → length (slice_s
 set_count [] c x = refl
 set_count (first ∷ xs) zero x = refl
 set_count (first ∷ xs) (suc c) x = ap suc (set_count xs c x)
-
--- the element at a place of a list of which one is another now
-pub set_at : {X : Type 0} (xs : List X) (i j : ℕ) (x y : X) → slice_get (slice_set xs i x) j ≡ Some y
-    → ((j ≡ i) × (y ≡ x)) ⊎ ((j ≢ i) × (slice_get xs j ≡ Some y))
-set_at [] i j x y at = absurd cc
-set_at (z ∷ zs) zero zero x y at = inl (refl, sym (same_Some x y at))
-set_at (z ∷ zs) zero (suc j) x y at = inr (λ e. (let no : ⊥ = omega (arith, e) in no), at)
-set_at (z ∷ zs) (suc i) zero x y at = inr (λ e. (let no : ⊥ = omega (arith, e) in no), at)
-set_at (z ∷ zs) (suc i) (suc j) x y at = elim (set_at zs i j x y at) [
-  | inl same ↦ inl (ap suc same.0, same.1)
-  | inr other ↦ inr (λ e. other.0 (let same : j ≡ i = omega (arith, e) in same), other.1)
-]

@@ -13,7 +13,7 @@ use Rattle.ftl0_client.specs.Client.{ClientEvent, asks, hears, ticks}
 use Rattle.ftl0_client.specs.Entries as job
 use Rattle.air_attempt.specs.Attempt.{Attempt, IsAttempt, IsOneCall}
 use Rattle.air_attempt.specs.Lists.{Placed}
-use Rattle.air_attempt.specs.Party.{IsLinkOf, Party, client_sends, newest, to_client_delivered, with_newest}
+use Rattle.air_attempt.specs.Party.{IsLinkOf, Party, client_sends, to_client_delivered, with_newest}
 use Rattle.air_attempt.specs.Transfers.{ClientDid, after_event, called_again, did_by, has_call, job_gone_on}
 use Rattle.air_world.specs.Cuts.{ClientDoes, ClientEvent as ClientIn, Happens}
 use Rattle.air_world.specs.Events.{ClientPart, ClientTakes, DeliversToClient, IsPartOf, IsResuming}
@@ -28,7 +28,7 @@ use Rattle.air_rehearsal.specs.LaneLaws.{ClientLanesLaw}
 use Rattle.air_rehearsal.specs.Lanes.{lanes_of, sending_each}
 use Rattle.air_rehearsal.specs.TakingPart.{PartyGoes}
 use Rattle.air_rehearsal.proofs.ClientSends.{GoesBy, goes-by}
-use Rattle.air_rehearsal.proofs.SentLanes.{no-call-behind, sending-begins, sending-each}
+use Rattle.air_rehearsal.proofs.SentLanes.{begun_by, lanes-count, no-call-behind, sending-begins, sending-each}
 
 -- ---- by the event
 
@@ -47,13 +47,14 @@ HasOne ticks attempts = ⊤
 module _ (did : ClientDid) where
   -- these are the lanes of the newest of these attempts once the client sent its frames
   abbrev GoOn : List Attempt → List Attempt → Type 0
-  GoOn before now = lanes_of (slice_get now 0) ≡ sending_each did.frames (lanes_of (slice_get before 0))
+  GoOn before now = lanes_of now ≡ sending_each did.frames (lanes_of before)
 
   -- the frames are behind those that were sent
-  sends-on : (a : Attempt) → IsOneCall a.by_client → IsOneCall (sending_all a.by_client did.frames)
-      → lanes_of (Some (client_sends did.frames a)) ≡ sending_each did.frames (lanes_of (Some a))
-  sends-on a before now =
-      sym (sending-each did.frames (lanes_of (Some a)) (no-call-behind a.by_client did.frames before now))
+  sends-on : (a : Attempt) (older : List Attempt) → IsOneCall a.by_client
+      → IsOneCall (sending_all a.by_client did.frames)
+      → lanes_of (client_sends did.frames a ∷ older) ≡ sending_each did.frames (lanes_of (a ∷ older))
+  sends-on a older before now =
+      sym (sending-each did.frames (lanes_of (a ∷ older)) (no-call-behind a.by_client did.frames before now))
 
   -- a tick of a client that has a link
   ticked : (again : Bool) (was now : Attempted) (attempts : List Attempt) → IsOnce attempts
@@ -64,9 +65,9 @@ module _ (did : ClientDid) where
       → GoOn attempts (if again then called_again did now attempts
       else with_newest (job_gone_on did now (job.entries_ticked was)) attempts)
   ticked true was now [] before after link = absurd link
-  ticked true was now (a ∷ older) before after link = sym (sending-begins did.frames (lanes_of (Some a)) after)
+  ticked true was now (a ∷ older) before after link = sym (sending-begins did.frames (lanes_of (a ∷ older)) after)
   ticked false was now [] before after link = absurd link
-  ticked false was now (a ∷ older) before after link = sends-on a before after
+  ticked false was now (a ∷ older) before after link = sends-on a older before after
 
   goes-on : (coming : ClientEvent) (was now : Option Attempted) (attempts : List Attempt) → HasOne coming attempts
       → GoesBy coming was now did.frames → IsOnce attempts → IsOnce (did_by coming was now did attempts)
@@ -74,13 +75,15 @@ module _ (did : ClientDid) where
       → GoOn attempts (did_by coming was now did attempts)
   goes-on (asks work) was None attempts has goes before after link = absurd goes
   goes-on (asks work) was (Some now) attempts has goes before after link =
-      sym (sending-begins did.frames (lanes_of (slice_get attempts 0)) after)
+      ap (λ (n : ℕ). record (begun_by did.frames (lanes_of attempts)) { attempts = suc n })
+      (sym (lanes-count attempts))
+      ∙ sym (sending-begins did.frames (lanes_of attempts) after)
   goes-on (hears frame) was now [] has goes before after link = absurd has
-  goes-on (hears frame) None now (a ∷ older) has goes before after link = sends-on a before after
-  goes-on (hears frame) (Some was) None (a ∷ older) has goes before after link = sends-on a before after
-  goes-on (hears frame) (Some was) (Some now) (a ∷ older) has goes before after link = sends-on a before after
+  goes-on (hears frame) None now (a ∷ older) has goes before after link = sends-on a older before after
+  goes-on (hears frame) (Some was) None (a ∷ older) has goes before after link = sends-on a older before after
+  goes-on (hears frame) (Some was) (Some now) (a ∷ older) has goes before after link = sends-on a older before after
   goes-on ticks None now attempts has goes before after link =
-      ap (λ frames. sending_each frames (lanes_of (slice_get attempts 0))) (sym goes)
+      ap (λ frames. sending_each frames (lanes_of attempts)) (sym goes)
   goes-on ticks (Some was) None attempts has goes before after link = absurd goes
   goes-on ticks (Some was) (Some now) attempts has goes before after link =
       ticked (has_call did.frames) was now attempts before after link
@@ -232,9 +235,9 @@ module _ (laws : SoundLaw) (world : World) (event : Event) (c : ℕ) (part : Cli
   now-is : IsParty later c (party_after part goes.did)
   now-is = subst (IsParty later c) goes.next_is (sound-later.parties c next now-at)
 
-  lanes-are : lanes_of (newest next) ≡ sending_each goes.did.frames (lanes_of (newest part.party))
+  lanes-are : lanes_of next.attempts ≡ sending_each goes.did.frames (lanes_of part.party.attempts)
   lanes-are =
-      ap (λ (p : Party). lanes_of (newest p)) goes.next_is
+      ap (λ (p : Party). lanes_of p.attempts) goes.next_is
       ∙ goes-on goes.did part.coming goes.did.old.attempt goes.did.now.attempt part.party.attempts before.has
       (goes-by goes.did.old goes.did.now goes.noted goes.did.frames part.coming goes.step) before.once
       (each-once goes.did.now.me goes.did.now.server (after_event part.coming goes.did part.party.attempts)

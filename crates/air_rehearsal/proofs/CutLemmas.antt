@@ -20,7 +20,7 @@ use Rattle.client_notes.specs.Several as notes
 use Rattle.client_notes.specs.State.{StandsFor}
 use Rattle.ftl0_client.specs.Client.{Client, new_client}
 use Rattle.ftl0_client.specs.ClientState.{ClientState, IsClient}
-use Rattle.air_attempt.specs.Party.{Party, newest}
+use Rattle.air_attempt.specs.Party.{Party}
 use Rattle.air_world.specs.Cuts.{client_commands, party_cut, started_again}
 use Rattle.air_world.specs.Events.{ClientPart}
 use Rattle.air_rehearsal.specs.Lanes.{HasLanes, lanes_of}
@@ -307,7 +307,7 @@ module _ {B : Type 0} (g : Ghosts B) (cuts : Cuts B)
           (restarted g self touched again seat disk left now (notes.after_first count lists commands) at_seat ready
           me server k restarts lists_now));
       lanes =
-          subst (λ (a : StoredAttempt). HasLanes a (lanes_of (newest whole.party))) (sym attempt_is) touches.lanes;
+          subst (λ (a : StoredAttempt). HasLanes a (lanes_of whole.party.attempts)) (sym attempt_is) touches.lanes;
       uploads_are =
           uploads_are
           ∙ ap (λ (l : Lists). uploads_by part (task_count l) self.uploads.items) lists_now
@@ -346,7 +346,7 @@ module _ {B : Type 0} (g : Ghosts B) (cuts : Cuts B)
           restarted g self self new seat disk disk now seat.party.client.lists at_seat ready refl refl refl restarts
           lists_kept;
       lanes =
-          subst (λ (p : StoredParty). HasLanes p.attempt (lanes_of (newest seat.party))) (sym restarts.keeps)
+          subst (λ (p : StoredParty). HasLanes p.attempt (lanes_of seat.party.attempts)) (sym restarts.keeps)
           at_seat.plays.lanes;
       uploads_are = ap (λ (p : StoredParty). p.uploads.items) restarts.keeps ∙ at_seat.plays.uploads_are;
       cut_is = ap (λ (p : StoredParty). is_some p.cut) restarts.keeps ∙ at_seat.plays.cut_is;

@@ -123,11 +123,11 @@ module _ {B : Type 0} (g : Ghosts B) (cuts : Cuts B)
     run : IsRun schedule worlds
     run = record { is_schedule = is_schedule; plays = played.plays }
 
-    -- It was played to its end.
+    -- It was played to its end, and these are the worlds.
     pub finished :
         (laws : RehearsalLaws) (disk_now : B) (report : StoredReport)
         → EndsSo g world at.stations.report at.disk disk_now report
-        → Rehearsed g cuts schedule bench (disk_now ∷ at.disks) report
+        → (it : Rehearsed g cuts schedule bench (disk_now ∷ at.disks) report) × (it.worlds ≡ worlds)
     finished laws disk_now report ends =
         let headline : HeadlineIn world world.server.store =
         laws.parts.headline world played.playing.bench.sound in

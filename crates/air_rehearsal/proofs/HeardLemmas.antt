@@ -28,10 +28,10 @@ use Rattle.ftl0_client.specs.Client as client
 use Rattle.ftl0_client.specs.Client.{Client, client_hearing}
 use Rattle.ftl0_client.specs.ClientState.{ClientState, IsClient}
 use Rattle.air_attempt.specs.Attempt.{Attempt, IsAttempt, IsFromTo}
-use Rattle.air_attempt.specs.Party.{newest, to_client_delivered, with_newest}
+use Rattle.air_attempt.specs.Party.{to_client_delivered, with_newest}
 use Rattle.air_attempt.proofs.Offered.{all-at}
 use Rattle.air_world.specs.Events.{ClientPart, DeliversToClient, part_with, with_current}
-use Rattle.air_rehearsal.specs.Lanes.{HasLanes, IsLane, lanes_of}
+use Rattle.air_rehearsal.specs.Lanes.{HasLanes, IsLane, lanes_by, lanes_of}
 use Rattle.air_rehearsal.specs.PartCalls.{BeginsPart, TouchesDisk}
 use Rattle.air_rehearsal.specs.TakingPart.{IsSeat, Seat}
 use Rattle.air_rehearsal.specs.declared.attempt.Attempt.{Attempt as StoredAttempt}
@@ -65,18 +65,19 @@ first_is (b ∷ older) a is = (older, ap (λ (x : Attempt). x ∷ older) (same_S
 
 -- the lanes of the current attempt, once a transmission of the server's is marked
 pub lanes_delivered : (old new : StoredAttempt) (attempts : List Attempt) (a : Attempt) (place : ℕ) (t : Transmission)
-    → slice_get attempts 0 ≡ Some a → HasLanes old (lanes_of (slice_get attempts 0))
+    → slice_get attempts 0 ≡ Some a → HasLanes old (lanes_of attempts)
     → new ≡ record old { from_server = new.from_server } → IsLane new.from_server (delivering a.by_server place t)
-    → HasLanes new (lanes_of (slice_get (with_newest (to_client_delivered place t) attempts) 0))
+    → HasLanes new (lanes_of (with_newest (to_client_delivered place t) attempts))
 lanes_delivered old new attempts a place t is has same lane =
     let first = first_is attempts a is in
-    let was = subst (λ (o : Option Attempt). HasLanes old (lanes_of o)) is has in
-    subst (λ (all : List Attempt). HasLanes new (lanes_of (slice_get (with_newest (to_client_delivered place t) all) 0)))
+    let was = subst (λ (all : List Attempt). HasLanes old (lanes_of all)) first.1 has in
+    subst (λ (all : List Attempt). HasLanes new (lanes_of (with_newest (to_client_delivered place t) all)))
     (sym first.1)
     (record {
       by_client = subst (λ (s : StoredAttempt). IsLane s.from_client a.by_client) (sym same) was.by_client;
       by_server = lane;
       answered_is = ap (λ (s : StoredAttempt). s.is_answered) same ∙ was.answered_is;
+      number_is = ap (λ (s : StoredAttempt). s.number) same ∙ was.number_is;
     })
 
 -- ---- what a client hears
@@ -114,8 +115,8 @@ module _ (self : StoredParty) (seat : Seat) (at_seat : IsSeat self seat) (place 
   -- the lane has the transmission
   pub lane_was : IsLane self.attempt.from_server attempt.by_server
   lane_was =
-      (subst (λ (o : Option Attempt). HasLanes self.attempt (lanes_of o)) delivers.sent.current
-      at_seat.plays.lanes).by_server
+      (subst (λ (o : Option Attempt). HasLanes self.attempt (lanes_by o (length seat.party.attempts)))
+      delivers.sent.current at_seat.plays.lanes).by_server
 
   is_attempt : IsAttempt seat.party.client.me seat.party.client.server attempt
   is_attempt =
@@ -137,9 +138,9 @@ module _ (self : StoredParty) (seat : Seat) (at_seat : IsSeat self seat) (place 
   -- the lanes then
   pub lanes_now : (new : StoredParty) → new.attempt ≡ record self.attempt { from_server = new.attempt.from_server }
       → IsLane new.attempt.from_server (delivering attempt.by_server place delivers.t)
-      → HasLanes new.attempt (lanes_of (newest whole.party))
+      → HasLanes new.attempt (lanes_of whole.party.attempts)
   lanes_now new same lane =
-      subst (λ (p : ClientPart). HasLanes new.attempt (lanes_of (newest p.party))) (sym delivers.part_is)
+      subst (λ (p : ClientPart). HasLanes new.attempt (lanes_of p.party.attempts)) (sym delivers.part_is)
       (lanes_delivered self.attempt new.attempt seat.party.attempts attempt place delivers.t delivers.sent.current
       at_seat.plays.lanes same lane)
 
@@ -166,7 +167,7 @@ module _ (self : StoredParty) (seat : Seat) (at_seat : IsSeat self seat) (place 
 
     -- and what it makes of the client
     pub heard_begins : (stored : StoredParty) → stored.client ≡ new → stored.uploads.items ≡ self.uploads.items
-        → stored.cut ≡ self.cut → HasLanes stored.attempt (lanes_of (newest whole.party))
+        → stored.cut ≡ self.cut → HasLanes stored.attempt (lanes_of whole.party.attempts)
         → OnOk result (BeginsPart g whole self stored disk disk_now)
     heard_begins stored client_is uploads_are cut_is lanes = by result hears.by hears.since puts
       where
@@ -179,7 +180,7 @@ module _ (self : StoredParty) (seat : Seat) (at_seat : IsSeat self seat) (place 
             (record {
               client = subst (λ (s : ClientState). IsClient s (client_hearing seat.party.client frame).after) (sym client_is) hears.0;
               lanes =
-                  subst (λ (p : ClientPart). HasLanes stored.attempt (lanes_of (newest p.party))) delivers.part_is lanes;
+                  subst (λ (p : ClientPart). HasLanes stored.attempt (lanes_of p.party.attempts)) delivers.part_is lanes;
               uploads = uploads_are ∙ at_seat.plays.uploads_are ∙ sym (append-nil seat.party.uploads);
               cut = cut_is;
               carries = record { told = puts.told; since = since; lasts = puts.lasts };

@@ -182,13 +182,13 @@ module _ (steps : StepLaw) (world delivered next : World) (c place : ℕ) (p : P
   -- ---- its lanes
 
   pub own-lanes : (party now : Party) → PartyAt delivered c party → PartyAt next c now
-      → lanes_of (newest now) ≡ replying_each did.frames (lanes_of (newest party))
+      → lanes_of now.attempts ≡ replying_each did.frames (lanes_of party.attempts)
   own-lanes party now is is_now =
-      ap (λ (q : Party). lanes_of (newest q)) (same_Some now (record p { attempts = those }) (sym is_now ∙ then-at))
+      ap (λ (q : Party). lanes_of q.attempts) (same_Some now (record p { attempts = those }) (sym is_now ∙ then-at))
       ∙ replies did t.frame p.client.me p.client.server marked older (is_call t.frame.kind.control)
       (connection_of did.old t.frame.src) (connection_of did.last t.frame.src) those-are opens
       (λ other. served-by a place t attempt.call attempt.answered at other)
-      ∙ ap (λ (q : Party). replying_each did.frames (lanes_of (newest q))) (same_Some one party (sym one-at ∙ is))
+      ∙ ap (λ (q : Party). replying_each did.frames (lanes_of q.attempts)) (same_Some one party (sym one-at ∙ is))
 
   -- ---- another client
 
@@ -245,9 +245,9 @@ module _ (laws : SoundLaw) (steps : StepLaw) (world : World) (c place : ℕ) (co
   later = heard-sound laws world delivered next c place coming sound allowed uncut delivers goes
 
   own : (party now : Party) → PartyAt delivered c party → PartyAt next c now
-      → lanes_of (newest now) ≡ replying_each goes.did.frames (lanes_of (newest party))
+      → lanes_of now.attempts ≡ replying_each goes.did.frames (lanes_of party.attempts)
   own party now is is_now =
-      from-hearing (λ did. lanes_of (newest now) ≡ replying_each did.frames (lanes_of (newest party)))
+      from-hearing (λ did. lanes_of now.attempts ≡ replying_each did.frames (lanes_of party.attempts))
       (λ heard.
       own-lanes steps world delivered next c place delivers.party delivers.sent.attempt delivers.t
       (next_moment world) sound later delivers.is_party delivers.sent.current delivers.sent.is_at

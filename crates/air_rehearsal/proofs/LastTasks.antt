@@ -7,14 +7,20 @@ use Rattle.std.proofs.lemmas.Bool.{both_ways, cases_lt, cond-false, cond-true, l
 use Rattle.std.proofs.lemmas.List.{get_or-reverse, length-reverse}
 use Rattle.std.proofs.lemmas.List.Folds.{find_at}
 use Rattle.std.proofs.lemmas.List.Sums.{fails_before_first, passes_at_first}
-use Rattle.std.proofs.lemmas.Option.{get_or_from_slice_get, slice_get-get_or, slice_get_cases, slice_get_past, slice_get_within}
+use Rattle.std.proofs.lemmas.Option.{get_or_from_slice_get, none-some, same_Some, slice_get-get_or, slice_get_cases}
+use Rattle.std.proofs.lemmas.Option.{slice_get_past, slice_get_within}
 use Rattle.client_notes.specs.Answers.{noted_as, noted_at, noted_by}
 use Rattle.client_notes.specs.Command.{is_going}
 use Rattle.client_notes.specs.Notes.{Lists, Task, task_count, task_of}
 use Rattle.client_notes.specs.declared.answers.Noted.{Noted}
+use Rattle.client_notes.specs.declared.answers.Noted.TheVariants as noted
 use Rattle.client_notes.specs.declared.progress.Progress.{Progress}
 use Rattle.client_notes.specs.declared.progress.Progress.TheVariants as progress
+use Rattle.air_attempt.specs.Party.{Party}
+use Rattle.air_files.proofs.Offered.{later-number}
 use Rattle.air_world.specs.Lawful.{last_unfinished}
+use Rattle.air_world.specs.Sound.{Sound}
+use Rattle.air_world.specs.World.{PartyAt, World}
 use Rattle.air_rehearsal.specs.Drawn.{is_acked, last_acked}
 use Rattle.air_rehearsal.specs.NotedTasks.{number_if_acked, number_if_going}
 use Rattle.air_rehearsal.specs.PartyCalls.{IsLastGoing}
@@ -233,3 +239,30 @@ pub none-acked :
     → None ≡ last_acked lists
 none-acked lists back all none =
     ap (option_map (λ (task : Task). task.number)) (sym (none-find is_acked lists (omega (arith, all, none))))
+
+-- ---- what is acknowledged
+
+acked-is :
+    (task number given : ℕ) (p : Progress) → Some number ≡ number_if_acked (Some (noted_by task given p))
+    → Some (noted_by task given p) ≡ Some (noted.Acked task number)
+acked-is task number given progress.Going is = absurd (none-some number (sym is))
+acked-is task number given progress.Acked is =
+    ap (λ (n : ℕ). Some (noted.Acked task n)) (sym (same_Some number given is))
+acked-is task number given (progress.Refused code) is = absurd (none-some number (sym is))
+
+acked-of :
+    (task number : ℕ) (o : Option Task) → Some number ≡ number_if_acked (option_map (noted_as task) o)
+    → option_map (noted_as task) o ≡ Some (noted.Acked task number)
+acked-of task number None is = absurd (none-some number (sym is))
+acked-of task number (Some entry) is = acked-is task number entry.number entry.progress is
+
+-- a number under which a file was acknowledged is none of no file
+pub acked-some :
+    (world : World) (c : ℕ) (party : Party) (task number : ℕ) → Sound world → PartyAt world c party
+    → Some number ≡ number_if_acked (noted_at party.client.lists task) → 1 ≤ number
+acked-some world c party task number sound at is =
+    let kept =
+    (sound.parties c party at).facts.tasks.acknowledged task number
+    (acked-of task number (task_of party.client.lists task) is) in
+    later-number number 1 world.server.store.next world.server.store.entries kept.2.entry
+    sound.store.is_store.entries kept.2.is_entry

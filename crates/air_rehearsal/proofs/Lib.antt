@@ -20,7 +20,12 @@ mod CutCounts
 mod CutLemmas
 mod CutsAtEnd
 mod CutsTold
+mod DrawLemmas
+mod DriveLemmas
+mod DrawnCalls
+mod DrivenLemmas
 mod EndLemmas
+mod ExchangeLemmas
 mod Finished
 mod FirstBench
 mod FramesTo
@@ -32,6 +37,7 @@ mod LaneLaws
 mod LaneLemmas
 mod LastTasks
 mod LooksLemmas
+mod NumberedLemmas
 mod OneReport
 mod OpeningLemmas
 mod OpensHalfway
@@ -70,4 +76,5 @@ mod UploadFiles
 mod UploadLemmas
 mod WholePlay
 mod WholeRehearsal
+mod WishLemmas
 pub mod ReadyLemmas

@@ -11,7 +11,8 @@ use Rattle.air_world.specs.World.{pacsat}
 use Rattle.air_rehearsal.specs.Opening.{Opened, OpensClient, OpensFirst}
 use Rattle.air_rehearsal.specs.Ready.{AreReady}
 use Rattle.air_rehearsal.specs.declared.party.Party.{Party as StoredParty}
-use Rattle.air_rehearsal.proofs.BenchLemmas.{set_at, set_count}
+use Rattle.air_rehearsal.proofs.BenchLemmas.{set_count}
+use Rattle.air_rehearsal.proofs.PairLemmas.{set_at}
 use Rattle.air_rehearsal.proofs.ReadyLemmas.{at_more}
 
 -- the elements behind a place at which one is set

@@ -1,6 +1,6 @@
--- Two lists of which a relation holds place by place (`AllZip`): what is at a place, and what is set there.
-use Rattle.std.proofs.Common.{◌≡◌, ℕ, zero, suc, ◌<◌, ◌≤◌, List, [], ◌∷◌, get_or, length, map, None, Some}
-use Rattle.std.proofs.Common.{refl, sym, ap, subst, ◌∙◌}
+-- What is at a place of a list, and what is set there; and two lists of which a relation holds place by place (`AllZip`).
+use Rattle.std.proofs.Common.{◌≡◌, ◌≢◌, ◌⊎◌, ℕ, zero, suc, ◌<◌, ◌≤◌, List, [], ◌∷◌, get_or, length, map, None, Some}
+use Rattle.std.proofs.Common.{refl, sym, ap, subst, inl, inr, arith, ◌∙◌}
 use Rattle.std.specs.List.{AllZip, slice_get, slice_set}
 use Rattle.std.proofs.lemmas.Option.{same_Some, slice_get_past, slice_get_read}
 
@@ -101,3 +101,15 @@ pub get-none :
     {X : Type 0} (xs read : List X) (place : ℕ) → read ≡ xs → length read ≤ place → slice_get xs place ≡ None
 get-none {X} xs read place same past =
     ap (λ (list : List X). slice_get list place) (sym same) ∙ slice_get_past read place past
+
+-- the element at a place of a list of which one is another now
+pub set_at : {X : Type 0} (xs : List X) (i j : ℕ) (x y : X) → slice_get (slice_set xs i x) j ≡ Some y
+    → ((j ≡ i) × (y ≡ x)) ⊎ ((j ≢ i) × (slice_get xs j ≡ Some y))
+set_at [] i j x y at = absurd cc
+set_at (z ∷ zs) zero zero x y at = inl (refl, sym (same_Some x y at))
+set_at (z ∷ zs) zero (suc j) x y at = inr (λ e. (let no : ⊥ = omega (arith, e) in no), at)
+set_at (z ∷ zs) (suc i) zero x y at = inr (λ e. (let no : ⊥ = omega (arith, e) in no), at)
+set_at (z ∷ zs) (suc i) (suc j) x y at = elim (set_at zs i j x y at) [
+  | inl same ↦ inl (ap suc same.0, same.1)
+  | inr other ↦ inr (λ e. other.0 (let same : j ≡ i = omega (arith, e) in same), other.1)
+]

@@ -61,11 +61,11 @@ images_there {D} g disks c then other read notes within is images =
 
 -- ---- what is counted of a client that takes part
 
-is_under_way : (of : Outcome) → (of ≢ outcome.Working → ⊥) → is_working of ≡ true
+pub is_under_way : (of : Outcome) → (of ≢ outcome.Working → ⊥) → is_working of ≡ true
 is_under_way outcome.Working busy = refl
 is_under_way of busy = absurd (busy (λ e. absurd cc))
 
-isnt_under_way : (of : Outcome) → of ≢ outcome.Working → is_working of ≡ false
+pub isnt_under_way : (of : Outcome) → of ≢ outcome.Working → is_working of ≡ false
 isnt_under_way outcome.Working free = absurd (free refl)
 isnt_under_way of free = refl
 

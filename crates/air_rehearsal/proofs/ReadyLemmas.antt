@@ -14,21 +14,9 @@ use Rattle.disk_model.specs.declared.disk.Disk.{Ghosts}
 use Rattle.air_rehearsal.specs.declared.party.Party.{Party}
 use Rattle.air_rehearsal.specs.declared.stations.Stations.{Stations}
 use Rattle.air_rehearsal.specs.Ready.{AreReady, IsReadyParty, KeepsAllButLanes, KeepsClients}
-use Rattle.air_rehearsal.proofs.PairLemmas.{pair-right}
+use Rattle.air_rehearsal.proofs.PairLemmas.{pair-right, set_at}
 
--- the element at a place of a list of which one is another now
-at_set : {X : Type 0} (xs : List X) (i j : ℕ) (x y : X) → slice_get (slice_set xs i x) j ≡ Some y
-    → ((j ≡ i) × (y ≡ x)) ⊎ ((j ≢ i) × (slice_get xs j ≡ Some y))
-at_set [] i j x y at = absurd cc
-at_set (z ∷ zs) zero zero x y at = inl (refl, sym (same_Some x y at))
-at_set (z ∷ zs) zero (suc j) x y at = inr (λ e. (let no : ⊥ = omega (arith, e) in no), at)
-at_set (z ∷ zs) (suc i) zero x y at = inr (λ e. (let no : ⊥ = omega (arith, e) in no), at)
-at_set (z ∷ zs) (suc i) (suc j) x y at = elim (at_set zs i j x y at) [
-  | inl same ↦ inl (ap suc same.0, same.1)
-  | inr other ↦ inr (λ e. other.0 (let same : j ≡ i = omega (arith, e) in same), other.1)
-]
-
--- and of one with one more
+-- the element at a place of a list with one more
 pub at_more : {X : Type 0} (xs : List X) (j : ℕ) (x y : X) → slice_get (xs ++ x ∷ []) j ≡ Some y
     → ((j ≡ length xs) × (y ≡ x)) ⊎ ((j ≢ length xs) × (slice_get xs j ≡ Some y))
 at_more [] zero x y at = inl (refl, sym (same_Some x y at))
@@ -94,14 +82,14 @@ module _ {D : Type 0} (g : Ghosts D) (parties : List Party) (disks : List D) (re
   pub ready_after :
       (c : ℕ) (party : Party) (disk : D) → IsReadyParty g party disk
       → AreReady g (slice_set parties c party) (slice_set disks c disk)
-  ready_after c party disk now i it its at at_disk = elim (at_set parties c i party it at) [
-    | inl same ↦ elim (at_set disks c i disk its at_disk) [
+  ready_after c party disk now i it its at at_disk = elim (set_at parties c i party it at) [
+    | inl same ↦ elim (set_at disks c i disk its at_disk) [
       | inl same_disk ↦
           subst (λ (p : Party). IsReadyParty g p its) (sym same.1)
           (subst (λ (d : D). IsReadyParty g party d) (sym same_disk.1) now)
       | inr other ↦ absurd (other.0 same.0)
     ]
-    | inr other ↦ elim (at_set disks c i disk its at_disk) [
+    | inr other ↦ elim (set_at disks c i disk its at_disk) [
       | inl same_disk ↦ absurd (other.0 same_disk.0)
       | inr other_disk ↦ ready i it its other.1 other_disk.1
     ]
@@ -120,7 +108,7 @@ module _ {D : Type 0} (g : Ghosts D) (parties : List Party) (disks : List D) (re
       (c : ℕ) (old new : Party) → slice_get parties c ≡ Some old
       → ((disk : D) → IsReadyParty g old disk → IsReadyParty g new disk)
       → AreReady g (slice_set parties c new) disks
-  ready_still c old new is stays i it its at at_disk = elim (at_set parties c i new it at) [
+  ready_still c old new is stays i it its at at_disk = elim (set_at parties c i new it at) [
     | inl same ↦
         subst (λ (p : Party). IsReadyParty g p its) (sym same.1)
         (stays its
@@ -133,13 +121,13 @@ module _ {D : Type 0} (g : Ghosts D) (parties : List Party) (disks : List D) (re
       (party : Party) (disk : D) → IsReadyParty g party disk
       → AreReady g (parties ++ party ∷ []) (slice_set disks (length parties) disk)
   ready_more party disk now i it its at at_disk = elim (at_more parties i party it at) [
-    | inl same ↦ elim (at_set disks (length parties) i disk its at_disk) [
+    | inl same ↦ elim (set_at disks (length parties) i disk its at_disk) [
       | inl same_disk ↦
           subst (λ (p : Party). IsReadyParty g p its) (sym same.1)
           (subst (λ (d : D). IsReadyParty g party d) (sym same_disk.1) now)
       | inr other ↦ absurd (other.0 same.0)
     ]
-    | inr other ↦ elim (at_set disks (length parties) i disk its at_disk) [
+    | inr other ↦ elim (set_at disks (length parties) i disk its at_disk) [
       | inl same_disk ↦ absurd (other.0 same_disk.0)
       | inr other_disk ↦ ready i it its other.1 other_disk.1
     ]

@@ -1,7 +1,9 @@
 -- What the frames that the server sends make of the transmissions of a client's current attempt, by what becomes of the
 -- client's attempts.
-use Rattle.std.proofs.Common.{◌≡◌, List, [], ◌∷◌, map, Bool, true, false, Option, None, Some, refl, sym, ap, ◌∙◌}
+use Rattle.std.proofs.Common.{◌≡◌, ℕ, suc, List, [], ◌∷◌, length, map, Bool, true, false, Option, None, Some, refl, sym, ap, ◌∙◌}
 use Rattle.std.specs.Prelude.{◌||◌, is_some, slice_get}
+use Rattle.std.specs.Option.{option_map}
+use Rattle.std.proofs.lemmas.List.{length-map}
 use Rattle.std.specs.List.{AllByRecursion}
 use Rattle.std.specs.Option.{option_map_or}
 use Rattle.std.proofs.lemmas.Bool.{or_from, or_left, or_right}
@@ -12,7 +14,7 @@ use Rattle.ftl0_server.specs.Connection.Connected.{Connected}
 use Rattle.ftl0_server.specs.Entries as session
 use Rattle.air_attempt.specs.Attempt.{Attempt, IsAnsweredBy, IsAttempt, IsRefusal}
 use Rattle.air_attempt.specs.Laws.{AreAttempts}
-use Rattle.air_attempt.specs.Party.{server_sends, with_answered}
+use Rattle.air_attempt.specs.Party.{over, server_sends, with_answered}
 use Rattle.air_attempt.specs.Sides.{ServerSide}
 use Rattle.air_attempt.specs.Transfers.{ServerDid, heard_by, served, ticked_by}
 use Rattle.air_rehearsal.specs.Lanes.{is_ua, lanes_of, replying_each, timing_each}
@@ -42,12 +44,12 @@ unanswered-none frames a (Some side) answered = refl
 module _ (did : ServerDid) (frame : FrameValue) (me server : CallSign) (a : Attempt) (older : List Attempt) where
   -- these are the lanes of the newest of these attempts once the server sent its frames
   abbrev Replies : List Attempt → Type 0
-  Replies now = lanes_of (slice_get now 0) ≡ replying_each did.frames (lanes_of (Some a))
+  Replies now = lanes_of now ≡ replying_each did.frames (lanes_of (a ∷ older))
 
   replies-by : (answered : Bool) → answered ≡ (is_some a.server || has_ua did.frames)
-      → with_said (lanes_of (Some a)) did.frames answered ≡ replying_each did.frames (lanes_of (Some a))
+      → with_said (lanes_of (a ∷ older)) did.frames answered ≡ replying_each did.frames (lanes_of (a ∷ older))
   replies-by answered is =
-      ap (with_said (lanes_of (Some a)) did.frames) is ∙ sym (replying-each did.frames (lanes_of (Some a)))
+      ap (with_said (lanes_of (a ∷ older)) did.frames) is ∙ sym (replying-each did.frames (lanes_of (a ∷ older)))
 
   -- no session hears it
   passed : IsAttempt me server (server_sends did.frames a) → Replies (server_sends did.frames a ∷ older)
@@ -59,8 +61,8 @@ module _ (did : ServerDid) (frame : FrameValue) (me server : CallSign) (a : Atte
   heard now entries side has =
       ap
       (λ (o : Option ServerSide).
-      lanes_of (slice_get (option_map_or (λ s. served did now entries a s ∷ older) o
-      (a ∷ with_answered (served did now entries) older)) 0)) has
+      lanes_of (option_map_or (λ s. served did now entries a s ∷ older) o
+      (a ∷ with_answered (served did now entries) older))) has
       ∙ replies-by true (sym (or_left (is_some a.server) (has_ua did.frames) (ap is_some has)))
 
   pub replies : (calls : Bool) (was now : Option Connected)
@@ -69,7 +71,9 @@ module _ (did : ServerDid) (frame : FrameValue) (me server : CallSign) (a : Atte
       → (calls ≡ false → (side : ServerSide) × (a.server ≡ Some side))
       → Replies (heard_by calls was now did frame (a ∷ older))
   replies true was (Some c) are opens serves =
-      replies-by true (sym (or_right (is_some a.server) (has_ua did.frames) (opens refl c refl)))
+      ap (λ (n : ℕ). record (lanes_of (server_sends did.frames a ∷ older)) { answered = true; attempts = suc n })
+      (length-map older (λ (b : Attempt). record b { server = option_map over b.server }))
+      ∙ replies-by true (sym (or_right (is_some a.server) (has_ua did.frames) (opens refl c refl)))
   replies true was None are opens serves = passed are.0
   replies false (Some c) (Some now) are opens serves =
       let has = serves refl in
@@ -79,10 +83,21 @@ module _ (did : ServerDid) (frame : FrameValue) (me server : CallSign) (a : Atte
 
 -- ---- a tick
 
+-- one of the attempts is changed, and none comes or goes
+length-answered : (change : Attempt → ServerSide → Attempt) (attempts : List Attempt)
+    → length (with_answered change attempts) ≡ length attempts
+length-answered change [] = refl
+length-answered change (a ∷ older) = by (length-answered change older) a.server
+  where
+    by : length (with_answered change older) ≡ length older → (o : Option ServerSide)
+        → length (option_map_or (λ side. change a side ∷ older) o (a ∷ with_answered change older)) ≡ suc (length older)
+    by same None = ap suc same
+    by same (Some side) = refl
+
 module _ (did : ServerDid) where
   -- these are the lanes of the newest of these attempts once the server sent its frames
   abbrev Times : List Attempt → List Attempt → Type 0
-  Times before now = lanes_of (slice_get now 0) ≡ timing_each did.frames (lanes_of (slice_get before 0))
+  Times before now = lanes_of now ≡ timing_each did.frames (lanes_of before)
 
   -- the current attempt is answered
   abbrev pub IsServed : List Attempt → Type 0
@@ -90,13 +105,13 @@ module _ (did : ServerDid) where
 
   -- where its attempts stay no frame is for it, unless no session answered the current one
   stays : (attempts : List Attempt) → (IsServed attempts → did.frames ≡ []) → Times attempts attempts
-  stays [] none = sym (timing-unanswered did.frames (lanes_of None) refl)
+  stays [] none = sym (timing-unanswered did.frames (lanes_of []) refl)
   stays (a ∷ older) none = by a.server refl
     where
       by : (o : Option ServerSide) → a.server ≡ o → Times (a ∷ older) (a ∷ older)
-      by None has = sym (timing-unanswered did.frames (lanes_of (Some a)) (ap is_some has))
+      by None has = sym (timing-unanswered did.frames (lanes_of (a ∷ older)) (ap is_some has))
       by (Some side) has =
-          ap (λ frames. timing_each frames (lanes_of (Some a))) (sym (none (a, refl, (side, has))))
+          ap (λ frames. timing_each frames (lanes_of (a ∷ older))) (sym (none (a, refl, (side, has))))
 
   -- the newest attempt, by whether a session answered it
   abbrev newest_by : Connected → Attempt → List Attempt → Option ServerSide → List Attempt
@@ -104,18 +119,20 @@ module _ (did : ServerDid) where
       option_map_or (λ s. served did now [] a s ∷ older) o (a ∷ with_answered (served did now []) older)
 
   goes-on : (now : Connected) (attempts : List Attempt) → Times attempts (with_answered (served did now []) attempts)
-  goes-on now [] = sym (timing-unanswered did.frames (lanes_of None) refl)
+  goes-on now [] = sym (timing-unanswered did.frames (lanes_of []) refl)
   goes-on now (a ∷ older) = by a.server refl
     where
       by : (o : Option ServerSide) → a.server ≡ o
-          → lanes_of (slice_get (newest_by now a older a.server) 0) ≡ timing_each did.frames (lanes_of (Some a))
+          → lanes_of (newest_by now a older a.server) ≡ timing_each did.frames (lanes_of (a ∷ older))
       by None has =
-          ap (λ (o : Option ServerSide). lanes_of (slice_get (newest_by now a older o) 0)) has
-          ∙ sym (timing-unanswered did.frames (lanes_of (Some a)) (ap is_some has))
+          ap (λ (o : Option ServerSide). lanes_of (newest_by now a older o)) has
+          ∙ ap (λ (n : ℕ). record (lanes_of (a ∷ older)) { attempts = suc n })
+          (length-answered (served did now []) older)
+          ∙ sym (timing-unanswered did.frames (lanes_of (a ∷ older)) (ap is_some has))
       by (Some side) has =
-          ap (λ (o : Option ServerSide). lanes_of (slice_get (newest_by now a older o) 0)) has
-          ∙ ap (with_said (lanes_of (Some a)) did.frames) (sym (ap is_some has))
-          ∙ sym (timing-answered did.frames (lanes_of (Some a)) (ap is_some has))
+          ap (λ (o : Option ServerSide). lanes_of (newest_by now a older o)) has
+          ∙ ap (with_said (lanes_of (a ∷ older)) did.frames) (sym (ap is_some has))
+          ∙ sym (timing-answered did.frames (lanes_of (a ∷ older)) (ap is_some has))
 
   pub times : (was now : Option Connected) (attempts : List Attempt)
       → (was ≡ None → IsServed attempts → did.frames ≡ [])

@@ -1,19 +1,24 @@
 -- What frames that are sent make of the transmissions of an attempt, all together.
 use Rattle.std.proofs.Common.{◌≡◌, List, [], ◌∷◌, ◌++◌, map, Bool, true, false, refl, sym, ap, ap₂, ◌∙◌, append_assoc}
-use Rattle.std.proofs.Common.{append-nil}
+use Rattle.std.proofs.Common.{append-nil, length}
 use Rattle.std.specs.Prelude.{◌||◌, if◌then◌else◌}
 use Rattle.std.specs.List.{AllByRecursion, list_any}
 use Rattle.ax25_frames.specs.FrameText.{FrameValue}
 use Rattle.ax25_link.specs.Air.{Transmission, control_of, fresh, sending_all}
 use Rattle.ax25_link.specs.Laws.{HasNoCall}
 use Rattle.ax25_link.specs.Rows.{is_call}
-use Rattle.air_attempt.specs.Attempt.{IsOneCall}
-use Rattle.air_rehearsal.specs.Lanes.{Lanes, is_ua, replying_each, sending_each, timing_each}
+use Rattle.air_attempt.specs.Attempt.{Attempt, IsOneCall}
+use Rattle.air_rehearsal.specs.Lanes.{Lanes, beginning, is_ua, lanes_of, replying_each, sending_each, timing_each}
 
 -- one frame more behind those that were sent, and then others
 sent-more : (list : List Transmission) (frame : FrameValue) (frames : List FrameValue)
     → sending_all (list ++ fresh frame ∷ []) frames ≡ sending_all list (frame ∷ frames)
 sent-more list frame frames = append_assoc list (fresh frame ∷ []) (map fresh frames)
+
+-- as many attempts are counted as there are
+pub lanes-count : (attempts : List Attempt) → (lanes_of attempts).attempts ≡ length attempts
+lanes-count [] = refl
+lanes-count (a ∷ older) = refl
 
 -- ---- the client
 
@@ -22,13 +27,13 @@ abbrev pub with_sent : Lanes → List FrameValue → Lanes
 with_sent lanes frames = record lanes { by_client = sending_all lanes.by_client frames }
 
 -- the lanes of an attempt that begins with these frames
-abbrev pub begun_by : List FrameValue → Lanes
-begun_by frames = record { by_client = map fresh frames; by_server = []; answered = false }
+abbrev pub begun_by : List FrameValue → Lanes → Lanes
+begun_by frames lanes = record (beginning lanes) { by_client = map fresh frames }
 
 -- a frame that the client sends, by whether it is a SABM
 abbrev sent_by : Bool → FrameValue → Lanes → Lanes
 sent_by calls frame lanes =
-    if calls then record { by_client = fresh frame ∷ []; by_server = []; answered = false }
+    if calls then record (beginning lanes) { by_client = fresh frame ∷ [] }
     else record lanes { by_client = lanes.by_client ++ fresh frame ∷ [] }
 
 pub sending-each : (frames : List FrameValue) (lanes : Lanes) → HasNoCall frames
@@ -60,11 +65,11 @@ no-call-behind (t ∷ list) frames before one = behind-none list frames one.1
 
 -- the attempt begins with the SABM
 pub sending-begins : (frames : List FrameValue) (lanes : Lanes) → IsOneCall (map fresh frames)
-    → sending_each frames lanes ≡ begun_by frames
+    → sending_each frames lanes ≡ begun_by frames lanes
 sending-begins [] lanes one = absurd one
 sending-begins (frame ∷ frames) lanes one =
     ap (λ (calls : Bool). sending_each frames (sent_by calls frame lanes)) one.0
-    ∙ sending-each frames (record { by_client = fresh frame ∷ []; by_server = []; answered = false })
+    ∙ sending-each frames (record (beginning lanes) { by_client = fresh frame ∷ [] })
     (sent-none frames one.1)
 
 -- ---- the server

@@ -1,6 +1,6 @@
 -- What a frame that the server hears, and what a tick, make of the clients that stations play.
 use Rattle.std.proofs.Common.{◌≡◌, ◌≢◌, ◌⊎◌, ℕ, suc, ◌<◌, List, [], ◌∷◌, length, Some, false, refl, sym, ap, subst}
-use Rattle.std.proofs.Common.{◌∙◌, inl, inr, arith}
+use Rattle.std.proofs.Common.{◌%◌, ◌^◌, ◌∙◌, inl, inr, arith}
 use Rattle.std.specs.Prelude.{filter, is_some, slice_get, slice_set}
 use Rattle.std.proofs.lemmas.List.{length-set}
 use Rattle.std.proofs.lemmas.Option.{same_Some, slice_get_within}
@@ -24,13 +24,14 @@ use Rattle.air_world.specs.Sound.{Sound}
 use Rattle.air_world.specs.Step.{ServerGoes}
 use Rattle.air_world.specs.World.{PartyAt, World, next_moment}
 use Rattle.air_rehearsal.specs.LaneLaws.{HearingLanesLaw, TickingLanesLaw}
-use Rattle.air_rehearsal.specs.Lanes.{HasLanes, IsLane, Lanes, lanes_of, replying_each, timing_each}
+use Rattle.air_rehearsal.specs.Lanes.{HasLanes, IsLane, Lanes, lanes_by, lanes_of, replying_each, timing_each}
 use Rattle.air_rehearsal.specs.ServerCalls.{AreTimed}
 use Rattle.air_rehearsal.specs.Worlds.{PlayParties, PlaysParty}
 use Rattle.air_rehearsal.specs.declared.attempt.Attempt.{Attempt as StoredAttempt}
 use Rattle.air_rehearsal.specs.declared.lane.Lane.{Lane}
 use Rattle.air_rehearsal.specs.declared.party.Party.{Party as StoredParty}
-use Rattle.air_rehearsal.proofs.ServingParties.{at-changed, at-place, plays-both, plays-each, plays-length}
+use Rattle.air_rehearsal.proofs.PairLemmas.{set_at}
+use Rattle.air_rehearsal.proofs.ServingParties.{at-place, plays-both, plays-each, plays-length}
 use Rattle.air_rehearsal.proofs.ServingWorld.{SameButAttempts, after-at, after-length, did, goes, next}
 
 -- a client is made into another one in both
@@ -40,7 +41,7 @@ pub plays-changed :
 plays-changed all parties c self party plays is =
     plays-each (slice_set all c self) (slice_set parties c party)
     (length-set all c self ∙ plays-length all parties plays ∙ sym (length-set parties c party))
-    (λ i s p at there. by i s p (at-changed all c i self s at) (at-changed parties c i party p there))
+    (λ i s p at there. by i s p (set_at all c i self s at) (set_at parties c i party p there))
   where
     by : (i : ℕ) (s : StoredParty) (p : Party)
         → ((i ≡ c) × (s ≡ self)) ⊎ ((i ≢ c) × (slice_get all i ≡ Some s))
@@ -58,6 +59,11 @@ newest-made : (change : Attempt → Attempt) (attempts : List Attempt) (a : Atte
     → slice_get (with_newest change attempts) 0 ≡ Some (change a)
 newest-made change [] a is = absurd cc
 newest-made change (b ∷ older) a is = ap (λ (x : Attempt). Some (change x)) (same_Some b a is)
+
+length-made : (change : Attempt → Attempt) (attempts : List Attempt)
+    → length (with_newest change attempts) ≡ length attempts
+length-made change [] = refl
+length-made change (b ∷ older) = refl
 
 module _ (world : World) (sound : Sound world) (c place : ℕ) (party : Party) (is_party : PartyAt world c party)
     (a : Attempt) (current : newest party ≡ Some a) (t : Transmission) (is_at : IsAt a.by_client place t) where
@@ -78,15 +84,24 @@ module _ (world : World) (sound : Sound world) (c place : ℕ) (party : Party) (
       → PlaysParty (record self { attempt = record self.attempt { from_client = lane } })
       (with_current (to_server_delivered place t) party)
   plays-delivered self lane plays is_lane =
-      let lanes = subst (λ o. HasLanes self.attempt (lanes_of o)) current plays.lanes in
+      let lanes = subst (λ o. HasLanes self.attempt (lanes_by o (length party.attempts))) current plays.lanes in
       let made : newest (with_current (to_server_delivered place t) party) ≡ Some (to_server_delivered place t a) =
       newest-made (to_server_delivered place t) party.attempts a current in
+      let many = length-made (to_server_delivered place t) party.attempts in
       record {
         me_is = plays.me_is;
         client = plays.client;
         lanes =
-            subst (λ o. HasLanes (record self.attempt { from_client = lane }) (lanes_of o)) (sym made)
-            (record { by_client = is_lane; by_server = lanes.by_server; answered_is = lanes.answered_is });
+            subst
+            (λ o.
+            HasLanes (record self.attempt { from_client = lane })
+            (lanes_by o (length (with_newest (to_server_delivered place t) party.attempts)))) (sym made)
+            (record {
+              by_client = is_lane;
+              by_server = lanes.by_server;
+              answered_is = lanes.answered_is;
+              number_is = lanes.number_is ∙ ap (λ (n : ℕ). n % 2 ^ 64) (sym many);
+            });
         uploads_are = plays.uploads_are;
         cut_is = plays.cut_is;
       }
@@ -115,7 +130,7 @@ module _ (laws : HearingLanesLaw) (world : World) (sound : Sound world) (c place
       ∙ sym (after-length went.did coming delivered.parties))
       (λ i s p at there.
       let was = after-at went.did coming delivered.parties i p there in
-      by i s p there was.0 was.1 was.2 (at-changed all c i (record self { attempt = attempt }) s at)))
+      by i s p there was.0 was.1 was.2 (set_at all c i (record self { attempt = attempt }) s at)))
     where
       by : (i : ℕ) (s : StoredParty) (p : Party) → slice_get then.parties i ≡ Some p
           → (was : Party) → slice_get delivered.parties i ≡ Some was → SameButAttempts was p
@@ -125,7 +140,7 @@ module _ (laws : HearingLanesLaw) (world : World) (sound : Sound world) (c place
           let mine = subst (λ (j : ℕ). slice_get delivered.parties j ≡ Some was) own.0 was_at in
           let now_at = subst (λ (j : ℕ). slice_get then.parties j ≡ Some p) own.0 there in
           let plays_it = plays-both all delivered.parties c self was plays self_at mine in
-          let lanes_are : lanes_of (newest p) ≡ replying_each frames (lanes_of (newest was)) =
+          let lanes_are : lanes_of p.attempts ≡ replying_each frames (lanes_of was.attempts) =
           laws.own world c place coming delivered then was p sound allowed not_cut takes went mine now_at in
           subst (λ (r : StoredParty). PlaysParty r p) (sym own.1)
           (record {
@@ -133,7 +148,7 @@ module _ (laws : HearingLanesLaw) (world : World) (sound : Sound world) (c place
             client = subst (λ (x : Client). IsClient self.client x) (sym same.client) plays_it.client;
             lanes =
                 subst (λ (l : Lanes). HasLanes attempt l) (sym lanes_are)
-                (lanes (lanes_of (newest was)) plays_it.lanes);
+                (lanes (lanes_of was.attempts) plays_it.lanes);
             uploads_are = plays_it.uploads_are ∙ sym same.uploads;
             cut_is = plays_it.cut_is ∙ sym same.is_cut;
           })
@@ -176,11 +191,11 @@ module _ (laws : TickingLanesLaw) (world : World) (sound : Sound world) (not_cut
           let is = timed.each i self s self_at at in
           let lanes_are = laws world ticked i was p sound not_cut
           (goes world tick_server sound (ticks (next_moment world)) world (refl, refl) frames last sent) was_at there in
-          let own = is.lanes (lanes_of (newest was)) plays_it.lanes in
+          let own = is.lanes (lanes_of was.attempts) plays_it.lanes in
           let mine = subst
           (λ (me : CallSign).
           HasLanes s.attempt
-          (timing_each (filter (λ frame. is_same_call frame.dest me) frames) (lanes_of (newest was)))) plays_it.me_is own
+          (timing_each (filter (λ frame. is_same_call frame.dest me) frames) (lanes_of was.attempts))) plays_it.me_is own
           in
           record {
             me_is =

@@ -15,7 +15,8 @@ use Rattle.air_rehearsal.specs.Ready.{KeepParties, KeepsAllButLanes, KeepsClient
 use Rattle.air_rehearsal.specs.ServerCalls.{AreTimed, IsTimed, SendsByTimer}
 use Rattle.air_rehearsal.specs.declared.party.Party.{Party}
 use Rattle.air_rehearsal.specs.declared.stations.Stations.{Stations}
-use Rattle.air_rehearsal.proofs.ServingParties.{at-changed, at-place}
+use Rattle.air_rehearsal.proofs.PairLemmas.{set_at}
+use Rattle.air_rehearsal.proofs.ServingParties.{at-place}
 use Rattle.air_rehearsal.proofs.ServingSent.{SendsEach, filter-more, has-sent, is-silent, sends-empties, sends-more}
 use Rattle.air_rehearsal.proofs.ServingSent.{timing-more}
 
@@ -221,8 +222,8 @@ pub timed-step :
     → TimedSoFar frame (place + 1) all (slice_set now place new)
 timed-step frame place all now self new so_far at timed = record {
   as_many = length-set now place new ∙ so_far.as_many;
-  before = λ i old s less there is. before_by i old s less there (at-changed now place i new s is);
-  later = λ i s past is. later_by i s past (at-changed now place i new s is);
+  before = λ i old s less there is. before_by i old s less there (set_at now place i new s is);
+  later = λ i s past is. later_by i s past (set_at now place i new s is);
 }
   where
     before_by : (i : ℕ) (old s : Party) → i < place + 1 → slice_get all i ≡ Some old

@@ -1,7 +1,7 @@
 -- The clients that stations play, one after another, and where one of them, or what was sent to each, is changed.
-use Rattle.std.proofs.Common.{◌≡◌, ◌≢◌, ◌⊎◌, ℕ, zero, suc, ◌<◌, List, [], ◌∷◌, length, Some, refl, sym, ap, subst, ◌∙◌}
-use Rattle.std.proofs.Common.{inl, inr, arith}
-use Rattle.std.specs.Prelude.{slice_get, slice_set, map}
+use Rattle.std.proofs.Common.{◌≡◌, ℕ, zero, suc, ◌<◌, List, [], ◌∷◌, length, Some, refl, sym, ap, subst, ◌∙◌}
+use Rattle.std.proofs.Common.{arith}
+use Rattle.std.specs.Prelude.{slice_get, map}
 use Rattle.std.proofs.lemmas.Option.{same_Some}
 use Rattle.air_attempt.specs.Party.{Party}
 use Rattle.air_rehearsal.specs.Worlds.{PlayParties, PlaysParty}
@@ -11,18 +11,6 @@ pub at-place : {X : Type 0} (xs : List X) (i : ℕ) → i < length xs → (x : X
 at-place [] i within = absurd (let no : ⊥ = omega arith in no)
 at-place (x ∷ xs) zero within = (x, refl)
 at-place (x ∷ xs) (suc i) within = at-place xs i (omega arith)
-
--- the element of a list of which one is another now
-pub at-changed : {X : Type 0} (xs : List X) (i j : ℕ) (x y : X) → slice_get (slice_set xs i x) j ≡ Some y
-    → ((j ≡ i) × (y ≡ x)) ⊎ ((j ≢ i) × (slice_get xs j ≡ Some y))
-at-changed [] i j x y at = absurd cc
-at-changed (z ∷ zs) zero zero x y at = inl (refl, sym (same_Some x y at))
-at-changed (z ∷ zs) zero (suc j) x y at = inr (λ e. (let no : ⊥ = omega (arith, e) in no), at)
-at-changed (z ∷ zs) (suc i) zero x y at = inr (λ e. (let no : ⊥ = omega (arith, e) in no), at)
-at-changed (z ∷ zs) (suc i) (suc j) x y at = elim (at-changed zs i j x y at) [
-  | inl same ↦ inl (ap suc same.0, same.1)
-  | inr other ↦ inr (λ e. other.0 (let same : j ≡ i = omega (arith, e) in same), other.1)
-]
 
 pub at-mapped : {X Y : Type 0} (f : X → Y) (xs : List X) (i : ℕ) (y : Y) → slice_get (map f xs) i ≡ Some y
     → (x : X) × (slice_get xs i ≡ Some x) × (y ≡ f x)

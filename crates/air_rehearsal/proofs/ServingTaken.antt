@@ -17,7 +17,7 @@ use Rattle.air_world.specs.Lawful.{IsAllowed}
 use Rattle.air_world.specs.Schedule.{to_server}
 use Rattle.air_world.specs.Sound.{Sound}
 use Rattle.air_world.specs.World.{PartyAt, World, next_moment, with_party}
-use Rattle.air_rehearsal.specs.Lanes.{HasLanes, IsLane, lanes_of}
+use Rattle.air_rehearsal.specs.Lanes.{HasLanes, IsLane, lanes_by}
 use Rattle.air_rehearsal.specs.ServerCalls.{IsTaken}
 use Rattle.air_rehearsal.specs.ServerEvents.{Serving}
 use Rattle.air_rehearsal.specs.Worlds.{PlayParties, PlaysWorld, asked_from}
@@ -62,7 +62,10 @@ module _ (world : World) (c place : ℕ) (allowed : IsAllowed world (to_server (
         current = may.2;
         t = may.1;
         is_at = may.3.sent;
-        lane = (subst (λ (o : Option Attempt). HasLanes self.attempt (lanes_of o)) may.2 both.lanes).by_client;
+        lane =
+            (subst
+            (λ (o : Option Attempt). HasLanes self.attempt (lanes_by o (length allowed.possible.0.attempts))) may.2
+            both.lanes).by_client;
       }
 
 -- once it is delivered, the octets of the frame at its place are its own

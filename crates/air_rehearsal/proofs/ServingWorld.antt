@@ -29,7 +29,7 @@ use Rattle.air_world.specs.Schedule.{Event}
 use Rattle.air_world.specs.Sound.{Sound}
 use Rattle.air_world.specs.Step.{ServerGoes, parties_after, party_heard, party_ticked}
 use Rattle.air_world.specs.World.{World, counted, next_moment}
-use Rattle.air_rehearsal.specs.Lanes.{HasLanes, Lanes, lanes_of}
+use Rattle.air_rehearsal.specs.Lanes.{HasLanes, Lanes, lanes_by, lanes_of}
 use Rattle.air_rehearsal.specs.Standing.{StandsDuring}
 use Rattle.air_rehearsal.specs.Stations.{the_server}
 use Rattle.air_rehearsal.specs.Worlds.{PlayParties, PlaysParty}
@@ -153,12 +153,13 @@ pub after-length : (did : ServerDid) (coming : NodeEvent) (parties : List Party)
 after-length did (hears frame moment) parties = length-map parties (party_heard did frame)
 after-length did (ticks moment) parties = length-map parties (party_ticked did)
 
-over-lanes : (attempts : List Attempt) → lanes_of (slice_get (all_over attempts) 0) ≡ lanes_of (slice_get attempts 0)
+over-lanes : (attempts : List Attempt) → lanes_of (all_over attempts) ≡ lanes_of attempts
 over-lanes [] = refl
-over-lanes (a ∷ older) = by a.server
+over-lanes (a ∷ older) = by a.server ∙ ap (lanes_by (Some a)) (length-map (a ∷ older) (λ (b : Attempt). record b { server = option_map over b.server }))
   where
     by : (side : _)
-        → lanes_of (Some (record a { server = option_map over side })) ≡ lanes_of (Some (record a { server = side }))
+        → lanes_by (Some (record a { server = option_map over side })) (length (all_over (a ∷ older)))
+        ≡ lanes_by (Some (record a { server = side })) (length (all_over (a ∷ older)))
     by None = refl
     by (Some side) = refl
 

@@ -20,7 +20,7 @@ use Rattle.server_laws.specs.Places.{StepLaw, refusals}
 use Rattle.server_laws.proofs.Offered.{silent-by}
 use Rattle.air_attempt.specs.Attempt.{Attempt, IsAttempt, IsEndOf}
 use Rattle.air_attempt.specs.Laws.{IsBetween}
-use Rattle.air_attempt.specs.Party.{Party, newest, newest_side}
+use Rattle.air_attempt.specs.Party.{Party, newest_side}
 use Rattle.air_attempt.specs.Sides.{ServerSide}
 use Rattle.air_attempt.specs.Transfers.{ServerDid, connection_of, did_to, ticked_by}
 use Rattle.air_attempt.proofs.Offered.{all-at, all-by, each-map, some-at}
@@ -162,11 +162,11 @@ module _ (steps : StepLaw) (world next : World) (sound : Sound world) (sound_nex
   -- ---- its lanes
 
   pub tick-lanes : (now : Party) → PartyAt next i now
-      → lanes_of (newest now)
+      → lanes_of now.attempts
       ≡ timing_each (filter (λ frame. is_same_call frame.dest party.client.me) goes.did.frames)
-      (lanes_of (newest party))
+      (lanes_of party.attempts)
   tick-lanes now is_now =
-      ap (λ (q : Party). lanes_of (newest q)) (same_Some now (party_ticked did party) (sym is_now ∙ then-at))
+      ap (λ (q : Party). lanes_of q.attempts) (same_Some now (party_ticked did party) (sym is_now ∙ then-at))
       ∙ times (did_to me did) (connection_of did.old me) (connection_of did.last me) party.attempts none kept
 
 -- the next world is sound

@@ -35,7 +35,7 @@ use Rattle.ftl0_client.specs.Calls.{Becomes}
 use Rattle.ftl0_client.specs.Client.{asking, asks}
 use Rattle.ftl0_client.specs.ClientState.{ClientState, IsClient}
 use Rattle.ftl0_client.specs.ClientStep.{happening}
-use Rattle.air_attempt.specs.Party.{Asked, Party, newest}
+use Rattle.air_attempt.specs.Party.{Asked, Party}
 use Rattle.air_files.specs.Tasks.{AreTasks}
 use Rattle.air_files.specs.Uploads.{upload_file}
 use Rattle.air_world.specs.Cuts.{client_commands}
@@ -182,9 +182,9 @@ part_is_for seat upload file whole asked =
 -- asking delivers nothing
 pub lanes_asked : (self : StoredParty) (seat : Seat) → IsSeat self seat → (upload : ℕ) (file : List ℕ)
     (whole : ClientPart) → AsksNext seat upload file whole
-    → HasLanes self.attempt (lanes_of (newest whole.party))
+    → HasLanes self.attempt (lanes_of whole.party.attempts)
 lanes_asked self seat at_seat upload file whole asked =
-    subst (λ (p : ClientPart). HasLanes self.attempt (lanes_of (newest p.party)))
+    subst (λ (p : ClientPart). HasLanes self.attempt (lanes_of p.party.attempts))
     (sym (part_is_for seat upload file whole asked)) at_seat.plays.lanes
 
 -- the calls, the file and its name are those of the code
@@ -376,7 +376,7 @@ module _ {D : Type 0} (g : Ghosts D) (self begun new : StoredParty) (seat : Seat
             subst (λ (p : ClientPart). IsClient new.client (happening (client_started p) p.coming).after) (sym is)
             (subst (λ (j : JobState). IsClient new.client (asking (client_started (part_for seat upload file)) j))
             job_for client);
-        lanes = subst (λ attempt. HasLanes attempt (lanes_of (newest whole.party))) (sym kept.attempt) touches.lanes;
+        lanes = subst (λ attempt. HasLanes attempt (lanes_of whole.party.attempts)) (sym kept.attempt) touches.lanes;
         uploads =
             subst (λ (p : ClientPart). new.uploads.items ≡ p.party.uploads ++ p.begun) (sym is) more;
         cut = kept.cut ∙ ap (λ (p : StoredParty). p.cut) keeps;

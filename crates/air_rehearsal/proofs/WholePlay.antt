@@ -81,6 +81,17 @@ one_more old new (break_client c) step = ap (λ (w : World). w.events) step.happ
 one_more old new (cut_server call choice) step = ap (λ (w : World). w.events) step.happens
 one_more old new (cut_client c call choice) step = ap (λ (w : World). w.events) step.happens.3
 
+-- the next world is played then
+pub playing_next :
+    {B : Type 0} (g : Ghosts B) (cuts : Cuts B) (world : World) (event : Event) (at now : Bench B)
+    → (plays : PlaysEvent g cuts world event at now) → IsPlaying g cuts plays.goes.next now
+playing_next g cuts world event at now plays = record {
+  bench = plays.goes.bench;
+  moment =
+      plays.goes.moment ∙ plays.moment_is
+      ∙ ap (λ (n : ℕ). n % 2 ^ 32) (sym (one_more world plays.goes.next event plays.goes.step));
+}
+
 -- ---- the cut that waits
 
 module _ {B : Type 0} (g : Ghosts B) (cuts : Cuts B) (station : Station) where
@@ -181,15 +192,6 @@ module _ {B : Type 0} (g : Ghosts B) (cuts : Cuts B) (schedule : Schedule) (worl
   abbrev worlds_now : List World
   worlds_now = worlds ++ plays.goes.next ∷ []
 
-  playing_now : IsPlaying g cuts plays.goes.next now
-  playing_now =
-      let counted = one_more world plays.goes.next event plays.goes.step in
-      record {
-        bench = plays.goes.bench;
-        moment =
-            plays.goes.moment ∙ plays.moment_is ∙ ap (λ (n : ℕ). n % 2 ^ 32) (sym counted);
-      }
-
   counts_now : Tells now.stations.report (counts_to more worlds_now)
   counts_now =
       let many = plays_many (first_world schedule) schedule.events worlds played.plays in
@@ -208,7 +210,8 @@ module _ {B : Type 0} (g : Ghosts B) (cuts : Cuts B) (schedule : Schedule) (worl
       told
 
   pub stepped : HasPlayed g cuts more worlds_now bench now
-  stepped = has_played_more g cuts schedule worlds event bench at now played plays playing_now counts_now
+  stepped = has_played_more g cuts schedule worlds event bench at now played plays
+      (playing_next g cuts world event at now plays) counts_now
 
 -- Some worlds of this schedule were played.
 abbrev pub PlayedSome : {B : Type 0} → Ghosts B → Cuts B → Schedule → List B → Bench B → Type 0

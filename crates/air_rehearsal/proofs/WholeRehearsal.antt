@@ -1,6 +1,6 @@
 -- A rehearsal that was played to its end: what is promised of its worlds and its disks follows from the laws of the
 -- world.
-use Rattle.std.specs.Prelude.{◌≡◌, List}
+use Rattle.std.specs.Prelude.{◌≡◌, List, refl}
 use Rattle.disk_model.specs.Cuts.{Cuts, LastsSo, cut_state}
 use Rattle.disk_model.specs.declared.disk.Disk.{Ghosts}
 use Rattle.file_entries.specs.Follows.{FollowsLaw}
@@ -31,18 +31,21 @@ module _ {B : Type 0} (laws : RehearsalLaws) (g : Ghosts B) (cuts : Cuts B)
       (schedule : Schedule) (worlds : List World) (bench bench_now : List B) (counts : Report) (report : StoredReport)
       → IsRun schedule worlds → IsReport schedule worlds counts → Tells report counts → counts.kept ≡ counts.acked
       → BenchPlayed g cuts (EndsWhole g) schedule worlds bench bench_now
-      → Rehearsed g cuts schedule bench bench_now report
-  rehearsed schedule worlds bench bench_now counts report run is_report tells all_kept played = record {
-    worlds = worlds;
-    run = run;
-    counts = counts;
-    is_report = is_report;
-    tells = tells;
-    all_kept = all_kept;
-    promised = laws.schedules.worlds schedule worlds run;
-    played = played;
-    promised_in_images =
-        promised_at laws.sound laws.stores laws.parts laws.follows g cuts schedule worlds run bench bench_now
-        (played.stations the_server tt);
-    tell_cuts = tell_all_cuts g cuts lasts_so schedule worlds bench bench_now played;
-  }
+      → (it : Rehearsed g cuts schedule bench bench_now report) × (it.worlds ≡ worlds)
+  rehearsed schedule worlds bench bench_now counts report run is_report tells all_kept played = (
+    record {
+      worlds = worlds;
+      run = run;
+      counts = counts;
+      is_report = is_report;
+      tells = tells;
+      all_kept = all_kept;
+      promised = laws.schedules.worlds schedule worlds run;
+      played = played;
+      promised_in_images =
+          promised_at laws.sound laws.stores laws.parts laws.follows g cuts schedule worlds run bench bench_now
+          (played.stations the_server tt);
+      tell_cuts = tell_all_cuts g cuts lasts_so schedule worlds bench bench_now played;
+    },
+    refl,
+  )

@@ -1,24 +1,27 @@
 -- The events that a number draws: which schedule is played, as the worlds go on.
-use Rattle.std.specs.Prelude.{◌≡◌, ◌⊎◌, ℕ, suc, ◌+◌, ◌*◌, ◌-◌, ◌/◌, ◌%◌, ◌^◌, ◌==◌, min, List, [], ◌∷◌, ◌++◌, length}
-use Rattle.std.specs.Prelude.{map, zero, Bool, true, false, if◌then◌else◌, slice_get, Option, None, Some, ⊤}
+use Rattle.std.specs.Prelude.{◌≡◌, ◌⊎◌, ℕ, zero, suc, ◌+◌, ◌*◌, ◌-◌, ◌/◌, ◌%◌, ◌^◌, ◌==◌, min, List, [], ◌∷◌, length}
+use Rattle.std.specs.Prelude.{Bool, true, false, ◌&&◌, not, if◌then◌else◌, Option, None, Some, ⊤}
 use Rattle.std.specs.List.{range_with_len}
 use Rattle.std.specs.Option.{option_and_then, option_map_or}
 use Rattle.disk_model.specs.Cuts.{Cuts}
 use Rattle.disk_model.specs.declared.disk.Disk.{Ghosts}
 use Rattle.ax25_link.specs.Air.{Transmission}
 use Rattle.ax25_link.specs.declared.state.LinkState.TheVariants.{Down}
-use Rattle.client_notes.specs.Notes.{Lists}
 use Rattle.ftl0_client.specs.Attempt.Attempted.{Attempted}
 use Rattle.ftl0_client.specs.Outcomes.{outcome_by}
 use Rattle.air_attempt.specs.Attempt.{Attempt}
 use Rattle.air_attempt.specs.Party.{Party, newest}
-use Rattle.air_world.specs.Lawful.{HasParty, IsAllowed, last_unfinished}
+use Rattle.air_world.specs.Lawful.{IsAllowed, last_unfinished}
 use Rattle.air_world.specs.Schedule.{Event, Schedule, ask_download, ask_resume, ask_upload, break_client, cut_client}
 use Rattle.air_world.specs.Schedule.{cut_server, tick_client, tick_server, to_client, to_server}
 use Rattle.air_world.specs.World.{World, first_world}
 use Rattle.air_rehearsal.specs.Drawn.{IsDrawnFor, last_acked, rounds}
+use Rattle.air_rehearsal.specs.Numbers.{numbered}
 use Rattle.air_rehearsal.specs.Rehearsed.{Rehearsed}
 use Rattle.air_rehearsal.specs.Report.{is_working}
+use Rattle.air_rehearsal.specs.declared.generator.Fate.{Fate}
+use Rattle.air_rehearsal.specs.declared.generator.Fate.TheVariants.{Late, Lost, Once, Twice}
+use Rattle.air_rehearsal.specs.declared.generator.Looked.{Looked}
 use Rattle.air_rehearsal.specs.declared.report.Report.{Report as StoredReport}
 
 -- Numbers are drawn by a linear congruential generator modulo 2^64: its next state, and the number that a state gives.
@@ -27,6 +30,10 @@ next_state state = (state * 6364136223846793005 + 1442695040888963407) % 2 ^ 64
 
 abbrev pub number_of : ℕ → ℕ
 number_of state = state / 2 ^ 33
+
+-- the next number
+abbrev pub next_number : ℕ → ℕ
+next_number state = number_of (next_state state)
 
 -- the state after so many draws
 abbrev pub state_after : ℕ → ℕ → ℕ
@@ -44,6 +51,8 @@ pub record Drawing : Type 0 where
 abbrev pub drawn : ℕ → Drawing → Drawing
 drawn count it = record it { state = state_after count it.state }
 
+-- ---- an event comes, if it may
+
 -- This event comes, if it may, and no other one.
 abbrev pub Tries : Event → Drawing → Drawing → Type 0
 Tries event old new =
@@ -51,109 +60,126 @@ Tries event old new =
     × (new.state ≡ old.state))
     ⊎ ((¬ IsAllowed old.world event) × (new ≡ old))
 
--- these events, one after another, each if it may
-abbrev pub TriesAll : List Event → Drawing → Drawing → Type 0
-TriesAll [] old new = new ≡ old
-TriesAll (event ∷ events) old new = (next : Drawing) × Tries event old next × TriesAll events next new
+-- this one, if there is one
+abbrev pub TriesIf : Option Event → Drawing → Drawing → Type 0
+TriesIf None old new = new ≡ old
+TriesIf (Some event) old new = Tries event old new
 
--- what becomes of a transmission: it is lost, delivered twice, delivered behind the next one, or delivered once
-pub data Fate : Type 0 where
-  lost : Fate
-  twice : Fate
-  late : Fate
-  once : Fate
+-- this one so many times, each time if it may
+abbrev pub TriesTimes : ℕ → Event → Drawing → Drawing → Type 0
+TriesTimes zero event old new = new ≡ old
+TriesTimes (suc more) event old new = (next : Drawing) × Tries event old next × TriesTimes more event next new
 
--- by a draw
-abbrev pub fate_of : ℕ → Fate
-fate_of draw = if draw == 0 then lost else (if draw == 1 then twice else (if draw == 2 then late else once))
+-- an event, if one is drawn, and how many numbers are drawn for it
+pub record Draw : Type 0 where
+  pub event : Option Event
+  pub count : ℕ
 
--- the fate of the next transmission
-abbrev pub next_fate : ℕ → Fate
-next_fate state = fate_of (number_of (next_state state) % 16)
+-- it is drawn, and comes, if it may
+abbrev pub Takes : Draw → Drawing → Drawing → Type 0
+Takes it old new = TriesIf it.event (drawn it.count old) new
 
--- the transmission as often as it is delivered at once; where there is no next one it isn't late
-abbrev pub at_once : Fate → List ℕ → ℕ → List ℕ
-at_once lost later number = []
-at_once twice later number = number ∷ number ∷ []
-at_once late [] number = number ∷ []
-at_once late (next ∷ later) number = []
-at_once once later number = number ∷ []
+-- ---- the air
 
--- the transmission, if it is put off behind the next one
-abbrev pub put_off : Fate → List ℕ → ℕ → List ℕ
-put_off lost later number = []
-put_off twice later number = []
-put_off late [] number = []
-put_off late (next ∷ later) number = number ∷ []
-put_off once later number = []
+-- What becomes of a transmission, by the number that is drawn, modulo 16, and by whether it is the last one: it is lost,
+-- delivered twice, delivered behind the next one, or delivered once.
+abbrev pub fate_of : ℕ → Bool → Fate
+fate_of draw is_last =
+    if draw == 0 then Lost
+    else (if draw == 1 then Twice else (if (draw == 2) && not is_last then Late else Once))
 
--- Which of these transmissions are delivered, in which order, with one draw for each: lost, twice, behind the next one,
--- or once. One that was put off comes behind what is drawn for the next.
-abbrev pub delivered : ℕ → List ℕ → List ℕ → List ℕ
-delivered state waiting [] = []
-delivered state waiting (number ∷ later) =
-    at_once (next_fate state) later number ++ waiting
-    ++ delivered (next_state state) (put_off (next_fate state) later number) later
+-- whether there is none
+abbrev pub is_none_of : List ℕ → Bool
+is_none_of [] = true
+is_none_of (number ∷ later) = false
+
+-- what becomes of the next transmission, where these come behind it
+abbrev pub next_fate : ℕ → List ℕ → Fate
+next_fate state later = fate_of (next_number state % 16) (is_none_of later)
+
+-- how often it is delivered at once
+abbrev pub times_of : Fate → ℕ
+times_of Lost = 0
+times_of Twice = 2
+times_of Late = 0
+times_of Once = 1
+
+-- its delivery, if it is put off
+abbrev pub put_off : {E : Type 0} → Fate → E → Option E
+put_off Lost delivery = None
+put_off Twice delivery = None
+put_off Late delivery = Some delivery
+put_off Once delivery = None
+
+-- this becomes of a transmission, and then the delivery that was put off comes, if one was
+abbrev pub CarriesOne : Fate → Event → Option Event → Drawing → Drawing → Type 0
+CarriesOne fate delivery waiting old new =
+    (amid : Drawing) × TriesTimes (times_of fate) delivery old amid × TriesIf waiting amid new
+
+-- These transmissions are on the air, as this makes deliveries of them, with one draw for each. A delivery that was put
+-- off comes behind what is drawn for the next transmission.
+abbrev pub Carries : (ℕ → Event) → Option Event → List ℕ → Drawing → Drawing → Type 0
+Carries event waiting [] old new = new ≡ old
+Carries event waiting (number ∷ later) old new =
+    (next : Drawing) × CarriesOne (next_fate old.state later) (event number) waiting (drawn 1 old) next
+    × Carries event (put_off (next_fate old.state later) (event number)) later next new
 
 -- the transmissions from one number of them up to another, by their numbers from 1 on
 abbrev pub between : ℕ → ℕ → List ℕ
-between from to = range_with_len (suc from) (to - from)
+between from to = range_with_len (from + 1) (to - from)
 
--- these transmissions are on the air, as this makes events of them
-abbrev pub Carries : (ℕ → Event) → List ℕ → Drawing → Drawing → Type 0
-Carries event numbers old new =
-    TriesAll (map event (delivered old.state [] numbers)) (drawn (length numbers) old) new
+-- ---- exchanges
 
 -- the client of this number
 abbrev pub party_of : World → ℕ → Option Party
-party_of world number = slice_get world.parties (number - 1)
+party_of world number = numbered number world.parties
 
--- how many attempts it made, and how many transmissions its current one has, of those that these are
+-- how many attempts it made, as a number of 64 bits tells it
 abbrev pub attempts_of : World → ℕ → ℕ
-attempts_of world number = option_map_or (λ (party : Party). length party.attempts) (party_of world number) 0
+attempts_of world number = option_map_or (λ (party : Party). length party.attempts % 2 ^ 64) (party_of world number) 0
 
+-- how many transmissions its current attempt has, of those that these are
 abbrev pub sent_of : (Attempt → List Transmission) → World → ℕ → ℕ
 sent_of sent world number = option_map_or (λ a. length (sent a)) (option_and_then newest (party_of world number)) 0
 
--- How many transmissions of an attempt, each way, were looked at in a turn.
-pub record Looked : Type 0 where
-  pub attempt : ℕ
-  pub by_client : ℕ
-  pub by_server : ℕ
-
--- none yet
+-- none is looked at yet
 abbrev pub none_looked : World → ℕ → Looked
-none_looked world number = record { attempt = attempts_of world number; by_client = 0; by_server = 0 }
+none_looked world number = record { attempt = attempts_of world number; to_server = 0; to_client = 0 }
 
--- those that were, where the attempt is the current one still
+-- those that were looked at, where the attempt is the current one still
 abbrev pub still_looked : World → ℕ → Looked → Looked
 still_looked world number looked =
     if attempts_of world number == looked.attempt then looked else none_looked world number
 
 -- What comes behind the client's transmissions: the server's, and where there are neither, a tick of both.
 abbrev pub Answers : ℕ → List ℕ → List ℕ → Drawing → Drawing → Type 0
-Answers number [] [] old new = TriesAll (tick_client number ∷ tick_server ∷ []) old new
-Answers number [] (first ∷ more) old new = Carries (to_client number) (first ∷ more) old new
-Answers number (first ∷ more) numbers old new = Carries (to_client number) numbers old new
+Answers number [] [] old new =
+    (next : Drawing) × Tries (tick_client number) old next × Tries tick_server next new
+Answers number [] (first ∷ more) old new = Carries (to_client number) None (first ∷ more) old new
+Answers number (first ∷ more) numbers old new = Carries (to_client number) None numbers old new
 
 -- An exchange: the transmissions of the client that weren't looked at come, and then those of the server.
 pub record Exchange (number : ℕ) (looked looked_now : Looked) (old new : Drawing) : Type 0 where
   pub amid : Drawing
   pub attempt : looked_now.attempt ≡ looked.attempt
-  pub by_client : looked_now.by_client ≡ sent_of (λ a. a.by_client) old.world number
-  pub first : Carries (to_server number) (between looked.by_client looked_now.by_client) old amid
-  pub by_server : looked_now.by_server ≡ sent_of (λ a. a.by_server) amid.world number
+  pub by_client : looked_now.to_server ≡ sent_of (λ a. a.by_client) old.world number
+  pub first : Carries (to_server number) None (between looked.to_server looked_now.to_server) old amid
+  pub by_server : looked_now.to_client ≡ sent_of (λ a. a.by_server) amid.world number
   pub second :
-      Answers number (between looked.by_client looked_now.by_client)
-      (between looked.by_server looked_now.by_server) amid new
+      Answers number (between looked.to_server looked_now.to_server)
+      (between looked.to_client looked_now.to_client) amid new
 
 -- the client has no link, or one that is down
 abbrev pub IsDown : Option Attempted → Type 0
 IsDown None = ⊤
 IsDown (Some a) = a.end.state ≡ Down
 
+abbrev pub IsClosedBy : Option Party → Type 0
+IsClosedBy None = ⊤
+IsClosedBy (Some party) = IsDown party.client.attempt
+
 abbrev pub IsClosed : World → ℕ → Type 0
-IsClosed world number = HasParty world number (λ party. IsDown party.client.attempt)
+IsClosed world number = IsClosedBy (party_of world number)
 
 -- exchanges until the client is closed, at most so many
 abbrev pub Exchanges : ℕ → ℕ → Looked → Drawing → Drawing → Type 0
@@ -165,6 +191,8 @@ Exchanges (suc more) number looked old new =
     × Exchange number (still_looked old.world number looked) looked_now old next
     × Exchanges more number looked_now next new))
 
+-- ---- what is asked
+
 -- what is asked where the client has no unfinished upload, by the draw: the last file that was acknowledged, if one
 -- was, or a new one
 abbrev pub question : ℕ → ℕ → Option ℕ → Event
@@ -172,60 +200,53 @@ question draw number None = ask_upload number (min (draw % 40001) 40000)
 question draw number (Some file) =
     if draw % 4 == 0 then ask_download number file else ask_upload number (min (draw % 40001) 40000)
 
--- the client is asked for its unfinished upload; where it has none, for what is drawn
-abbrev pub AsksFor : Option ℕ → Lists → ℕ → Drawing → Drawing → Type 0
-AsksFor (Some task) lists number old new = Tries (ask_resume number) old new
-AsksFor None lists number old new =
-    Tries (question (number_of (next_state old.state)) number (last_acked lists)) (drawn 1 old) new
+-- the unfinished upload, if there is one, or what is drawn
+abbrev pub wish_by : ℕ → ℕ → Option ℕ → Option ℕ → Draw
+wish_by state number (Some task) acked = record { event = Some (ask_resume number); count = 0 }
+wish_by state number None acked =
+    record { event = Some (question (next_number state) number acked); count = 1 }
 
--- by whether what was asked of it is under way: then it isn't asked
-abbrev pub AsksBy : Bool → Party → ℕ → Drawing → Drawing → Type 0
-AsksBy true party number old new = new ≡ old
-AsksBy false party number old new =
-    AsksFor (last_unfinished party.client.lists) party.client.lists number old new
+-- nothing where what was asked of the client is under way
+abbrev pub wish_of : ℕ → ℕ → Party → Draw
+wish_of state number party =
+    if is_working (outcome_by party.client.attempt) then record { event = None; count = 0 }
+    else wish_by state number (last_unfinished party.client.lists) (last_acked party.client.lists)
 
-abbrev pub Asks : ℕ → Drawing → Drawing → Type 0
-Asks number old new =
-    HasParty old.world number
-    (λ party. AsksBy (is_working (outcome_by party.client.attempt)) party number old new)
+-- what the client of this number is asked for, if anything
+abbrev pub wish : ℕ → ℕ → World → Draw
+wish state number world = option_map_or (wish_of state number) (party_of world number) (record { event = None; count = 0 })
+
+-- ---- what ends a turn
 
 -- at which call a cut is to come, and by which choice, as the two next draws say
 abbrev pub cut_call : ℕ → ℕ
-cut_call state = number_of (next_state state) % 9 + 1
+cut_call state = next_number state % 9 + 1
 
 abbrev pub cut_choice : ℕ → ℕ
-cut_choice state = number_of (next_state (next_state state))
+cut_choice state = next_number (next_state state)
 
--- what ends a turn: a break of the client, a cut of it or of the server that is to come, or nothing
-pub data Ending : Type 0 where
-  breaks : Ending
-  cuts_client : Ending
-  cuts_server : Ending
-  nothing : Ending
+-- by a draw, modulo 8, behind which this is the state
+abbrev pub ending_by : ℕ → ℕ → ℕ → Draw
+ending_by draw state number =
+    if draw == 0 then record { event = Some (break_client number); count = 1 }
+    else (if draw == 1
+    then record { event = Some (cut_client number (cut_call state) (cut_choice state)); count = 3 }
+    else (if draw == 2 then record { event = Some (cut_server (cut_call state) (cut_choice state)); count = 3 }
+    else record { event = None; count = 1 }))
 
--- by a draw
-abbrev pub ending_of : ℕ → Ending
-ending_of draw =
-    if draw == 0 then breaks else (if draw == 1 then cuts_client else (if draw == 2 then cuts_server else nothing))
+-- what ends the turn of the client of this number: it is broken off, a cut of it or of the server is to come, or nothing
+abbrev pub ending : ℕ → ℕ → Draw
+ending state number = ending_by (next_number state % 8) (next_state state) number
 
-abbrev pub DisturbsBy : Ending → ℕ → Drawing → Drawing → Type 0
-DisturbsBy breaks number old new = Tries (break_client number) old new
-DisturbsBy cuts_client number old new =
-    Tries (cut_client number (cut_call old.state) (cut_choice old.state)) (drawn 2 old) new
-DisturbsBy cuts_server number old new =
-    Tries (cut_server (cut_call old.state) (cut_choice old.state)) (drawn 2 old) new
-DisturbsBy nothing number old new = new ≡ old
-
-abbrev pub Disturbs : ℕ → Drawing → Drawing → Type 0
-Disturbs number old new = DisturbsBy (ending_of (number_of (next_state old.state) % 8)) number (drawn 1 old) new
+-- ---- turns
 
 -- the turn of a client: a question, twenty exchanges at most, and what ends it
 pub record Turn (number : ℕ) (old new : Drawing) : Type 0 where
   pub asked : Drawing
-  pub asks : Asks number old asked
+  pub asks : Takes (wish old.state number old.world) old asked
   pub exchanged : Drawing
   pub exchanges : Exchanges 20 number (none_looked asked.world number) asked exchanged
-  pub disturbs : Disturbs number exchanged new
+  pub ends : Takes (ending exchanged.state number) exchanged new
 
 -- turns of these clients, one after another
 abbrev pub Turns : List ℕ → Drawing → Drawing → Type 0

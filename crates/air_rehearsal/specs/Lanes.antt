@@ -1,6 +1,6 @@
 -- What the lanes of an attempt hold: the transmissions of its two stations.
-use Rattle.std.specs.Prelude.{◌≡◌, List, [], ◌∷◌, ◌++◌, Bool, ◌||◌, true, false, if◌then◌else◌, Option, None, Some}
-use Rattle.std.specs.Prelude.{is_some}
+use Rattle.std.specs.Prelude.{◌≡◌, ℕ, suc, ◌%◌, ◌^◌, List, [], ◌∷◌, ◌++◌, length, slice_get, Bool, ◌||◌, true, false}
+use Rattle.std.specs.Prelude.{if◌then◌else◌, Option, None, Some, is_some}
 use Rattle.std.specs.List.{AllZip}
 use Rattle.ax25_frames.specs.FrameText.{FrameText, FrameValue}
 use Rattle.ax25_frames.specs.declared.control.Control.{Control}
@@ -54,32 +54,49 @@ AreSentAs = AllZip IsSentAs
 abbrev pub IsLane : Lane → List Transmission → Type 0
 IsLane lane list = AreSentAs lane.sent.items list
 
--- The transmissions of the two stations in an attempt, and whether a session answered it.
+-- The transmissions of the two stations in the newest attempt, whether a session answered it, and how many attempts
+-- there were.
 pub record Lanes : Type 0 where
   pub by_client : List Transmission
   pub by_server : List Transmission
   pub answered : Bool
+  pub attempts : ℕ
 
 -- before the first attempt
 abbrev pub no_lanes : Lanes
-no_lanes = record { by_client = []; by_server = []; answered = false }
+no_lanes = record { by_client = []; by_server = []; answered = false; attempts = 0 }
 
--- those of an attempt, if there was one
-abbrev pub lanes_of : Option Attempt → Lanes
-lanes_of None = no_lanes
-lanes_of (Some a) = record { by_client = a.by_client; by_server = a.by_server; answered = is_some a.server }
+-- those of an attempt, if there was one, where there were so many
+abbrev pub lanes_by : Option Attempt → ℕ → Lanes
+lanes_by None count = record no_lanes { attempts = count }
+lanes_by (Some a) count =
+    record {
+      by_client = a.by_client;
+      by_server = a.by_server;
+      answered = is_some a.server;
+      attempts = count;
+    }
 
--- the attempt has these lanes
+-- those of the newest one of these attempts
+abbrev pub lanes_of : List Attempt → Lanes
+lanes_of attempts = lanes_by (slice_get attempts 0) (length attempts)
+
+-- The attempt has these lanes. It is counted by a number of 64 bits.
 pub record HasLanes (self : StoredAttempt) (lanes : Lanes) : Type 0 where
   pub by_client : IsLane self.from_client lanes.by_client
   pub by_server : IsLane self.from_server lanes.by_server
   pub answered_is : self.is_answered ≡ lanes.answered
+  pub number_is : self.number ≡ lanes.attempts % 2 ^ 64
+
+-- an attempt begins, in which nothing was sent
+abbrev pub beginning : Lanes → Lanes
+beginning lanes = record no_lanes { attempts = suc lanes.attempts }
 
 -- The client sends a frame. A SABM begins an attempt.
 abbrev pub sending : FrameValue → Lanes → Lanes
 sending frame lanes =
     if is_call frame.kind.control
-    then record { by_client = fresh frame ∷ []; by_server = []; answered = false }
+    then record (beginning lanes) { by_client = fresh frame ∷ [] }
     else record lanes { by_client = lanes.by_client ++ fresh frame ∷ [] }
 
 -- it sends these, one after another

@@ -3,6 +3,7 @@ pub mod Chain
 pub mod Counting
 pub mod Course
 pub mod Drawn
+pub mod Driving
 pub mod Ending
 pub mod Generator
 pub mod Halfway

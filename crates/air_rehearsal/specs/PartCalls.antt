@@ -18,7 +18,7 @@ use Rattle.ftl0_client.specs.Client.{Client, new_client}
 use Rattle.ftl0_client.specs.ClientState.{ClientState, IsClient}
 use Rattle.ftl0_client.specs.ClientStep.{Empties, happening}
 use Rattle.ax25_frames.specs.FrameText.{FrameValue}
-use Rattle.air_attempt.specs.Party.{Party, newest}
+use Rattle.air_attempt.specs.Party.{Party}
 use Rattle.air_world.specs.Events.{ClientPart}
 use Rattle.air_world.specs.Step.{client_started}
 use Rattle.air_rehearsal.specs.Chain.{StartsAgain}
@@ -73,13 +73,13 @@ module _ {D : Type 0} (g : Ghosts D) where
   -- the same, and the delivery, if it is one, is marked
   pub record TouchesPart {T : Type 0} (whole : ClientPart) (new : StoredParty) (disk disk_now : D)
       (came : Result T Halt) : Type 0 where
-    pub lanes : HasLanes new.attempt (lanes_of (newest whole.party))
+    pub lanes : HasLanes new.attempt (lanes_of whole.party.attempts)
     pub touches : TouchesDisk whole disk disk_now came
 
   -- The client is what the part makes of it before it sends anything.
   pub record BeginsPart (whole : ClientPart) (old new : StoredParty) (disk disk_now : D) : Type 0 where
     pub client : IsClient new.client (happening (client_started whole) whole.coming).after
-    pub lanes : HasLanes new.attempt (lanes_of (newest whole.party))
+    pub lanes : HasLanes new.attempt (lanes_of whole.party.attempts)
     pub uploads : new.uploads.items ≡ whole.party.uploads ++ whole.begun
     pub cut : new.cut ≡ old.cut
     pub carries : CarriesPart g whole disk disk_now

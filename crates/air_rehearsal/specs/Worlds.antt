@@ -7,7 +7,7 @@ use Rattle.disk_model.specs.declared.disk.Disk.{Ghosts}
 use Rattle.ax25_link.specs.Window.{window_of}
 use Rattle.ftl0_client.specs.ClientState.{IsClient}
 use Rattle.ftl0_server.specs.ServerState.{IsServer, ServerState}
-use Rattle.air_attempt.specs.Party.{Asked, Party, newest}
+use Rattle.air_attempt.specs.Party.{Asked, Party}
 use Rattle.air_files.specs.Uploads.{upload_file, upload_name}
 use Rattle.air_world.specs.World.{World, store_blocks}
 use Rattle.air_rehearsal.specs.Lanes.{HasLanes, lanes_of}
@@ -20,7 +20,7 @@ use Rattle.air_rehearsal.specs.declared.stations.Stations.{Stations}
 pub record PlaysParty (self : StoredParty) (party : Party) : Type 0 where
   pub me_is : self.me ≡ party.client.me
   pub client : IsClient self.client party.client
-  pub lanes : HasLanes self.attempt (lanes_of (newest party))
+  pub lanes : HasLanes self.attempt (lanes_of party.attempts)
   pub uploads_are : self.uploads.items ≡ party.uploads
   pub cut_is : is_some self.cut ≡ party.is_cut
 

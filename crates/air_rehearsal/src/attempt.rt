@@ -4,7 +4,7 @@ ghost use Rattle.std.specs.Prelude.{◌≡◌, OnOk};
 ghost use Rattle.ax25_frames.specs.FrameText.{FrameText, FrameValue};
 ghost use Rattle.ax25_frames.specs.Values.{kind_value};
 ghost use Rattle.ax25_link.specs.Rows.{is_call};
-ghost use Rattle.air_rehearsal.specs.Lanes.{HasLanes, Lanes, is_ua, no_lanes, replying, sending, timing};
+ghost use Rattle.air_rehearsal.specs.Lanes.{HasLanes, Lanes, beginning, is_ua, no_lanes, replying, sending, timing};
 
 use crate::lane::{Lane, Sort};
 use ax25_frames::{Kind, read_frame};
@@ -53,7 +53,7 @@ impl Attempt {
 
     /// An attempt begins.
     fn begin(&mut self)
-        ensures { HasLanes self.new no_lanes }
+        ensures { (lanes : Lanes) → HasLanes self.old lanes → HasLanes self.new (beginning lanes) }
     {
         self.from_client.clear();
         self.from_server.clear();

@@ -1,19 +1,33 @@
 //! A rehearsal whose events are drawn by a number.
 
-ghost use Rattle.std.specs.Prelude.{◌≡◌, ◌≤◌, IfOk, OnOk, length};
+ghost use Rattle.std.specs.Prelude.{◌≡◌, ◌↔◌, ◌⊎◌, ◌+◌, ◌-◌, ◌%◌, ◌^◌, ◌<◌, ◌≤◌, [], ◌∷◌, length, None, IfOk, IsTrue};
+ghost use Rattle.std.specs.Option.{option_map};
+ghost use Rattle.px_base.specs.CallSign.{CallText};
 ghost use Rattle.disk_model.specs.Cuts.{AreFresh, cuts_by};
-ghost use Rattle.air_rehearsal.specs.Ready.{AreReady, IsReadyServer};
+ghost use Rattle.air_schedule.specs.Events.{event_value};
+ghost use Rattle.air_world.specs.Sound.{Sound};
+ghost use Rattle.air_world.specs.World.{World};
+ghost use Rattle.air_rehearsal.specs.Drawn.{drawn_calls, rounds};
+ghost use Rattle.air_rehearsal.specs.Driving.{Drives, IsDraw, IsFitEvent, IsReadyBench, delivery_of, driven_by};
+ghost use Rattle.air_rehearsal.specs.Generator.{Answers, Carries, DrivenBy, Exchange, Exchanges, IsClosed, TriesIf};
+ghost use Rattle.air_rehearsal.specs.Generator.{TriesTimes, Turn, Turns, attempts_of as attempts_in, between, ending};
+ghost use Rattle.air_rehearsal.specs.Generator.{fate_of, next_number, next_state, none_looked, put_off, sent_of};
+ghost use Rattle.air_rehearsal.specs.Generator.{still_looked, times_of, wish};
+ghost use Rattle.air_rehearsal.specs.Playing.{bench_of};
+ghost use Rattle.air_rehearsal.specs.Ready.{AreReady};
+ghost use Rattle.air_rehearsal.specs.Rehearsed.{CanTell};
+ghost use Rattle.air_rehearsal.specs.Worlds.{PlaysStations};
 
 use crate::report::Report;
 use crate::stations::Stations;
 use air_schedule::Event;
+use air_world::laws::{parts_law, schedule_law, sound_law, stores_law};
 use disk_model::CutDisk;
+use file_entries::laws::follows_law;
 use ftl0_server::Server;
+use px_base::laws::one_call;
 use px_base::{Call, OutOfMemory};
 use std::alloc::Global;
-
-/// The calls of the clients.
-const CALLS: [&str; 3] = ["T1AAA", "T2AAA", "T3AAA"];
 
 /// How many I frames of each link may be outstanding.
 const WINDOW: u8 = 4;
@@ -29,7 +43,10 @@ struct Draws {
 
 impl Draws {
     /// The next number, below 2^31.
-    fn next(&mut self) -> u64 {
+    fn next(&mut self) -> u64
+        ensures number { result ≡ next_number self.old.state }
+        ensures state { self.new.state ≡ next_state self.old.state }
+    {
         self.state = self
             .state
             .wrapping_mul(6_364_136_223_846_793_005)
@@ -47,8 +64,11 @@ enum Way {
 
 impl Way {
     /// The delivery of the transmission at this place, from or to the client of this number.
-    fn delivery(self, client: u64, place: usize) -> Event {
-        let transmission = (place as u64).saturating_add(1);
+    fn delivery(self, client: u64, place: usize) -> Event
+        requires { place < 2 ^ 64 - 1 }
+        ensures { event_value result ≡ delivery_of self client (place + 1) }
+    {
+        let transmission = place as u64 + 1;
         match self {
             Way::ToServer => Event::ToServer {
                 client,
@@ -62,6 +82,51 @@ impl Way {
     }
 }
 
+/// What becomes of a transmission.
+#[derive(Clone, Copy, Debug)]
+enum Fate {
+    Lost,
+    Twice,
+    /// It is put off behind the next one.
+    Late,
+    Once,
+}
+
+impl Fate {
+    /// By a number that is drawn. The last transmission isn't put off.
+    fn by(drawn: u64, is_last: bool) -> Fate
+        ensures { result ≡ fate_of (drawn % 16) is_last }
+    {
+        match drawn % 16 {
+            0 => Fate::Lost,
+            1 => Fate::Twice,
+            2 if !is_last => Fate::Late,
+            _ => Fate::Once,
+        }
+    }
+
+    /// How often it is delivered at once.
+    fn times(self) -> u32
+        ensures { result ≡ times_of self }
+    {
+        match self {
+            Fate::Lost | Fate::Late => 0,
+            Fate::Twice => 2,
+            Fate::Once => 1,
+        }
+    }
+
+    /// The delivery, if it is put off.
+    fn put_off(self, delivery: Event) -> Option<Event>
+        ensures { result ≡ put_off self delivery }
+    {
+        match self {
+            Fate::Late => Some(delivery),
+            Fate::Lost | Fate::Twice | Fate::Once => None,
+        }
+    }
+}
+
 /// How many transmissions of an attempt, each way, were looked at in a turn.
 #[derive(Clone, Copy, Debug)]
 struct Looked {
@@ -71,18 +136,33 @@ struct Looked {
 }
 
 impl Looked {
-    /// None yet of the newest attempt of the client of this number; those that were looked at, where it is the same
-    /// attempt.
-    fn at(self, stations: &Stations, client: u64) -> Looked {
-        let number = number_of(stations, client);
-        if number == self.attempt {
-            return self;
-        }
+    /// None yet of the newest attempt of the client of this number.
+    fn none(stations: &Stations, client: u64) -> Looked
+        ensures { (world : World) → PlaysStations stations.now world → result ≡ none_looked world client }
+    {
         Looked {
-            attempt: number,
+            attempt: attempts_of(stations, client),
             to_server: 0,
             to_client: 0,
         }
+    }
+
+    /// Those that were looked at, where the newest attempt is the same one; otherwise none yet.
+    fn at(self, stations: &Stations, client: u64) -> Looked
+        ensures { (world : World) → PlaysStations stations.now world → result ≡ still_looked world client self }
+    {
+        if attempts_of(stations, client) == self.attempt {
+            self
+        } else {
+            Looked::none(stations, client)
+        }
+    }
+
+    /// Whether there is a transmission more than before.
+    fn is_beyond(self, before: Looked) -> bool
+        ensures { IsTrue result ↔ ((before.to_server < self.to_server) ⊎ (before.to_client < self.to_client)) }
+    {
+        self.to_server > before.to_server || self.to_client > before.to_client
     }
 }
 
@@ -101,6 +181,10 @@ struct Driver {
 /// delivered twice or delivered late, until the client is done, or has had 20 exchanges. At the end it may be broken
 /// off, or a cut of its power or the server's may wait for the next event.
 ///
+/// Its clause says of the report what [`rehearse`] says of a schedule, and that the schedule's events are those which
+/// the number draws. It holds where the count of the server's disk's failed writes doesn't stand at its last number at
+/// the end.
+///
 /// [`rehearse`]: crate::rehearse
 pub fn drive<B: CutDisk>(
     alloc: Global,
@@ -109,38 +193,90 @@ pub fn drive<B: CutDisk>(
     bench: &mut Vec<B>,
 ) -> Result<Report, OutOfMemory>
     requires { AreFresh B.Disk (cuts_by B.restarts B.arming B.plain B.is_starved) bench.old.items }
+    ensures driven { IfOk result (λ report. CanTell B.Disk bench.new.items →
+        DrivenBy B.Disk (cuts_by B.restarts B.arming B.plain B.is_starved) seed count bench.old.items bench.new.items
+        report) }
 {
     let Some((disk, disks)) = bench.as_mut_slice().split_first_mut() else {
         return Err(OutOfMemory);
     };
+    drive_over(alloc, seed, count, disk, disks)
+}
+
+/// The same over the server's disk and those of the clients.
+fn drive_over<B: CutDisk>(
+    alloc: Global,
+    seed: u64,
+    count: u32,
+    disk: &mut B,
+    disks: &mut [B],
+) -> Result<Report, OutOfMemory>
+    requires { AreFresh B.Disk (cuts_by B.restarts B.arming B.plain B.is_starved) (disk.old ∷ disks.old) }
+    ensures driven { IfOk result (λ report. CanTell B.Disk (disk.new ∷ disks.new) →
+        DrivenBy B.Disk (cuts_by B.restarts B.arming B.plain B.is_starved) seed count (disk.old ∷ disks.old)
+        (disk.new ∷ disks.new) report) }
+{
+    sound_law();
+    parts_law();
+    stores_law();
+    schedule_law();
+    follows_law();
     let calls = calls(alloc)?;
     let stations = Stations::open(alloc, disks, WINDOW, calls.as_slice())?;
-    let mut server = stations.start(disk)?;
+    let server = stations.start(disk)?;
     let mut driver = Driver {
         draws: Draws { state: seed },
         stations,
     };
-    for _ in 0..count {
-        server = driver.round(server, disk, disks)?;
-    }
+    let server = driver.rounds(server, disk, disks, count)?;
     server.close();
     driver.stations.end(disk)
 }
 
-/// The calls of the clients, at most three. Takes memory.
+/// The calls of the clients. Takes memory.
 fn calls(alloc: Global) -> Result<Vec<Call>, OutOfMemory>
-    ensures { IfOk result (λ calls. length calls.items ≤ 3) }
+    ensures { IfOk result (λ calls. calls.items ≡ drawn_calls) }
 {
-    let mut calls = Vec::new(alloc);
-    for text in CALLS {
-        if let Ok(call) = Call::read(text) {
-            calls.push(call)?;
-        }
+    one_call();
+    let calls = [
+        read_call("T1AAA")?,
+        read_call("T2AAA")?,
+        read_call("T3AAA")?,
+    ];
+    Ok(Vec::from_slice(alloc, &calls)?)
+}
+
+/// The call of this text.
+fn read_call(text: &str) -> Result<Call, OutOfMemory>
+    ensures { IfOk result (λ call. CallText call text.now) }
+{
+    match Call::read(text) {
+        Ok(call) => Ok(call),
+        Err(_) => Err(OutOfMemory),
     }
-    Ok(calls)
 }
 
 impl Driver {
+    /// So many rounds.
+    fn rounds<B: CutDisk>(
+        &mut self,
+        server: Server,
+        disk: &mut B,
+        disks: &mut [B],
+        count: u32,
+    ) -> Result<Server, OutOfMemory>
+        requires { IsReadyBench B.Disk (bench_of self.old.stations server disk.old disks.old) }
+        ensures { IfOk result (λ later. Drives B.Disk (cuts_by B.restarts B.arming B.plain B.is_starved)
+            (Turns (rounds count)) (driven_by self.old server disk.old disks.old)
+            (driven_by self.new later disk.new disks.new)) }
+    {
+        let mut server = server;
+        for _ in 0..count {
+            server = self.round(server, disk, disks)?;
+        }
+        Ok(server)
+    }
+
     /// A turn of each client.
     fn round<B: CutDisk>(
         &mut self,
@@ -148,10 +284,10 @@ impl Driver {
         disk: &mut B,
         disks: &mut [B],
     ) -> Result<Server, OutOfMemory>
-        requires server { IsReadyServer B.Disk self.old.stations server disk.old }
-        requires clients { AreReady B.Disk self.old.stations.parties.items disks.old }
-        ensures server { IfOk result (λ server. IsReadyServer B.Disk self.new.stations server disk.new) }
-        ensures clients { OnOk result (AreReady B.Disk self.new.stations.parties.items disks.new) }
+        requires { IsReadyBench B.Disk (bench_of self.old.stations server disk.old disks.old) }
+        ensures { IfOk result (λ later. Drives B.Disk (cuts_by B.restarts B.arming B.plain B.is_starved)
+            (Turns (rounds 1)) (driven_by self.old server disk.old disks.old)
+            (driven_by self.new later disk.new disks.new)) }
     {
         let server = self.turn(server, disk, disks, 1)?;
         let server = self.turn(server, disk, disks, 2)?;
@@ -166,57 +302,47 @@ impl Driver {
         disks: &mut [B],
         client: u64,
     ) -> Result<Server, OutOfMemory>
-        requires server { IsReadyServer B.Disk self.old.stations server disk.old }
-        requires clients { AreReady B.Disk self.old.stations.parties.items disks.old }
-        ensures server { IfOk result (λ server. IsReadyServer B.Disk self.new.stations server disk.new) }
-        ensures clients { OnOk result (AreReady B.Disk self.new.stations.parties.items disks.new) }
+        requires { IsReadyBench B.Disk (bench_of self.old.stations server disk.old disks.old) }
+        ensures { IfOk result (λ later. Drives B.Disk (cuts_by B.restarts B.arming B.plain B.is_starved)
+            (Turn client) (driven_by self.old server disk.old disks.old)
+            (driven_by self.new later disk.new disks.new)) }
     {
-        let server = self.ask(server, disk, disks, client)?;
+        let wish = self.wish(client);
+        let server = self.play(server, disk, disks, wish)?;
         let server = self.exchange_all(server, disk, disks, client)?;
-        self.disturb(server, disk, disks, client)
+        let ending = self.ending(client);
+        self.play(server, disk, disks, ending)
     }
 
-    /// Plays an event, if it may come.
+    /// Plays an event, if there is one and it may come.
     fn play<B: CutDisk>(
         &mut self,
         server: Server,
         disk: &mut B,
         disks: &mut [B],
-        event: Event,
+        event: Option<Event>,
     ) -> Result<Server, OutOfMemory>
-        requires server { IsReadyServer B.Disk self.old.stations server disk.old }
-        requires clients { AreReady B.Disk self.old.stations.parties.items disks.old }
-        ensures server { IfOk result (λ server. IsReadyServer B.Disk self.new.stations server disk.new) }
-        ensures clients { OnOk result (AreReady B.Disk self.new.stations.parties.items disks.new) }
+        requires ready { IsReadyBench B.Disk (bench_of self.old.stations server disk.old disks.old) }
+        requires fits { IsFitEvent self.old.stations event }
+        ensures { IfOk result (λ later. Drives B.Disk (cuts_by B.restarts B.arming B.plain B.is_starved)
+            (TriesIf (option_map event_value event)) (driven_by self.old server disk.old disks.old)
+            (driven_by self.new later disk.new disks.new)) }
     {
+        let Some(event) = event else {
+            return Ok(server);
+        };
         if !self.stations.allows(&event) {
             return Ok(server);
         }
         self.stations.play(server, disk, disks, &event)
     }
 
-    /// The client is asked, if it is free.
-    fn ask<B: CutDisk>(
-        &mut self,
-        server: Server,
-        disk: &mut B,
-        disks: &mut [B],
-        client: u64,
-    ) -> Result<Server, OutOfMemory>
-        requires server { IsReadyServer B.Disk self.old.stations server disk.old }
-        requires clients { AreReady B.Disk self.old.stations.parties.items disks.old }
-        ensures server { IfOk result (λ server. IsReadyServer B.Disk self.new.stations server disk.new) }
-        ensures clients { OnOk result (AreReady B.Disk self.new.stations.parties.items disks.new) }
-    {
-        match self.wish(client) {
-            Some(event) => self.play(server, disk, disks, event),
-            None => Ok(server),
-        }
-    }
-
     /// What the client is asked for, if it is free.
     fn wish(&mut self, client: u64) -> Option<Event>
-        ensures { self.new.stations ≡ self.old.stations }
+        ensures same { self.new.stations ≡ self.old.stations }
+        ensures fits { IsFitEvent self.new.stations result }
+        ensures wish { (world : World) → Sound world → PlaysStations self.old.stations world →
+            IsDraw (wish self.old.draws.state client world) result self.old.draws.state self.new.draws.state }
     {
         let party = self.stations.party(client)?;
         if !party.is_free() {
@@ -243,20 +369,16 @@ impl Driver {
         disks: &mut [B],
         client: u64,
     ) -> Result<Server, OutOfMemory>
-        requires server { IsReadyServer B.Disk self.old.stations server disk.old }
-        requires clients { AreReady B.Disk self.old.stations.parties.items disks.old }
-        ensures server { IfOk result (λ server. IsReadyServer B.Disk self.new.stations server disk.new) }
-        ensures clients { OnOk result (AreReady B.Disk self.new.stations.parties.items disks.new) }
+        requires { IsReadyBench B.Disk (bench_of self.old.stations server disk.old disks.old) }
+        ensures { IfOk result (λ later. Drives B.Disk (cuts_by B.restarts B.arming B.plain B.is_starved)
+            (λ old new. Exchanges 20 client (none_looked old.world client) old new) (driven_by self.old server disk.old disks.old)
+            (driven_by self.new later disk.new disks.new)) }
     {
         let mut server = server;
-        let mut looked = Looked {
-            attempt: number_of(&self.stations, client),
-            to_server: 0,
-            to_client: 0,
-        };
+        let mut looked = Looked::none(&self.stations, client);
         for _ in 0..MOST_EXCHANGES {
-            if is_closed(&self.stations, client) {
-                break;
+            if is_closed(&self.stations, disks, client) {
+                return Ok(server);
             }
             looked = looked.at(&self.stations, client);
             server = self.exchange(server, disk, disks, client, &mut looked)?;
@@ -274,28 +396,25 @@ impl Driver {
         client: u64,
         looked: &mut Looked,
     ) -> Result<Server, OutOfMemory>
-        requires server { IsReadyServer B.Disk self.old.stations server disk.old }
-        requires clients { AreReady B.Disk self.old.stations.parties.items disks.old }
-        ensures server { IfOk result (λ server. IsReadyServer B.Disk self.new.stations server disk.new) }
-        ensures clients { OnOk result (AreReady B.Disk self.new.stations.parties.items disks.new) }
+        requires { IsReadyBench B.Disk (bench_of self.old.stations server disk.old disks.old) }
+        ensures { IfOk result (λ later. Drives B.Disk (cuts_by B.restarts B.arming B.plain B.is_starved)
+            (Exchange client looked.old looked.new) (driven_by self.old server disk.old disks.old)
+            (driven_by self.new later disk.new disks.new)) }
     {
-        let from = looked.to_server;
+        let before = *looked;
         looked.to_server = count_to_server(&self.stations, client);
-        let is_silent = from == looked.to_server;
         let server = self.carry(
             server,
             disk,
             disks,
             client,
             Way::ToServer,
-            from,
+            before.to_server,
             looked.to_server,
         )?;
-        let from = looked.to_client;
         looked.to_client = count_to_client(&self.stations, client);
-        if is_silent && from == looked.to_client {
-            let server = self.play(server, disk, disks, Event::TickClient { client })?;
-            return self.play(server, disk, disks, Event::TickServer);
+        if !looked.is_beyond(before) {
+            return self.tick(server, disk, disks, client);
         }
         self.carry(
             server,
@@ -303,9 +422,26 @@ impl Driver {
             disks,
             client,
             Way::ToClient,
-            from,
+            before.to_client,
             looked.to_client,
         )
+    }
+
+    /// Both stations count a tick.
+    fn tick<B: CutDisk>(
+        &mut self,
+        server: Server,
+        disk: &mut B,
+        disks: &mut [B],
+        client: u64,
+    ) -> Result<Server, OutOfMemory>
+        requires { IsReadyBench B.Disk (bench_of self.old.stations server disk.old disks.old) }
+        ensures { IfOk result (λ later. Drives B.Disk (cuts_by B.restarts B.arming B.plain B.is_starved)
+            (Answers client [] []) (driven_by self.old server disk.old disks.old)
+            (driven_by self.new later disk.new disks.new)) }
+    {
+        let server = self.play(server, disk, disks, Some(Event::TickClient { client }))?;
+        self.play(server, disk, disks, Some(Event::TickServer))
     }
 
     /// The transmissions from the first of these places up to the other one are on the air.
@@ -319,74 +455,54 @@ impl Driver {
         from: usize,
         to: usize,
     ) -> Result<Server, OutOfMemory>
-        requires server { IsReadyServer B.Disk self.old.stations server disk.old }
-        requires clients { AreReady B.Disk self.old.stations.parties.items disks.old }
-        ensures server { IfOk result (λ server. IsReadyServer B.Disk self.new.stations server disk.new) }
-        ensures clients { OnOk result (AreReady B.Disk self.new.stations.parties.items disks.new) }
+        requires { IsReadyBench B.Disk (bench_of self.old.stations server disk.old disks.old) }
+        ensures { IfOk result (λ later. Drives B.Disk (cuts_by B.restarts B.arming B.plain B.is_starved)
+            (Carries (delivery_of way client) None (between from to)) (driven_by self.old server disk.old disks.old)
+            (driven_by self.new later disk.new disks.new)) }
     {
         let mut server = server;
         let mut late = None;
         for place in from..to {
-            let drawn = self.draws.next() % 16;
-            let is_last = place >= to - 1;
-            let times = match drawn {
-                0 => 0,
-                1 => 2,
-                2 if !is_last => 0,
-                _ => 1,
-            };
-            for _ in 0..times {
-                server = self.play(server, disk, disks, way.delivery(client, place))?;
-            }
-            server = self.deliver_late(server, disk, disks, client, way, late)?;
-            late = put_off(drawn == 2 && !is_last, place);
+            let drawn = self.draws.next();
+            let fate = Fate::by(drawn, place + 1 == to);
+            server = self.repeat(server, disk, disks, client, way, place, fate.times())?;
+            server = self.play(server, disk, disks, late)?;
+            late = fate.put_off(way.delivery(client, place));
         }
         Ok(server)
     }
 
-    /// The transmission at this place is delivered, if one was put off.
-    fn deliver_late<B: CutDisk>(
+    /// The transmission at this place is delivered so many times.
+    fn repeat<B: CutDisk>(
         &mut self,
         server: Server,
         disk: &mut B,
         disks: &mut [B],
         client: u64,
         way: Way,
-        late: Option<usize>,
+        place: usize,
+        times: u32,
     ) -> Result<Server, OutOfMemory>
-        requires server { IsReadyServer B.Disk self.old.stations server disk.old }
-        requires clients { AreReady B.Disk self.old.stations.parties.items disks.old }
-        ensures server { IfOk result (λ server. IsReadyServer B.Disk self.new.stations server disk.new) }
-        ensures clients { OnOk result (AreReady B.Disk self.new.stations.parties.items disks.new) }
+        requires ready { IsReadyBench B.Disk (bench_of self.old.stations server disk.old disks.old) }
+        requires place { place < 2 ^ 64 - 1 }
+        ensures { IfOk result (λ later. Drives B.Disk (cuts_by B.restarts B.arming B.plain B.is_starved)
+            (TriesTimes times (delivery_of way client (place + 1))) (driven_by self.old server disk.old disks.old)
+            (driven_by self.new later disk.new disks.new)) }
     {
-        match late {
-            Some(place) => self.play(server, disk, disks, way.delivery(client, place)),
-            None => Ok(server),
+        let mut server = server;
+        for _ in 0..times {
+            let delivery = way.delivery(client, place);
+            server = self.play(server, disk, disks, Some(delivery))?;
         }
+        Ok(server)
     }
 
-    /// The client may be broken off; or the next event of it or of the server is to be cut.
-    fn disturb<B: CutDisk>(
-        &mut self,
-        server: Server,
-        disk: &mut B,
-        disks: &mut [B],
-        client: u64,
-    ) -> Result<Server, OutOfMemory>
-        requires server { IsReadyServer B.Disk self.old.stations server disk.old }
-        requires clients { AreReady B.Disk self.old.stations.parties.items disks.old }
-        ensures server { IfOk result (λ server. IsReadyServer B.Disk self.new.stations server disk.new) }
-        ensures clients { OnOk result (AreReady B.Disk self.new.stations.parties.items disks.new) }
-    {
-        match self.trouble(client) {
-            Some(event) => self.play(server, disk, disks, event),
-            None => Ok(server),
-        }
-    }
-
-    /// What is drawn for the end of the client's turn, if anything is.
-    fn trouble(&mut self, client: u64) -> Option<Event>
-        ensures { self.new.stations ≡ self.old.stations }
+    /// What is drawn for the end of the client's turn, if anything is: it is broken off, or the next event of it or of the
+    /// server is to be cut.
+    fn ending(&mut self, client: u64) -> Option<Event>
+        ensures same { self.new.stations ≡ self.old.stations }
+        ensures fits { IsFitEvent self.new.stations result }
+        ensures ending { IsDraw (ending self.old.draws.state client) result self.old.draws.state self.new.draws.state }
     {
         match self.draws.next() % 8 {
             0 => Some(Event::BreakClient { client }),
@@ -409,13 +525,10 @@ impl Driver {
     }
 }
 
-/// The place of what is put off, if it is.
-fn put_off(is_late: bool, place: usize) -> Option<usize> {
-    if is_late { Some(place) } else { None }
-}
-
 /// How many attempts the client of this number made.
-fn number_of(stations: &Stations, client: u64) -> u64 {
+fn attempts_of(stations: &Stations, client: u64) -> u64
+    ensures { (world : World) → PlaysStations stations.now world → result ≡ attempts_in world client }
+{
     match stations.party(client) {
         Some(party) => party.attempt.number,
         None => 0,
@@ -423,7 +536,9 @@ fn number_of(stations: &Stations, client: u64) -> u64 {
 }
 
 /// How many frames it sent in the newest one.
-fn count_to_server(stations: &Stations, client: u64) -> usize {
+fn count_to_server(stations: &Stations, client: u64) -> usize
+    ensures { (world : World) → PlaysStations stations.now world → result ≡ sent_of (λ a. a.by_client) world client }
+{
     match stations.party(client) {
         Some(party) => party.attempt.from_client.count(),
         None => 0,
@@ -431,7 +546,9 @@ fn count_to_server(stations: &Stations, client: u64) -> usize {
 }
 
 /// How many frames the server sent it there.
-fn count_to_client(stations: &Stations, client: u64) -> usize {
+fn count_to_client(stations: &Stations, client: u64) -> usize
+    ensures { (world : World) → PlaysStations stations.now world → result ≡ sent_of (λ a. a.by_server) world client }
+{
     match stations.party(client) {
         Some(party) => party.attempt.from_server.count(),
         None => 0,
@@ -439,7 +556,11 @@ fn count_to_client(stations: &Stations, client: u64) -> usize {
 }
 
 /// Whether nothing is under way on its link.
-fn is_closed(stations: &Stations, client: u64) -> bool {
+fn is_closed<B: CutDisk>(stations: &Stations, _disks: &[B], client: u64) -> bool
+    requires { AreReady B.Disk stations.now.parties.items _disks.now }
+    ensures { (world : World) → PlaysStations stations.now world →
+        length stations.now.parties.items ≤ length _disks.now → IsTrue result ↔ IsClosed world client }
+{
     match stations.party(client) {
         Some(party) => party.client.closed(),
         None => true,

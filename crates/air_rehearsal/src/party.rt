@@ -153,7 +153,8 @@ impl Party {
 
     /// The number on the server of the last file that was acknowledged, if one was.
     pub(crate) fn last_acked(&self) -> Option<u32>
-        ensures { (seat : Seat) → IsSeat self.now seat → result ≡ last_acked_in seat.party.client.lists }
+        ensures last { (seat : Seat) → IsSeat self.now seat → result ≡ last_acked_in seat.party.client.lists }
+        ensures some { (seat : Seat) → IsSeat self.now seat → IfSome result (λ number. 1 ≤ number) }
     {
         let notes = self.client.notes();
         for back in 0..notes.tasks() {

@@ -1,11 +1,11 @@
-use Rattle.std.proofs.Common.{◌≤◌, length, ap, arith}
+use Rattle.std.proofs.Common.{◌∙◌, sym, subst}
+use Rattle.std.specs.Prelude.{List}
+use Rattle.disk_model.specs.Cuts.{AreFresh, cuts_by}
 use Rattle.air_rehearsal.proofs.generator.drive.Goals as goal
 
-pub open-requires-clause-enough : goal.open-requires-clause-enough
-open-requires-clause-enough g c =
-    let nine = c.requires.0 in
-    let whole = ap length c.as_mut_slice.ensures.value in
-    let others = c.in-Some.ensures.cases.1 in
-    let few : length c.in_ok-calls.calls.items ≤ 3 = c.in_ok-calls.ensures in
-    let all = ap length c.as_slice.ensures.value in
-    omega (arith, nine, whole, others, few, all)
+pub drive_over-requires : goal.drive_over-requires
+drive_over-requires g c =
+    subst
+    (λ (bench : List _). AreFresh g.B.Disk
+    (cuts_by g.B.CutDisk.restarts g.B.CutDisk.arming g.B.CutDisk.plain g.B.CutDisk.is_starved) bench)
+    (sym c.as_mut_slice.ensures.value ∙ c.in-Some.ensures.cases.0) c.requires

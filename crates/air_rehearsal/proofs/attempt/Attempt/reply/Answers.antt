@@ -22,7 +22,7 @@ returns c =
           let ua_is = ap (λ (it : FrameValue). is_ua it.kind.control) is in
           cc (w.if-self.false, w.is_ua-self.ensures, w.self-is)
     ] in
-    replies frame lanes c.args.self.now _ has refl answered
+    replies frame lanes c.args.self.now _ has refl answered refl
     (puts lanes.by_server frame has.by_server text
     (c.of.ensures ∙ ap (λ (it : FrameValue). sort_of it.kind.control) is)))
     c.put.ensures

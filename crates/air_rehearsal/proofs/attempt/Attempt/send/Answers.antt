@@ -3,7 +3,7 @@ use Rattle.std.proofs.Common.{◌≡◌, ap, refl, subst, sym, ◌∙◌}
 use Rattle.std.proofs.lemmas.Result.{on_ok_weaker}
 use Rattle.ax25_frames.specs.FrameText.{FrameValue}
 use Rattle.ax25_link.specs.Rows.{is_call}
-use Rattle.air_rehearsal.specs.Lanes.{HasLanes, sort_of, no_lanes}
+use Rattle.air_rehearsal.specs.Lanes.{HasLanes, beginning, sort_of}
 use Rattle.air_rehearsal.specs.declared.attempt.Attempt.{Attempt}
 use Rattle.air_rehearsal.proofs.AttemptLemmas.{Begins, begins, goes-on, sends}
 use Rattle.air_rehearsal.proofs.attempt.Attempt.send.Goals as goal
@@ -23,12 +23,12 @@ returns c =
     elim c.if-is_call.branch [
       | then-is_call w ↦
           begins c.if-is_call.self lanes (is_call frame.kind.control) (sym call_is ∙ w.if-is_call.true)
-          (subst (λ (self : Attempt). HasLanes self no_lanes) (sym w.self-is) w.begin.ensures)
+          (subst (λ (self : Attempt). HasLanes self (beginning lanes)) (sym w.self-is) (w.begin.ensures lanes has))
       | else-is_call w ↦
           goes-on c.if-is_call.self lanes (is_call frame.kind.control) (sym call_is ∙ w.if-is_call.false)
           (subst (λ (self : Attempt). HasLanes self lanes) (sym w.self-is) has)
     ] in
-    sends frame lanes c.if-is_call.self _ was refl refl
+    sends frame lanes c.if-is_call.self _ was refl refl refl
     (puts _ frame was.by_client text
     (c.of.ensures ∙ ap (λ (it : FrameValue). sort_of it.kind.control) is)))
     c.put.ensures

@@ -1,11 +1,23 @@
--- All stations are ready.
-use Rattle.air_rehearsal.specs.Ready.{AreReady, IsReadyServer}
+-- The transmissions that are left, behind the delivery that was put off, make up all.
+use Rattle.std.specs.Option.{option_map}
+use Rattle.std.specs.Prelude.{None, IfSome}
+use Rattle.disk_model.specs.Cuts.{cuts_by}
+use Rattle.air_schedule.specs.Events.{event_value}
+use Rattle.air_world.specs.Schedule.{IsInRange}
+use Rattle.air_rehearsal.specs.Driving.{Drives, driven_by}
+use Rattle.air_rehearsal.specs.Driving.{delivery_of}
+use Rattle.air_rehearsal.specs.Generator.{Carries, between}
+use Rattle.air_rehearsal.proofs.DriveLemmas.{Owes}
 use Rattle.air_rehearsal.proofs.generator.Driver.carry.Given as goal
 
 abbrev pub invariant-loop-place : goal.invariant-loop-place
 invariant-loop-place g l =
-    IsReadyServer g.B.Disk l.self.stations l.server l.disk × AreReady g.B.Disk l.self.stations.parties.items l.disks
-
-abbrev pub invariant-loop : goal.invariant-loop
-invariant-loop g l =
-    IsReadyServer g.B.Disk l.self.stations l.server l.disk × AreReady g.B.Disk l.self.stations.parties.items l.disks
+    record {
+      late : IfSome l.late (λ it. IsInRange (event_value it));
+      drives :
+          Drives g.B.Disk
+          (cuts_by g.B.CutDisk.restarts g.B.CutDisk.arming g.B.CutDisk.plain g.B.CutDisk.is_starved)
+          (Owes (Carries (delivery_of l.way l.client) None (between l.from l.to))
+          (Carries (delivery_of l.way l.client) (option_map event_value l.late) (between l.place l.to)))
+          (driven_by l.fn.self l.fn.server l.fn.disk l.fn.disks) (driven_by l.self l.server l.disk l.disks);
+    }

@@ -1,7 +1,6 @@
 -- The client does its part, and then sends all that it has to send: that is its step, and its lanes go by the law.
 use Rattle.std.proofs.Common.{sym, subst}
 use Rattle.ftl0_client.specs.ClientStep.{happening}
-use Rattle.air_attempt.specs.Party.{newest}
 use Rattle.air_world.specs.Step.{client_started}
 use Rattle.air_rehearsal.specs.Lanes.{lanes_of}
 use Rattle.air_rehearsal.specs.PartCalls.{ActsPart}
@@ -20,6 +19,6 @@ returns-clause-acts g c =
     (sym c.say.ensures.same)
     (acts g.D.Disk (client_lanes c.sound_law.ensures) c.args.self.now c.do_part.new.self c.say.new.self seat
     c.args.part whole event c.args.disk.now c.do_part.new.disk at_seat allowed takes is_part none begins
-    (both.0 (happening (client_started whole) whole.coming).after (lanes_of (newest whole.party)) begins.client
+    (both.0 (happening (client_started whole) whole.coming).after (lanes_of whole.party.attempts) begins.client
     begins.lanes) c.say.ensures.keeps both.1.theirs.me))
     (ok_both c.say.result _ _ c.say.ensures.says c.say.ensures.ready)

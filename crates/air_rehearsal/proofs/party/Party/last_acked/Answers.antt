@@ -5,11 +5,11 @@ use Rattle.client_notes.specs.Notes.{Lists, task_count}
 use Rattle.client_notes.specs.State.{NotesState}
 use Rattle.air_rehearsal.specs.Drawn.{is_acked}
 use Rattle.air_rehearsal.specs.NotedTasks.{number_if_acked}
-use Rattle.air_rehearsal.proofs.LastTasks.{NonePasses, acked-found, acked-more, none-acked}
+use Rattle.air_rehearsal.proofs.LastTasks.{NonePasses, acked-found, acked-more, acked-some, none-acked}
 use Rattle.air_rehearsal.proofs.party.Party.last_acked.Goals as goal
 
-pub returns-in-Some : goal.returns-in-Some
-returns-in-Some c seat is =
+pub returns-in-Some-clause-last : goal.returns-in-Some-clause-last
+returns-in-Some-clause-last c seat is =
     let lists = seat.party.client.lists in
     let back = c.loop-back.back in
     let same : c.notes-notes.result.now.lists ≡ lists =
@@ -21,6 +21,19 @@ returns-in-Some c seat is =
     ∙ ap (λ (n : ℕ). noted_at lists (n - back)) count in
     acked-found lists back (omega (arith, c.loop-back-test.true, end))
     (subst (λ (l : Lists). NonePasses is_acked l back) is.plays.client.lists c.loop-back.invariant) c.in-Some.number
+    (c.in-Some.ensures ∙ ap number_if_acked told)
+
+pub returns-in-Some-clause-some : goal.returns-in-Some-clause-some
+returns-in-Some-clause-some c seat is =
+    let lists = seat.party.client.lists in
+    let back = c.loop-back.back in
+    let same : c.notes-notes.result.now.lists ≡ lists =
+    ap (λ (notes : NotesState). notes.lists) c.notes-notes.ensures ∙ is.plays.client.lists in
+    let count : c.tasks.result ≡ task_count lists = c.tasks.ensures.count ∙ ap task_count same in
+    let told : c.noted_task.result ≡ noted_at lists (task_count lists - back) =
+    c.noted_task.ensures ∙ ap (λ (l : Lists). noted_at l (c.tasks.result - back)) same
+    ∙ ap (λ (n : ℕ). noted_at lists (n - back)) count in
+    acked-some seat.world seat.c seat.party (task_count lists - back) c.in-Some.number is.sound is.is_party
     (c.in-Some.ensures ∙ ap number_if_acked told)
 
 pub loop-back-preserved : goal.loop-back-preserved
@@ -36,8 +49,8 @@ loop-back-preserved c =
     acked-more lists back (omega (arith, c.loop-back-test.true, end)) c.loop-back.invariant
     (c.in_default.ensures ∙ ap number_if_acked told)
 
-pub returns : goal.returns
-returns c seat is =
+pub returns-clause-last : goal.returns-clause-last
+returns-clause-last c seat is =
     let lists = seat.party.client.lists in
     let same : c.notes-notes.result.now.lists ≡ lists =
     ap (λ (notes : NotesState). notes.lists) c.notes-notes.ensures ∙ is.plays.client.lists in

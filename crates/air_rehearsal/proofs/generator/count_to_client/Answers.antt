@@ -1,0 +1,18 @@
+-- By the client of the number.
+use Rattle.std.proofs.Common.{length, sym, ap}
+use Rattle.std.specs.Prelude.{Option}
+use Rattle.std.specs.Option.{option_and_then, option_map_or}
+use Rattle.air_attempt.specs.Attempt.{Attempt}
+use Rattle.air_attempt.specs.Party.{Party, newest}
+use Rattle.air_rehearsal.proofs.NumberedLemmas.{none-here, to-client-here}
+use Rattle.air_rehearsal.proofs.generator.count_to_client.Goals as goal
+
+pub returns-in-Some : goal.returns-in-Some
+returns-in-Some c world plays =
+    to-client-here c.args.stations.now world plays c.args.client c.in-Some.party.now c.in-Some.ensures c.count.result
+    c.count.ensures
+
+pub returns-in-None : goal.returns-in-None
+returns-in-None c world plays =
+    ap (λ (o : Option Party). option_map_or (λ (a : Attempt). length a.by_server) (option_and_then newest o) 0)
+    (sym (none-here c.args.stations.now world plays c.args.client c.in-None.ensures))
