@@ -1,5 +1,6 @@
 -- The lines of a text, as far as they were read.
-use Rattle.std.proofs.Common.{◌≡◌, ◌≢◌, ℕ, ◌+◌, ◌⊎◌, ◌==◌, inl, inr, List, [], ◌∷◌, ◌++◌, length, map, ap, sym, subst, ◌∙◌, refl, arith, append-nil, length-append}
+use Rattle.std.proofs.Common.{◌≡◌, ◌≢◌, ℕ, ◌+◌, ◌-◌, ◌≤◌, ◌⊎◌, ◌==◌, inl, inr, List, [], ◌∷◌, ◌++◌, drop, length, map, take, ap, sym, subst, ◌∙◌, refl, arith, append-nil, append_assoc, length-append, length-take-le, take-append-drop}
+use Rattle.std.proofs.lemmas.Bool.{cases_lt}
 use Rattle.std.proofs.lemmas.List.Splits.{length-slice_split}
 use Rattle.px_base.specs.CallSign.{CallSign}
 use Rattle.air_schedule.specs.Schedule.{Event, IsSchedule, Schedule}
@@ -12,6 +13,13 @@ pub LinesThen-more : (lines : List Line) (said : Line) (text : List ℕ) (later 
 LinesThen-more [] said text later rest parts h e says = (text, later, says, h ∙ e, refl)
 LinesThen-more (line ∷ lines) said text later rest parts h e says =
     (h.0, h.1, h.2, h.3, LinesThen-more lines said text later rest h.1 h.4 e says)
+
+-- lines and more lines stand where those stand first, and these behind them
+LinesThen-front : (front more : List Line) (rest parts : List (List ℕ)) → LinesThen (front ++ more) rest parts
+    → (left : List (List ℕ)) × LinesThen front left parts × LinesThen more rest left
+LinesThen-front [] more rest parts h = (parts, refl, h)
+LinesThen-front (line ∷ front) more rest parts h =
+    let behind = LinesThen-front front more rest h.1 h.4 in (behind.0, (h.0, h.1, h.2, h.3, behind.1), behind.2)
 
 -- no line stands in nothing
 LinesThen-nil : (lines : List Line) (rest : List (List ℕ)) → LinesThen lines rest [] → rest ≡ []
@@ -195,3 +203,44 @@ one_schedule text one other h k = elim (compare (lines_of one) (lines_of other) 
     ended : (more : List Line) → lines_of one ≡ lines_of other ++ more → LinesThen more ([] ∷ []) ([] ∷ []) → lines_of one ≡ lines_of other
     ended [] whole stand = whole ∙ append-nil (lines_of other)
     ended (line ∷ more) whole stand = absurd (nothing_more more stand.0 stand.1 stand.3 stand.4)
+
+-- where so many lines are the first of some schedule, fewer are
+begins_fewer : (text : List ℕ) (few many : ℕ) → few ≤ many → BeginsWell many text → BeginsWell few text
+begins_fewer text few many less h =
+    let front : List Line = take few h.lines in
+    let more : List Line = drop few h.lines in
+    let whole : front ++ more ≡ h.lines = take-append-drop few h.lines in
+    let cut = LinesThen-front front more (h.last ∷ h.rest) (parts_of text)
+    (subst (λ (lines : List Line). LinesThen lines (h.last ∷ h.rest) (parts_of text)) (sym whole) h.stand) in
+    let left = first_part more cut.0 cut.2 in
+    record {
+      lines = front;
+      last = left.0;
+      rest = left.1;
+      enough = length-take-le few h.lines (omega (arith, h.enough));
+      begin = (
+        h.begin.0,
+        more ++ h.begin.1,
+        h.begin.2,
+        h.begin.3 ∙ ap (λ (lines : List Line). lines ++ h.begin.1) (sym whole) ∙ append_assoc front more h.begin.1,
+      );
+      stand = subst (λ (parts : List (List ℕ)). LinesThen front parts (parts_of text)) left.2 cut.1;
+    }
+  where
+    first_part : (lines : List Line) (parts : List (List ℕ)) → LinesThen lines (h.last ∷ h.rest) parts
+        → (first : List ℕ) × (later : List (List ℕ)) × (parts ≡ first ∷ later)
+    first_part [] parts stand = (h.last, h.rest, stand)
+    first_part (line ∷ lines) parts stand = (stand.0, stand.1, stand.3)
+
+-- a text has one first bad line
+pub one_first_bad_line : (text : List ℕ) (one other : ℕ) → FirstBadLine text one → FirstBadLine text other → one ≡ other
+one_first_bad_line text one other h k =
+    let least : one ≤ other = at_most one other h k in
+    let most : other ≤ one = at_most other one k h in
+    omega arith
+  where
+    at_most : (line later : ℕ) → FirstBadLine text line → FirstBadLine text later → line ≤ later
+    at_most line later bad behind = elim (cases_lt later line) [
+      | inl before ↦ absurd (behind.here (begins_fewer text later (line - 1) (omega (arith, before)) bad.before))
+      | inr past ↦ past
+    ]

@@ -104,3 +104,13 @@ pub record FirstBadLine (text : List ℕ) (line : ℕ) : Type 0 where
 abbrev pub OneSchedule : Type 0
 OneSchedule =
     (text : List ℕ) (one other : Schedule) → ScheduleText one text → ScheduleText other text → one ≡ other
+
+-- Each text has at most one first bad line ..
+abbrev pub OneFirstBadLine : Type 0
+OneFirstBadLine =
+    (text : List ℕ) (one other : ℕ) → FirstBadLine text one → FirstBadLine text other → one ≡ other
+
+-- .. and none where it is the text of a schedule.
+abbrev pub NoFirstBadLine : Type 0
+NoFirstBadLine =
+    (text : List ℕ) (schedule : Schedule) (line : ℕ) → ScheduleText schedule text → FirstBadLine text line → ⊥
