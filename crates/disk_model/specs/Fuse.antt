@@ -1,7 +1,7 @@
 -- A disk that stops after so many calls, as contracts see it, and what each of its calls does.
 use Rattle.std.specs.Prelude.{◌≡◌, ◌⊎◌, ℕ, ◌+◌, ◌^◌, ◌<◌, ◌≤◌, List, [], length, Option, Some, None, Bool, true}
 use Rattle.std.specs.Prelude.{Result, IsErr}
-use Rattle.px_base.specs.Outside.{counted}
+use Rattle.px_base.specs.Outside.{Rose, counted}
 use Rattle.disk_model.specs.Calls.{DiskState, IsFailingSync, IsReading, IsSyncing, IsTearing, IsWriting, content_of}
 use Rattle.disk_model.specs.Calls.{images_of, images_since_of, moment_of, with_starved}
 use Rattle.disk_model.specs.Cuts.{Arming, CutState, Failed, LastsSo, Passes, Unarmed}
@@ -109,6 +109,11 @@ ghosts =
       is_down = is_down;
       lasts = lasts;
     }
+
+-- the count of failed writes and syncs never falls, and rose unless it stands at its last number
+pub record CountsFailure (old new : FuseDisk) : Type 0 where
+  pub no_less : write_faults old ≤ write_faults new
+  pub rose : Rose (write_faults old) (write_faults new)
 
 -- The fuse has failed a call.
 abbrev pub HasBlown : FuseStage → Type 0

@@ -70,9 +70,9 @@ returns-in_default-clause-promises c =
       past = failing_elapses before.disk now.disk fails;
       since_now = failing_leaves_now before.disk now.disk fails;
       read_faults = omega (arith, (syncing_fails before.disk now.disk fails).reads, ap (λ (f : FuseState). f.read_faults) counted);
-      write_faults = search rules;
+      write_faults = record { no_less = c.fail_sync.ensures.counts.no_less; rose = c.fail_sync.ensures.counts.rose; same = tt };
       lasts =
           fails_lasts before now (torn c) (ap (λ (f : FuseState). arming_in f.stage) counted)
-          (ap (λ (f : FuseState). f.read_faults) counted) c.fail_sync.ensures.no_less c.fail_sync.ensures.rose
+          (ap (λ (f : FuseState). f.read_faults) counted) c.fail_sync.ensures.counts.no_less c.fail_sync.ensures.counts.rose
           (syncing_fails before.disk now.disk fails);
     }

@@ -62,8 +62,8 @@ returns-in_default-clause-promises c =
       past = elapses_either _ _ _ _ _ (opens c);
       since_now = leaves_now_either _ _ _ _ _ (opens c);
       read_faults = search rules;
-      write_faults = search rules;
-      lasts = fails_lasts before now (torn c) (fails c).0 (fails c).1 c.tear.ensures.no_less c.tear.ensures.rose (fails c).2;
+      write_faults = record { no_less = c.tear.ensures.counts.no_less; rose = c.tear.ensures.counts.rose; same = tt };
+      lasts = fails_lasts before now (torn c) (fails c).0 (fails c).1 c.tear.ensures.counts.no_less c.tear.ensures.counts.rose (fails c).2;
     }
 
 pub returns-in-Passes-clause-promises : goal.returns-in-Passes-clause-promises
