@@ -1,14 +1,17 @@
 -- What the calls of a disk in memory leave of its counts, and of how a fuse round it is armed.
-use Rattle.std.proofs.Common.{◌≡◌, inl, inr, ℕ, ◌+◌, ◌≤◌, List, [], true, false, refl, sym, ◌∙◌, ap, subst, arith, Ok, Err, Result, Contains}
+use Rattle.std.proofs.Common.{◌≡◌, inl, inr, ℕ, ◌+◌, ◌≤◌, List, [], ◌∷◌, ◌++◌, length, true, false, refl, sym, ◌∙◌, ap, subst, arith, Ok, Err, Result, Contains}
 use Rattle.std.proofs.lemmas.Grind.{common_steps}
-use Rattle.disk_model.specs.Calls.{DiskState, IsPowerCut, IsSyncing, IsWriting, content_of, images_of, images_since_of, moment_of, surface}
+use Rattle.disk_model.specs.Calls.{DiskState, IsFailingSync, IsPowerCut, IsSyncing, IsTearing, IsWriting, content_of, images_of, images_since_of, moment_of, surface, with_starved}
 use Rattle.disk_model.specs.Cuts.{Arming, Failed, LastsSo, Passes, Unarmed, UsesUp}
 use Rattle.disk_model.specs.Disk.{Only}
-use Rattle.disk_model.specs.Fuse.{FuseState, arming_in, cut_of}
+use Rattle.px_base.specs.Outside.{Rose}
+use Rattle.std.proofs.lemmas.Bool.{cases_Bool}
+use Rattle.disk_model.specs.Fuse.{FuseState, IsTornNext, arming_in, cut_of}
 use Rattle.disk_model.specs.Moments.{SamePast}
 use Rattle.disk_model.specs.Surface.{ImagesSince, IsImage, Surface, left_by, moments_in, quiet_surface, surface_after}
 use Rattle.disk_model.specs.declared.disk_call.DiskCall.{DiskCall}
 use Rattle.disk_model.specs.declared.disk_call.DiskCall.TheVariants as call
+use Rattle.disk_model.specs.declared.fuse_disk.FuseStage.{FuseStage}
 use Rattle.disk_model.specs.declared.fuse_disk.FuseStage.TheVariants as stage
 use Rattle.disk_model.proofs.Ranges.{cut_surface}
 use Rattle.disk_model.proofs.Steps.{cut_keeps_past, moments_in-push}
@@ -20,10 +23,15 @@ pub record Passed (before now : DiskState) : Type 0 where
   pub writes : now.write_faults ≡ before.write_faults
   pub moment : moment_of now ≡ moment_of before + 1
 
+-- the moment never falls in a call
+no_earlier : (calls : List DiskCall) (done : DiskCall) → moments_in calls ≤ moments_in (calls ++ done ∷ [])
+no_earlier calls done = omega (arith, moments_in-push calls done)
+
 -- what such a call does to the counts: of a plain disk that has memory it passes
 pub record DiskLasts (before now : DiskState) : Type 0 where
   pub failing : now.counter.failing ≡ before.counter.failing
   pub starved : before.counter.starved ≡ true → now.counter.starved ≡ true
+  pub later : moment_of before ≤ moment_of now
   pub reads : before.read_faults ≤ now.read_faults
   pub passes : before.counter.failing ≡ [] → now.counter.starved ≡ false → Passed before now
 
@@ -34,27 +42,27 @@ module _ {T E : Type 0} (before now : DiskState) where
   pub writing_lasts : (at : ℕ) (octets : List ℕ) (result : Result T E) → IsWriting before now at octets result → DiskLasts before now
   writing_lasts at octets (Ok done) step =
       subst (DiskLasts before) (sym step.ok.2)
-      (record { failing = refl; starved = λ is. is; reads = omega arith; passes = λ plain memory. record { reads = refl; writes = refl; moment = moments_in-push before.calls (call.Write at octets) } })
+      (record { failing = refl; starved = λ is. is; later = no_earlier before.calls (call.Write at octets); reads = omega arith; passes = λ plain memory. record { reads = refl; writes = refl; moment = moments_in-push before.calls (call.Write at octets) } })
   writing_lasts at octets (Err fault) step = elim step.err [
     | inl listed ↦ subst (DiskLasts before) (sym listed.2)
-        (record { failing = refl; starved = λ is. is; reads = omega arith; passes = λ plain memory. absurd (none_listed before.counter.failing _ plain listed.0) })
+        (record { failing = refl; starved = λ is. is; later = no_earlier before.calls (call.TornWrite at (length octets)); reads = omega arith; passes = λ plain memory. absurd (none_listed before.counter.failing _ plain listed.0) })
     | inr rest ↦ elim rest [
       | inl lost ↦ subst (DiskLasts before) (sym lost.1)
-          (record { failing = refl; starved = λ is. refl; reads = omega arith; passes = λ plain memory. absurd (cc) })
+          (record { failing = refl; starved = λ is. refl; later = no_earlier before.calls (call.TornWrite at (length octets)); reads = omega arith; passes = λ plain memory. absurd (cc) })
       | inr refused ↦ subst (DiskLasts before) (sym refused.1)
-          (record { failing = refl; starved = λ is. refl; reads = omega arith; passes = λ plain memory. absurd (cc) })
+          (record { failing = refl; starved = λ is. refl; later = omega arith; reads = omega arith; passes = λ plain memory. absurd (cc) })
     ]
   ]
 
   pub syncing_lasts : (result : Result T E) → IsSyncing before now result → DiskLasts before now
   syncing_lasts (Ok done) step =
       subst (DiskLasts before) (sym step.ok.2)
-      (record { failing = refl; starved = λ is. is; reads = omega arith; passes = λ plain memory. record { reads = refl; writes = refl; moment = moments_in-push before.calls call.Sync } })
+      (record { failing = refl; starved = λ is. is; later = no_earlier before.calls call.Sync; reads = omega arith; passes = λ plain memory. record { reads = refl; writes = refl; moment = moments_in-push before.calls call.Sync } })
   syncing_lasts (Err fault) step = elim step.err [
     | inl failed ↦ subst (DiskLasts before) (sym failed.2)
-        (record { failing = refl; starved = λ is. is; reads = omega arith; passes = λ plain memory. absurd (none_listed before.counter.failing _ plain failed.0) })
+        (record { failing = refl; starved = λ is. is; later = no_earlier before.calls call.FailedSync; reads = omega arith; passes = λ plain memory. absurd (none_listed before.counter.failing _ plain failed.0) })
     | inr starved ↦ subst (DiskLasts before) (sym starved)
-        (record { failing = refl; starved = λ is. refl; reads = omega arith; passes = λ plain memory. absurd (cc) })
+        (record { failing = refl; starved = λ is. refl; later = omega arith; reads = omega arith; passes = λ plain memory. absurd (cc) })
   ]
 
 -- a call that the fuse lets pass
@@ -65,6 +73,7 @@ passes_lasts before disk had left is one_less no_fewer lasts = record {
   plain = (λ plain. sym lasts.failing ∙ plain, λ plain. lasts.failing ∙ plain);
   starved = lasts.starved;
   failed = λ failed. absurd (let e : Passes had ≡ Failed = sym armed ∙ failed in cc);
+  moments = lasts.later;
   reads = omega (arith, lasts.reads);
   writes = omega (arith, no_fewer);
   uses = λ plain memory.
@@ -83,6 +92,7 @@ unarmed_lasts before disk is no_fewer lasts = record {
   plain = (λ plain. sym lasts.failing ∙ plain, λ plain. lasts.failing ∙ plain);
   starved = lasts.starved;
   failed = λ failed. failed;
+  moments = lasts.later;
   reads = omega (arith, lasts.reads);
   writes = omega (arith, no_fewer);
   uses = λ plain memory.
@@ -93,6 +103,60 @@ unarmed_lasts before disk is no_fewer lasts = record {
   where
     armed : arming_in before.stage ≡ Unarmed
     armed = ap arming_in is
+
+-- what a call that the fuse lets fail does to the disk: it is a moment, where the disk has memory
+pub record FailsAt (before now : DiskState) : Type 0 where
+  pub failing : now.counter.failing ≡ before.counter.failing
+  pub starved : before.counter.starved ≡ true → now.counter.starved ≡ true
+  pub reads : now.read_faults ≡ before.read_faults
+  pub later : moment_of before ≤ moment_of now
+  pub moment : now.counter.starved ≡ false → moment_of now ≡ moment_of before + 1
+
+pub starved_fails : (before now : DiskState) → now ≡ with_starved before → FailsAt before now
+starved_fails before now is =
+    subst (FailsAt before) (sym is)
+    (record { failing = refl; starved = λ is. refl; reads = refl; later = omega arith; moment = λ memory. absurd (cc memory) })
+
+pub syncing_fails : (before now : DiskState) → IsFailingSync before now → FailsAt before now
+syncing_fails before now (inl failed) =
+    subst (FailsAt before) (sym failed.1)
+    (record { failing = refl; starved = λ is. is; reads = refl; later = no_earlier before.calls call.FailedSync; moment = λ memory. moments_in-push before.calls call.FailedSync })
+syncing_fails before now (inr starved) = starved_fails before now starved
+
+pub tearing_fails : (before now : DiskState) (at count : ℕ) → IsTearing before now at count → FailsAt before now
+tearing_fails before now at count step = elim (cases_Bool before.down) [
+  | inl is ↦ starved_fails before now (step.down is)
+  | inr up ↦ elim (step.up up) [
+    | inl torn ↦ subst (FailsAt before) (sym torn)
+        (record { failing = refl; starved = λ is. is; reads = refl; later = no_earlier before.calls (call.TornWrite at count); moment = λ memory. moments_in-push before.calls (call.TornWrite at count) })
+    | inr torn ↦ subst (FailsAt before) (sym torn)
+        (record { failing = refl; starved = λ is. refl; reads = refl; later = no_earlier before.calls (call.TornWrite at count); moment = λ memory. absurd (cc memory) })
+  ]
+]
+
+-- a call that the fuse lets fail, which failed one before or does now
+pub fails_lasts : (before now : FuseState) → IsTornNext before.stage → arming_in now.stage ≡ Failed → now.read_faults ≡ before.read_faults
+    → before.disk.write_faults + before.write_faults ≤ now.disk.write_faults + now.write_faults
+    → Rose (before.disk.write_faults + before.write_faults) (now.disk.write_faults + now.write_faults) → FailsAt before.disk now.disk
+    → LastsSo (cut_of before) (cut_of now)
+fails_lasts before now torn failed reads no_fewer rose fails = record {
+  restarts = refl;
+  plain = (λ plain. sym fails.failing ∙ plain, λ plain. fails.failing ∙ plain);
+  starved = fails.starved;
+  failed = λ was. failed;
+  moments = fails.later;
+  reads = omega (arith, fails.reads, reads);
+  writes = no_fewer;
+  uses = λ plain memory. by before.stage torn memory;
+}
+  where
+    by : (at : FuseStage) → IsTornNext at → now.disk.counter.starved ≡ false → UsesUp (arming_in at) (cut_of before).use_of (cut_of now).use_of
+    by stage.Unarmed never memory = absurd never
+    by (stage.Passes left) none memory = inr (record { failed = failed; passed = omega (arith, none, fails.moment memory); rose = rose })
+    by stage.Blown is memory = tt
+    by stage.Down never memory = absurd never
+
+-- what a power cut leaves of a disk that has memory
 
 -- what a power cut leaves of a disk that has memory
 pub record CutLeft (before now : DiskState) : Type 0 where

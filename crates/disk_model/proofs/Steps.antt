@@ -1,12 +1,12 @@
 -- What a call of a disk in memory leaves of its content, its images and its past.
-use Rattle.std.proofs.Common.{◌≡◌, ◌⊎◌, inl, inr, ℕ, ◌+◌, ◌<◌, ◌≤◌, List, true, [], ◌∷◌, ◌++◌, length, take, drop, refl, sym, ◌∙◌, ap, subst, arith, Some, Ok, Err, Result, OnOk, zero-add}
+use Rattle.std.proofs.Common.{◌≡◌, ◌⊎◌, inl, inr, ℕ, ◌+◌, ◌<◌, ◌≤◌, List, true, false, [], ◌∷◌, ◌++◌, length, take, drop, refl, sym, ◌∙◌, ap, subst, arith, Some, Ok, Err, Result, OnOk, zero-add}
 use Rattle.std.proofs.lemmas.Bool.{cases_Bool, cases_lt}
 use Rattle.std.proofs.lemmas.List.{length_push, take_all, take-append-drop, take-append-le}
 use Rattle.std.proofs.lemmas.List.Sums.{sum_by-append}
 use Rattle.std.proofs.Math.Nat.{le_refl}
 use Rattle.px_base.specs.Outside.{HasCause}
 use Rattle.px_base.specs.Octets.{IsOctets}
-use Rattle.disk_model.specs.Calls.{DiskState, IsRefused, IsSyncing, IsTearing, IsWriting, content_of, images_of, images_since_of, moment_of, surface}
+use Rattle.disk_model.specs.Calls.{DiskState, IsFailingSync, IsRefused, IsSyncing, IsTearing, IsWriting, content_of, images_of, images_since_of, moment_of, surface, with_starved}
 use Rattle.disk_model.specs.Disk.{Follows, HasContent, Only, Torn, Writes}
 use Rattle.disk_model.specs.Moments.{Elapses, SamePast}
 use Rattle.disk_model.specs.Surface.{ImagesSince, IsImage, Surface, moments_in, moments_of, with_range, surface_after, surface_after_call, write_over}
@@ -216,6 +216,33 @@ module _ {T E : Type 0} (before now : DiskState) where
     | inl failed ↦ subst (LeavesNow before) (sym failed.2) (call_leaves_now before.first before.calls call.FailedSync)
     | inr starved ↦ subst (LeavesNow before) (sym starved) (λ rose. absurd (omega (arith, rose)))
   ]
+
+-- a sync that a fuse lets fail
+module _ (before now : DiskState) where
+  pub failing_elapses : IsFailingSync before now → ElapsesTo before now
+  failing_elapses (inl failed) = subst (ElapsesTo before) (sym failed.1) (call_elapses before.first before.calls call.FailedSync)
+  failing_elapses (inr starved) = subst (ElapsesTo before) (sym starved) (nothing_elapses before.first before.calls (images_of before))
+
+  pub failing_leaves_now : IsFailingSync before now → LeavesNow before now
+  failing_leaves_now (inl failed) = subst (LeavesNow before) (sym failed.1) (call_leaves_now before.first before.calls call.FailedSync)
+  failing_leaves_now (inr starved) = subst (LeavesNow before) (sym starved) (λ rose. absurd (omega (arith, rose)))
+
+  pub failing_surface : IsFailingSync before now → surface now ≡ surface before
+  failing_surface (inl failed) = ap surface failed.1 ∙ surface_after-push before.first before.calls call.FailedSync
+  failing_surface (inr starved) = ap surface starved
+
+  pub failing_down : IsFailingSync before now → now.down ≡ before.down
+  failing_down (inl failed) = ap (λ (s : DiskState). s.down) failed.1
+  failing_down (inr starved) = ap (λ (s : DiskState). s.down) starved
+
+  -- a disk that is down finds no memory
+  pub failing_starves : IsFailingSync before now → before.down ≡ true → now ≡ with_starved before
+  failing_starves (inl failed) down = absurd (let e : true ≡ false = sym down ∙ failed.0 in cc)
+  failing_starves (inr starved) down = starved
+
+  pub failing_at_most : IsFailingSync before now → moment_of now ≤ moment_of before + 1
+  failing_at_most (inl failed) = let same = ap moment_of failed.1 in omega (arith, same, moments_in-push before.calls call.FailedSync)
+  failing_at_most (inr starved) = let same = ap moment_of starved in omega (arith, same)
 
 -- a count that rose by a part
 pub cause_of_sum : {T E : Type 0} (before now other : ℕ) (result : Result T E) → HasCause before now result → HasCause (before + other) (now + other) result

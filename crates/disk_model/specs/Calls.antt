@@ -136,15 +136,25 @@ pub record IsSyncing {T E : Type 0} (before now : DiskState) (result : Result T 
       ((IsListed before.counter × (before.down ≡ false) × (now ≡ state_after_failed before call.FailedSync))
       ⊎ (now ≡ state_after_starved before))
 
+-- a disk that found no memory
+abbrev pub with_starved : DiskState → DiskState
+with_starved state = record state { counter = record state.counter { starved = true } }
+
 -- A write that a fuse cuts short leaves its range open, and the disk is down where there is no memory for a further
--- call; a disk that is down stays as it was.
+-- call. Where the disk was down it finds no memory, and changes nothing.
 pub record IsTearing (before now : DiskState) (at count : ℕ) : Type 0 where
   pub up :
       before.down ≡ false
       → (now ≡ with_torn_write before at count)
       ⊎ (now
       ≡ record (with_torn_write before at count) { down = true; counter = record before.counter { starved = true } })
-  pub down : before.down ≡ true → now ≡ before
+  pub down : before.down ≡ true → now ≡ with_starved before
+
+-- A sync that a fuse lets fail is a call that changes nothing; or the disk finds no memory, as one that is down.
+abbrev pub IsFailingSync : DiskState → DiskState → Type 0
+IsFailingSync before now =
+    ((before.down ≡ false) × (now ≡ record before { calls = before.calls ++ call.FailedSync ∷ [] }))
+    ⊎ (now ≡ with_starved before)
 
 -- A power cut is recorded by what it left.
 abbrev pub RecordsCut : List ℕ → List DiskCall → List DiskCall → ℕ → Type 0

@@ -17,20 +17,22 @@ same_on first second third early late =
 
 -- a call failed by the arming later on
 fails_later :
-    (first second third : Use) → SameFaults first second → FailsSo second third → FailsSo first third
-fails_later first second third early late =
+    (calls : ℕ) (first second third : Use) → (early : PassesOn calls first second) → FailsSo early.left second third
+    → FailsSo calls first third
+fails_later calls first second third early late =
     record {
       failed = late.failed;
+      passed = omega (arith, early.passed, late.passed);
       rose = λ below.
-          let rose = late.rose (omega (arith, early.writes, below)) in
-          omega (arith, early.writes, rose);
+          let rose = late.rose (omega (arith, early.faults.writes, below)) in
+          omega (arith, early.faults.writes, rose);
     }
 
 passes_on :
     (calls : ℕ) (first second third : Use)
     → PassesOn calls first second
     → ((left : ℕ) → second.arming ≡ Passes left → UsesUp (Passes left) second third)
-    → PassesOn calls first third ⊎ FailsSo first third
+    → PassesOn calls first third ⊎ FailsSo calls first third
 passes_on calls first second third early late =
     elim (late early.left early.armed) [
       | inl on ↦
@@ -41,29 +43,31 @@ passes_on calls first second third early late =
             passed = omega (arith, on.passed, early.passed);
             faults = same_on first second third early.faults on.faults;
           })
-      | inr fails ↦ inr (fails_later first second third early.faults fails)
+      | inr fails ↦ inr (fails_later calls first second third early fails)
     ]
 
 uses_longer :
     (arming : Arming) (first second third : Use)
     → (second.arming ≡ Failed → third.arming ≡ Failed)
+    → second.moment ≤ third.moment
     → second.write_faults ≤ third.write_faults
     → UsesUp arming first second
     → UsesUp second.arming second third
     → UsesUp arming first third
-uses_longer Unarmed first second third stays no_fewer early late =
+uses_longer Unarmed first second third stays later no_fewer early late =
     let more = subst (λ (a : Arming). UsesUp a second third) early.0 late in
     (more.0, same_on first second third early.1 more.1)
-uses_longer (Passes calls) first second third stays no_fewer early late = elim early [
+uses_longer (Passes calls) first second third stays later no_fewer early late = elim early [
   | inl on ↦ passes_on calls first second third on (λ left is. subst (λ (a : Arming). UsesUp a second third) is late)
   | inr fails ↦
       inr
       (record {
         failed = stays fails.failed;
+        passed = omega (arith, fails.passed, later);
         rose = λ below. let rose = fails.rose below in omega (arith, rose, no_fewer);
       })
 ]
-uses_longer Failed first second third stays no_fewer early late = tt
+uses_longer Failed first second third stays later no_fewer early late = tt
 
 pub lasts_still : (state : CutState) → LastsSo state state
 lasts_still state = record {
@@ -71,6 +75,7 @@ lasts_still state = record {
   plain = (λ is. is, λ is. is);
   starved = λ is. is;
   failed = λ is. is;
+  moments = omega arith;
   reads = omega arith;
   writes = omega arith;
   uses = λ plain memory. uses_still state.use_of.arming state.use_of refl;
@@ -88,10 +93,11 @@ lasts_longer first second third early late = record {
   plain = (λ is. early.plain.0 (late.plain.0 is), λ is. late.plain.1 (early.plain.1 is));
   starved = λ is. late.starved (early.starved is);
   failed = λ is. late.failed (early.failed is);
+  moments = omega (arith, early.moments, late.moments);
   reads = omega (arith, early.reads, late.reads);
   writes = omega (arith, early.writes, late.writes);
   uses = λ plain memory.
-      uses_longer first.use_of.arming first.use_of second.use_of third.use_of late.failed late.writes
+      uses_longer first.use_of.arming first.use_of second.use_of third.use_of late.failed late.moments late.writes
       (early.uses plain (memory_before second.starved third.starved late.starved memory))
       (late.uses (early.plain.1 plain) memory);
 }

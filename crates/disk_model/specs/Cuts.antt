@@ -51,15 +51,17 @@ pub record PassesOn (calls : ℕ) (old new : Use) : Type 0 where
   pub passed : new.moment + left ≡ old.moment + calls
   pub faults : SameFaults old new
 
--- A call failed by the arming, and the count of failed writes and syncs rose.
-pub record FailsSo (old new : Use) : Type 0 where
+-- So many calls passed, and the one after them failed by the arming, all of them moments of the disk; the count of
+-- failed writes and syncs rose.
+pub record FailsSo (calls : ℕ) (old new : Use) : Type 0 where
   pub failed : new.arming ≡ Failed
+  pub passed : old.moment + calls < new.moment
   pub rose : Rose old.write_faults new.write_faults
 
 -- A disk that isn't armed stays so, and no fault is counted. Of one that is armed calls pass, up to the one that fails.
 abbrev pub UsesUp : Arming → Use → Use → Type 0
 UsesUp Unarmed old new = (new.arming ≡ Unarmed) × SameFaults old new
-UsesUp (Passes calls) old new = PassesOn calls old new ⊎ FailsSo old new
+UsesUp (Passes calls) old new = PassesOn calls old new ⊎ FailsSo calls old new
 UsesUp Failed old new = Unit {0}
 
 -- what such a disk tells at one moment
@@ -69,13 +71,14 @@ pub record CutState : Type 1 where
   pub plain : Type 0
   pub starved : Bool
 
--- What lasts through calls that know nothing of the arming. Of a disk that is plain, and has memory still, the arming
--- is used up by moments.
+-- What lasts through calls that know nothing of the arming. The moment and both counts never fall. Of a disk that is
+-- plain, and has memory still, the arming is used up by moments.
 pub record LastsSo (old new : CutState) : Type 0 where
   pub restarts : new.restarts ≡ old.restarts
   pub plain : new.plain ↔ old.plain
   pub starved : old.starved ≡ true → new.starved ≡ true
   pub failed : old.use_of.arming ≡ Failed → new.use_of.arming ≡ Failed
+  pub moments : old.use_of.moment ≤ new.use_of.moment
   pub reads : old.use_of.read_faults ≤ new.use_of.read_faults
   pub writes : old.use_of.write_faults ≤ new.use_of.write_faults
   pub uses : old.plain → new.starved ≡ false → UsesUp old.use_of.arming old.use_of new.use_of

@@ -1,9 +1,9 @@
 -- A disk that stops after so many calls, as contracts see it, and what each of its calls does.
 use Rattle.std.specs.Prelude.{◌≡◌, ◌⊎◌, ℕ, ◌+◌, ◌^◌, ◌<◌, ◌≤◌, List, [], length, Option, Some, None, Bool, true}
 use Rattle.std.specs.Prelude.{Result, IsErr}
-use Rattle.px_base.specs.Outside.{counted}
-use Rattle.disk_model.specs.Calls.{DiskState, IsReading, IsSyncing, IsTearing, IsWriting, content_of, images_of}
-use Rattle.disk_model.specs.Calls.{images_since_of, moment_of}
+use Rattle.px_base.specs.Outside.{Rose, counted}
+use Rattle.disk_model.specs.Calls.{DiskState, IsFailingSync, IsReading, IsSyncing, IsTearing, IsWriting, content_of}
+use Rattle.disk_model.specs.Calls.{images_of, images_since_of, moment_of, with_starved}
 use Rattle.disk_model.specs.Cuts.{Arming, CutState, Failed, LastsSo, Passes, Unarmed}
 use Rattle.disk_model.specs.Memory.{state}
 use Rattle.disk_model.specs.declared.disk.Disk.{Ghosts}
@@ -33,8 +33,7 @@ new_fuse disk calls = record { disk = disk; stage = stage.Passes calls; read_fau
 
 -- where no memory was found
 abbrev pub starved_fuse : FuseState → FuseState
-starved_fuse state =
-    record state { disk = record state.disk { counter = record state.disk.counter { starved = true } } }
+starved_fuse state = record state { disk = with_starved state.disk }
 
 -- it as a disk: what it tells, how often its calls failed, by the disk or by the fuse, and when it is down
 abbrev pub content : FuseDisk → Option (List ℕ)
@@ -111,6 +110,11 @@ ghosts =
       lasts = lasts;
     }
 
+-- the count of failed writes and syncs never falls, and rose unless it stands at its last number
+pub record CountsFailure (old new : FuseDisk) : Type 0 where
+  pub no_less : write_faults old ≤ write_faults new
+  pub rose : Rose (write_faults old) (write_faults new)
+
 -- The fuse has failed a call.
 abbrev pub HasBlown : FuseStage → Type 0
 HasBlown stage.Unarmed = ⊥
@@ -139,13 +143,14 @@ pub record IsFuseReading {T E : Type 0} (before now : FuseState) (result : Resul
       (HasBlown before.stage → ⊥) → IsReading before.disk now.disk result × (now ≡ record before { disk = now.disk })
   pub blown : HasBlown before.stage → IsErr result × (now ≡ fuse_after_failed_reading before)
 
--- The fuse fails a write: its range is open, and the disk is down; but one that would end past 2 ^ 63 changes nothing.
+-- The fuse fails a write: its range is open, and the disk is down; but one that would end past 2 ^ 63 finds no memory,
+-- and changes nothing.
 pub record IsCutShort (before now : FuseState) (at count : ℕ) : Type 0 where
   pub within :
       at + count ≤ 2 ^ 63
       → IsTearing before.disk now.disk at count
       × (now ≡ fuse_after_failed (record before { disk = now.disk }) stage.Down)
-  pub far : 2 ^ 63 < at + count → now ≡ fuse_after_failed before stage.Blown
+  pub far : 2 ^ 63 < at + count → now ≡ fuse_after_failed (starved_fuse before) stage.Blown
 
 -- A call of `write_at` is one of the disk while the fuse isn't armed, or calls are left. Each after them fails; the
 -- first of these is cut short, and those after it change nothing.
@@ -171,5 +176,9 @@ pub record IsFuseSyncing {T E : Type 0} (before now : FuseState) (result : Resul
   pub unarmed :
       before.stage ≡ stage.Unarmed
       → IsSyncing before.disk now.disk result × (now ≡ record before { disk = now.disk })
-  pub blown : IsTornNext before.stage → IsErr result × (now ≡ fuse_after_failed before stage.Blown)
+  pub blown :
+      IsTornNext before.stage
+      → IsErr result
+      × IsFailingSync before.disk now.disk
+      × (now ≡ fuse_after_failed (record before { disk = now.disk }) stage.Blown)
   pub down : before.stage ≡ stage.Down → IsErr result × (now ≡ fuse_after_failed before stage.Down)

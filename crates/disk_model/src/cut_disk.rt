@@ -9,7 +9,8 @@ use crate::Disk;
 /// finds none, the disk is starved.
 ///
 /// It is plain where no call of it is listed to fail, and no call changes that. A count of a plain disk rises only in a
-/// call that the arming lets fail, or where the disk is starved then.
+/// call that the arming lets fail, or where the disk is starved then. That call is a moment of the disk, unless it is
+/// starved then: so the moment tells how many calls were made.
 pub trait CutDisk: Disk {
     /// The contents that the power cuts left, in order, where they are told.
     ghost restarts: { Self → Option (List (List ℕ)) };

@@ -35,9 +35,9 @@ pub struct FuseDisk {
 }
 
 impl FuseDisk {
-    ghost use Rattle.disk_model.specs.Calls.{content_of};
-    ghost use Rattle.disk_model.specs.Fuse.{HasBlown, IsCutShort, fuse, fuse_after_failed, fuse_after_failed_reading};
-    ghost use Rattle.disk_model.specs.Fuse.{new_fuse, starved_fuse};
+    ghost use Rattle.disk_model.specs.Calls.{IsFailingSync, content_of};
+    ghost use Rattle.disk_model.specs.Fuse.{CountsFailure, HasBlown, IsCutShort, fuse, fuse_after_failed};
+    ghost use Rattle.disk_model.specs.Fuse.{fuse_after_failed_reading, new_fuse, starved_fuse};
     ghost use Rattle.disk_model.specs.Fuse as it;
     ghost use Rattle.disk_model.specs.Memory.{state};
 
@@ -103,17 +103,28 @@ impl FuseDisk {
     }
 
     /// Counts a call of `write_at` that the fuse fails, and leaves its range open; one that would end past 2^63 changes
-    /// nothing.
+    /// nothing, and is want of memory.
     fn tear(&mut self, at: u64, bytes: &[u8]) -> DiskFault
         ensures cut_short { IsCutShort (fuse self.old) (fuse self.new) at (length bytes.now) }
-        ensures no_less { it.write_faults self.old ≤ it.write_faults self.new }
-        ensures rose { Rose (it.write_faults self.old) (it.write_faults self.new) }
+        ensures counts { CountsFailure self.old self.new }
     {
         if !ends_within(at, bytes) {
+            self.disk.starve();
             return self.fail_writing(FuseStage::Blown);
         }
         self.disk.tear(at, bytes.len() as u64);
         self.fail_writing(FuseStage::Down)
+    }
+
+    /// Counts a call of `sync` that the fuse fails, which is a moment of the disk.
+    fn fail_sync(&mut self) -> DiskFault
+        ensures fails { IsFailingSync (fuse self.old).disk (fuse self.new).disk }
+        ensures counted { fuse self.new
+            ≡ fuse_after_failed (record (fuse self.old) { disk = (fuse self.new).disk }) FuseStage.Blown }
+        ensures counts { CountsFailure self.old self.new }
+    {
+        self.disk.fail_sync();
+        self.fail_writing(FuseStage::Blown)
     }
 }
 
@@ -179,7 +190,8 @@ impl Disk for FuseDisk {
         }
     }
 
-    /// Syncs what was written. It fails where the disk does, and by the fuse.
+    /// Syncs what was written. It fails where the disk does, and by the fuse; a sync that fails by the fuse before a
+    /// write did is a moment of the disk.
     fn sync(&mut self) -> Result<(), DiskFault>
         ensures promises { PromisesSync it.ghosts self.old self.new result }
         ensures syncing { IsFuseSyncing (fuse self.old) (fuse self.new) result }
@@ -191,7 +203,7 @@ impl Disk for FuseDisk {
             }
             FuseStage::Unarmed => self.disk.sync(),
             FuseStage::Down => Err(self.fail_writing(FuseStage::Down)),
-            _ => Err(self.fail_writing(FuseStage::Blown)),
+            _ => Err(self.fail_sync()),
         }
     }
 

@@ -6,8 +6,9 @@ ghost use Rattle.px_base.specs.Counter.{HasCauses};
 ghost use Rattle.px_base.specs.Outside.{HasCause};
 ghost use Rattle.disk_model.specs.Disk.{IsQuiet};
 ghost use Rattle.disk_model.specs.Promised.{PromisesLen, PromisesRead, PromisesSync, PromisesWrite};
-ghost use Rattle.disk_model.specs.Calls.{IsPowerCut, IsReading, IsSyncing, IsTearing, IsWriting, content_of};
-ghost use Rattle.disk_model.specs.Calls.{images_of, new_state, surface, with_starved_fault, with_write_fault};
+ghost use Rattle.disk_model.specs.Calls.{IsFailingSync, IsPowerCut, IsReading, IsSyncing, IsTearing, IsWriting};
+ghost use Rattle.disk_model.specs.Calls.{content_of, images_of, new_state, surface, with_starved, with_starved_fault};
+ghost use Rattle.disk_model.specs.Calls.{with_write_fault};
 ghost use Rattle.disk_model.specs.Crash.{IsFilled};
 
 use crate::history::History;
@@ -123,12 +124,21 @@ impl MemoryDisk {
         self.settle(listed, recorded)
     }
 
-    /// Leaves the range of a write that a fuse cuts short open, unless the disk is down. It counts no call.
+    /// Leaves the range of a write that a fuse cuts short open; a disk that is down is starved. It counts no call.
     pub(crate) fn tear(&mut self, at: u64, count: u64)
         requires { at + count ≤ 2 ^ 63 }
         ensures { IsTearing (state self.old) (state self.new) at count }
     {
-        if !self.history.is_down() && self.history.tear(at, count).is_err() {
+        if self.history.is_down() || self.history.tear(at, count).is_err() {
+            self.counter.starve();
+        }
+    }
+
+    /// Records a sync that a fuse lets fail; a disk that is down is starved. It counts no call.
+    pub(crate) fn fail_sync(&mut self)
+        ensures { IsFailingSync (state self.old) (state self.new) }
+    {
+        if self.history.sync(true).is_err() {
             self.counter.starve();
         }
     }
@@ -146,8 +156,7 @@ impl MemoryDisk {
 
     /// Says that no memory was found.
     pub(crate) fn starve(&mut self)
-        ensures { state self.new
-            ≡ record (state self.old) { counter = record (state self.old).counter { starved = true } } }
+        ensures { state self.new ≡ with_starved (state self.old) }
     {
         self.counter.starve();
     }

@@ -1,13 +1,14 @@
 -- What the commands of a call do to a state that is kept, one list of them after another.
-use Rattle.std.proofs.Common.{◌≡◌, ℕ, ◌+◌, ◌*◌, ◌≤◌, false, List, [], ◌++◌, length, Some, IfSome, refl, sym, ◌∙◌, ap, ap₂, subst, arith, length-append}
+use Rattle.std.proofs.Common.{◌≡◌, ℕ, ◌+◌, ◌*◌, ◌/◌, ◌<◌, ◌≤◌, min, false, List, [], ◌++◌, length, Some, IfSome, refl, sym, ◌∙◌, ap, ap₂, subst, arith, length-append}
+use Rattle.std.proofs.lemmas.Nat.{div-add-mod'}
 use Rattle.disk_model.specs.declared.disk.Disk.{Ghosts}
-use Rattle.file_journal.specs.Calls.{Leaves, TellsAlike}
-use Rattle.file_journal.specs.Commands.{AreAllowed, MakesFirst, StayDone, after_all, after_first}
+use Rattle.file_journal.specs.Calls.{EachImage, Leaves, TellsAlike}
+use Rattle.file_journal.specs.Commands.{AreAllowed, MakesBetween, MakesFirst, StayDone, after_all, after_first}
 use Rattle.file_journal.specs.Form.{Form}
-use Rattle.file_journal.specs.Kept.{Course, Does, DoesByFours, IsCut, IsKept, KeptOn, alone, by_fours, kept_on}
+use Rattle.file_journal.specs.Kept.{Course, Does, DoesByFours, IsCut, IsKept, KeptOn, alone, by_fours, done_within, kept_on}
 use Rattle.file_journal.specs.Position.{Position}
 use Rattle.file_journal.proofs.CallLemmas.{puts_none, puts_on, puts_same}
-use Rattle.file_journal.proofs.CommandLemmas.{after_all_append, allowed_append, first_append, first_then, makes_first, makes_later, makes_longer, makes_second, nothing, stay_longer, stay_none, stay_then}
+use Rattle.file_journal.proofs.CommandLemmas.{after_all_append, allowed_append, first_append, first_then, makes_first, makes_later, makes_longer, makes_second, makes_within, nothing, stay_longer, stay_none, stay_then}
 use Rattle.file_journal.proofs.MomentLemmas.{joined, started, weaker}
 use Rattle.file_journal.proofs.ToldLemmas.{at_told, if_told, told_before, told_weaker}
 
@@ -15,7 +16,23 @@ use Rattle.file_journal.proofs.ToldLemmas.{at_told, if_told, told_before, told_w
 pub same_on : {D S : Type 0} (now other : S) (journal else_journal : Position) (disk : D) → now ≡ other → journal ≡ else_journal → kept_on now journal disk ≡ kept_on other else_journal disk
 same_on {S = S} now other journal else_journal disk state same = ap₂ (λ (s : S) (j : Position). kept_on s j disk) state same
 
+-- a call failed behind so many that passed, in the command behind so many that are done: these calls carry out no more
+within_done : (start now calls count : ℕ) → start + calls < now → now ≤ by_fours start (count + 1) → done_within calls ≤ count
+within_done start now calls count passed soon = let parts = div-add-mod' calls 4 in omega (arith, passed, soon, parts)
+
 module _ {D S C : Type 0} (g : Ghosts D) (form : Form S C) where
+  -- Where a call failed behind so many that passed, no fewer of the commands stand than those carry out; more commands may
+  -- come behind them.
+  pub cut_makes : (a b : List C) (old new : KeptOn D S) (calls : ℕ) → IsCut g form (by_fours (g.moment old.disk)) a old new → g.moment old.disk + calls < g.moment new.disk
+      → IfSome (g.content old.disk) (λ _. EachImage g new.disk (MakesBetween form (min (length (a ++ b)) (done_within calls)) (length (a ++ b)) old.now (a ++ b)))
+  cut_makes a b old new calls some passed =
+      let sum : length (a ++ b) ≡ length a + length b = length-append a b in
+      told_weaker (g.content old.disk) _ _ (λ before told soon.
+      let done : done_within calls ≤ some.count = within_done (g.moment old.disk) (g.moment new.disk) calls some.count passed soon in
+      told_weaker (g.content new.disk) _ _ (λ now here each image left.
+      makes_within form some.count (some.count + 1) (min (length (a ++ b)) (done_within calls)) (length (a ++ b)) old.now (a ++ b) image (omega (arith, done)) (omega (arith, sum, some.fewer))
+      (makes_first form some.count (some.count + 1) old.now a b image (omega (arith, some.fewer)) (each image left))) some.images) some.at_most
+
   -- what comes to the same, by calls that are said otherwise
   pub fours_course : (one other : Course D) (P Q : Type 0) (commands : List C) (old new : KeptOn D S) → (P → Q) → (Q → P) → (one.idle old.disk new.disk → other.idle old.disk new.disk)
       → (one.puts old.disk new.disk → other.puts old.disk new.disk) → (one.reads old.disk new.disk → other.reads old.disk new.disk) → DoesByFours g form one P commands old new

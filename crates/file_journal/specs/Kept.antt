@@ -1,5 +1,6 @@
 -- What a call does to a state that is kept in a journal, and to its disk, at every moment of it.
-use Rattle.std.specs.Prelude.{◌≡◌, ℕ, ◌+◌, ◌*◌, ◌<◌, ◌≤◌, List, [], ◌∷◌, length, false, true, IfSome, Result, IsErr, ⊤}
+use Rattle.std.specs.Prelude.{◌≡◌, ℕ, ◌+◌, ◌*◌, ◌/◌, ◌<◌, ◌≤◌, List, [], ◌∷◌, length, false, true, IfSome, Result}
+use Rattle.std.specs.Prelude.{IsErr, ⊤}
 use Rattle.disk_model.specs.declared.disk.Disk.{Ghosts}
 use Rattle.file_journal.specs.Calls.{EachImage, Leaves, Puts}
 use Rattle.file_journal.specs.Commands.{AreAllowed, MakesBetween, MakesFirst, StayDone, after_all, after_first}
@@ -78,6 +79,10 @@ pub record DoesBy {D S C : Type 0} (g : Ghosts D) (form : Form S C) (course : Co
 -- four calls of the disk each, from this moment on
 abbrev pub by_fours : ℕ → ℕ → ℕ
 by_fours start count = start + 4 * count
+
+-- how many commands so many calls of the disk carry out
+abbrev pub done_within : ℕ → ℕ
+done_within calls = calls / 4
 
 -- each of the commands is one record, and takes four calls of the disk
 abbrev pub DoesByFours :

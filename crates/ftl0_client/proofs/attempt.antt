@@ -4,7 +4,7 @@ pub mod DownLemmas
 pub mod EndedLemmas
 mod FeedLemmas
 mod FetchedLemmas
-mod HearLemmas
+pub mod HearLemmas
 mod Invariants
 mod QueuingLemmas
 mod ReachedLemmas

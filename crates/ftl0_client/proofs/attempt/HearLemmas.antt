@@ -1,6 +1,6 @@
 -- How an attempt hears a frame.
 use Rattle.std.proofs.Common.{◌≡◌, List, ◌++◌, take, drop, refl, ap, sym, ◌∙◌, subst, append_assoc}
-use Rattle.std.specs.Prelude.{Result, Ok, Err, ⊤}
+use Rattle.std.specs.Prelude.{Option, Result, Ok, Err, ⊤}
 use Rattle.std.proofs.lemmas.List.{take-append-drop}
 use Rattle.ax25_frames.specs.FrameText.{FrameValue}
 use Rattle.disk_model.specs.declared.disk.Disk.{Ghosts}
@@ -20,11 +20,14 @@ use Rattle.disk_model.specs.declared.halt.Halt.{Halt}
 use Rattle.disk_model.specs.declared.halt.Halt.TheVariants as stop
 use Rattle.ftl0_job.specs.Noting.{HasNoted}
 use Rattle.ftl0_job.specs.Table.{job_row}
-use Rattle.ftl0_job.specs.Taking.{WithNotes}
+use Rattle.ftl0_job.specs.Taking.{WithNotes, with_notes}
 use Rattle.ftl0_client.specs.Attempt.Attempted.{Attempted}
 use Rattle.ftl0_client.specs.Attempt.AttemptState.{AttemptState, HearsBy, IsAttempt, PutsBy, StopsAmong}
 use Rattle.ftl0_client.specs.Attempt.Hearing.{after_hearing, after_told, packets_heard, packets_told, with_end}
 use Rattle.ftl0_client.specs.Attempt.Taking.{Happened, taking}
+use Rattle.ftl0_client.specs.Calls.{StopsBy}
+use Rattle.ftl0_client.specs.Client.{Client, client_hearing, hearing_by}
+use Rattle.ftl0_client.specs.ClientState.{ClientState}
 use Rattle.ftl0_client.proofs.attempt.TakingLemmas.{noted-front}
 
 module _ {D : Type 0} (g : Ghosts D) where
@@ -56,16 +59,28 @@ module _ {D : Type 0} (g : Ghosts D) where
     noted-puts stop.OutOfMemory noted = puts_same g disk disk_n ⊥ _ (λ never. absurd never) (λ e. cc e) (puts_on g on disk disk_m disk_n ⊥ ⊥ (λ never. never) first.does.puts noted.2.does.puts)
 
   module _ (on : (first second third : D) → g.lasts first second → g.lasts second third → g.lasts first third) (a : Attempted) (items : List Item) (before now : WithNotes AttemptState D) where
-    stopped-since : (why : Halt) → StopsAmong g a items before now why → Leaves g before.disk now.disk (λ _. MakesFirst before.notes.lists (taking before.notes.lists a items).noted)
-    stopped-since why h =
+    -- the event's commands are those before the packet at which it stopped, that packet's, and others behind them
+    stopped-front : (why : Halt) (h : StopsAmong g a items before now why) → (more : List NotesCommand) × ((taking before.notes.lists a items).noted ≡ (taking before.notes.lists a h.before).noted ++ ((job_row h.notes_then.lists (taking before.notes.lists a h.before).after.job h.item).commands ++ more))
+    stopped-front why h =
         let p : Happened = taking before.notes.lists a h.before in
         let at : h.notes_then.lists ≡ after_all before.notes.lists p.noted = (h.done.does.done (λ never. never)).0 in
         let front = noted-front before.notes.lists a h.before h.item h.behind h.stops.no_outcome in
-        let all : (taking before.notes.lists a items).noted ≡ p.noted ++ ((job_row h.notes_then.lists p.after.job h.item).commands ++ front.0) =
-        ap (λ (some : List Item). (taking before.notes.lists a some).noted) h.is_part ∙ front.1
-        ∙ ap (λ (l : Lists). p.noted ++ ((job_row l p.after.job h.item).commands ++ front.0)) (sym at) in
-        subst (λ (cs : List NotesCommand). Leaves g before.disk now.disk (λ _. MakesFirst before.notes.lists cs)) (sym all)
+        (front.0, ap (λ (some : List Item). (taking before.notes.lists a some).noted) h.is_part ∙ front.1 ∙ ap (λ (l : Lists). p.noted ++ ((job_row l p.after.job h.item).commands ++ front.0)) (sym at))
+
+    stopped-since : (why : Halt) → StopsAmong g a items before now why → Leaves g before.disk now.disk (λ _. MakesFirst before.notes.lists (taking before.notes.lists a items).noted)
+    stopped-since why h =
+        let p : Happened = taking before.notes.lists a h.before in
+        let front = stopped-front why h in
+        subst (λ (cs : List NotesCommand). Leaves g before.disk now.disk (λ _. MakesFirst before.notes.lists cs)) (sym front.1)
         (noted-since on before.notes h.notes_then now.notes before.disk h.disk_then now.disk p.noted (job_row h.notes_then.lists p.after.job h.item).commands h.done front.0 why h.stops.noted)
+
+    -- where the disk failed: the commands that were begun, in one of which it did, are the first of those that the event has
+    stopped-does : StopsAmong g a items before now stop.Disk → (begun : List NotesCommand) × (more : List NotesCommand) × ((taking before.notes.lists a items).noted ≡ begun ++ more) × DoesSeveral g ⊤ before.notes now.notes before.disk now.disk begun
+    stopped-does h =
+        let p : Happened = taking before.notes.lists a h.before in
+        let own : List NotesCommand = (job_row h.notes_then.lists p.after.job h.item).commands in
+        let front = stopped-front stop.Disk h in
+        (p.noted ++ own, front.0, front.1 ∙ sym (append_assoc p.noted own front.0), Several-then g on ⊥ ⊤ before.notes h.notes_then now.notes before.disk h.disk_then now.disk p.noted own (λ never. never) h.done h.stops.noted)
 
     pub hears-since : (w : Window) (event : Happened) (result : Result ⊤ Halt) → event.noted ≡ (taking before.notes.lists a items).noted → HearsBy g w event a items before now result
         → Leaves g before.disk now.disk (λ _. MakesFirst before.notes.lists event.noted)
@@ -77,6 +92,16 @@ module _ {D : Type 0} (g : Ghosts D) where
     hears-puts w event (Err why) h =
         noted-puts on before.notes h.notes_then now.notes before.disk h.disk_then now.disk (taking before.notes.lists a h.before).noted
         (job_row h.notes_then.lists (taking before.notes.lists a h.before).after.job h.item).commands h.done why h.stops.noted
+
+  -- the same of a client
+  pub client-stopped : ((first second third : D) → g.lasts first second → g.lasts second third → g.lasts first third) → (client : Client) (frame : FrameValue) (old new : ClientState) (disk disk_now : D)
+      → old.notes.lists ≡ client.lists → StopsBy g client frame old new disk disk_now stop.Disk
+      → (begun : List NotesCommand) × (more : List NotesCommand) × ((client_hearing client frame).noted ≡ begun ++ more) × DoesSeveral g ⊤ old.notes new.notes disk disk_now begun
+  client-stopped on client frame old new disk disk_now lists h =
+      let heard : Attempted = after_hearing client.window h.a frame in
+      let items : List Item = packets_heard client.window h.a frame in
+      let does = stopped-does on heard items (with_notes h.was old.notes disk) (with_notes h.attempt new.notes disk_now) h.stops in
+      (does.0, does.1, ap (λ (o : Option Attempted). (hearing_by client frame o).noted) h.hears ∙ ap (λ (l : Lists). (taking l heard items).noted) (sym lists) ∙ does.2, does.3)
 
   -- what the link told decides
   pub hears-told : (w : Window) (frame : FrameValue) (before now : WithNotes AttemptState D) (told : Heard) (result : Result ⊤ Halt) → Tells before.state.link (λ w end. heard_of w end frame) told

@@ -2,12 +2,14 @@ use Rattle.std.proofs.Common.{◌≡◌, ◌⊎◌, inl, inr, ⊎_elim, ℕ, ◌
 use Rattle.std.proofs.lemmas.Bool.{cases_lt}
 use Rattle.std.proofs.lemmas.Grind.{common_steps}
 use Rattle.disk_model.specs.Calls.{DiskState}
-use Rattle.disk_model.specs.Fuse.{FuseState, IsTornNext, fuse}
+use Rattle.disk_model.specs.Cuts.{Failed}
+use Rattle.disk_model.specs.Fuse.{FuseState, IsTornNext, arming_in, fuse}
 use Rattle.disk_model.specs.Memory.{state}
 use Rattle.disk_model.specs.MemoryLaws.{content_is_image}
 use Rattle.disk_model.specs.declared.fuse_disk.FuseStage.TheVariants as stage
-use Rattle.disk_model.proofs.Armed.{passes_lasts, unarmed_lasts, writing_lasts}
+use Rattle.disk_model.proofs.Armed.{FailsAt, fails_lasts, passes_lasts, starved_fails, tearing_fails, unarmed_lasts, writing_lasts}
 use Rattle.disk_model.proofs.Steps.{Opens, Untouched, cause_of_sum, elapses_either, follows_either, kept_either, leaves_now_either, leaves_open_either, tearing_opens}
+use Rattle.disk_model.proofs.fuse_disk.FuseDiskDisk.write_at.Goals.{in_default-via-in-Passes+else-left-gt0, in_default-via-in_default}
 use Rattle.disk_model.proofs.fuse_disk.FuseDiskDisk.write_at.Goals as goal
 
 -- the write was cut short, or reached no disk
@@ -20,8 +22,31 @@ opens c = elim (cases_lt (2 ^ 63) (c.args.at + length c.args.bytes.now)) [
   | inr within ↦ elim (tearing_opens _ _ _ _ (c.tear.ensures.cut_short.within within).0) [ inl torn ↦ inl torn | inr same ↦ inr (inl same.0, same.1) ]
 ]
 
+-- the fuse fails the call
+torn : (c : goal.After-tear) → IsTornNext c.args.self.now.stage
+torn c = elim c.in_default.branch [
+  | in_default-via-in-Passes+else-left-gt0 w ↦
+      let none : w.in-Passes.left ≡ 0 = omega (arith, w.if-left-gt0.false) in
+      subst IsTornNext (sym w.in-Passes.is) none
+  | in_default-via-in_default w ↦ subst IsTornNext (sym w.in_default.is) tt
+]
+
+-- it has blown then, and the call was a moment, unless no memory was found
+fails : (c : goal.After-tear) → (arming_in (fuse c.tear.new.self).stage ≡ Failed) × ((fuse c.tear.new.self).read_faults ≡ (fuse c.args.self.now).read_faults)
+    × FailsAt (state c.args.self.now.disk) (state c.tear.new.self.disk)
+fails c = elim (cases_lt (2 ^ 63) (c.args.at + length c.args.bytes.now)) [
+  | inl far ↦
+      let is = c.tear.ensures.cut_short.far far in
+      (ap (λ (f : FuseState). arming_in f.stage) is, ap (λ (f : FuseState). f.read_faults) is, starved_fails _ _ (ap (λ (f : FuseState). f.disk) is))
+  | inr within ↦
+      let is = c.tear.ensures.cut_short.within within in
+      (ap (λ (f : FuseState). arming_in f.stage) is.1, ap (λ (f : FuseState). f.read_faults) is.1, tearing_fails _ _ _ _ is.0)
+]
+
 pub returns-in_default-clause-promises : goal.returns-in_default-clause-promises
 returns-in_default-clause-promises c =
+    let before = fuse c.args.self.now in
+    let now = fuse c.tear.new.self in
     record {
       written = search rules;
       told = search rules;
@@ -37,8 +62,8 @@ returns-in_default-clause-promises c =
       past = elapses_either _ _ _ _ _ (opens c);
       since_now = leaves_now_either _ _ _ _ _ (opens c);
       read_faults = search rules;
-      write_faults = search rules;
-      lasts = search rules;
+      write_faults = record { no_less = c.tear.ensures.counts.no_less; rose = c.tear.ensures.counts.rose; same = tt };
+      lasts = fails_lasts before now (torn c) (fails c).0 (fails c).1 c.tear.ensures.counts.no_less c.tear.ensures.counts.rose (fails c).2;
     }
 
 pub returns-in-Passes-clause-promises : goal.returns-in-Passes-clause-promises
