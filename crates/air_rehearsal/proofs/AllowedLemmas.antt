@@ -135,12 +135,14 @@ module _ (self : Stations) (world : World) (sound : Sound world) (plays : PlaysS
 
         by : (current : Option Attempt) → newest it.party ≡ current → IsTrue is ↔ MayCome sent number it.party
         by None current =
-            let here = right [] (sym (is_empty (length it.party.attempts)) ∙ ap (λ o. lane (lanes_by o (length it.party.attempts))) (sym current)) in (
+            let many = length it.party.attempts in
+            let here = right [] (sym (is_empty many) ∙ ap (λ o. lane (lanes_by o many)) (sym current)) in (
               λ yes_is. absurd (none-placed (window_of self.k) number (here.0 yes_is)),
               λ may. absurd (none-some may.0 (sym current ∙ may.2)),
             )
         by (Some a) current =
-            let here = right (sent a) (sym (is_sent a (length it.party.attempts)) ∙ ap (λ o. lane (lanes_by o (length it.party.attempts))) (sym current)) in (
+            let many = length it.party.attempts in
+            let here = right (sent a) (sym (is_sent a many) ∙ ap (λ o. lane (lanes_by o many)) (sym current)) in (
               λ yes_is.
                   let placed =
                   placed-some a.window (sent a) number

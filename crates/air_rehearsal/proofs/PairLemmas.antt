@@ -1,4 +1,4 @@
--- What is at a place of a list, and what is set there; and two lists of which a relation holds place by place (`AllZip`).
+-- What is at a place of a list, and what is set there; and lists of which a relation holds place by place (`AllZip`).
 use Rattle.std.proofs.Common.{◌≡◌, ◌≢◌, ◌⊎◌, ℕ, zero, suc, ◌<◌, ◌≤◌, List, [], ◌∷◌, get_or, length, map, None, Some}
 use Rattle.std.proofs.Common.{refl, sym, ap, subst, inl, inr, arith, ◌∙◌}
 use Rattle.std.specs.List.{AllZip, slice_get, slice_set}

@@ -155,7 +155,10 @@ after-length did (ticks moment) parties = length-map parties (party_ticked did)
 
 over-lanes : (attempts : List Attempt) → lanes_of (all_over attempts) ≡ lanes_of attempts
 over-lanes [] = refl
-over-lanes (a ∷ older) = by a.server ∙ ap (lanes_by (Some a)) (length-map (a ∷ older) (λ (b : Attempt). record b { server = option_map over b.server }))
+over-lanes (a ∷ older) =
+    by a.server
+    ∙ ap (lanes_by (Some a))
+    (length-map (a ∷ older) (λ (b : Attempt). record b { server = option_map over b.server }))
   where
     by : (side : _)
         → lanes_by (Some (record a { server = option_map over side })) (length (all_over (a ∷ older)))

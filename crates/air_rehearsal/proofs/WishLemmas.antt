@@ -16,7 +16,7 @@ use Rattle.air_world.specs.Sound.{Sound}
 use Rattle.air_world.specs.World.{World}
 use Rattle.air_rehearsal.specs.Drawn.{last_acked}
 use Rattle.air_rehearsal.specs.Driving.{IsDraw}
-use Rattle.air_rehearsal.specs.Generator.{Draw, next_number, next_state, question, state_after, wish, wish_by, wish_of}
+use Rattle.air_rehearsal.specs.Generator.{Draw, next_number, next_state, none_drawn, question, state_after, wish, wish_by, wish_of}
 use Rattle.air_rehearsal.specs.Numbers.{numbered}
 use Rattle.air_rehearsal.specs.PartyCalls.{IsLastGoing}
 use Rattle.air_rehearsal.specs.Report.{is_working}
@@ -25,10 +25,6 @@ use Rattle.air_rehearsal.specs.declared.party.Party.{Party as StoredParty}
 use Rattle.air_rehearsal.specs.declared.stations.Stations.{Stations}
 use Rattle.air_rehearsal.proofs.AllowedLemmas.{Has}
 use Rattle.air_rehearsal.proofs.PlayParts.{is_under_way, isnt_under_way}
-
--- nothing is drawn
-abbrev pub none_drawn : Draw
-none_drawn = record { event = None; count = 0 }
 
 -- what is asked where there is no unfinished upload
 pub downloads :

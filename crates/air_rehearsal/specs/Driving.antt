@@ -57,7 +57,8 @@ module _ {B : Type 0} (g : Ghosts B) (cuts : Cuts B) where
   pub record Drives (Moves : Drawing → Drawing → Type 0) (old new : Driven B) : Type 0 where
     pub ready : IsReadyBench g new.bench
     pub faults : CountsOn g old.bench.disk new.bench.disk
-    pub comes : (world : World) → IsPlaying g cuts world old.bench → CanCount g new.bench.disk → Comes Moves world old new
+    pub comes :
+        (world : World) → IsPlaying g cuts world old.bench → CanCount g new.bench.disk → Comes Moves world old new
 
 -- the delivery of the transmission of this number, from or to the client of that one
 abbrev pub delivery_of : Way → ℕ → ℕ → Event

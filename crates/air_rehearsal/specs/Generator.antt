@@ -75,14 +75,18 @@ pub record Draw : Type 0 where
   pub event : Option Event
   pub count : ℕ
 
+-- no number is drawn, and no event comes
+abbrev pub none_drawn : Draw
+none_drawn = record { event = None; count = 0 }
+
 -- it is drawn, and comes, if it may
 abbrev pub Takes : Draw → Drawing → Drawing → Type 0
 Takes it old new = TriesIf it.event (drawn it.count old) new
 
 -- ---- the air
 
--- What becomes of a transmission, by the number that is drawn, modulo 16, and by whether it is the last one: it is lost,
--- delivered twice, delivered behind the next one, or delivered once.
+-- What becomes of a transmission, by the number that is drawn, modulo 16, and by whether it is the last one: it is
+-- lost, delivered twice, delivered behind the next one, or delivered once.
 abbrev pub fate_of : ℕ → Bool → Fate
 fate_of draw is_last =
     if draw == 0 then Lost
@@ -191,6 +195,10 @@ Exchanges (suc more) number looked old new =
     × Exchange number (still_looked old.world number looked) looked_now old next
     × Exchanges more number looked_now next new))
 
+-- those of a turn: none is looked at yet, and there are twenty at most
+abbrev pub TurnExchanges : ℕ → Drawing → Drawing → Type 0
+TurnExchanges number old new = Exchanges 20 number (none_looked old.world number) old new
+
 -- ---- what is asked
 
 -- what is asked where the client has no unfinished upload, by the draw: the last file that was acknowledged, if one
@@ -209,12 +217,12 @@ wish_by state number None acked =
 -- nothing where what was asked of the client is under way
 abbrev pub wish_of : ℕ → ℕ → Party → Draw
 wish_of state number party =
-    if is_working (outcome_by party.client.attempt) then record { event = None; count = 0 }
+    if is_working (outcome_by party.client.attempt) then none_drawn
     else wish_by state number (last_unfinished party.client.lists) (last_acked party.client.lists)
 
 -- what the client of this number is asked for, if anything
 abbrev pub wish : ℕ → ℕ → World → Draw
-wish state number world = option_map_or (wish_of state number) (party_of world number) (record { event = None; count = 0 })
+wish state number world = option_map_or (wish_of state number) (party_of world number) none_drawn
 
 -- ---- what ends a turn
 
@@ -234,7 +242,8 @@ ending_by draw state number =
     else (if draw == 2 then record { event = Some (cut_server (cut_call state) (cut_choice state)); count = 3 }
     else record { event = None; count = 1 }))
 
--- what ends the turn of the client of this number: it is broken off, a cut of it or of the server is to come, or nothing
+-- what ends the turn of the client of this number: it is broken off, a cut of it or of the server is to come, or
+-- nothing
 abbrev pub ending : ℕ → ℕ → Draw
 ending state number = ending_by (next_number state % 8) (next_state state) number
 
@@ -245,7 +254,7 @@ pub record Turn (number : ℕ) (old new : Drawing) : Type 0 where
   pub asked : Drawing
   pub asks : Takes (wish old.state number old.world) old asked
   pub exchanged : Drawing
-  pub exchanges : Exchanges 20 number (none_looked asked.world number) asked exchanged
+  pub exchanges : TurnExchanges number asked exchanged
   pub ends : Takes (ending exchanged.state number) exchanged new
 
 -- turns of these clients, one after another

@@ -9,9 +9,9 @@ ghost use Rattle.air_world.specs.Sound.{Sound};
 ghost use Rattle.air_world.specs.World.{World};
 ghost use Rattle.air_rehearsal.specs.Drawn.{drawn_calls, rounds};
 ghost use Rattle.air_rehearsal.specs.Driving.{Drives, IsDraw, IsFitEvent, IsReadyBench, delivery_of, driven_by};
-ghost use Rattle.air_rehearsal.specs.Generator.{Answers, Carries, DrivenBy, Exchange, Exchanges, IsClosed, TriesIf};
-ghost use Rattle.air_rehearsal.specs.Generator.{TriesTimes, Turn, Turns, attempts_of as attempts_in, between, ending};
-ghost use Rattle.air_rehearsal.specs.Generator.{fate_of, next_number, next_state, none_looked, put_off, sent_of};
+ghost use Rattle.air_rehearsal.specs.Generator.{Answers, Carries, DrivenBy, Exchange, IsClosed, TriesIf};
+ghost use Rattle.air_rehearsal.specs.Generator.{TriesTimes, Turn, TurnExchanges, Turns, attempts_of as attempts_in, between};
+ghost use Rattle.air_rehearsal.specs.Generator.{ending, fate_of, next_number, next_state, none_looked, put_off, sent_of};
 ghost use Rattle.air_rehearsal.specs.Generator.{still_looked, times_of, wish};
 ghost use Rattle.air_rehearsal.specs.Playing.{bench_of};
 ghost use Rattle.air_rehearsal.specs.Ready.{AreReady};
@@ -371,7 +371,7 @@ impl Driver {
     ) -> Result<Server, OutOfMemory>
         requires { IsReadyBench B.Disk (bench_of self.old.stations server disk.old disks.old) }
         ensures { IfOk result (λ later. Drives B.Disk (cuts_by B.restarts B.arming B.plain B.is_starved)
-            (λ old new. Exchanges 20 client (none_looked old.world client) old new) (driven_by self.old server disk.old disks.old)
+            (TurnExchanges client) (driven_by self.old server disk.old disks.old)
             (driven_by self.new later disk.new disks.new)) }
     {
         let mut server = server;
@@ -497,8 +497,8 @@ impl Driver {
         Ok(server)
     }
 
-    /// What is drawn for the end of the client's turn, if anything is: it is broken off, or the next event of it or of the
-    /// server is to be cut.
+    /// What is drawn for the end of the client's turn, if anything is: it is broken off, or the next event of it or of
+    /// the server is to be cut.
     fn ending(&mut self, client: u64) -> Option<Event>
         ensures same { self.new.stations ≡ self.old.stations }
         ensures fits { IsFitEvent self.new.stations result }

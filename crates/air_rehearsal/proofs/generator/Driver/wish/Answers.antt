@@ -5,12 +5,12 @@ use Rattle.std.specs.Option.{option_map, option_map_or}
 use Rattle.air_schedule.specs.Events.{event_value}
 use Rattle.air_attempt.specs.Party.{Party}
 use Rattle.air_world.specs.Schedule.{ask_upload}
-use Rattle.air_rehearsal.specs.Generator.{Draw, next_number, state_after, wish_of}
+use Rattle.air_rehearsal.specs.Generator.{Draw, next_number, none_drawn, state_after, wish_of}
 use Rattle.air_rehearsal.specs.TakingPart.{Seat}
 use Rattle.air_rehearsal.proofs.AllowedLemmas.{has-party}
 use Rattle.air_rehearsal.proofs.NumberedLemmas.{none-here}
 use Rattle.air_rehearsal.proofs.WishLemmas.{downloads, draws-none, draws-question, draws-resume, going-is, none-going}
-use Rattle.air_rehearsal.proofs.WishLemmas.{none_drawn, some-going, uploads}
+use Rattle.air_rehearsal.proofs.WishLemmas.{some-going, uploads}
 use Rattle.air_rehearsal.proofs.generator.Driver.wish.Goals as goal
 use Rattle.air_rehearsal.proofs.generator.Driver.wish.Goals.{in_default-via-in-Some+else-drawn-eq0}
 use Rattle.air_rehearsal.proofs.generator.Driver.wish.Goals.{in_default-via-in_default}

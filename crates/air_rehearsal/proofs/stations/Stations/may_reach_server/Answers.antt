@@ -13,7 +13,8 @@ returns-in-Some c world sound plays =
     let it = has-party self world sound plays c.args.client stored c.in-Some.ensures in
     of-party self world sound plays (MayCome (λ a. a.by_client) c.args.transmission) c.args.client stored
     c.may_come.result it
-    (may-come self world sound plays (λ a. a.by_client) (λ lanes. lanes.by_client) (λ a count. refl) (λ count. refl) c.args.transmission
+    (may-come self world sound plays (λ a. a.by_client) (λ lanes. lanes.by_client) (λ a count. refl) (λ count. refl)
+    c.args.transmission
     stored c.args.client c.may_come.result it
     (λ list list_is.
     c.may_come.ensures list
