@@ -1,5 +1,5 @@
 -- An event of a client makes a next world of the one that is played.
-use Rattle.std.specs.Prelude.{◌≡◌, ◌≢◌, ◌⊎◌, ℕ, zero, suc, [], ◌∷◌, is_some, ◌<◌, List, length, slice_get, slice_set, Option, None, Some, refl}
+use Rattle.std.specs.Prelude.{◌≡◌, ◌≢◌, ◌⊎◌, ℕ, zero, suc, [], ◌∷◌, is_some, ◌-◌, ◌<◌, List, length, slice_get, slice_set, Option, None, Some, refl}
 use Rattle.std.proofs.Common.{sym, ap, ◌∙◌, subst, inl, inr, arith}
 use Rattle.std.proofs.lemmas.Option.{same_Some}
 use Rattle.disk_model.specs.Cuts.{Cuts}
@@ -23,9 +23,9 @@ use Rattle.air_rehearsal.specs.Counting.{Tells}
 use Rattle.air_rehearsal.specs.Playing.{Bench, GoesOn, IsBench, IsStage, client_count, counts_with}
 use Rattle.air_rehearsal.specs.Report.{Report}
 use Rattle.air_rehearsal.specs.ServerEvents.{waiting_of}
-use Rattle.air_rehearsal.specs.Standing.{StandsBehind, StandsDuring, StandsFor, StandsNow}
+use Rattle.air_rehearsal.specs.Standing.{Makes, StandsDuring, StandsFor, StandsNow, least_done}
 use Rattle.air_rehearsal.specs.Stations.{Role, Station, acts, client_at, looks_on, role_of, the_server, waiting_after}
-use Rattle.air_rehearsal.specs.TakingPart.{CarriesPart, DoesPart, HasAll}
+use Rattle.air_rehearsal.specs.TakingPart.{CarriesPart, DoesPart, HasDone}
 use Rattle.air_rehearsal.specs.Worlds.{IsSteady, PlayParties, PlaysParty, PlaysStations, asked_from}
 use Rattle.air_rehearsal.specs.declared.cuts.Cut.{Cut}
 use Rattle.air_rehearsal.specs.declared.party.Party.{Party as StoredParty}
@@ -38,8 +38,8 @@ module _ {B : Type 0} (g : Ghosts B) (world : World) (event : Event) (c : ℕ) (
       → StandsDuring (client_at c) world event image
   during image makes = record { part = part; takes = takes; stands = makes }
 
-  behind : (image : List ℕ) → HasAll g part image → StandsBehind (client_at c) world event image
-  behind image makes = record { part = part; takes = takes; stands = makes }
+  makes : (least : ℕ → ℕ) (image : List ℕ) → HasDone least part image → Makes least (client_at c) world event image
+  makes least image done = record { part = part; takes = takes; stands = done }
 
   pub carries_out : (disk disk_now : B) → CarriesPart g part disk disk_now
       → CarriesOut g (client_at c) world event disk disk_now
@@ -81,9 +81,10 @@ module _ {B : Type 0} (g : Ghosts B) (world : World) (event : Event) (c : ℕ) (
           stands =
               told_weaker (g.content it.left) (λ image. notes_state.StandsFor image party.client.lists)
               (StandsFor (client_at c) next) (λ image _ stands. (party, at, stands)) it.stands;
-          all_done = λ fewer calls passes.
-              told_weaker (g.content it.left) (HasAll g part) (StandsBehind (client_at c) world event)
-              (λ image _ has. behind image has) (it.all_done fewer calls passes);
+          no_fewer = λ few.
+              let least : ℕ → ℕ = least_done (cuts.arming it.lost) (cut.call - 1) in
+              told_weaker (g.content it.left) (HasDone least part) (Makes least (client_at c) world event)
+              (λ image _ done. makes least image done) (it.no_fewer few);
           again = it.again c;
         }
 

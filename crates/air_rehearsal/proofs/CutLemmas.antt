@@ -10,12 +10,13 @@ use Rattle.disk_model.specs.Disk.{IsTold}
 use Rattle.disk_model.specs.declared.disk.Disk.{Ghosts}
 use Rattle.disk_model.specs.declared.halt.Halt.{Halt}
 use Rattle.disk_model.specs.declared.halt.Halt.TheVariants as halt
-use Rattle.file_journal.specs.Calls.{EachImage}
+use Rattle.file_journal.specs.Calls.{EachImage, images_now}
 use Rattle.file_journal.specs.Walk.{state}
-use Rattle.file_journal.proofs.Offered.{at_told}
+use Rattle.file_journal.proofs.Offered.{at_told, makes_within}
 use Rattle.ax25_link.specs.Window.{Window, window_of}
 use Rattle.client_notes.specs.Command.{NotesCommand}
 use Rattle.client_notes.specs.Notes.{Lists, task_count}
+use Rattle.client_notes.specs.Records.{notes_form}
 use Rattle.client_notes.specs.Several as notes
 use Rattle.client_notes.specs.State.{StandsFor}
 use Rattle.ftl0_client.specs.Client.{Client, new_client}
@@ -27,14 +28,15 @@ use Rattle.air_rehearsal.specs.Lanes.{HasLanes, lanes_of}
 use Rattle.air_rehearsal.specs.PartCalls.{BeCut, Restarts, TouchesPart, uploads_by, uploads_then}
 use Rattle.air_rehearsal.specs.PartyCalls.{BreaksOff}
 use Rattle.air_rehearsal.specs.Ready.{IsReadyParty}
+use Rattle.air_rehearsal.specs.Standing.{least_done}
 use Rattle.air_rehearsal.specs.Strikes.{Strikes}
-use Rattle.air_rehearsal.specs.TakingPart.{HasAll, IsPart, IsSeat, Seat}
+use Rattle.air_rehearsal.specs.TakingPart.{HasAll, HasDone, IsPart, IsSeat, Seat}
 use Rattle.air_rehearsal.specs.Worlds.{IsSteady}
 use Rattle.air_rehearsal.specs.declared.attempt.Attempt.{Attempt as StoredAttempt}
 use Rattle.air_rehearsal.specs.declared.part.Part.{Part}
 use Rattle.air_rehearsal.specs.declared.part.Part.TheVariants as stored
 use Rattle.air_rehearsal.specs.declared.party.Party.{Party as StoredParty}
-use Rattle.air_rehearsal.proofs.PartLemmas.{steady_on}
+use Rattle.air_rehearsal.proofs.PartLemmas.{least_most, steady_on}
 use Rattle.air_rehearsal.proofs.UploadLemmas.{part_is_for, start_of, uploads_more, uploads_same}
 
 -- ---- a part's client
@@ -222,34 +224,43 @@ module _ {B : Type 0} (g : Ghosts B) (cuts : Cuts B)
       one_state content again.client.notes.lists (notes.after_first count lists commands)
       (at_told (λ before. StandsFor before again.client.notes.lists) content content_is restarts.stands) stands_then
 
-  -- where no call failed by the arming all commands are done
-  pub all_done : g.write_faults lost < 18446744073709551615 → (calls : ℕ) → cuts.arming lost ≡ Passes calls
-      → IfSome (g.content left) (HasAll g whole)
-  all_done few calls passes =
-      subst (λ (o : Option (List ℕ)). IfSome o (HasAll g whole)) (sym content_is) (by came refl)
+  -- no fewer commands are done than the calls before the failing one carry out, and all of them where none failed
+  pub no_fewer : g.write_faults lost < 18446744073709551615
+      → IfSome (g.content left) (HasDone (least_done (cuts.arming lost) (call - 1)) whole)
+  no_fewer few =
+      subst (λ (o : Option (List ℕ)). IfSome o (HasDone (least_done (cuts.arming lost) (call - 1)) whole))
+      (sym content_is) (by came refl)
     where
-      no_fault : came ≡ Err halt.Disk → ⊥
-      no_fault is =
-          let rose = touches.touches.fails is in
-          let plain = arms.plain.1 steady.plain in
-          let uses = (lasts_so armed lost touches.touches.carries.lasts).uses plain strikes.memory_before in
-          let used = subst (λ (a : Arming). UsesUp a (cut_state g cuts armed).use_of (cut_state g cuts lost).use_of)
-          arms.armed uses in
-          elim used [
-            | inl on ↦
-                let same = on.faults.writes in
-                let less = rose (omega (arith, same, few)) in
-                omega (arith, same, less)
-            | inr fails ↦ absurd (let no : Passes calls ≡ Failed = sym passes ∙ fails.failed in cc)
-          ]
+      used : UsesUp (Passes (call - 1)) (cut_state g cuts armed).use_of (cut_state g cuts lost).use_of
+      used =
+          let uses = (lasts_so armed lost touches.touches.carries.lasts).uses (arms.plain.1 steady.plain)
+          strikes.memory_before in
+          subst (λ (a : Arming). UsesUp a (cut_state g cuts armed).use_of (cut_state g cuts lost).use_of) arms.armed uses
 
-      by : (r : Result ⊤ Halt) → came ≡ r → HasAll g whole content
-      by (Ok done) is =
+      here : (P : List ℕ → Type 0) → EachImage g lost P → P content
+      here P each =
           let before = told_some (g.content lost) told_lost in
-          let all = subst (λ (r : Result ⊤ Halt). OnOk r (EachImage g lost (HasAll g whole))) is touches.touches.done in
-          at_told _ before.0 before.1 all content
+          at_told (λ (_ : List ℕ). (image : List ℕ) → images_now g lost image → P image) before.0 before.1 each content
           (counts_now lost (g.moment lost) content (omega arith) is_left)
-      by (Err halt.Disk) is = absurd (no_fault is)
+
+      by : (r : Result ⊤ Halt) → came ≡ r → HasDone (least_done (cuts.arming lost) (call - 1)) whole content
+      by (Ok done) is =
+          let all = subst (λ (r : Result ⊤ Halt). OnOk r (EachImage g lost (HasAll whole))) is touches.touches.done in
+          makes_within notes_form (length commands) (length commands)
+          (least_done (cuts.arming lost) (call - 1) (length commands)) (length commands) lists commands content
+          (least_most (cuts.arming lost) (call - 1) (length commands)) (omega arith) (here (HasAll whole) all)
+      by (Err halt.Disk) is = elim used [
+        | inl on ↦
+            absurd
+            (let same = on.faults.writes in
+            let less = touches.touches.fails is (omega (arith, same, few)) in
+            omega (arith, same, less))
+        | inr fails ↦
+            let before = told_some (g.content armed) told_armed in
+            let each = at_told _ before.0 before.1 (touches.touches.cut is (call - 1) fails.passed) in
+            subst (λ (a : Arming). HasDone (least_done a (call - 1)) whole content) (sym fails.failed)
+            (here (HasDone (least_done Failed (call - 1)) whole) each)
+      ]
       by (Err halt.OutOfMemory) is = absurd (strikes.not_stopped is)
 
   -- the disk between two events, where memory was found
@@ -293,7 +304,7 @@ module _ {B : Type 0} (g : Ghosts B) (cuts : Cuts B)
           subst
           (λ (o : Option (List ℕ)). IfSome o (λ image. StandsFor image (notes.after_first count lists commands)))
           (sym content_is) stands_then;
-      all_done = all_done;
+      no_fewer = no_fewer;
       again = restarts.again;
     };
     plays = record {

@@ -2,16 +2,18 @@
 use Rattle.std.proofs.Common.{◌≡◌, ◌==◌, ◌&&◌, ℕ, zero, suc, List, [], ◌∷◌, length, refl, sym, ap, ◌∙◌, subst}
 use Rattle.std.proofs.Common.{Option, Some, Result, Ok, Err, true, Bool, arith}
 use Rattle.std.proofs.lemmas.List.{append-nil}
-use Rattle.std.specs.Prelude.{slice_get, OnOk, ⊤}
+use Rattle.std.specs.Prelude.{◌+◌, ◌<◌, slice_get, IfSome, IsErrOf, OnOk, ⊤}
 use Rattle.std.specs.Str.{bytes_eq}
 use Rattle.std.proofs.lemmas.Bool.Decides.{Decides-eqb}
 use Rattle.std.proofs.lemmas.Option.{same_Some}
 use Rattle.std.proofs.lemmas.Slice.Eq.{bytes_eq-Decides}
+use Rattle.disk_model.specs.Cuts.{Failed}
 use Rattle.disk_model.specs.declared.disk.Disk.{Ghosts}
 use Rattle.disk_model.specs.declared.halt.Halt.{Halt}
+use Rattle.disk_model.specs.declared.halt.Halt.TheVariants as halt
 use Rattle.file_journal.specs.Calls.{EachImage}
 use Rattle.file_journal.specs.Calls.{Leaves}
-use Rattle.file_journal.proofs.Offered.{first_all, told_weaker}
+use Rattle.file_journal.proofs.Offered.{cut_makes, first_all, told_weaker}
 use Rattle.px_base.specs.CallSign.{CallSign}
 use Rattle.ax25_frames.specs.FrameText.{FrameValue}
 use Rattle.ax25_link.specs.Air.{IsAt, Transmission, delivering}
@@ -27,12 +29,14 @@ use Rattle.ftl0_client.specs.Calls.{Hears, HearsBy}
 use Rattle.ftl0_client.specs.Client as client
 use Rattle.ftl0_client.specs.Client.{Client, client_hearing}
 use Rattle.ftl0_client.specs.ClientState.{ClientState, IsClient}
+use Rattle.ftl0_client.proofs.attempt.HearLemmas.{client-stopped}
 use Rattle.air_attempt.specs.Attempt.{Attempt, IsAttempt, IsFromTo}
 use Rattle.air_attempt.specs.Party.{newest, to_client_delivered, with_newest}
 use Rattle.air_attempt.proofs.Offered.{all-at}
 use Rattle.air_world.specs.Events.{ClientPart, DeliversToClient, part_with, with_current}
 use Rattle.air_rehearsal.specs.Lanes.{HasLanes, IsLane, lanes_of}
 use Rattle.air_rehearsal.specs.PartCalls.{BeginsPart, TouchesDisk}
+use Rattle.air_rehearsal.specs.Standing.{least_done}
 use Rattle.air_rehearsal.specs.TakingPart.{IsSeat, Seat}
 use Rattle.air_rehearsal.specs.declared.attempt.Attempt.{Attempt as StoredAttempt}
 use Rattle.air_rehearsal.specs.declared.party.Party.{Party as StoredParty}
@@ -103,6 +107,26 @@ module _ {D : Type 0} (g : Ghosts D) (it : Client) (frame : FrameValue) (old new
         subst (λ (l : Lists). StandsFor image l) (sym first) (each image now),
       )) stands
 
+  -- where the disk failed no fewer of what was noted stands than the calls before the failing one carry out
+  pub heard_cut : ((first second third : D) → g.lasts first second → g.lasts second third → g.lasts first third)
+      → (result : Result ⊤ Halt) → HearsBy g it frame old new disk disk_now result → IsErrOf result halt.Disk
+      → (calls : ℕ) → g.moment disk + calls < g.moment disk_now
+      → IfSome (g.content disk) (λ _. EachImage g disk_now
+      (notes.MakesBetween (least_done Failed calls (length noted)) (length noted) it.lists noted))
+  heard_cut on (Ok done) by failed calls passed = absurd (cc failed)
+  heard_cut on (Err halt.OutOfMemory) by failed calls passed = absurd (cc failed)
+  heard_cut on (Err halt.Disk) by failed calls passed =
+      let front = client-stopped g on it frame old new disk disk_now is.lists by in
+      let makes = cut_makes g notes_form front.0 front.1 (notes.notes_on old.notes disk)
+      (notes.notes_on new.notes disk_now) calls (front.3.does.cut tt) passed in
+      subst
+      (λ (l : Lists). IfSome (g.content disk) (λ _. EachImage g disk_now
+      (notes.MakesBetween (least_done Failed calls (length noted)) (length noted) l noted))) is.lists
+      (subst
+      (λ (commands : List NotesCommand). IfSome (g.content disk) (λ _. EachImage g disk_now
+      (notes.MakesBetween (least_done Failed calls (length commands)) (length commands) old.notes.lists commands)))
+      (sym front.2) makes)
+
 module _ (self : StoredParty) (seat : Seat) (at_seat : IsSeat self seat) (place : ℕ) (whole : ClientPart)
     (delivers : DeliversToClient seat.party place whole) where
   abbrev attempt : Attempt
@@ -151,14 +175,17 @@ module _ (self : StoredParty) (seat : Seat) (at_seat : IsSeat self seat) (place 
       (hears : Hears g seat.party.client frame self.client new disk disk_now result)
       (puts : PutsBy g disk disk_now result) where
     -- what it does to the disk
-    pub heard_touches : OnOk result (EachImage g disk_now (λ image. StandsFor image new.notes.lists))
+    pub heard_touches : ((first second third : D) → g.lasts first second → g.lasts second third
+        → g.lasts first third) → OnOk result (EachImage g disk_now (λ image. StandsFor image new.notes.lists))
         → TouchesDisk g whole disk disk_now result
-    heard_touches stands =
+    heard_touches on stands =
         subst (λ (p : ClientPart). TouchesDisk g p disk disk_now result) (sym delivers.part_is)
         (record {
           carries = record { told = puts.told; since = hears.since; lasts = puts.lasts };
           reads = puts.reads;
           fails = puts.faults.rose;
+          cut =
+              heard_cut g seat.party.client frame self.client new disk disk_now at_seat.plays.client on result hears.by;
           done =
               heard_all g seat.party.client frame self.client new disk disk_now at_seat.plays.client result hears.by
               stands;

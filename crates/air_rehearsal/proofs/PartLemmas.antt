@@ -1,8 +1,8 @@
 -- What a client's part in an event does to its disk, in general, and what stays between two events.
-use Rattle.std.proofs.Common.{◌≡◌, ℕ, ◌<◌, List, [], length, refl, sym, subst, arith}
+use Rattle.std.proofs.Common.{◌≡◌, ℕ, ◌<◌, ◌≤◌, List, [], length, refl, sym, subst, arith}
 use Rattle.std.proofs.Common.{Option, None, Some, Result, Ok, Err, false}
 use Rattle.std.specs.Prelude.{OnOk}
-use Rattle.disk_model.specs.Cuts.{Arming, Cuts, LastsSo, UsesUp, cut_state}
+use Rattle.disk_model.specs.Cuts.{Arming, Cuts, Failed, LastsSo, Passes, Unarmed, UsesUp, cut_state}
 use Rattle.disk_model.specs.declared.disk.Disk.{Ghosts}
 use Rattle.disk_model.specs.declared.halt.Halt.{Halt}
 use Rattle.file_journal.specs.Calls.{EachImage, TellsAlike}
@@ -17,6 +17,7 @@ use Rattle.ftl0_client.specs.Client.{Client, IsSilent, Refused, sends_by, sends_
 use Rattle.air_world.specs.Cuts.{client_commands}
 use Rattle.air_world.specs.Events.{ClientPart}
 use Rattle.air_rehearsal.specs.PartCalls.{TouchesDisk}
+use Rattle.air_rehearsal.specs.Standing.{least_done}
 use Rattle.air_rehearsal.specs.TakingPart.{CarriesPart, HasAll}
 use Rattle.air_rehearsal.specs.Worlds.{IsSteady}
 
@@ -40,6 +41,14 @@ silent_noted it lists silent = by it.stray silent
     by None silent = link it.attempt silent
     by (Some refusal) silent = absurd (cc)
 
+-- ---- how many commands stand
+
+-- no more than there are are asked for
+pub least_most : (arming : Arming) (calls count : ℕ) → least_done arming calls count ≤ count
+least_most Unarmed calls count = omega arith
+least_most (Passes left) calls count = omega arith
+least_most Failed calls count = omega arith
+
 -- ---- a disk that isn't touched
 
 module _ {D : Type 0} (g : Ghosts D) (lasts : (disk : D) → g.lasts disk disk) where
@@ -59,17 +68,18 @@ module _ {D : Type 0} (g : Ghosts D) (lasts : (disk : D) → g.lasts disk disk) 
     carries = carries_none whole disk;
     reads = refl;
     fails = λ failed. absurd (fine _ failed);
+    cut = λ failed. absurd (fine _ failed);
     done = by came stands;
   }
     where
-      all : (image : List ℕ) → StandsFor image whole.party.client.lists → HasAll g whole image
+      all : (image : List ℕ) → StandsFor image whole.party.client.lists → HasAll whole image
       all image stands =
           subst
           (λ (commands : List NotesCommand). notes.MakesBetween (length commands) (length commands)
           whole.party.client.lists commands image) (sym none) (0, omega arith, omega arith, stands)
 
       by : (came : Result T Halt) → OnOk came (EachImage g disk (λ image. StandsFor image whole.party.client.lists))
-          → OnOk came (EachImage g disk (HasAll g whole))
+          → OnOk came (EachImage g disk (HasAll whole))
       by (Ok done) stands =
           told_weaker (g.content disk) _ _ (λ before told each image now. all image (each image now)) stands
       by (Err why) stands = tt

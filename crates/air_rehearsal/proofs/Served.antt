@@ -4,7 +4,7 @@ use Rattle.std.proofs.Common.{IfSome, Result, refl, sym, ap, subst, ◌∙◌, i
 use Rattle.std.specs.Prelude.{is_some, map, take, ⊤}
 use Rattle.ax25_frames.specs.FrameText.{FrameValue}
 use Rattle.ax25_link.specs.Window.{Window, window_of}
-use Rattle.disk_model.specs.Cuts.{ArmsOnly, Cuts, LastsSo, Passes, cut_state}
+use Rattle.disk_model.specs.Cuts.{ArmsOnly, Cuts, LastsSo, cut_state}
 use Rattle.disk_model.specs.Disk.{IsTold}
 use Rattle.disk_model.specs.Moments.{LeavesOnly}
 use Rattle.disk_model.specs.declared.disk.Disk.{Ghosts}
@@ -13,10 +13,9 @@ use Rattle.file_entries.specs.Command.{Command}
 use Rattle.file_journal.specs.Calls.{Leaves, images_now}
 use Rattle.file_journal.specs.Walk.{state}
 use Rattle.file_journal.proofs.Offered.{at_told, if_told}
-use Rattle.file_store.specs.OnDisk.{MakesFirst, after_first}
+use Rattle.file_store.specs.OnDisk.{MakesBetween, MakesFirst, after_first}
 use Rattle.file_store.specs.State.{StandsFor, standing_of, store_in}
 use Rattle.file_store.specs.Store.{Store}
-use Rattle.file_store.proofs.Offered.{after_first-all}
 use Rattle.ftl0_server.specs.Server.{Server, new_server, settled}
 use Rattle.ftl0_server.specs.ServerState.{IsServer}
 use Rattle.ftl0_server.specs.ServerStep.{Empties, happening}
@@ -29,7 +28,7 @@ use Rattle.air_rehearsal.specs.Chain.{CarriesOut, StepBy}
 use Rattle.air_rehearsal.specs.ServerCalls.{IsCutSo, IsTaken}
 use Rattle.air_rehearsal.specs.ServerEvents.{AwaitsServer, ServesEvent, Serving, TellsFailure, server_stage, serving}
 use Rattle.air_rehearsal.specs.ServerEvents.{waiting_of}
-use Rattle.air_rehearsal.specs.Standing.{StandsBehind, StandsNow}
+use Rattle.air_rehearsal.specs.Standing.{Makes, StandsNow, least_done}
 use Rattle.air_rehearsal.specs.Stations.{acts, the_server}
 use Rattle.air_rehearsal.specs.Worlds.{IsSteady, PlayParties, PlaysWorld, asked_from}
 use Rattle.air_rehearsal.specs.declared.cuts.Cut.{Cut}
@@ -158,7 +157,9 @@ module _ {B : Type 0} (g : Ghosts B) (cuts : Cuts B)
         subst (λ (s : Store). StandsFor image s) (sym awaits.plays.server.store) (awaits.stands.images image was)
 
     -- what the event did to the disk
-    went : WentCut g cuts lasts_so world.server taken.coming (store_in old.server.store) armed mid.disk
+    went :
+        WentCut g cuts lasts_so (cut.call - 1) (store_in old.server.store) (server_commands world taken.coming) armed
+        mid.disk
     went =
         let writes = subst (λ (c : Option Cut). TellsFailure g c old.disk) waits awaits.tells in
         went-cut g cuts lasts_so on misses front world.server taken.coming old.server mid.server armed mid.disk
@@ -261,29 +262,24 @@ module _ {B : Type 0} (g : Ghosts B) (cuts : Cuts B)
       };
     }
 
-    all-done :
-        g.write_faults mid.disk < 18446744073709551615 → (calls : ℕ) → cuts.arming mid.disk ≡ Passes calls
-        → IfSome (g.content gone.left) (StandsBehind the_server world event)
-    all-done below calls passes =
-        let n = length (server_commands world taken.coming) in
-        if_told (g.content gone.left) (StandsBehind the_server world event) (λ image is.
+    no-fewer :
+        g.write_faults mid.disk < 18446744073709551615
+        → IfSome (g.content gone.left) (Makes (least_done (cuts.arming mid.disk) (cut.call - 1)) the_server world event)
+    no-fewer below =
+        let commands = server_commands world taken.coming in
+        if_told (g.content gone.left)
+        (Makes (least_done (cuts.arming mid.disk) (cut.call - 1)) the_server world event) (λ image is.
         let there = at_told (λ (c : List ℕ). g.images mid.disk c) image is gone.strikes.loses.left in
-        let stands = went.done below calls passes image
+        let makes = went.no_fewer below image
         (counts_now mid.disk (g.moment mid.disk) image (omega arith) there) in
-        let all = subst (λ (s : Store). StandsFor image s)
-        (sym (after_first-all (server_commands world taken.coming) (store_in old.server.store))) stands in
         record {
           coming = taken.coming;
           delivered = taken.delivered;
           takes = taken.takes;
-          stands = (
-            n,
-            omega arith,
-            omega arith,
-            subst
-                (λ (s : Store). StandsFor image (after_first n s (server_commands world taken.coming)))
-                awaits.plays.server.store all,
-          );
+          stands =
+              subst
+              (λ (s : Store). MakesBetween (least_done (cuts.arming mid.disk) (cut.call - 1) (length commands))
+              (length commands) s commands image) awaits.plays.server.store makes;
         })
 
     pub serves-cut : ServesEvent g cuts world event old new
@@ -326,7 +322,7 @@ module _ {B : Type 0} (g : Ghosts B) (cuts : Cuts B)
                 stands =
                     subst (λ (c : Option (List ℕ)). IfSome c (λ image. StandsFor image store-left)) (sym is-left)
                     made.3;
-                all_done = all-done;
+                no_fewer = no-fewer;
                 again = again;
               });
           stands =

@@ -7,16 +7,17 @@ use Rattle.std.proofs.lemmas.Bool.{cases_Bool}
 use Rattle.px_base.specs.Outside.{Rose}
 use Rattle.disk_model.specs.AtDisk.{AtDisk, at}
 use Rattle.disk_model.specs.CutLaws.{reads_stay}
-use Rattle.disk_model.specs.Cuts.{Arming, Cuts, Failed, LastsSo, Passes, UsesUp, cut_state}
+use Rattle.disk_model.specs.Cuts.{Arming, Cuts, Failed, FailsSo, LastsSo, Passes, UsesUp, cut_state}
 use Rattle.disk_model.specs.Disk.{IsTold}
 use Rattle.disk_model.specs.declared.disk.Disk.{Ghosts}
 use Rattle.disk_model.specs.declared.halt.Halt.{Halt}
 use Rattle.disk_model.specs.declared.halt.Halt.TheVariants as halt
 use Rattle.file_entries.specs.Command.{Command, after_all}
+use Rattle.file_entries.specs.Records.{store_form}
 use Rattle.file_journal.specs.AmongReads.{CountsSome}
-use Rattle.file_journal.specs.Calls.{Leaves, TellsAlike, images_now}
-use Rattle.file_journal.proofs.Offered.{at_told, told_weaker, weaker}
-use Rattle.file_store.specs.OnDisk.{MakesBetween, MakesFirst, after_first}
+use Rattle.file_journal.specs.Calls.{EachImage, Leaves, TellsAlike, images_now}
+use Rattle.file_journal.proofs.Offered.{at_told, cut_makes, told_weaker, weaker}
+use Rattle.file_store.specs.OnDisk.{MakesBetween, MakesFirst, after_first, kept_at}
 use Rattle.file_store.specs.State.{StandsFor, StoreState, store_in}
 use Rattle.file_store.specs.Store.{Store}
 use Rattle.file_store.specs.Working.{CutsOffAmongReads, DoesAmongReads}
@@ -29,9 +30,10 @@ use Rattle.ftl0_server.specs.ServerStep.{happening}
 use Rattle.node.specs.Events.{NodeEvent}
 use Rattle.server_laws.specs.Misses.{FrontOfEventLaw, MissesLaw, begun_in}
 use Rattle.air_world.specs.World.{World}
-use Rattle.air_rehearsal.specs.Standing.{StandsNow}
+use Rattle.air_rehearsal.specs.Standing.{StandsNow, least_done}
 use Rattle.air_rehearsal.specs.Stations.{the_server}
 use Rattle.air_rehearsal.specs.Worlds.{IsSteady}
+use Rattle.air_rehearsal.proofs.PartLemmas.{least_most}
 
 pub told-content : (content : Option (List ℕ)) → IsTold content → (octets : List ℕ) × (content ≡ Some octets)
 told-content None told = absurd (let no : false ≡ true = told in cc)
@@ -172,15 +174,16 @@ module _ {B : Type 0} (g : Ghosts B) (cuts : Cuts B)
     | inr not ↦ not
   ]
 
-  -- What became of the disk, armed for a cut, where the event came to an end or was stopped by it.
-  pub record WentCut (it : Server) (coming : NodeEvent) (store : Store) (armed lost : B) : Type 0 where
-    pub since : Leaves g armed lost (λ _. MakesFirst store (happening it coming []).done)
+  -- What became of the disk, armed for a cut so that so many calls pass, where an event with these commands came to an
+  -- end or was stopped by it.
+  pub record WentCut (calls : ℕ) (store : Store) (commands : List Command) (armed lost : B) : Type 0 where
+    pub since : Leaves g armed lost (λ _. MakesFirst store commands)
     pub told : TellsAlike (g.content armed) (g.content lost)
     pub lasts : g.lasts armed lost
     pub reads : g.read_faults lost ≡ g.read_faults armed
-    pub done :
-        g.write_faults lost < 18446744073709551615 → (calls : ℕ) → cuts.arming lost ≡ Passes calls
-        → (image : List ℕ) → images_now g lost image → StandsFor image (after_all store (happening it coming []).done)
+    pub no_fewer :
+        g.write_faults lost < 18446744073709551615 → (image : List ℕ) → images_now g lost image
+        → MakesBetween (least_done (cuts.arming lost) calls (length commands)) (length commands) store commands image
 
   module _ (on : (first second third : B) → g.lasts first second → g.lasts second third → g.lasts first third)
       (misses : MissesLaw) (front : FrontOfEventLaw) (it : Server) (coming : NodeEvent) (old new : ServerState)
@@ -203,7 +206,7 @@ module _ {B : Type 0} (g : Ghosts B) (cuts : Cuts B)
     went-ok :
         (parts : List ℕ) → (missed : ℕ) → missed ≡ (event (failed_reads parts)).missed
         → DoesAmongReads g ⊥ missed old.store new.store armed lost (event (failed_reads parts)).done
-        → WentCut it coming (store_in old.store) armed lost
+        → WentCut left_calls (store_in old.store) (event []).done armed lost
     went-ok parts missed missed_is does =
         let same = reads-same lost does.puts.lasts memory (does.puts.faults.same (λ never. never)) in
         let none = missed-none _ _ _ does.reads same reads in
@@ -215,31 +218,42 @@ module _ {B : Type 0} (g : Ghosts B) (cuts : Cuts B)
           told = does.puts.told;
           lasts = does.puts.lasts;
           reads = same;
-          done = λ below calls passes image now.
+          no_fewer = λ below image now.
+              let commands : List Command = (event []).done in
+              let all : StandsFor image (after_all (store_in old.store) commands) =
               subst (λ (s : Store). StandsFor image s) (does_now.done (λ never. never)).0
-              (all-images g missed old.store new.store armed lost (event []).done does_now told stands image now);
+              (all-images g missed old.store new.store armed lost commands does_now told stands image now) in
+              let few = least_most (cuts.arming lost) left_calls (length commands) in (
+                length commands,
+                few,
+                omega arith,
+                subst
+                    (λ (s : Store). StandsFor image s)
+                    (sym (after_first-all commands (store_in old.store))) all,
+              );
         }
 
-    -- a write failed by the arming
-    failed-not-passed :
-        (then : B) (calls : ℕ) → g.lasts armed lost → g.write_faults then ≡ g.write_faults armed
-        → Rose (g.write_faults then) (g.write_faults lost) → cuts.arming lost ≡ Passes calls → ⊥
-    failed-not-passed then calls lasts same rose passes =
+    -- a write failed by the arming, behind the calls that were to pass
+    failed-so :
+        (then : B) → g.lasts armed lost → g.write_faults then ≡ g.write_faults armed
+        → Rose (g.write_faults then) (g.write_faults lost)
+        → FailsSo left_calls (cut_state g cuts armed).use_of (cut_state g cuts lost).use_of
+    failed-so then lasts same rose =
         let used = subst
         (λ (a : Arming). UsesUp a (cut_state g cuts armed).use_of (cut_state g cuts lost).use_of) arming
         ((lasts_so armed lost lasts).uses plain memory) in
         elim used [
           | inl on ↦
               let more = rose (omega (arith, same, writes)) in
-              let no : ⊥ = omega (arith, more, on.faults.writes, same) in no
-          | inr fails ↦ let no : Failed ≡ Passes calls = sym fails.failed ∙ passes in absurd cc
+              absurd (let no : ⊥ = omega (arith, more, on.faults.writes, same) in no)
+          | inr fails ↦ fails
         ]
 
     went-failed :
         (part : ℕ) (parts : List ℕ) (missed : ℕ) (happened : ServerHappened)
         → happened ≡ event (failed_write part ++ failed_reads parts) → missed ≡ happened.missed
         → CutsOffAmongReads g ⊤ missed (at old.store armed) (at new.store lost) happened.done happened.cut
-        → WentCut it coming (store_in old.store) armed lost
+        → WentCut left_calls (store_in old.store) (event []).done armed lost
     went-failed part parts missed happened happened_is missed_is cut =
         let then : AtDisk StoreState B = cut.then_is in
         let fed = memory-before then.disk lost cut.second.puts.lasts memory in
@@ -253,22 +267,43 @@ module _ {B : Type 0} (g : Ghosts B) (cuts : Cuts B)
         let begins = front it coming (failed_write part) (no-reads-at-write part) in
         let all = cuts-among-all g on ⊤ missed (at old.store armed) (at new.store lost) happened.done happened.cut cut
         in
+        let commands : (event []).done ≡ begun_in happened ++ begins.0 =
+        begins.1 ∙ ap (λ (h : ServerHappened). begun_in h ++ begins.0) (sym is) in
         record {
           since =
-              leaves-more g (store_in old.store) (begun_in happened) begins.0 (event []).done armed lost
-              (begins.1 ∙ ap (λ (h : ServerHappened). begun_in h ++ begins.0) (sym is)) all.since;
+              leaves-more g (store_in old.store) (begun_in happened) begins.0 (event []).done armed lost commands
+              all.since;
           told = all.puts.told;
           lasts = all.puts.lasts;
           reads = cut.second.puts.reads ∙ same;
-          done = λ below calls passes image now.
-              absurd
-              (failed-not-passed then.disk calls all.puts.lasts same_writes (cut.second.puts.faults.rose tt) passes);
+          no_fewer = λ below image now.
+              let fails = failed-so then.disk all.puts.lasts same_writes (cut.second.puts.faults.rose tt) in
+              let makes = cut_makes g store_form (begun_in happened) begins.0 (kept_at old.store armed)
+              (kept_at new.store lost) left_calls (all.cut tt) fails.passed in
+              let first = told-content (g.content armed) told in
+              let last = told-content (g.content lost) (all.puts.told.1 told) in
+              let each = at_told
+              (λ (_ : List ℕ). EachImage g lost (MakesBetween
+              (least_done Failed left_calls (length (begun_in happened ++ begins.0)))
+              (length (begun_in happened ++ begins.0)) (store_in old.store) (begun_in happened ++ begins.0))) first.0
+              first.1 makes in
+              let here = at_told
+              (λ (_ : List ℕ). (image : List ℕ) → images_now g lost image → MakesBetween
+              (least_done Failed left_calls (length (begun_in happened ++ begins.0)))
+              (length (begun_in happened ++ begins.0)) (store_in old.store) (begun_in happened ++ begins.0) image) last.0
+              last.1 each image now in
+              subst
+              (λ (a : Arming). MakesBetween (least_done a left_calls (length (event []).done)) (length (event []).done)
+              (store_in old.store) (event []).done image) (sym fails.failed)
+              (subst
+              (λ (all : List Command). MakesBetween (least_done Failed left_calls (length all)) (length all)
+              (store_in old.store) all image) (sym commands) here);
         }
 
     pub went-cut :
         (answer : Result ⊤ Halt) → answer ≢ Err halt.OutOfMemory
         → Hears g (happening it coming) old new armed lost answer
-        → WentCut it coming (store_in old.store) armed lost
+        → WentCut left_calls (store_in old.store) (event []).done armed lost
     went-cut (Ok done) not_stopped hears = went-ok hears.parts _ refl hears.by.2
     went-cut (Err halt.Disk) not_stopped hears =
         let by = hears.by in went-failed by.0 hears.parts _ _ refl refl by.3

@@ -2,7 +2,7 @@
 use Rattle.std.proofs.Common.{◌≡◌, ◌≢◌, ◌⊎◌, ℕ, ◌+◌, ◌-◌, ◌<◌, ◌≤◌, ◌^◌, ◌&&◌, List, [], ◌∷◌, ◌++◌, length, reverse}
 use Rattle.std.proofs.Common.{refl, sym, ap, ◌∙◌, subst, inl, inr, arith, Bool, true, false, Option, None, Some, Result, Ok, Err}
 use Rattle.std.proofs.Common.{get_or, length-append}
-use Rattle.std.specs.Prelude.{IsErr, IsErrOf, IsTrue, OnOk, decimal, nat_lt, slice_get, if◌then◌else◌}
+use Rattle.std.specs.Prelude.{IfSome, IsErr, IsErrOf, IsTrue, OnOk, decimal, nat_lt, slice_get, if◌then◌else◌}
 use Rattle.std.specs.Option.{option_map}
 use Rattle.std.specs.Str.{bytes_eq}
 use Rattle.std.proofs.lemmas.Bool.Decides.{Decides-ltb, eqb_tells}
@@ -13,17 +13,20 @@ use Rattle.std.proofs.lemmas.Option.{slice_get-get_or, slice_get_within}
 use Rattle.std.proofs.lemmas.Slice.Eq.{bytes_eq-Decides}
 use Rattle.px_base.specs.CallSign.{CallSign}
 use Rattle.sha2.specs.Sha256.{sha256}
+use Rattle.disk_model.specs.Cuts.{Failed}
 use Rattle.disk_model.specs.declared.disk.Disk.{Ghosts}
 use Rattle.disk_model.specs.declared.halt.Halt.{Halt}
 use Rattle.disk_model.specs.declared.halt.Halt.TheVariants as halt
 use Rattle.file_journal.specs.Calls.{EachImage}
-use Rattle.file_journal.proofs.Offered.{told_weaker, weaker}
+use Rattle.file_journal.proofs.Offered.{cut_makes, told_weaker, weaker}
 use Rattle.client_notes.specs.Answers.{StartsBy, answer_last, answer_of, fresh_task, start_reaches}
 use Rattle.client_notes.specs.Command.{NotesCommand, after, new_task}
 use Rattle.client_notes.specs.Notes.{Lists, Task, is_task_for, last_task, place_from_end, task_count, task_of}
 use Rattle.client_notes.specs.OnDisk.{Does, IsBeforeOrAfter, Untouched}
+use Rattle.client_notes.specs.Records.{notes_form}
 use Rattle.client_notes.specs.Several as notes
 use Rattle.client_notes.specs.State.{NotesState, StandsFor}
+use Rattle.client_notes.proofs.Offered.{Several-one}
 use Rattle.client_notes.specs.declared.answers.Begun.{Begun}
 use Rattle.client_notes.specs.declared.answers.Begun.TheVariants as begun
 use Rattle.client_notes.specs.declared.refusals.NotesRefusal.{NotesRefusal}
@@ -44,6 +47,7 @@ use Rattle.air_world.specs.Step.{client_started}
 use Rattle.air_rehearsal.specs.Lanes.{HasLanes, lanes_of}
 use Rattle.air_rehearsal.specs.PartCalls.{BeginsPart, KeepsButNotes, StartsTask, TouchesDisk, TouchesPart, uploads_then}
 use Rattle.air_rehearsal.specs.Ready.{KeepsParty}
+use Rattle.air_rehearsal.specs.Standing.{least_done}
 use Rattle.air_rehearsal.specs.TakingPart.{AreNamed, AsksNext, CarriesPart, HasAll, IsSeat, Seat}
 use Rattle.air_rehearsal.specs.declared.party.Party.{Party as StoredParty}
 use Rattle.air_rehearsal.proofs.PartLemmas.{carries_none}
@@ -128,6 +132,17 @@ module _ {D : Type 0} (g : Ghosts D) (whole : ClientPart) (old new : NotesState)
     };
     reads = does.puts.reads;
     fails = λ is. does.puts.faults.rose (fails is);
+    cut = λ is calls passed.
+        let several = Several-one g failed old new disk disk_now command does in
+        let makes = cut_makes g notes_form (command ∷ []) [] (notes.notes_on old disk) (notes.notes_on new disk_now) calls
+        (several.does.cut (fails is)) passed in
+        subst
+        (λ (commands : List NotesCommand). IfSome (g.content disk) (λ _. EachImage g disk_now
+        (notes.MakesBetween (least_done Failed calls (length commands)) (length commands) whole.party.client.lists
+        commands))) (sym commands_is)
+        (subst
+        (λ (l : Lists). IfSome (g.content disk) (λ _. EachImage g disk_now
+        (notes.MakesBetween (least_done Failed calls 1) 1 l (command ∷ [])))) lists_is makes);
     done = by came fine;
   }
     where
@@ -143,7 +158,7 @@ module _ {D : Type 0} (g : Ghosts D) (whole : ClientPart) (old new : NotesState)
           one (inl before) = (0, omega arith, omega arith, before)
           one (inr now) = (1, omega arith, omega arith, now)
 
-      all : (image : List ℕ) → StandsFor image (after old.lists command) → HasAll g whole image
+      all : (image : List ℕ) → StandsFor image (after old.lists command) → HasAll whole image
       all image stands =
           subst
           (λ (commands : List NotesCommand). notes.MakesBetween (length commands) (length commands)
@@ -151,7 +166,7 @@ module _ {D : Type 0} (g : Ghosts D) (whole : ClientPart) (old new : NotesState)
           (subst (λ (l : Lists). notes.MakesBetween 1 1 l (command ∷ []) image) lists_is
           (1, omega arith, omega arith, stands))
 
-      by : (came : Result T Halt) → OnOk came (¬ failed) → OnOk came (EachImage g disk_now (HasAll g whole))
+      by : (came : Result T Halt) → OnOk came (¬ failed) → OnOk came (EachImage g disk_now (HasAll whole))
       by (Ok x) fine =
           told_weaker (g.content disk_now) _ _ (λ before told each image now. all image (each image now))
           (does.done fine).images
@@ -258,6 +273,7 @@ module _ {D : Type 0} (g : Ghosts D) (lasts : (disk : D) → g.lasts disk disk) 
             subst (λ (d : D). CarriesPart g whole disk d) (sym is.same_disk) (carries_none g lasts whole disk);
         reads = ap g.read_faults is.same_disk;
         fails = λ failed. absurd (cc failed);
+        cut = λ failed. absurd (cc failed);
         done = tt;
       }
 

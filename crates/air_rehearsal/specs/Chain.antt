@@ -1,11 +1,11 @@
 -- What each event of a schedule does to the disk of a station: a chain of disks, one for each world.
 use Rattle.std.specs.Prelude.{◌≡◌, ℕ, ◌-◌, ◌<◌, List, [], ◌∷◌, false, Option, None, Some, IfSome}
-use Rattle.disk_model.specs.Cuts.{ArmsOnly, Cuts, KeepsPast, LosesPower, Passes}
+use Rattle.disk_model.specs.Cuts.{ArmsOnly, Cuts, KeepsPast, LosesPower}
 use Rattle.disk_model.specs.declared.disk.Disk.{Ghosts}
 use Rattle.file_journal.specs.Calls.{IsQuietNow, Leaves, TellsAlike}
 use Rattle.air_world.specs.Schedule.{Event}
 use Rattle.air_world.specs.World.{World}
-use Rattle.air_rehearsal.specs.Standing.{StandsAlike, StandsBehind, StandsDuring, StandsFor, StandsNow}
+use Rattle.air_rehearsal.specs.Standing.{Makes, StandsAlike, StandsDuring, StandsFor, StandsNow, least_done}
 use Rattle.air_rehearsal.specs.Stations.{Role, Station, acts, breaks_off, looks_on, role_of, waiting_after, will_be_cut}
 
 -- A station between two events: the world, the cut that waits for it, by the number of its call, and its disk.
@@ -37,9 +37,9 @@ module _ {B : Type 0} (g : Ghosts B) (station : Station) where
 
 module _ {B : Type 0} (g : Ghosts B) (cuts : Cuts B) (station : Station) where
   -- At a cut the disk is armed so that the call of this number fails, and the event is carried out on it, as far as it
-  -- comes. Where no call failed by the arming all commands of the event are done, unless the count of failed writes
-  -- stands at its last number and tells nothing. Then power is lost: what is left stands for the next world, and the
-  -- station starts again from it.
+  -- comes. Then power is lost: what is left stands for the next world, and the station starts again from it. No fewer
+  -- of the event's commands stand than the calls before that one carry out, and all of them where none failed by the
+  -- arming; unless the count of failed writes stands at its last number and tells nothing.
   pub record IsCutOff (call : ℕ) (old : Stage B) (event : Event) (new : Stage B) : Type 0 where
     pub armed : B
     pub arms : ArmsOnly g cuts (Some (call - 1)) old.disk armed
@@ -50,9 +50,9 @@ module _ {B : Type 0} (g : Ghosts B) (cuts : Cuts B) (station : Station) where
     pub keeps : KeepsPast g cuts lost left
     pub memory : cuts.is_starved left ≡ false
     pub stands : IfSome (g.content left) (StandsFor station new.world)
-    pub all_done :
-        g.write_faults lost < 18446744073709551615 → (calls : ℕ) → cuts.arming lost ≡ Passes calls
-        → IfSome (g.content left) (StandsBehind station old.world event)
+    pub no_fewer :
+        g.write_faults lost < 18446744073709551615
+        → IfSome (g.content left) (Makes (least_done (cuts.arming lost) (call - 1)) station old.world event)
     pub again : StartsAgain g station left new.disk
 
   -- What an event does to the disk, by what it is for the station, and by the cut that waits for it. In an event of

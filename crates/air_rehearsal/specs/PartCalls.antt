@@ -1,10 +1,10 @@
 -- What the calls do by which a client takes part in an event.
-use Rattle.std.specs.Prelude.{◌≡◌, ℕ, ◌+◌, List, [], ◌∷◌, ◌++◌, length, nat_lt, if◌then◌else◌, Result, IfSome}
+use Rattle.std.specs.Prelude.{◌≡◌, ℕ, ◌+◌, ◌<◌, List, [], ◌∷◌, ◌++◌, length, nat_lt, if◌then◌else◌, Result, IfSome}
 use Rattle.std.specs.Prelude.{IsErrOf, OnOk}
 use Rattle.std.specs.Prelude.{false}
 use Rattle.px_base.specs.Outside.{Rose}
 use Rattle.sha2.specs.Sha256.{sha256}
-use Rattle.disk_model.specs.Cuts.{Cuts}
+use Rattle.disk_model.specs.Cuts.{Cuts, Failed}
 use Rattle.disk_model.specs.declared.disk.Disk.{Ghosts}
 use Rattle.disk_model.specs.declared.halt.Halt.{Halt}
 use Rattle.disk_model.specs.declared.halt.Halt.TheVariants as halt
@@ -23,8 +23,9 @@ use Rattle.air_world.specs.Events.{ClientPart}
 use Rattle.air_world.specs.Step.{client_started}
 use Rattle.air_rehearsal.specs.Chain.{StartsAgain}
 use Rattle.air_rehearsal.specs.Lanes.{HasLanes, Lanes, lanes_of, sending_each}
+use Rattle.air_rehearsal.specs.Standing.{least_done}
 use Rattle.air_rehearsal.specs.Stations.{client_at}
-use Rattle.air_rehearsal.specs.TakingPart.{CarriesPart, CutsPart, HasAll, PartyGoes, PartyIsCut}
+use Rattle.air_rehearsal.specs.TakingPart.{CarriesPart, CutsPart, HasAll, HasDone, PartyGoes, PartyIsCut}
 use Rattle.air_rehearsal.specs.Worlds.{IsSteady, PlaysParty}
 use Rattle.air_rehearsal.specs.declared.part.Part.{Part}
 use Rattle.air_rehearsal.specs.declared.part.Part.TheVariants as stored
@@ -63,12 +64,16 @@ uploads_by stored.Tick tasks uploads = uploads
 
 module _ {D : Type 0} (g : Ghosts D) where
   -- What a part's commands did to the disk, however far they came. Where the disk failed its count of failed writes
-  -- rose. Where nothing stopped them all of them are done.
+  -- rose, and no fewer of them are done than the calls before the failing one carry out. Where nothing stopped them all
+  -- of them are done.
   pub record TouchesDisk {T : Type 0} (whole : ClientPart) (disk disk_now : D) (came : Result T Halt) : Type 0 where
     pub carries : CarriesPart g whole disk disk_now
     pub reads : g.read_faults disk_now ≡ g.read_faults disk
     pub fails : IsErrOf came halt.Disk → Rose (g.write_faults disk) (g.write_faults disk_now)
-    pub done : OnOk came (EachImage g disk_now (HasAll g whole))
+    pub cut :
+        IsErrOf came halt.Disk → (calls : ℕ) → g.moment disk + calls < g.moment disk_now
+        → IfSome (g.content disk) (λ _. EachImage g disk_now (HasDone (least_done Failed calls) whole))
+    pub done : OnOk came (EachImage g disk_now (HasAll whole))
 
   -- the same, and the delivery, if it is one, is marked
   pub record TouchesPart {T : Type 0} (whole : ClientPart) (new : StoredParty) (disk disk_now : D)

@@ -1,7 +1,9 @@
 -- What the disk of a station stands for: the server's disk for its store, a client's for its notes.
-use Rattle.std.specs.Prelude.{◌≡◌, ℕ, List, length, Some}
+use Rattle.std.specs.Prelude.{◌≡◌, ℕ, List, length, min, Some}
+use Rattle.disk_model.specs.Cuts.{Arming, Failed, Passes, Unarmed}
 use Rattle.disk_model.specs.declared.disk.Disk.{Ghosts}
 use Rattle.file_journal.specs.Calls.{images_now}
+use Rattle.file_journal.specs.Kept.{done_within}
 use Rattle.node.specs.Events.{NodeEvent}
 use Rattle.file_store.specs.OnDisk as store
 use Rattle.file_store.specs.Recovery as store_recovery
@@ -48,9 +50,12 @@ Makes least (client_at c) old event image = NotesMake least c old event image
 abbrev pub StandsDuring : Station → World → Event → List ℕ → Type 0
 StandsDuring = Makes (λ count. 0)
 
--- after all of them
-abbrev pub StandsBehind : Station → World → Event → List ℕ → Type 0
-StandsBehind = Makes (λ count. count)
+-- How many of so many commands stand at the least, where so many calls were to pass and the disk is armed so then: all
+-- of them where no call failed by the arming, else as many as those calls carry out.
+abbrev pub least_done : Arming → ℕ → ℕ → ℕ
+least_done Unarmed calls count = count
+least_done (Passes left) calls count = count
+least_done Failed calls count = min count (done_within calls)
 
 -- The octets stand for what those before stand for, and differ from them only as a recovery may leave them: 18 octets
 -- or more are left as they are.

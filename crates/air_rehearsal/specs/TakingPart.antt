@@ -1,6 +1,6 @@
 -- What becomes of a client, and of its disk, where it takes part in an event.
 use Rattle.std.specs.Prelude.{◌≡◌, ℕ, ◌-◌, ◌<◌, ◌≤◌, List, length, slice_get, false, Option, None, Some, IfSome}
-use Rattle.disk_model.specs.Cuts.{ArmsOnly, Cuts, KeepsPast, LosesPower, Passes}
+use Rattle.disk_model.specs.Cuts.{ArmsOnly, Cuts, KeepsPast, LosesPower}
 use Rattle.disk_model.specs.declared.disk.Disk.{Ghosts}
 use Rattle.file_journal.specs.Calls.{Leaves, TellsAlike}
 use Rattle.client_notes.specs.Command.{NotesCommand}
@@ -23,6 +23,7 @@ use Rattle.air_world.specs.Sound.{Sound}
 use Rattle.air_world.specs.Step.{client_started, party_after}
 use Rattle.air_world.specs.World.{PartyAt, World}
 use Rattle.air_rehearsal.specs.Chain.{StartsAgain}
+use Rattle.air_rehearsal.specs.Standing.{least_done}
 use Rattle.air_rehearsal.specs.Stations.{client_at}
 use Rattle.air_rehearsal.specs.Worlds.{IsSteady, PlaysParty}
 use Rattle.air_rehearsal.specs.declared.cuts.Cut.{Cut}
@@ -87,6 +88,17 @@ pub record PartyIsCut (part : ClientPart) (next : Party) : Type 0 where
   pub within : count ≤ length (client_commands part)
   pub next_is : next ≡ party_cut part count
 
+-- The octets stand for the notes after the first of the part's commands, for some number of them: at least as many as
+-- `least` says by how many there are.
+abbrev pub HasDone : (ℕ → ℕ) → ClientPart → List ℕ → Type 0
+HasDone least part image =
+    notes.MakesBetween (least (length (client_commands part))) (length (client_commands part)) part.party.client.lists
+    (client_commands part) image
+
+-- after all of them
+abbrev pub HasAll : ClientPart → List ℕ → Type 0
+HasAll = HasDone (λ count. count)
+
 module _ {B : Type 0} (g : Ghosts B) where
   -- The part is carried out on the disk, which knows of no cut: since it began a crash leaves the notes after the first
   -- of its commands.
@@ -95,12 +107,6 @@ module _ {B : Type 0} (g : Ghosts B) where
     pub since :
         Leaves g disk disk_now (λ _. notes.MakesFirst part.party.client.lists (client_commands part))
     pub lasts : g.lasts disk disk_now
-
-  -- the octets stand for the notes after all commands of the part
-  abbrev pub HasAll : ClientPart → List ℕ → Type 0
-  HasAll part image =
-      notes.MakesBetween (length (client_commands part)) (length (client_commands part)) part.party.client.lists
-      (client_commands part) image
 
 module _ {B : Type 0} (g : Ghosts B) (cuts : Cuts B) where
   -- The part is cut at the call of this number: as an event is that is cut off.
@@ -114,9 +120,9 @@ module _ {B : Type 0} (g : Ghosts B) (cuts : Cuts B) where
     pub keeps : KeepsPast g cuts lost left
     pub memory : cuts.is_starved left ≡ false
     pub stands : IfSome (g.content left) (λ image. StandsFor image next.client.lists)
-    pub all_done :
-        g.write_faults lost < 18446744073709551615 → (calls : ℕ) → cuts.arming lost ≡ Passes calls
-        → IfSome (g.content left) (HasAll g part)
+    pub no_fewer :
+        g.write_faults lost < 18446744073709551615
+        → IfSome (g.content left) (HasDone (least_done (cuts.arming lost) (call - 1)) part)
     pub again : (c : ℕ) → StartsAgain g (client_at c) left disk_now
 
   -- by the cut that waits for the client, if one does

@@ -59,7 +59,8 @@ returns-in-Err-clause-touches g c = λ seat whole at_seat delivers.
           }) refl lane;
       touches =
           heard_touches c.args.self.now seat at_seat c.args.place whole delivers g.D.Disk c.hear.new.self
-          c.args.disk.now c.hear.new.disk (Err c.in-Err.halt) hears c.in-Err.ensures.puts tt;
+          c.args.disk.now c.hear.new.disk (Err c.in-Err.halt) hears c.in-Err.ensures.puts
+          g.met.D.Disk.lasts_on tt;
     }
 
 pub returns-in-Ok-clause-touches : goal.returns-in-Ok-clause-touches
@@ -88,7 +89,7 @@ returns-in-Ok-clause-touches g c = λ seat whole at_seat delivers.
       touches =
           heard_touches c.args.self.now seat at_seat c.args.place whole delivers g.D.Disk c.hear.new.self
           c.args.disk.now c.hear.new.disk (Ok c.in-Ok.field-0) hears
-          c.in-Ok.ensures.puts stands;
+          c.in-Ok.ensures.puts g.met.D.Disk.lasts_on stands;
     }
 
 pub returns-in-Ok-clause-begins : goal.returns-in-Ok-clause-begins
