@@ -14,7 +14,7 @@ use Rattle.command_words.specs.declared.rehearse.RehearseRequest.{RehearseReques
 use Rattle.command_words.specs.declared.rehearse.RehearseRequest.TheVariants.{Drawn, Schedule}
 use Rattle.pacsat_cli.specs.declared.status.Status.{Status}
 use Rattle.pacsat_cli.specs.declared.status.Status.TheVariants as status
-use Rattle.pacsat_cli.specs.Rehearsing.{DrawnEnd, Lab, PlayEnd, RehearsalEnd, Rehearses, ReportShown, RunsExactly, RunsNamed, SeenLab}
+use Rattle.pacsat_cli.specs.Rehearsing.{DrawnEnd, PlayEnd, RehearsalEnd, Rehearses, ReportShown, RunsExactly, RunsNamed, SeenSetting, Setting}
 use Rattle.pacsat_cli.specs.Run.{Shows}
 use Rattle.pacsat_cli.specs.Status.{line_of}
 use Rattle.pacsat_cli.proofs.RehearsalEnds.{exactly, none-put}
@@ -72,7 +72,7 @@ play-not g cuts o held request old new before mid s shown other isnt is =
     let same = ap is_play_status is in
     absurd (cc)
 
-module _ {B S O : Type 0} (words : List (List ℕ)) (seen : SeenLab B S O) (old new : Lab B S O) (s : Status) where
+module _ {B S O : Type 0} (words : List (List ℕ)) (seen : SeenSetting B S O) (old new : Setting B S O) (s : Status) where
   -- where it is told what the shelf holds, the end of the name is that of its content
   runs-exactly : OneSchedule → RunsNamed words seen old new s → RunsExactly words seen old new s
   runs-exactly one named = λ name shelf is told.

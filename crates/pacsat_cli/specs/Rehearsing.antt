@@ -32,23 +32,23 @@ abbrev pub report_line : Report → List ℕ
 report_line report = report_text report ++ codes "\n"
 
 -- What a rehearsal is lent at one moment: the bench of its disks, the shelf that has the schedule, and the output.
-pub record Lab (B S O : Type 0) : Type 0 where
+pub record Setting (B S O : Type 0) : Type 0 where
   pub bench : List B
   pub shelf : S
   pub out : O
 
-abbrev pub lab : {B S O : Type 0} → List B → S → O → Lab B S O
-lab bench shelf out = record { bench = bench; shelf = shelf; out = out }
+abbrev pub setting : {B S O : Type 0} → List B → S → O → Setting B S O
+setting bench shelf out = record { bench = bench; shelf = shelf; out = out }
 
 -- What is told of these: by the disks, by the shelf and by the output.
-pub record SeenLab (B S O : Type 0) : Type 1 where
+pub record SeenSetting (B S O : Type 0) : Type 1 where
   pub disk : Ghosts B
   pub cuts : Cuts B
   pub shelf : ShelfGhosts S
   pub out : OutGhosts O
 
-abbrev pub seen_lab : {B S O : Type 0} → Ghosts B → Cuts B → ShelfGhosts S → OutGhosts O → SeenLab B S O
-seen_lab disk cuts shelf out = record { disk = disk; cuts = cuts; shelf = shelf; out = out }
+abbrev pub seen_setting : {B S O : Type 0} → Ghosts B → Cuts B → ShelfGhosts S → OutGhosts O → SeenSetting B S O
+seen_setting disk cuts shelf out = record { disk = disk; cuts = cuts; shelf = shelf; out = out }
 
 -- Where it is told what the shelf holds: these octets are the content of the name, or it has none, or that is too long.
 abbrev pub IsContent : Option Holding → List ℕ → List ℕ → Type 0
@@ -167,7 +167,8 @@ pub record ReportRan {O : Type 0} (o : OutGhosts O) (Ends : List ℕ → Status 
   pub line : Shows o.shown o.faults mid now (line_of status)
   pub done : line_of status ≡ [] → now ≡ mid
 
-module _ {B S O : Type 0} (words : List (List ℕ)) (seen : SeenLab B S O) (old new : Lab B S O) (status : Status) where
+module _ {B S O : Type 0} (words : List (List ℕ)) (seen : SeenSetting B S O) (old new : Setting B S O)
+    (status : Status) where
   -- where the words ask for the rehearsal of a schedule that the shelf has, it is played so
   abbrev pub RunsNamed : Type 0
   RunsNamed =

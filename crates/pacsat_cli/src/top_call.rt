@@ -11,7 +11,7 @@ ghost use Rattle.pacsat_cli.specs.Clients.{RunsFetch, RunsList, RunsSend, outsid
 ghost use Rattle.pacsat_cli.specs.Exactly.{FetchEndsExactly, ListEndsExactly, SendEndsExactly, SendRefuses};
 ghost use Rattle.pacsat_cli.specs.Exactly.{SendStarts};
 ghost use Rattle.pacsat_cli.specs.Files.{IsNoSuchBy, IsShownBy, IsTooLongBy};
-ghost use Rattle.pacsat_cli.specs.Rehearsing.{Rehearses, lab, seen_lab};
+ghost use Rattle.pacsat_cli.specs.Rehearsing.{Rehearses, setting, seen_setting};
 ghost use Rattle.pacsat_cli.specs.Run.{HasStatusCause, IsUnless, Shows, Stays};
 ghost use Rattle.pacsat_cli.specs.Servers.{RunsServe, WhereServed};
 ghost use Rattle.pacsat_cli.specs.Sessions.{AsksDisk, AsksMoment, AsksNode, HasDiskCause, HasReadCause, HasStoreCause};
@@ -154,8 +154,8 @@ pub fn run<D: Disk, A: Air, S: Shelf, O: Out, C: Clock, B: CutDisk>(
     // each, and in all that a crash leaves of the server's disk. Or it ends with a status that has its cause, by the
     // content of the name exactly. No other command touches the bench; and it touches neither disk nor air nor clock.
     ensures rehearsal { Rehearses words.now
-        (seen_lab B.Disk (cuts_by B.restarts B.arming B.plain B.is_starved) S.Shelf O.Out)
-        (lab bench.old.items shelf.old out.old) (lab bench.new.items shelf.new out.new) result }
+        (seen_setting B.Disk (cuts_by B.restarts B.arming B.plain B.is_starved) S.Shelf O.Out)
+        (setting bench.old.items shelf.old out.old) (setting bench.new.items shelf.new out.new) result }
     ensures rehearsal_alone { AsksRehearse words.now → (air.new ≡ air.old) × (clock.new ≡ clock.old) }
 
     // A fault is answered only where its count rose; and where it isn't answered, its count stayed, but for the

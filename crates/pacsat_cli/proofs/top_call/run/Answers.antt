@@ -5,7 +5,7 @@ use Rattle.command_words.specs.Words.{AsksClient, AsksMake, AsksRehearse}
 use Rattle.pacsat_cli.specs.declared.files.FileCommand.{FileCommand}
 use Rattle.pacsat_cli.specs.declared.status.Status.TheVariants as status
 use Rattle.disk_model.specs.Cuts.{cuts_by}
-use Rattle.pacsat_cli.specs.Rehearsing.{PlayEnd, lab, seen_lab}
+use Rattle.pacsat_cli.specs.Rehearsing.{PlayEnd, setting, seen_setting}
 use Rattle.pacsat_cli.specs.Status.{line_of}
 use Rattle.pacsat_cli.specs.Stops.{status_of_refusal}
 use Rattle.pacsat_cli.specs.Tasks.{AsksFile, AsksText}
@@ -76,7 +76,7 @@ returns-in-Err g c =
       body = refused-body words only why h g.S.Shelf.held c.args.shelf.now;
       made_alone = λ _. (same c.args.air.now, same c.args.clock.now);
       rehearsal =
-          refused-rehearsal words (seen_lab g.B.Disk (cuts_by g.B.CutDisk.restarts g.B.CutDisk.arming g.B.CutDisk.plain g.B.CutDisk.is_starved) g.S.Shelf g.O.Out) (lab c.args.bench.now.items c.args.shelf.now c.args.out.now) (lab c.args.bench.now.items c.args.shelf.now c.show_line.new.out) (status_of_refusal why) c.one_schedule.ensures
+          refused-rehearsal words (seen_setting g.B.Disk (cuts_by g.B.CutDisk.restarts g.B.CutDisk.arming g.B.CutDisk.plain g.B.CutDisk.is_starved) g.S.Shelf g.O.Out) (setting c.args.bench.now.items c.args.shelf.now c.args.out.now) (setting c.args.bench.now.items c.args.shelf.now c.show_line.new.out) (status_of_refusal why) c.one_schedule.ensures
           (rehearse-memory words only why h) refl line.shown line.no_line;
       rehearsal_alone = λ _. (same c.args.air.now, same c.args.clock.now);
       air_read = record { rose = λ e. absurd (refused-not why status.AirRead refl e); same = λ _ _. same (g.A.Air.read_faults c.args.air.now) };
@@ -145,7 +145,7 @@ returns-in-Session g c =
       made = λ body name spec is. absurd (session-make words only session (inl (body, name, spec, is)));
       body = λ name kept is. absurd (session-make words only session (inr (name, kept, is)));
       made_alone = λ make. absurd (session-make words only session make);
-      rehearsal = no-rehearsal words (seen_lab g.B.Disk (cuts_by g.B.CutDisk.restarts g.B.CutDisk.arming g.B.CutDisk.plain g.B.CutDisk.is_starved) g.S.Shelf g.O.Out) (lab c.args.bench.now.items c.args.shelf.now c.args.out.now) (lab c.args.bench.now.items c.args.shelf.now c.show_line-in-Session.new.out) ran.result (only.session_rehearse session) refl;
+      rehearsal = no-rehearsal words (seen_setting g.B.Disk (cuts_by g.B.CutDisk.restarts g.B.CutDisk.arming g.B.CutDisk.plain g.B.CutDisk.is_starved) g.S.Shelf g.O.Out) (setting c.args.bench.now.items c.args.shelf.now c.args.out.now) (setting c.args.bench.now.items c.args.shelf.now c.show_line-in-Session.new.out) ran.result (only.session_rehearse session) refl;
       rehearsal_alone = λ rehearse. absurd (only.session_rehearse session rehearse);
       air_read = session-read g.D.Disk g.A.Air g.C.Clock.given c.args.disk.now ran.new.disk c.args.air.now ran.new.air c.args.clock.now ran.new.clock asked ran.result words asks only determined over;
       air_write = session-write g.D.Disk g.A.Air g.C.Clock.given c.args.disk.now ran.new.disk c.args.air.now ran.new.air c.args.clock.now ran.new.clock asked ran.result words asks only determined over;
@@ -212,7 +212,7 @@ returns-in-Serve g c =
       made = λ body name spec is. absurd (serve-make words only serve (inl (body, name, spec, is)));
       body = λ name kept is. absurd (serve-make words only serve (inr (name, kept, is)));
       made_alone = λ make. absurd (serve-make words only serve make);
-      rehearsal = no-rehearsal words (seen_lab g.B.Disk (cuts_by g.B.CutDisk.restarts g.B.CutDisk.arming g.B.CutDisk.plain g.B.CutDisk.is_starved) g.S.Shelf g.O.Out) (lab c.args.bench.now.items c.args.shelf.now c.args.out.now) (lab c.args.bench.now.items c.args.shelf.now c.show_line-in-Serve.new.out) ran.result (only.serve_rehearse serve) refl;
+      rehearsal = no-rehearsal words (seen_setting g.B.Disk (cuts_by g.B.CutDisk.restarts g.B.CutDisk.arming g.B.CutDisk.plain g.B.CutDisk.is_starved) g.S.Shelf g.O.Out) (setting c.args.bench.now.items c.args.shelf.now c.args.out.now) (setting c.args.bench.now.items c.args.shelf.now c.show_line-in-Serve.new.out) ran.result (only.serve_rehearse serve) refl;
       rehearsal_alone = λ rehearse. absurd (only.serve_rehearse serve rehearse);
       air_read = serve-read g.D.Disk g.A.Air g.C.Clock.given c.args.disk.now ran.new.disk c.args.air.now ran.new.air c.args.clock.now ran.new.clock asked ran.result words asks only determined over;
       air_write = serve-write g.D.Disk g.A.Air g.C.Clock.given c.args.disk.now ran.new.disk c.args.air.now ran.new.air c.args.clock.now ran.new.clock asked ran.result words asks only determined over;
@@ -276,7 +276,7 @@ returns-in-File g c =
       made = λ body kept asked is. absurd (file-make words only file (inl (body, kept, asked, is)));
       body = λ name kept is. absurd (file-make words only file (inr (name, kept, is)));
       made_alone = λ make. absurd (file-make words only file make);
-      rehearsal = no-rehearsal words (seen_lab g.B.Disk (cuts_by g.B.CutDisk.restarts g.B.CutDisk.arming g.B.CutDisk.plain g.B.CutDisk.is_starved) g.S.Shelf g.O.Out) (lab c.args.bench.now.items c.args.shelf.now c.args.out.now) (lab c.args.bench.now.items ran.new.shelf c.show_line-in-File.new.out) ran.result (file-rehearse words only file) refl;
+      rehearsal = no-rehearsal words (seen_setting g.B.Disk (cuts_by g.B.CutDisk.restarts g.B.CutDisk.arming g.B.CutDisk.plain g.B.CutDisk.is_starved) g.S.Shelf g.O.Out) (setting c.args.bench.now.items c.args.shelf.now c.args.out.now) (setting c.args.bench.now.items ran.new.shelf c.show_line-in-File.new.out) ran.result (file-rehearse words only file) refl;
       rehearsal_alone = λ rehearse. absurd (file-rehearse words only file rehearse);
       air_read = record { rose = λ e. absurd (isnt status.AirRead refl e); same = λ _ _. same (g.A.Air.read_faults c.args.air.now) };
       air_write = record { rose = λ e. absurd (isnt status.AirWrite refl e); same = λ _ _ _ _. same (g.A.Air.write_faults c.args.air.now) };
@@ -348,7 +348,7 @@ returns-in-Make g c =
       made = make-runs words g.S.Shelf.held c.args.shelf.now ran.new.shelf ran.result only determined command asks made;
       body = body-runs words g.S.Shelf.held c.args.shelf.now ran.new.shelf ran.result only determined command asks made;
       made_alone = λ _. (same c.args.air.now, same c.args.clock.now);
-      rehearsal = no-rehearsal words (seen_lab g.B.Disk (cuts_by g.B.CutDisk.restarts g.B.CutDisk.arming g.B.CutDisk.plain g.B.CutDisk.is_starved) g.S.Shelf g.O.Out) (lab c.args.bench.now.items c.args.shelf.now c.args.out.now) (lab c.args.bench.now.items ran.new.shelf c.show_line-in-Make.new.out) ran.result (make-rehearse words only make) refl;
+      rehearsal = no-rehearsal words (seen_setting g.B.Disk (cuts_by g.B.CutDisk.restarts g.B.CutDisk.arming g.B.CutDisk.plain g.B.CutDisk.is_starved) g.S.Shelf g.O.Out) (setting c.args.bench.now.items c.args.shelf.now c.args.out.now) (setting c.args.bench.now.items ran.new.shelf c.show_line-in-Make.new.out) ran.result (make-rehearse words only make) refl;
       rehearsal_alone = λ rehearse. absurd (make-rehearse words only make rehearse);
       air_read = record { rose = λ e. absurd (isnt status.AirRead refl e); same = λ _ _. same (g.A.Air.read_faults c.args.air.now) };
       air_write = record { rose = λ e. absurd (isnt status.AirWrite refl e); same = λ _ _ _ _. same (g.A.Air.write_faults c.args.air.now) };
@@ -423,7 +423,7 @@ returns-in-Client g c =
       made = λ body kept spec is. absurd (make-client words only (inl (body, kept, spec, is)) client);
       body = λ name kept is. absurd (make-client words only (inr (name, kept, is)) client);
       made_alone = λ make. absurd (make-client words only make client);
-      rehearsal = no-rehearsal words (seen_lab g.B.Disk (cuts_by g.B.CutDisk.restarts g.B.CutDisk.arming g.B.CutDisk.plain g.B.CutDisk.is_starved) g.S.Shelf g.O.Out) (lab c.args.bench.now.items c.args.shelf.now c.args.out.now) (lab c.args.bench.now.items ran.new.shelf c.show_line-in-Client.new.out) ran.result (only.client_rehearse client) refl;
+      rehearsal = no-rehearsal words (seen_setting g.B.Disk (cuts_by g.B.CutDisk.restarts g.B.CutDisk.arming g.B.CutDisk.plain g.B.CutDisk.is_starved) g.S.Shelf g.O.Out) (setting c.args.bench.now.items c.args.shelf.now c.args.out.now) (setting c.args.bench.now.items ran.new.shelf c.show_line-in-Client.new.out) ran.result (only.client_rehearse client) refl;
       rehearsal_alone = λ rehearse. absurd (only.client_rehearse client rehearse);
       air_read = did.read;
       air_write = did.write;
@@ -487,7 +487,7 @@ returns-in-Rehearse g c =
       body = λ name kept is. absurd (make-rehearse words only (inr (name, kept, is)) rehearse);
       made_alone = λ make. absurd (make-rehearse words only make rehearse);
       rehearsal =
-          rehearses words (seen_lab g.B.Disk (cuts_by g.B.CutDisk.restarts g.B.CutDisk.arming g.B.CutDisk.plain g.B.CutDisk.is_starved) g.S.Shelf g.O.Out) (lab c.args.bench.now.items c.args.shelf.now c.args.out.now) (lab ran.new.bench.items ran.new.shelf c.show_line-in-Rehearse.new.out) ran.result
+          rehearses words (seen_setting g.B.Disk (cuts_by g.B.CutDisk.restarts g.B.CutDisk.arming g.B.CutDisk.plain g.B.CutDisk.is_starved) g.S.Shelf g.O.Out) (setting c.args.bench.now.items c.args.shelf.now c.args.out.now) (setting ran.new.bench.items ran.new.shelf c.show_line-in-Rehearse.new.out) ran.result
           c.one_schedule.ensures only determined ran.new.out line.shown line.no_line request asks ran.ensures.shown;
       rehearsal_alone = λ _. (same c.args.air.now, same c.args.clock.now);
       air_read = record { rose = λ e. absurd (isnt status.AirRead refl e); same = λ _ _. same (g.A.Air.read_faults c.args.air.now) };
