@@ -26,7 +26,7 @@ use Rattle.air_rehearsal.proofs.CutsAtEnd.{tells_cuts}
 use Rattle.air_rehearsal.proofs.FirstBench.{all_at}
 use Rattle.air_rehearsal.proofs.WholeRehearsal.{RehearsalLaws, rehearsed}
 
-stage_disk :
+pub stage_disk :
     {B : Type 0} (world : World) (at : Bench B) (station : Station) (stage : Stage B) → IsStage world at station stage
     → slice_get (at.disk ∷ at.disks) (place_of station) ≡ Some stage.disk
 stage_disk world at the_server stage is = ap (λ (s : Stage _). Some s.disk) (sym is)
@@ -83,7 +83,7 @@ module _ {B : Type 0} (g : Ghosts B) (cuts : Cuts B)
   world = last_world (first_world schedule) worlds
 
   -- The bench was played, where each station's disk ends so.
-  bench_played :
+  pub bench_played :
       (ends : Station → Stage B → B → Type 0) (bench_now : List B)
       → ((station : Station) (stage : Stage B) → IsStationOf schedule station → IsStage world at station stage
       → (disk_now : B) × (slice_get bench_now (place_of station) ≡ Some disk_now) × ends station stage disk_now)

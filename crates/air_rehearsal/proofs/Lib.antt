@@ -30,6 +30,11 @@ mod Finished
 mod FirstBench
 mod FramesTo
 mod HeardLemmas
+mod HalfwayClients
+mod HalfwayCuts
+mod HalfwayOpening
+mod HalfwayPlay
+mod HalfwayServer
 mod HearingLanes
 mod ImagesThrough
 mod KeptLemmas

@@ -86,7 +86,7 @@ module _ {B : Type 0} (g : Ghosts B) (cuts : Cuts B)
     | inl tried ↦
         inl (
           tt,
-          halfway_tried g cuts lasts_so counts_now the_server (StandsFor the_server last.world)
+          λ reads. halfway_tried g cuts lasts_so counts_now the_server (StandsFor the_server last.world)
               (λ content image has same. server_alike last.world content image blocks has same) last.disk disk_now
               stands.content stands.is_content stands.stands tried,
         )

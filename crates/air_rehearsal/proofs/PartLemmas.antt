@@ -59,6 +59,10 @@ module _ {D : Type 0} (g : Ghosts D) (lasts : (disk : D) → g.lasts disk disk) 
     lasts = lasts disk;
   }
 
+  pub carries_same : (whole : ClientPart) (disk disk_now : D) → disk_now ≡ disk → CarriesPart g whole disk disk_now
+  carries_same whole disk disk_now same =
+      subst (λ (now : D). CarriesPart g whole disk now) (sym same) (carries_none whole disk)
+
   -- where the part has no command, and its notes stand on the disk
   pub touches_none : {T : Type 0} (whole : ClientPart) (disk : D) (came : Result T Halt) → client_commands whole ≡ []
       → OnOk came (EachImage g disk (λ image. StandsFor image whole.party.client.lists))

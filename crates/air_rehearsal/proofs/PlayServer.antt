@@ -185,6 +185,18 @@ next_of_moment : (events moment then : ℕ) → moment ≡ events % 2 ^ 32 → t
     → then ≡ suc events % 2 ^ 32
 next_of_moment events moment then is next = omega (arith, is, next)
 
+module _ {B : Type 0} (g : Ghosts B) (cuts : Cuts B) (world : World) (old : Bench B) (counted : Stations)
+    (playing : IsPlaying g cuts world old) (counts : CountsEvent old.stations counted) where
+  -- the stations play the world still, at the moment of its next event
+  pub counted_is_bench : IsBench g cuts world (record old { stations = counted })
+  counted_is_bench =
+      subst (λ (s : Stations). IsBench g cuts world (record old { stations = s })) (sym counts.same)
+      (counted_bench g cuts world old playing.bench counted.moment counted.report)
+
+  pub counted_moment : counted.moment ≡ next_moment world
+  counted_moment =
+      next_of_moment world.events old.stations.moment counted.moment playing.moment counts.moment_is
+
 -- the event that was counted is played
 pub plays_event :
     {B : Type 0} (g : Ghosts B) (cuts : Cuts B) (world : World) (event : Event) (old new : Bench B) (counted : Stations)
@@ -193,15 +205,11 @@ pub plays_event :
     → GoesOn g cuts world event (record old { stations = counted }) new)
     → PlaysEvent g cuts world event old new
 plays_event {B} g cuts world event old new counted playing counts goes =
-    let moment : counted.moment ≡ next_moment world =
-    next_of_moment world.events old.stations.moment counted.moment playing.moment counts.moment_is in
+    let moment = counted_moment g cuts world old counted playing counts in
     record {
       counted = counted;
       counted_is = counts.same;
       moment_is = moment;
       one_more = counts.one_more;
-      goes =
-          goes
-          (subst (λ (s : Stations). IsBench g cuts world (record old { stations = s })) (sym counts.same)
-          (counted_bench g cuts world old playing.bench counted.moment counted.report)) moment;
+      goes = goes (counted_is_bench g cuts world old counted playing counts) moment;
     }

@@ -39,17 +39,17 @@ pub told-content : (content : Option (List ℕ)) → IsTold content → (octets 
 told-content None told = absurd (let no : false ≡ true = told in cc)
 told-content (Some octets) told = (octets, refl)
 
-missed-none : (before now missed : ℕ) → CountsSome before now missed → now ≡ before → before < 18446744073709551615
+pub missed-none : (before now missed : ℕ) → CountsSome before now missed → now ≡ before → before < 18446744073709551615
     → missed ≡ 0
 missed-none before now missed counts same below = elim counts.rose [
   | inl rose ↦ omega (arith, rose, same)
   | inr last ↦ absurd (let no : ⊥ = omega (arith, last, same, below) in no)
 ]
 
-no-reads : NoReadFails []
+pub no-reads : NoReadFails []
 no-reads part = refl
 
-no-reads-at-write : (failing : ℕ) → NoReadFails (failed_write failing)
+pub no-reads-at-write : (failing : ℕ) → NoReadFails (failed_write failing)
 no-reads-at-write failing part = by _
   where
     by : (b : Bool) → ((b && false) || false) ≡ false

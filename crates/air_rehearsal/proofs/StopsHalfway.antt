@@ -11,7 +11,7 @@ use Rattle.file_journal.specs.Calls.{Leaves, TellsAlike, images_now}
 use Rattle.air_world.specs.Schedule.{Event}
 use Rattle.air_rehearsal.specs.Chain.{CarriesOut, Stage}
 use Rattle.air_rehearsal.specs.Halfway.{FailsToCut, IsHalfway, StopsBy, StopsCutOff, StopsCutting, StopsRestarting}
-use Rattle.air_rehearsal.specs.Halfway.{TriesToOpen, TriesToStart}
+use Rattle.air_rehearsal.specs.Halfway.{TriesToOpen, TriesToStart, WhereRead}
 use Rattle.air_rehearsal.specs.Rehearsed.{EndsHalf, StandsAmid}
 use Rattle.air_rehearsal.specs.Standing.{StandsAlike, StandsDuring, StandsNow}
 use Rattle.air_rehearsal.specs.Stations.{Role, Station, acts, breaks_off, client_at, looks_on, role_of, the_server}
@@ -197,14 +197,33 @@ module _ {B : Type 0} (g : Ghosts B) (cuts : Cuts B)
         more)
         does.lasts
 
+    -- no fewer reads failed than before the cut
+    reads_on :
+        (lost disk_now : B) → StopsCutting g cuts (λ other. other ≡ station) lost disk_now
+        → g.read_faults lost ≤ g.read_faults disk_now
+    reads_on lost disk_now stops = elim stops [
+      | inl same ↦ (let still = ap g.read_faults same in omega (arith, still))
+      | inr more ↦ elim more [
+        | inl fails ↦ (let still = fails.keeps.reads in omega (arith, still))
+        | inr restarts ↦
+            (let still = restarts.keeps.reads in
+            let last = (lasts_so restarts.left disk_now (restarts.tries station refl).lasts).reads in
+            omega (arith, still, last))
+      ]
+    ]
+
     cut_off : (call : ℕ) (disk_now : B) → StopsCutOff g cuts station call old event disk_now
-        → IsHalfway g cuts Amid old.disk disk_now
-    cut_off call disk_now stops =
+        → g.read_faults disk_now ≡ g.read_faults old.disk → IsHalfway g cuts Amid old.disk disk_now
+    cut_off call disk_now stops reads =
+        let first = stops.arms.reads in
+        let next = (lasts_so stops.armed stops.lost stops.lasts).reads in
+        let last = reads_on stops.lost disk_now stops.stops in
+        let same : g.read_faults stops.lost ≡ g.read_faults stops.armed = omega (arith, first, next, last, reads) in
         let half = carried stops.armed stops.lost (stops.arms.nothing_else.same_content ∙ stands.is_content)
-        stops.carries in
+        (stops.carries same) in
         halfway_cut station Amid alike old.disk stops.armed stops.lost (Some (call - 1)) stops.arms
         (told_by (g.content old.disk) stands.content stands.is_content) (λ image is. inl (stands.images image is)) half
-        (lasts_so stops.armed stops.lost stops.carries.lasts).restarts (λ other. other ≡ station) disk_now refl
+        (lasts_so stops.armed stops.lost stops.lasts).restarts (λ other. other ≡ station) disk_now refl
         stops.stops
 
     -- what is left where the event fails: the disk is amid it, or the same
@@ -212,14 +231,15 @@ module _ {B : Type 0} (g : Ghosts B) (cuts : Cuts B)
         (role : Role) (waiting : Option ℕ) (disk_now : B) → role_of station event ≡ role
         → StopsBy g cuts station role waiting old event disk_now
         → (((role_of station event ≡ acts) ⊎ (role_of station event ≡ breaks_off))
-        × IsHalfway g cuts Amid old.disk disk_now)
+        × WhereRead g old.disk disk_now (IsHalfway g cuts Amid old.disk disk_now))
         ⊎ (disk_now ≡ old.disk)
-    ends_by acts None disk_now is stops = inl (inl is, carried old.disk disk_now stands.is_content stops)
-    ends_by acts (Some call) disk_now is stops = inl (inl is, cut_off call disk_now stops)
+    ends_by acts None disk_now is stops =
+        inl (inl is, λ reads. carried old.disk disk_now stands.is_content (stops reads))
+    ends_by acts (Some call) disk_now is stops = inl (inl is, λ reads. cut_off call disk_now stops reads)
     ends_by breaks_off waiting disk_now is stops =
         inl (
           inr is,
-          halfway_tried station Amid alike old.disk disk_now stands.content stands.is_content (inl stands.stands) stops,
+          λ reads. halfway_tried station Amid alike old.disk disk_now stands.content stands.is_content (inl stands.stands) stops,
         )
     ends_by (will_be_cut call) waiting disk_now is stops = inr stops
     ends_by looks_on waiting disk_now is stops = inr stops

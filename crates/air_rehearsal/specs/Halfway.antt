@@ -1,23 +1,25 @@
 -- What is left of a station's disk where memory was wanting: in mid-event, at a cut, or while the station started.
-use Rattle.std.specs.Prelude.{◌≡◌, ◌⊎◌, ℕ, ◌-◌, ◌<◌, ◌≤◌, List, [], ◌∷◌, ◌++◌, length, slice_get, true, Option}
-use Rattle.std.specs.Prelude.{None, Some}
-use Rattle.std.specs.Option.{option_and_then, option_map}
+use Rattle.std.specs.Prelude.{◌≡◌, ◌⊎◌, ℕ, ◌-◌, ◌<◌, ◌≤◌, List, [], ◌∷◌, ◌++◌, length, slice_get, slice_set, true}
+use Rattle.std.specs.Prelude.{Option, None, Some}
+use Rattle.std.specs.Option.{option_map}
 use Rattle.disk_model.specs.Cuts.{ArmsOnly, Cuts, KeepsPast, LosesPower}
 use Rattle.disk_model.specs.Disk.{IsTold}
 use Rattle.disk_model.specs.Moments.{LeavesOnly}
 use Rattle.disk_model.specs.declared.disk.Disk.{Ghosts}
 use Rattle.file_journal.specs.Calls.{Leaves, TellsAlike}
+use Rattle.ftl0_server.specs.ServerState.{ServerState}
 use Rattle.air_world.specs.Events.{ClientPart}
+use Rattle.air_world.specs.Lawful.{IsAllowed}
 use Rattle.air_world.specs.Schedule.{Event}
 use Rattle.air_world.specs.World.{World}
 use Rattle.air_rehearsal.specs.Chain.{CarriesOut, Stage}
+use Rattle.air_rehearsal.specs.Playing.{IsBench, client_count, waiting_in}
+use Rattle.air_rehearsal.specs.Seats.{Clients, with_server}
 use Rattle.air_rehearsal.specs.Standing.{StandsAlike}
-use Rattle.air_rehearsal.specs.ServerEvents.{waiting_of}
 use Rattle.air_rehearsal.specs.Stations.{Role, Station, acts, breaks_off, client_at, looks_on, place_of, role_of}
 use Rattle.air_rehearsal.specs.Stations.{the_server, will_be_cut}
 use Rattle.air_rehearsal.specs.TakingPart.{CarriesPart}
 use Rattle.air_rehearsal.specs.declared.cuts.Cut.{Cut}
-use Rattle.air_rehearsal.specs.declared.party.Party.{Party}
 use Rattle.air_rehearsal.specs.declared.stations.Stations.{Stations}
 
 -- Power was cut at most once more: then what was left has P.
@@ -42,16 +44,21 @@ pub record TriesToStart {B : Type 0} (g : Ghosts B) (station : Station) (disk di
   pub since : Leaves g disk disk_now (StandsAlike station)
   pub lasts : g.lasts disk disk_now
 
--- the cut that waits for the station, by the number of its call
-abbrev pub waiting_in : Stations → Station → Option ℕ
-waiting_in stations the_server = waiting_of stations.cut
-waiting_in stations (client_at c) =
-    option_and_then (λ (party : Party). waiting_of party.cut) (slice_get stations.parties.items c)
-
 -- the station of these stations, in this world, over this disk
 abbrev pub stage_of : {B : Type 0} → Stations → World → Station → B → Stage B
 stage_of stations world station disk =
     record { world = world; waiting = waiting_in stations station; disk = disk }
+
+-- The disk at this place became another one so, and no other one was touched; or none was.
+abbrev pub LeavesAt : {B : Type 0} → ℕ → (B → B → Type 0) → List B → List B → Type 0
+LeavesAt {B} c P disks disks_now =
+    (disks_now ≡ disks)
+    ⊎ ((disk : B) × (disk_now : B) × (slice_get disks c ≡ Some disk) × (disks_now ≡ slice_set disks c disk_now)
+    × P disk disk_now)
+
+-- So it is where no read of the disk failed between the two.
+abbrev pub WhereRead : {B : Type 0} → Ghosts B → B → B → Type 0 → Type 0
+WhereRead g disk disk_now P = g.read_faults disk_now ≡ g.read_faults disk → P
 
 module _ {B : Type 0} (g : Ghosts B) (cuts : Cuts B) where
   -- Its arming is taken away, and the station was to start from it for the first time.
@@ -102,14 +109,17 @@ module _ {B : Type 0} (g : Ghosts B) (cuts : Cuts B) where
       pub armed : B
       pub arms : ArmsOnly g cuts (Some (call - 1)) old.disk armed
       pub lost : B
-      pub carries : CarriesOut g station old.world event armed lost
+      pub lasts : g.lasts armed lost
+      pub carries : WhereRead g armed lost (CarriesOut g station old.world event armed lost)
       pub stops : StopsCutting (λ other. other ≡ station) lost disk_now
 
     -- What an event leaves of the disk where it fails, by what it is for the station, and by the cut that waited: what
     -- `to_server`, `tick_server` and `break_client` leave, and `take_part` of the stations, of each disk. In an event
-    -- of another one, and where a cut is noted, the disk is the same.
+    -- of another one, and where a cut is noted, the disk is the same. Where a read failed nothing is said of what was
+    -- carried out.
     abbrev pub StopsBy : Role → Option ℕ → Stage B → Event → B → Type 0
-    StopsBy acts None old event disk_now = CarriesOut g station old.world event old.disk disk_now
+    StopsBy acts None old event disk_now =
+        WhereRead g old.disk disk_now (CarriesOut g station old.world event old.disk disk_now)
     StopsBy acts (Some call) old event disk_now = StopsCutOff call old event disk_now
     StopsBy breaks_off waiting old event disk_now = TriesToStart g station old.disk disk_now
     StopsBy (will_be_cut call) waiting old event disk_now = disk_now ≡ old.disk
@@ -126,7 +136,16 @@ module _ {B : Type 0} (g : Ghosts B) (cuts : Cuts B) where
         → StopsBy station (role_of station event) (waiting_in stations station)
         (stage_of stations world station disk) event disk_now
         ⊎ (disk_now ≡ disk)
+    pub others :
+        (place : ℕ) → client_count stations < place → slice_get bench_now place ≡ slice_get bench place
     pub as_many : length bench_now ≡ length bench
+
+  -- So it is of an event in which the server takes no part, whichever world is played, and whatever its server is.
+  abbrev pub StopsApart : Event → Clients B → List B → Type 0
+  StopsApart event old disks_now =
+      (world : World) (server : ServerState) (disk : B) → IsBench g cuts world (with_server old server disk)
+      → IsAllowed world event
+      → StopsEvent old.stations world event (disk ∷ old.disks) (disk ∷ disks_now)
 
   -- What `Stations::open` leaves of the disks of so many clients where it fails: of each what its start leaves, or the
   -- same where memory was wanting before. `Stations::start` leaves the server's disk as `TriesToOpen` says, and

@@ -14,7 +14,7 @@ use Rattle.air_world.specs.Schedule.{Event, Schedule}
 use Rattle.air_world.specs.World.{World, first_world}
 use Rattle.air_rehearsal.specs.Chain.{Stage}
 use Rattle.air_rehearsal.specs.Counting.{Tells}
-use Rattle.air_rehearsal.specs.Halfway.{IsHalfway}
+use Rattle.air_rehearsal.specs.Halfway.{IsHalfway, WhereRead}
 use Rattle.air_rehearsal.specs.Played.{BenchPlayed, EndsWhole, PlayedAt, StaysSo, TellsCuts, first_stage}
 use Rattle.air_rehearsal.specs.Report.{IsReport, Report, last_world}
 use Rattle.air_rehearsal.specs.ServerEvents.{CanCount}
@@ -108,10 +108,11 @@ module _ {B : Type 0} (g : Ghosts B) (cuts : Cuts B) where
   abbrev pub HalfStep : Station → List Event → Stage B → B → Type 0
   HalfStep station rest last disk_now = IsHalfway g cuts (StandsAmid station last.world rest) last.disk disk_now
 
-  -- a disk that is in use is amid it, and no other one is touched
+  -- A disk that is in use is amid it, unless a read of it failed; and no other one is touched.
   abbrev pub EndsHalf : List Event → Station → Stage B → B → Type 0
   EndsHalf rest station last disk_now =
-      (IsInUse station rest × HalfStep station rest last disk_now) ⊎ (disk_now ≡ last.disk)
+      (IsInUse station rest × WhereRead g last.disk disk_now (HalfStep station rest last disk_now))
+      ⊎ (disk_now ≡ last.disk)
 
   -- Memory was wanting while the stations were made: each disk is amid that.
   pub record StopsAtOpening (schedule : Schedule) (bench bench_now : List B) : Type 0 where

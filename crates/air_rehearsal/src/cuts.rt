@@ -1,7 +1,8 @@
 //! The cuts of power.
 
-ghost use Rattle.std.specs.Prelude.{◌-◌, OnOk, Some};
+ghost use Rattle.std.specs.Prelude.{◌≡◌, ◌⊎◌, ◌-◌, OnErr, OnOk, Some};
 ghost use Rattle.disk_model.specs.Cuts.{ArmsOnly, cuts_by};
+ghost use Rattle.air_rehearsal.specs.Halfway.{FailsToCut};
 ghost use Rattle.air_rehearsal.specs.Strikes.{Strikes};
 
 use disk_model::{CutDisk, Halt};
@@ -31,8 +32,10 @@ impl Cut {
         disk: &mut B,
         came: Result<(), Halt>,
     ) -> Result<(), OutOfMemory>
-        ensures { OnOk result (Strikes B.Disk (cuts_by B.restarts B.arming B.plain B.is_starved)
+        ensures strikes { OnOk result (Strikes B.Disk (cuts_by B.restarts B.arming B.plain B.is_starved)
             disk.old disk.new came) }
+        ensures fails { OnErr result ((disk.new ≡ disk.old)
+            ⊎ FailsToCut B.Disk (cuts_by B.restarts B.arming B.plain B.is_starved) disk.old disk.new) }
     {
         if came == Err(Halt::OutOfMemory) || disk.starved() {
             return Err(OutOfMemory);

@@ -1,6 +1,6 @@
 //! A client of the rehearsal.
 
-ghost use Rattle.std.specs.Prelude.{◌≡◌, ◌≤◌, ◌<◌, ◌↔◌, length, IfOk, IfSome, IsTrue, MatchOption, OnOk};
+ghost use Rattle.std.specs.Prelude.{◌≡◌, ◌≤◌, ◌<◌, ◌↔◌, ℕ, length, IfOk, IfSome, IsTrue, MatchOption, OnOk};
 ghost use Rattle.ax25_frames.specs.FrameText.{FrameText, FrameValue};
 ghost use Rattle.ax25_frames.specs.Kinds.{FitsControl};
 ghost use Rattle.ax25_frames.specs.Values.{value_of};
@@ -17,6 +17,7 @@ ghost use Rattle.ftl0_job.specs.declared.work.Work.TheVariants as work;
 ghost use Rattle.node.specs.Events.{IsFor};
 ghost use Rattle.air_world.specs.Events.{ClientPart, DeliversToClient, asking, part_with};
 ghost use Rattle.air_world.specs.Lawful.{IsFree as IsFreeParty};
+ghost use Rattle.air_rehearsal.specs.Halfway.{TriesToStart};
 ghost use Rattle.air_rehearsal.specs.Lanes.{HasLanes, Lanes};
 ghost use Rattle.air_rehearsal.specs.PartCalls.{BeginsPart, HasTaskOf, KeepsButNotes, KeepsOthers, Restarts, SaysAll};
 ghost use Rattle.air_rehearsal.specs.PartCalls.{StartsTask, TouchesPart, uploads_then};
@@ -24,7 +25,8 @@ ghost use Rattle.air_rehearsal.specs.Drawn.{last_acked as last_acked_in};
 ghost use Rattle.air_rehearsal.specs.NotedTasks.{number_if_acked, number_if_going};
 ghost use Rattle.air_rehearsal.specs.PartyCalls.{BreaksOff, IsLastGoing, IsOpened};
 ghost use Rattle.air_rehearsal.specs.Ready.{IsReadyParty, IsTheirs, KeepsParty};
-ghost use Rattle.air_rehearsal.specs.TakingPart.{AsksNext, IsSeat, Resumes, Seat};
+ghost use Rattle.air_rehearsal.specs.Stations.{client_at};
+ghost use Rattle.air_rehearsal.specs.TakingPart.{AsksNext, CarriesPart, IsSeat, Resumes, Seat};
 ghost use Rattle.air_rehearsal.specs.Worlds.{IsSteady};
 
 use crate::asking::sum_of;
@@ -66,6 +68,7 @@ impl Party {
         requires { IsGoodK k }
         ensures ready { IfOk result (λ party. IsReadyParty D.Disk party disk.new) }
         ensures opens { IfOk result (λ party. IsOpened D.Disk server me k disk.old disk.new party) }
+        ensures tries { (c : ℕ) → TriesToStart D.Disk (client_at c) disk.old disk.new }
     {
         match Notes::recover(alloc, disk) {
             Ok(notes) => Ok(Party {
@@ -93,6 +96,7 @@ impl Party {
             → IsSteady B.Disk (cuts_by B.restarts B.arming B.plain B.is_starved) disk.old
             → BreaksOff B.Disk (cuts_by B.restarts B.arming B.plain B.is_starved) seat self.old self.new disk.old
             disk.new) }
+        ensures tries { (c : ℕ) → TriesToStart B.Disk (client_at c) disk.old disk.new }
     {
         images_law(self.client.notes(), disk);
         self.restart(alloc, disk)?;
@@ -111,6 +115,7 @@ impl Party {
         requires { IsGoodK self.old.k }
         ensures ready { OnOk result (IsReadyParty D.Disk self.new disk.new) }
         ensures restarts { OnOk result (Restarts D.Disk self.old self.new disk.old disk.new) }
+        ensures tries { (c : ℕ) → TriesToStart D.Disk (client_at c) disk.old disk.new }
     {
         match Notes::recover(alloc, disk) {
             Ok(notes) => {
@@ -231,6 +236,8 @@ impl Party {
         ensures theirs { OnOk result (IsTheirs D.Disk self.new disk.new) }
         ensures begins { OnOk result ((seat : Seat) (whole : ClientPart) → IsSeat self.old seat
             → AsksNext seat upload file whole → BeginsPart D.Disk whole self.old self.new disk.old disk.new) }
+        ensures carries { (seat : Seat) (whole : ClientPart) → IsSeat self.old seat → AsksNext seat upload file whole
+            → CarriesPart D.Disk whole disk.old disk.new }
     {
         let Ok(task) = self.start(disk, upload, file.as_slice()) else {
             return Err(OutOfMemory);
@@ -240,8 +247,8 @@ impl Party {
     }
 
     /// The task of this number, of an upload's file, is looked for by the upload's name, and gone on with. It fails
-    /// where another task of the name is found, or another number on the server. Nothing changes where it doesn't
-    /// fail.
+    /// where the last task of the name isn't unfinished, or is another one, or has another number on the server. The
+    /// disk isn't touched, and nothing changes where it doesn't fail.
     pub(crate) fn go_on<D: Disk>(
         &mut self,
         disk: &mut D,
@@ -254,16 +261,18 @@ impl Party {
         requires free { IsFree self.old.client }
         requires short { length file.now ≤ longest_file }
         ensures same { OnOk result (self.new ≡ self.old) }
-        ensures same_disk { OnOk result (disk.new ≡ disk.old) }
+        ensures same_disk { disk.new ≡ disk.old }
         ensures has { OnOk result (HasTaskOf self.new.client task number file.now) }
     {
-        let mut name = Buffer::new();
+        let mut buffer = Buffer::new();
+        let name = buffer.format(upload);
+        let noted = self.client.notes().noted(self.server, self.me, name);
+        let Some(Noted::Going { .. }) = noted else {
+            return Err(OutOfMemory);
+        };
         let digest = sum_of(file);
         let length = file.len() as u32;
-        match self
-            .client
-            .start_task(disk, name.format(upload), length, digest)
-        {
+        match self.client.start_task(disk, name, length, digest) {
             Ok(
                 Begun::Going {
                     task: found,
@@ -290,6 +299,7 @@ impl Party {
         ensures begins { OnOk result ((seat : Seat) (whole : ClientPart) → IsSeat self.old seat
             → Resumes seat task number file whole
             → BeginsPart D.Disk whole self.old self.new disk.old disk.new) }
+        ensures untouched { disk.new ≡ disk.old }
     {
         if task == 0 {
             return Err(OutOfMemory);
@@ -317,6 +327,7 @@ impl Party {
         ensures begins { OnOk result ((seat : Seat) (whole : ClientPart) → IsSeat self.old seat
             → whole ≡ asking seat.party (work.Directory (new_directory tokens))
             → BeginsPart D.Disk whole self.old self.new _disk.old _disk.new) }
+        ensures untouched { _disk.new ≡ _disk.old }
     {
         self.client.ask(alloc, Job::list(alloc, tokens))?;
         Ok(())
@@ -336,6 +347,7 @@ impl Party {
         ensures begins { OnOk result ((seat : Seat) (whole : ClientPart) → IsSeat self.old seat
             → whole ≡ asking seat.party (work.Download (new_download seat.party.client.server number))
             → BeginsPart D.Disk whole self.old self.new _disk.old _disk.new) }
+        ensures untouched { _disk.new ≡ _disk.old }
     {
         // What is got of a file is no longer than a file may be.
         let _held = self.client.notes().got_len(self.server, number);
@@ -379,6 +391,7 @@ impl Party {
         ensures begins { (seat : Seat) (whole : ClientPart) → IsSeat self.old seat
             → whole ≡ part_with seat.party ticks
             → BeginsPart D.Disk whole self.old self.new _disk.old _disk.new }
+        ensures untouched { _disk.new ≡ _disk.old }
     {
         self.client.tick();
     }

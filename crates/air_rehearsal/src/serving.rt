@@ -1,6 +1,6 @@
 //! The events of the server.
 
-ghost use Rattle.std.specs.Prelude.{◌≡◌, ℕ, suc, [], ◌∷◌, slice_get, false, IfOk, OnOk};
+ghost use Rattle.std.specs.Prelude.{◌≡◌, ℕ, suc, [], ◌∷◌, slice_get, false, IfOk, OnErr, OnOk};
 ghost use Rattle.ax25_frames.specs.FrameText.{FrameText, FrameValue};
 ghost use Rattle.ax25_link.specs.Window.{IsGoodK};
 ghost use Rattle.disk_model.specs.Cuts.{cuts_by};
@@ -11,10 +11,13 @@ ghost use Rattle.air_world.specs.Lawful.{IsAllowed};
 ghost use Rattle.air_world.specs.Schedule.{tick_server, to_server};
 ghost use Rattle.air_world.specs.Sound.{Sound};
 ghost use Rattle.air_world.specs.World.{World, next_moment};
+ghost use Rattle.air_rehearsal.specs.Halfway.{StopsBy, StopsCutting};
 ghost use Rattle.air_rehearsal.specs.Ready.{IsReadyServer, IsUp, KeepsAllButLanes, KeepsClients};
 ghost use Rattle.air_rehearsal.specs.ServerCalls.{AreTimed, ArmsFor, IsCutSo, IsTaken, IsTimed, RepliesAt};
 ghost use Rattle.air_rehearsal.specs.ServerCalls.{SendsByTimer, SendsReplies};
-ghost use Rattle.air_rehearsal.specs.ServerEvents.{AwaitsServer, CountsOn, ServesEvent, serving};
+ghost use Rattle.air_rehearsal.specs.ServerEvents.{AwaitsServer, CountsOn, ServesEvent, server_stage, serving};
+ghost use Rattle.air_rehearsal.specs.ServerEvents.{waiting_of};
+ghost use Rattle.air_rehearsal.specs.Stations.{acts, the_server};
 ghost use Rattle.air_rehearsal.specs.Worlds.{PlaysWorld};
 ghost use Rattle.air_rehearsal.specs.declared.party.Party.{Party as PartyState};
 
@@ -44,7 +47,7 @@ impl Stations {
         requires { IsReadyServer B.Disk self.old server disk.old }
         ensures server { IfOk result (λ server. IsReadyServer B.Disk self.new server disk.new) }
         ensures keeps { KeepsClients self.old self.new }
-        ensures faults { OnOk result (CountsOn B.Disk disk.old disk.new) }
+        ensures faults { CountsOn B.Disk disk.old disk.new }
 
         // What becomes of the server of whichever world it is, of its disk and of what was sent.
         ensures serves { IfOk result (λ later. (world : World)
@@ -52,6 +55,12 @@ impl Stations {
             (serving self.old server disk.old) → IsAllowed world (to_server (suc c) (suc place))
             → ServesEvent B.Disk (cuts_by B.restarts B.arming B.plain B.is_starved) world
             (to_server (suc c) (suc place)) (serving self.old server disk.old) (serving self.new later disk.new)) }
+        ensures stops { OnErr result ((world : World)
+            → AwaitsServer B.Disk (cuts_by B.restarts B.arming B.plain B.is_starved) world
+            (serving self.old server disk.old) → IsAllowed world (to_server (suc c) (suc place))
+            → StopsBy B.Disk (cuts_by B.restarts B.arming B.plain B.is_starved) the_server acts
+            (waiting_of self.old.cut) (server_stage world (serving self.old server disk.old))
+            (to_server (suc c) (suc place)) disk.new) }
     {
         misses_law();
         front_of_event_law();
@@ -84,12 +93,17 @@ impl Stations {
         requires { IsReadyServer B.Disk self.old server disk.old }
         ensures server { IfOk result (λ server. IsReadyServer B.Disk self.new server disk.new) }
         ensures keeps { KeepsClients self.old self.new }
-        ensures faults { OnOk result (CountsOn B.Disk disk.old disk.new) }
+        ensures faults { CountsOn B.Disk disk.old disk.new }
         ensures serves { IfOk result (λ later. (world : World)
             → AwaitsServer B.Disk (cuts_by B.restarts B.arming B.plain B.is_starved) world
             (serving self.old server disk.old)
             → ServesEvent B.Disk (cuts_by B.restarts B.arming B.plain B.is_starved) world
             tick_server (serving self.old server disk.old) (serving self.new later disk.new)) }
+        ensures stops { OnErr result ((world : World)
+            → AwaitsServer B.Disk (cuts_by B.restarts B.arming B.plain B.is_starved) world
+            (serving self.old server disk.old)
+            → StopsBy B.Disk (cuts_by B.restarts B.arming B.plain B.is_starved) the_server acts
+            (waiting_of self.old.cut) (server_stage world (serving self.old server disk.old)) tick_server disk.new) }
     {
         misses_law();
         front_of_event_law();
@@ -173,6 +187,8 @@ impl Stations {
         ensures server { IfOk result (λ server. IsReadyServer B.Disk self.now server disk.new) }
         ensures cuts { IfOk result (IsCutSo B.Disk (cuts_by B.restarts B.arming B.plain B.is_starved) self.now came
             disk.old disk.new) }
+        ensures stops { StopsCutting B.Disk (cuts_by B.restarts B.arming B.plain B.is_starved)
+            (λ station. station ≡ the_server) disk.old disk.new }
     {
         server.close();
         cut.strike(disk, came)?;

@@ -1,6 +1,6 @@
 //! The stations of a rehearsal, and which events may come.
 
-ghost use Rattle.std.specs.Prelude.{◌≡◌, ◌↔◌, ◌≤◌, ℕ, List, length, false, IfOk, IsOk, IsTrue, ⊤};
+ghost use Rattle.std.specs.Prelude.{◌≡◌, ◌↔◌, ◌≤◌, ℕ, List, length, false, IfOk, IsOk, IsTrue, OnErr, ⊤};
 ghost use Rattle.std.specs.Option.{option_copied};
 ghost use Rattle.air_schedule.specs.Events.{event_value};
 ghost use Rattle.ax25_link.specs.Air.{Transmission};
@@ -15,9 +15,11 @@ ghost use Rattle.air_rehearsal.specs.Asking.{MayResume, MayTakeFile};
 ghost use Rattle.air_rehearsal.specs.Numbers.{numbered, place_numbered};
 ghost use Rattle.air_rehearsal.specs.Worlds.{PlaysStations};
 ghost use Rattle.disk_model.specs.Cuts.{cuts_by};
+ghost use Rattle.air_rehearsal.specs.Halfway.{StopsOpening, TriesToOpen, TriesToStart};
 ghost use Rattle.air_rehearsal.specs.Opening.{OpensAll, OpensClient, OpensFirst};
 ghost use Rattle.air_rehearsal.specs.Ready.{AreReady, IsReadyParty, IsReadyServer};
 ghost use Rattle.air_rehearsal.specs.ServerCalls.{IsRestarted, IsStarted};
+ghost use Rattle.air_rehearsal.specs.Stations.{client_at, the_server};
 
 use crate::asking::Upload;
 use crate::cuts::Cut;
@@ -72,6 +74,8 @@ impl Stations {
         ensures ready { IfOk result (λ stations. AreReady B.Disk stations.parties.items disks.new) }
         ensures opens { IfOk result (OpensAll B.Disk (cuts_by B.restarts B.arming B.plain B.is_starved) k calls.now
             disks.old disks.new) }
+        ensures stops { OnErr result (StopsOpening B.Disk (cuts_by B.restarts B.arming B.plain B.is_starved)
+            (length calls.now) disks.old disks.new) }
     {
         let Ok(me) = Call::read(SERVER) else {
             return Err(OutOfMemory);
@@ -97,6 +101,8 @@ impl Stations {
         ensures starts { IfOk result (IsStarted B.Disk (cuts_by B.restarts B.arming B.plain B.is_starved) self.now
             disk.old disk.new) }
         ensures memory { IsOk result → B.is_starved disk.new ≡ false }
+        ensures tries { TriesToOpen B.Disk (cuts_by B.restarts B.arming B.plain B.is_starved) the_server
+            disk.old disk.new }
     {
         disk.arm(None);
         let server = self.restart_server(disk)?;
@@ -112,6 +118,7 @@ impl Stations {
         requires { IsGoodK self.now.k }
         ensures ready { IfOk result (λ server. IsReadyServer B.Disk self.now server disk.new) }
         ensures restarts { IfOk result (IsRestarted B.Disk self.now disk.old disk.new) }
+        ensures tries { TriesToStart B.Disk the_server disk.old disk.new }
     {
         match Server::start(self.alloc, disk, LIMITS, self.me, self.k) {
             Ok(server) => Ok(server),
@@ -231,6 +238,8 @@ fn open_parties<B: CutDisk>(
     ensures ready { IfOk result (λ parties. AreReady B.Disk parties.items disks.new) }
     ensures opens { IfOk result (λ parties. OpensFirst B.Disk (cuts_by B.restarts B.arming B.plain B.is_starved)
         server k (length calls.now) calls.now disks.old disks.new parties.items) }
+    ensures stops { OnErr result (StopsOpening B.Disk (cuts_by B.restarts B.arming B.plain B.is_starved)
+        (length calls.now) disks.old disks.new) }
 {
     let mut parties = Vec::new(alloc);
     for c in 0..calls.len() {
@@ -253,6 +262,8 @@ fn open_party<B: CutDisk>(
     ensures opens { IfOk result (λ party. (c : ℕ) →
         OpensClient B.Disk (cuts_by B.restarts B.arming B.plain B.is_starved) server k c me
         (record { before = disk.old; after = disk.new; party = party })) }
+    ensures tries { (c : ℕ) →
+        TriesToOpen B.Disk (cuts_by B.restarts B.arming B.plain B.is_starved) (client_at c) disk.old disk.new }
 {
     disk.arm(None);
     let party = Party::open(alloc, disk, server, me, k)?;

@@ -10,6 +10,7 @@ use Rattle.air_world.specs.Schedule.{IsInRange}
 use Rattle.air_rehearsal.specs.Driving.{Drives, driven_by}
 use Rattle.air_rehearsal.specs.Generator.{TriesIf}
 use Rattle.air_rehearsal.specs.Playing.{bench_of}
+use Rattle.air_rehearsal.proofs.PlayParts.{on_ok_of}
 use Rattle.air_rehearsal.proofs.DriveLemmas.{drives_none, drives_refuses, played-drives}
 use Rattle.air_rehearsal.proofs.generator.Driver.play.Goals as goal
 
@@ -56,4 +57,5 @@ returns g c =
           (c.requires.fits world playing.bench.sound playing.bench.plays.stations);
       possible =
           (c.if-not-allows.ensures world playing.bench.sound playing.bench.plays.stations).0 refl;
-    }) c.play.ensures.server c.play.ensures.clients c.play.ensures.faults c.play.ensures.plays)
+    }) c.play.ensures.server c.play.ensures.clients (on_ok_of c.play.result _ c.play.ensures.faults)
+    c.play.ensures.plays)

@@ -4,6 +4,7 @@ use Rattle.ftl0_client.specs.Outcomes.{outcome_by}
 use Rattle.ftl0_client.specs.declared.outcome.Outcome.{Outcome}
 use Rattle.air_rehearsal.specs.Counting.{TellsThen, asked_more, cut_more, outcome_more}
 use Rattle.air_rehearsal.specs.Seats.{clients_of}
+use Rattle.air_rehearsal.proofs.HalfwayClients.{may_leave}
 use Rattle.air_rehearsal.proofs.PlayParts.{counts_busy, counts_free, images_there, is_free_so, not_free_so, took_part}
 use Rattle.air_rehearsal.proofs.ReadyLemmas.{read_at, ready_after}
 use Rattle.air_rehearsal.proofs.stations.Stations.take_part.Goals as goal
@@ -73,3 +74,36 @@ returns-else-not-was_free-clause-took g c =
     counts_free (outcome_by seat.party.client.attempt) (outcome_by next.attempt) c.count_cut.new.self
     (is_free_so c.is_free-was_free.result c.if-not-was_free.false
     (c.is_free-was_free.ensures.party seat is_seat)))
+
+pub returns-in_err-take_part-clause-stops : goal.returns-in_err-take_part-clause-stops
+returns-in_err-take_part-clause-stops g c =
+    may_leave g.B.Disk (cuts_by g.B.CutDisk.restarts g.B.CutDisk.arming g.B.CutDisk.plain g.B.CutDisk.is_starved)
+    (clients_of c.args.self.now c.args.disks.now) c.args.c c.index_mut-party.result.now
+    (slice_index_or c.args.disks.now c.args.c c.index-disks-c.result) c.take_part.new.disk c.args.part
+    (read_at c.args.self.now.parties.items c.args.c c.index_mut-party.result.now
+    (omega (arith, c.len.ensures, c.if-c-len.false)) c.index_mut-party.ensures.value)
+    (read_at c.args.disks.now c.args.c c.index-disks-c.result c.if-c-disks.false c.index-disks-c.is
+    ∙ ap Some c.index-disks-c.is)
+    c.take_part.ensures.stops
+
+pub returns-then-not-was_free-clause-stops : goal.returns-then-not-was_free-clause-stops
+returns-then-not-was_free-clause-stops g c =
+    may_leave g.B.Disk (cuts_by g.B.CutDisk.restarts g.B.CutDisk.arming g.B.CutDisk.plain g.B.CutDisk.is_starved)
+    (clients_of c.args.self.now c.args.disks.now) c.args.c c.index_mut-party.result.now
+    (slice_index_or c.args.disks.now c.args.c c.index-disks-c.result) c.take_part.new.disk c.args.part
+    (read_at c.args.self.now.parties.items c.args.c c.index_mut-party.result.now
+    (omega (arith, c.len.ensures, c.if-c-len.false)) c.index_mut-party.ensures.value)
+    (read_at c.args.disks.now c.args.c c.index-disks-c.result c.if-c-disks.false c.index-disks-c.is
+    ∙ ap Some c.index-disks-c.is)
+    c.take_part.ensures.stops
+
+pub returns-else-not-was_free-clause-stops : goal.returns-else-not-was_free-clause-stops
+returns-else-not-was_free-clause-stops g c =
+    may_leave g.B.Disk (cuts_by g.B.CutDisk.restarts g.B.CutDisk.arming g.B.CutDisk.plain g.B.CutDisk.is_starved)
+    (clients_of c.args.self.now c.args.disks.now) c.args.c c.index_mut-party.result.now
+    (slice_index_or c.args.disks.now c.args.c c.index-disks-c.result) c.take_part.new.disk c.args.part
+    (read_at c.args.self.now.parties.items c.args.c c.index_mut-party.result.now
+    (omega (arith, c.len.ensures, c.if-c-len.false)) c.index_mut-party.ensures.value)
+    (read_at c.args.disks.now c.args.c c.index-disks-c.result c.if-c-disks.false c.index-disks-c.is
+    ∙ ap Some c.index-disks-c.is)
+    c.take_part.ensures.stops

@@ -6,13 +6,16 @@ use Rattle.disk_model.specs.Cuts.{cuts_by}
 use Rattle.air_world.specs.Schedule.{to_server}
 use Rattle.air_rehearsal.specs.Ready.{KeepsClients}
 use Rattle.air_rehearsal.specs.ServerCalls.{ArmsFor, IsTaken}
-use Rattle.air_rehearsal.specs.ServerEvents.{serving}
+use Rattle.air_rehearsal.specs.Halfway.{StopsBy}
+use Rattle.air_rehearsal.specs.ServerEvents.{server_stage, serving, waiting_of}
+use Rattle.air_rehearsal.specs.Stations.{acts, the_server}
 use Rattle.air_rehearsal.specs.declared.cuts.Cut.{Cut}
 use Rattle.air_rehearsal.specs.declared.stations.Stations.{Stations}
 use Rattle.air_rehearsal.proofs.LaneLaws.{hearing_lanes}
 use Rattle.air_rehearsal.proofs.Served.{serves-cut}
 use Rattle.air_rehearsal.proofs.ServedHeard.{keeps-no-cut, serves-heard}
-use Rattle.air_rehearsal.proofs.ServingCounts.{arms-count, cut-counts, ok-of-if}
+use Rattle.air_rehearsal.proofs.HalfwayServer.{cutting_counts, on_err_of, stops_cut, stops_whole}
+use Rattle.air_rehearsal.proofs.ServingCounts.{arms-count}
 use Rattle.air_rehearsal.proofs.ServingKeeps.{keeps-then}
 use Rattle.air_rehearsal.proofs.ServingSent.{if-ok-more}
 use Rattle.air_rehearsal.proofs.stations.Stations.to_server.Goals.{then-is_ok+then-not-starved+in_default, else-is_ok}
@@ -89,11 +92,64 @@ returns-in-Ok-clause-faults g c =
 
 pub returns-in-Some-clause-faults : goal.returns-in-Some-clause-faults
 returns-in-Some-clause-faults g c =
-    let cuts = cuts_by g.B.CutDisk.restarts g.B.CutDisk.arming g.B.CutDisk.plain g.B.CutDisk.is_starved in
+    let cuts = (cuts_by g.B.CutDisk.restarts g.B.CutDisk.arming g.B.CutDisk.plain g.B.CutDisk.is_starved) in
     let first = arms-count g.B.Disk cuts c.args.self.now.cut c.args.disk.now c.arm-cut.new.disk c.arm-cut.ensures.arms
     in
-    ok-of-if _ c.be_cut.result
-    (λ later gone.
-    let last = cut-counts g.B.Disk cuts g.met.B.CutDisk.lasts_so (record c.hear-came.new.self { cut = None })
-    c.hear-came.result c.hear-came.new.disk c.be_cut.new.disk later gone in
-    omega (arith, first, last, c.hear-came.ensures.faults)) c.be_cut.ensures.cuts
+    let last = cutting_counts g.B.Disk cuts g.met.B.CutDisk.lasts_so c.hear-came.new.disk c.be_cut.new.disk
+    c.be_cut.ensures.stops in
+    omega (arith, first, last, c.hear-came.ensures.faults)
+
+pub returns-after-is_ok-clause-faults : goal.returns-after-is_ok-clause-faults
+returns-after-is_ok-clause-faults g c =
+    let cuts = (cuts_by g.B.CutDisk.restarts g.B.CutDisk.arming g.B.CutDisk.plain g.B.CutDisk.is_starved) in
+    let first = arms-count g.B.Disk cuts c.args.self.now.cut c.args.disk.now c.arm-cut.new.disk c.arm-cut.ensures.arms
+    in
+    elim c.if-is_ok.branch [
+      | then-is_ok+then-not-starved+in_default w ↦
+          (let same = ap (λ d. g.B.Disk.write_faults d) (w.disk-is ∙ w.in_default.ensures.disk) in
+          omega (arith, first, same, c.hear-came.ensures.faults))
+      | else-is_ok w ↦
+          (let same = ap (λ d. g.B.Disk.write_faults d) w.disk-is in
+          omega (arith, first, same, c.hear-came.ensures.faults))
+    ]
+
+pub returns-in-Some-clause-stops : goal.returns-in-Some-clause-stops
+returns-in-Some-clause-stops g c =
+    let cuts = (cuts_by g.B.CutDisk.restarts g.B.CutDisk.arming g.B.CutDisk.plain g.B.CutDisk.is_starved) in
+    let event = to_server (suc c.args.c) (suc c.args.place) in
+    let waits : c.args.self.now.cut ≡ Some c.in-Some.cut = sym c.arm-cut.ensures.cut ∙ c.in-Some.is in
+    let arms = subst (λ (o : Option Cut). ArmsFor g.B.Disk cuts o c.args.disk.now c.arm-cut.new.disk) waits
+    c.arm-cut.ensures.arms in
+    let old = serving c.args.self.now c.args.server c.args.disk.now in
+    let mid = serving c.hear-came.new.self c.hear-came.new.server c.hear-came.new.disk in
+    on_err_of c.be_cut.result _
+    (λ world awaits allowed.
+    stops_cut g.B.Disk cuts g.met.B.CutDisk.lasts_so g.met.B.Disk.lasts_on c.misses_law.ensures
+    c.front_of_event_law.ensures world event old mid c.arm-cut.new.disk c.hear-came.result awaits
+    (c.hear-came.ensures.takes world awaits.sound awaits.plays awaits.moment allowed) arms.reads c.in-Some.cut
+    c.be_cut.new.disk waits arms c.be_cut.ensures.stops)
+
+pub returns-after-is_ok-clause-stops : goal.returns-after-is_ok-clause-stops
+returns-after-is_ok-clause-stops g c = λ world awaits allowed.
+    let cuts = (cuts_by g.B.CutDisk.restarts g.B.CutDisk.arming g.B.CutDisk.plain g.B.CutDisk.is_starved) in
+    let event = to_server (suc c.args.c) (suc c.args.place) in
+    let none : c.args.self.now.cut ≡ None = sym c.arm-cut.ensures.cut ∙ c.in-None.is in
+    let disk = subst (λ (o : Option Cut). ArmsFor g.B.Disk cuts o c.args.disk.now c.arm-cut.new.disk) none
+    c.arm-cut.ensures.arms in
+    let old = serving c.args.self.now c.args.server c.args.disk.now in
+    let mid = serving c.hear-came.new.self c.hear-came.new.server c.hear-came.new.disk in
+    let stops =
+    stops_whole g.B.Disk cuts g.met.B.CutDisk.lasts_so g.met.B.Disk.lasts_on c.misses_law.ensures
+    c.front_of_event_law.ensures world event old mid c.arm-cut.new.disk c.hear-came.result awaits
+    (c.hear-came.ensures.takes world awaits.sound awaits.plays awaits.moment allowed)
+    (ap (λ d. g.B.Disk.read_faults d) disk) disk none in
+    elim c.if-is_ok.branch [
+      | then-is_ok+then-not-starved+in_default w ↦
+          subst
+          (λ d. StopsBy g.B.Disk cuts the_server acts (waiting_of c.args.self.now.cut) (server_stage world old) event d)
+          (sym (w.disk-is ∙ w.in_default.ensures.disk)) stops
+      | else-is_ok w ↦
+          subst
+          (λ d. StopsBy g.B.Disk cuts the_server acts (waiting_of c.args.self.now.cut) (server_stage world old) event d)
+          (sym w.disk-is) stops
+    ]
