@@ -1,26 +1,24 @@
 -- What is left of a client's disk where it took part in an event, however far that came.
-use Rattle.std.specs.Prelude.{◌≡◌, ◌≢◌, ◌⊎◌, ℕ, zero, suc, ◌<◌, List, ◌∷◌, length, slice_get, slice_set, Some, None}
+use Rattle.std.specs.Prelude.{◌≡◌, ◌⊎◌, ℕ, zero, suc, ◌<◌, List, ◌∷◌, length, slice_get, slice_set, Some, None}
 use Rattle.std.specs.Prelude.{Option, refl}
 use Rattle.std.specs.Option.{option_and_then}
 use Rattle.std.proofs.Common.{inl, inr, sym, ap, ◌∙◌, subst, arith}
 use Rattle.std.proofs.lemmas.Option.{same_Some}
 use Rattle.disk_model.specs.Cuts.{Cuts}
 use Rattle.disk_model.specs.declared.disk.Disk.{Ghosts}
-use Rattle.ftl0_server.specs.ServerState.{ServerState}
 use Rattle.air_attempt.specs.Party.{Party}
 use Rattle.air_files.specs.Uploads.{upload_file}
 use Rattle.air_world.specs.Events.{ClientPart, ClientTakes, asking_file, next_upload}
-use Rattle.air_world.specs.Lawful.{IsAllowed}
-use Rattle.air_world.specs.Schedule.{Event, ask_upload, break_client, cut_client}
+use Rattle.air_world.specs.Schedule.{Event, ask_upload, break_client}
 use Rattle.air_world.specs.World.{PartyAt, World}
 use Rattle.air_rehearsal.specs.Chain.{Stage}
-use Rattle.air_rehearsal.specs.Halfway.{FailsToCut, LeavesAt, StopsApart, StopsBy, StopsCutOff, StopsCutPart, StopsCutting}
-use Rattle.air_rehearsal.specs.Halfway.{StopsEvent, StopsPart, StopsRestarting, TriesToStart, stage_of}
-use Rattle.air_rehearsal.specs.Playing.{IsBench, client_count, waiting_in}
-use Rattle.air_rehearsal.specs.Seats.{Clients, ComesAlways, MayTake, with_server}
+use Rattle.air_rehearsal.specs.Halfway.{LeavesAt, StopsApart, StopsBy, StopsCutting}
+use Rattle.air_rehearsal.specs.Halfway.{StopsEvent, StopsPart, TriesToStart, stage_of}
+use Rattle.air_rehearsal.specs.Playing.{client_count, waiting_in}
+use Rattle.air_rehearsal.specs.Seats.{Clients, ComesAlways, MayTake}
 use Rattle.air_rehearsal.specs.ServerEvents.{waiting_of}
-use Rattle.air_rehearsal.specs.Stations.{Role, Station, acts, breaks_off, client_at, looks_on, place_of, role_of}
-use Rattle.air_rehearsal.specs.Stations.{the_server, will_be_cut}
+use Rattle.air_rehearsal.specs.Stations.{Role, Station, acts, client_at, place_of, role_of}
+use Rattle.air_rehearsal.specs.Stations.{the_server}
 use Rattle.air_rehearsal.specs.TakingPart.{IsPart, IsSeat, Seat}
 use Rattle.air_rehearsal.specs.declared.cuts.Cut.{Cut}
 use Rattle.air_rehearsal.specs.declared.part.Part.{Part}
@@ -28,7 +26,7 @@ use Rattle.air_rehearsal.specs.declared.part.Part.TheVariants as stored
 use Rattle.air_rehearsal.specs.declared.party.Party.{Party as StoredParty}
 use Rattle.air_rehearsal.specs.declared.stations.Stations.{Stations}
 use Rattle.air_rehearsal.proofs.BenchLemmas.{set_count}
-use Rattle.air_rehearsal.proofs.ClientFacts.{IsClients, clients_event}
+use Rattle.air_rehearsal.proofs.ClientFacts.{clients_event}
 use Rattle.air_rehearsal.proofs.ClientGoes.{carries_out, set_other, within_of}
 use Rattle.air_rehearsal.proofs.PairLemmas.{set_at}
 use Rattle.air_rehearsal.proofs.Apart.{breaks_roles}
@@ -62,7 +60,7 @@ module _ {B : Type 0} (g : Ghosts B) (cuts : Cuts B) where
       → StopsBy g cuts (client_at c) acts (waiting_of cut) old event disk_now
   part_stops world event c part None old disk_now takes is stops =
       subst (λ (w : World). StopsBy g cuts (client_at c) acts None (record old { world = w }) event disk_now) (sym is)
-      (λ reads. carries_out g world event c part takes old.disk disk_now stops)
+      (carries_out g world event c part takes old.disk disk_now stops)
   part_stops world event c part (Some cut) old disk_now takes is stops =
       subst
       (λ (w : World).
@@ -72,7 +70,7 @@ module _ {B : Type 0} (g : Ghosts B) (cuts : Cuts B) where
         arms = stops.arms;
         lost = stops.lost;
         lasts = stops.carries.lasts;
-        carries = λ reads. carries_out g world event c part takes stops.armed stops.lost stops.carries;
+        carries = carries_out g world event c part takes stops.armed stops.lost stops.carries;
         stops =
             cutting_of (λ station. (c : ℕ) × (station ≡ client_at c)) (λ other. other ≡ client_at c) stops.lost disk_now
             (λ station one. (c, one)) stops.stops;

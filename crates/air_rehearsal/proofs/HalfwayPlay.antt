@@ -1,7 +1,6 @@
 -- What is left of the bench where memory was wanting in an event.
-use Rattle.std.specs.Prelude.{◌≡◌, ◌⊎◌, ℕ, zero, suc, ◌≤◌, List, [], ◌∷◌, length, slice_get, Option, Some, refl}
-use Rattle.std.specs.Option.{option_and_then}
-use Rattle.std.proofs.Common.{inl, inr, sym, ap, ◌∙◌, subst, arith}
+use Rattle.std.specs.Prelude.{◌≡◌, ◌⊎◌, ℕ, suc, ◌≤◌, List, [], ◌∷◌, slice_get, Some, refl}
+use Rattle.std.proofs.Common.{inl, inr, sym, subst, arith}
 use Rattle.disk_model.specs.Cuts.{Cuts, LastsSo, cut_state}
 use Rattle.disk_model.specs.declared.disk.Disk.{Ghosts}
 use Rattle.air_world.specs.Laws.{StoresLaw}
@@ -16,7 +15,6 @@ use Rattle.air_rehearsal.specs.Seats.{CountsEvent}
 use Rattle.air_rehearsal.specs.ServerEvents.{waiting_of}
 use Rattle.air_rehearsal.specs.Standing.{StandsNow}
 use Rattle.air_rehearsal.specs.Stations.{Station, client_at, place_of, role_of, the_server}
-use Rattle.air_rehearsal.specs.declared.party.Party.{Party as StoredParty}
 use Rattle.air_rehearsal.specs.declared.report.Report.{Report as StoredReport}
 use Rattle.air_rehearsal.specs.declared.stations.Stations.{Stations}
 use Rattle.air_rehearsal.proofs.AlikeAmid.{client_amid_alike, server_amid_alike}

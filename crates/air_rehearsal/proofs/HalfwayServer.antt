@@ -1,5 +1,5 @@
 -- What is left of the server's disk where an event of it was stopped, or was to be cut.
-use Rattle.std.specs.Prelude.{◌≡◌, ◌⊎◌, ℕ, zero, suc, ◌-◌, ◌<◌, ◌≤◌, List, [], ◌∷◌, ◌++◌, slice_get, Option, None, Some}
+use Rattle.std.specs.Prelude.{◌≡◌, ◌⊎◌, ℕ, zero, suc, ◌-◌, ◌<◌, List, [], ◌∷◌, ◌++◌, slice_get, Option, None, Some}
 use Rattle.std.specs.Prelude.{Result, Ok, Err, OnErr, refl, ⊤}
 use Rattle.std.proofs.Common.{inl, inr, sym, ap, ◌∙◌, subst, arith}
 use Rattle.std.proofs.lemmas.List.{append_assoc}
@@ -67,7 +67,7 @@ module _ {B : Type 0} (g : Ghosts B)
     pub told : TellsAlike (g.content disk) (g.content disk_now)
     pub lasts : g.lasts disk disk_now
     pub since :
-        WhereRead g disk disk_now (Leaves g disk disk_now (λ _. MakesFirst (store_in old.store) (event []).done))
+        WhereRead g the_server disk disk_now (Leaves g disk disk_now (λ _. MakesFirst (store_in old.store) (event []).done))
 
   -- all commands are behind those that were begun, where no read failed
   begun_first :
@@ -139,7 +139,7 @@ module _ {B : Type 0} (g : Ghosts B) (cuts : Cuts B)
   went : Stopped g on misses front world.server taken.coming old.server mid.server disk mid.disk below_last
   went = stopped g on misses front world.server taken.coming old.server mid.server disk mid.disk below_last answer taken.hears
 
-  carries_stopped : WhereRead g disk mid.disk (CarriesOut g the_server world event disk mid.disk)
+  carries_stopped : WhereRead g the_server disk mid.disk (CarriesOut g the_server world event disk mid.disk)
   carries_stopped same = record {
     told = went.told;
     since =
@@ -158,7 +158,7 @@ module _ {B : Type 0} (g : Ghosts B) (cuts : Cuts B)
       subst
       (λ (c : Option Cut).
       StopsBy g cuts the_server acts (waiting_of c) (server_stage world old) event mid.disk) (sym none)
-      (subst (λ (d : B). WhereRead g d mid.disk (CarriesOut g the_server world event d mid.disk)) same carries_stopped)
+      (subst (λ (d : B). WhereRead g the_server d mid.disk (CarriesOut g the_server world event d mid.disk)) same carries_stopped)
 
   -- this one did
   pub stops_cut :

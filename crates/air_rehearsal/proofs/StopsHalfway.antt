@@ -29,6 +29,20 @@ at_content :
     → P octets
 at_content content octets P is has = subst (λ (c : Option (List ℕ)). IfSome c P) is has
 
+-- what holds whether or not a read failed
+pub read_any : {B : Type 0} (g : Ghosts B) (station : Station) (disk disk_now : B) (P : Type 0) → P
+    → WhereRead g station disk disk_now P
+read_any g the_server disk disk_now P holds = λ reads. holds
+read_any g (client_at c) disk disk_now P holds = holds
+
+-- where reads that didn't fail later didn't fail before, and P gives Q
+read_so :
+    {B : Type 0} (g : Ghosts B) (station : Station) (disk disk_now old new : B) (P Q : Type 0)
+    → (g.read_faults new ≡ g.read_faults old → g.read_faults disk_now ≡ g.read_faults disk) → (P → Q)
+    → WhereRead g station disk disk_now P → WhereRead g station old new Q
+read_so g the_server disk disk_now old new P Q same more holds = λ reads. more (holds (same reads))
+read_so g (client_at c) disk disk_now old new P Q same more holds = more holds
+
 -- octets that are alike have P where those before have it
 abbrev pub AlikeHas : Station → (List ℕ → Type 0) → Type 0
 AlikeHas station P = (content image : List ℕ) → P content → StandsAlike station content image → P image
@@ -212,34 +226,44 @@ module _ {B : Type 0} (g : Ghosts B) (cuts : Cuts B)
       ]
     ]
 
-    cut_off : (call : ℕ) (disk_now : B) → StopsCutOff g cuts station call old event disk_now
-        → g.read_faults disk_now ≡ g.read_faults old.disk → IsHalfway g cuts Amid old.disk disk_now
-    cut_off call disk_now stops reads =
-        let first = stops.arms.reads in
-        let next = (lasts_so stops.armed stops.lost stops.lasts).reads in
-        let last = reads_on stops.lost disk_now stops.stops in
-        let same : g.read_faults stops.lost ≡ g.read_faults stops.armed = omega (arith, first, next, last, reads) in
-        let half = carried stops.armed stops.lost (stops.arms.nothing_else.same_content ∙ stands.is_content)
-        (stops.carries same) in
+    half_cut : (call : ℕ) (disk_now : B) (stops : StopsCutOff g cuts station call old event disk_now)
+        → CarriesOut g station old.world event stops.armed stops.lost → IsHalfway g cuts Amid old.disk disk_now
+    half_cut call disk_now stops carries =
+        let half = carried stops.armed stops.lost (stops.arms.nothing_else.same_content ∙ stands.is_content) carries in
         halfway_cut station Amid alike old.disk stops.armed stops.lost (Some (call - 1)) stops.arms
         (told_by (g.content old.disk) stands.content stands.is_content) (λ image is. inl (stands.images image is)) half
         (lasts_so stops.armed stops.lost stops.lasts).restarts (λ other. other ≡ station) disk_now refl
         stops.stops
+
+    cut_off : (call : ℕ) (disk_now : B) → StopsCutOff g cuts station call old event disk_now
+        → WhereRead g station old.disk disk_now (IsHalfway g cuts Amid old.disk disk_now)
+    cut_off call disk_now stops =
+        let first = stops.arms.reads in
+        let next = (lasts_so stops.armed stops.lost stops.lasts).reads in
+        let last = reads_on stops.lost disk_now stops.stops in
+        read_so g station stops.armed stops.lost old.disk disk_now _ _
+        (λ reads. omega (arith, first, next, last, reads)) (half_cut call disk_now stops) stops.carries
 
     -- what is left where the event fails: the disk is amid it, or the same
     ends_by :
         (role : Role) (waiting : Option ℕ) (disk_now : B) → role_of station event ≡ role
         → StopsBy g cuts station role waiting old event disk_now
         → (((role_of station event ≡ acts) ⊎ (role_of station event ≡ breaks_off))
-        × WhereRead g old.disk disk_now (IsHalfway g cuts Amid old.disk disk_now))
+        × WhereRead g station old.disk disk_now (IsHalfway g cuts Amid old.disk disk_now))
         ⊎ (disk_now ≡ old.disk)
     ends_by acts None disk_now is stops =
-        inl (inl is, λ reads. carried old.disk disk_now stands.is_content (stops reads))
-    ends_by acts (Some call) disk_now is stops = inl (inl is, λ reads. cut_off call disk_now stops reads)
+        inl (
+          inl is,
+          read_so g station old.disk disk_now old.disk disk_now _ _ (λ reads. reads)
+              (carried old.disk disk_now stands.is_content) stops,
+        )
+    ends_by acts (Some call) disk_now is stops = inl (inl is, cut_off call disk_now stops)
     ends_by breaks_off waiting disk_now is stops =
         inl (
           inr is,
-          λ reads. halfway_tried station Amid alike old.disk disk_now stands.content stands.is_content (inl stands.stands) stops,
+          read_any g station old.disk disk_now _
+              (halfway_tried station Amid alike old.disk disk_now stands.content stands.is_content (inl stands.stands)
+              stops),
         )
     ends_by (will_be_cut call) waiting disk_now is stops = inr stops
     ends_by looks_on waiting disk_now is stops = inr stops

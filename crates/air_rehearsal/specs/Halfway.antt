@@ -56,9 +56,11 @@ LeavesAt {B} c P disks disks_now =
     ⊎ ((disk : B) × (disk_now : B) × (slice_get disks c ≡ Some disk) × (disks_now ≡ slice_set disks c disk_now)
     × P disk disk_now)
 
--- So it is where no read of the disk failed between the two.
-abbrev pub WhereRead : {B : Type 0} → Ghosts B → B → B → Type 0 → Type 0
-WhereRead g disk disk_now P = g.read_faults disk_now ≡ g.read_faults disk → P
+-- So it is of a client; and of the server where no read of its disk failed between the two, since what an event of it
+-- does depends on its reads.
+abbrev pub WhereRead : {B : Type 0} → Ghosts B → Station → B → B → Type 0 → Type 0
+WhereRead g the_server disk disk_now P = g.read_faults disk_now ≡ g.read_faults disk → P
+WhereRead g (client_at c) disk disk_now P = P
 
 module _ {B : Type 0} (g : Ghosts B) (cuts : Cuts B) where
   -- Its arming is taken away, and the station was to start from it for the first time.
@@ -110,16 +112,15 @@ module _ {B : Type 0} (g : Ghosts B) (cuts : Cuts B) where
       pub arms : ArmsOnly g cuts (Some (call - 1)) old.disk armed
       pub lost : B
       pub lasts : g.lasts armed lost
-      pub carries : WhereRead g armed lost (CarriesOut g station old.world event armed lost)
+      pub carries : WhereRead g station armed lost (CarriesOut g station old.world event armed lost)
       pub stops : StopsCutting (λ other. other ≡ station) lost disk_now
 
     -- What an event leaves of the disk where it fails, by what it is for the station, and by the cut that waited: what
     -- `to_server`, `tick_server` and `break_client` leave, and `take_part` of the stations, of each disk. In an event
-    -- of another one, and where a cut is noted, the disk is the same. Where a read failed nothing is said of what was
-    -- carried out.
+    -- of another one, and where a cut is noted, the disk is the same.
     abbrev pub StopsBy : Role → Option ℕ → Stage B → Event → B → Type 0
     StopsBy acts None old event disk_now =
-        WhereRead g old.disk disk_now (CarriesOut g station old.world event old.disk disk_now)
+        WhereRead g station old.disk disk_now (CarriesOut g station old.world event old.disk disk_now)
     StopsBy acts (Some call) old event disk_now = StopsCutOff call old event disk_now
     StopsBy breaks_off waiting old event disk_now = TriesToStart g station old.disk disk_now
     StopsBy (will_be_cut call) waiting old event disk_now = disk_now ≡ old.disk

@@ -108,10 +108,10 @@ module _ {B : Type 0} (g : Ghosts B) (cuts : Cuts B) where
   abbrev pub HalfStep : Station → List Event → Stage B → B → Type 0
   HalfStep station rest last disk_now = IsHalfway g cuts (StandsAmid station last.world rest) last.disk disk_now
 
-  -- A disk that is in use is amid it, unless a read of it failed; and no other one is touched.
+  -- A disk that is in use is amid it, unless it is the server's and a read of it failed; and no other one is touched.
   abbrev pub EndsHalf : List Event → Station → Stage B → B → Type 0
   EndsHalf rest station last disk_now =
-      (IsInUse station rest × WhereRead g last.disk disk_now (HalfStep station rest last disk_now))
+      (IsInUse station rest × WhereRead g station last.disk disk_now (HalfStep station rest last disk_now))
       ⊎ (disk_now ≡ last.disk)
 
   -- Memory was wanting while the stations were made: each disk is amid that.
