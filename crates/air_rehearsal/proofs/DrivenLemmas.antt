@@ -1,25 +1,30 @@
 -- A rehearsal whose events are drawn, from its first event to its end.
-use Rattle.std.specs.Prelude.{ℕ, List, [], ◌∷◌, ◌++◌, refl}
+use Rattle.std.specs.Prelude.{◌≡◌, ℕ, zero, suc, ◌<◌, ◌≤◌, List, [], ◌∷◌, ◌++◌, length, slice_get, Some, refl}
 use Rattle.std.specs.List.{AllByRecursion}
-use Rattle.std.proofs.Common.{sym, ap, ◌∙◌, subst, append_assoc}
+use Rattle.std.proofs.Common.{inr, sym, ap, ◌∙◌, subst, append_assoc, arith}
 use Rattle.std.proofs.lemmas.List.{append-nil}
 use Rattle.disk_model.specs.Cuts.{AreFresh, Cuts, LastsSo, cut_state}
 use Rattle.disk_model.specs.declared.disk.Disk.{Ghosts}
 use Rattle.air_world.specs.Cuts.{Plays}
+use Rattle.air_world.specs.Laws.{StoresLaw}
 use Rattle.air_world.specs.Schedule.{Event, IsInRange, IsSchedule, Schedule}
 use Rattle.air_world.specs.World.{World, first_world}
+use Rattle.air_rehearsal.specs.Chain.{Stage}
 use Rattle.air_rehearsal.specs.Counting.{EndsSo}
 use Rattle.air_rehearsal.specs.Course.{HasPlayed}
 use Rattle.air_rehearsal.specs.Drawn.{drawn_calls, rounds}
-use Rattle.air_rehearsal.specs.Driving.{Comes, Driven, PlaysEach}
+use Rattle.air_rehearsal.specs.Driving.{Comes, Driven, Halts, PlaysEach, StopsDrawn}
 use Rattle.air_rehearsal.specs.Generator.{DrivenBy, IsDrawnBy, Turns}
-use Rattle.air_rehearsal.specs.Playing.{Bench}
-use Rattle.air_rehearsal.specs.Rehearsed.{until}
+use Rattle.air_rehearsal.specs.Halfway.{TriesToStart}
+use Rattle.air_rehearsal.specs.Playing.{Bench, IsBench, IsStage, client_count}
+use Rattle.air_rehearsal.specs.Rehearsed.{EndsHalf, MayGoOn, until}
 use Rattle.air_rehearsal.specs.Report.{last_world}
+use Rattle.air_rehearsal.specs.Stations.{Station, place_of, the_server}
 use Rattle.air_rehearsal.specs.declared.report.Report.{Report as StoredReport}
 use Rattle.air_rehearsal.proofs.CourseLemmas.{last_more}
-use Rattle.air_rehearsal.proofs.DriveLemmas.{drawing}
-use Rattle.air_rehearsal.proofs.Finished.{finished}
+use Rattle.air_rehearsal.proofs.DriveLemmas.{drawing, played_by}
+use Rattle.air_rehearsal.proofs.Finished.{bench_played, finished}
+use Rattle.air_rehearsal.proofs.HalfwayPlay.{end_ends, event_ends}
 use Rattle.air_rehearsal.proofs.WholePlay.{stepped}
 use Rattle.air_rehearsal.proofs.WholeRehearsal.{RehearsalLaws}
 
@@ -34,6 +39,19 @@ in-range :
 in-range world [] worlds plays = tt
 in-range world (event ∷ events) worlds plays =
     (plays.3.allowed.in_range, in-range plays.0 events plays.1 plays.4)
+
+-- these events that were played are those of a schedule
+lawful-of :
+    (events : List Event) (worlds : List World) → IsSchedule (drawn_schedule [])
+    → Plays (first_world (drawn_schedule events)) events worlds → IsSchedule (drawn_schedule events)
+lawful-of events worlds is plays = record {
+  some = is.some;
+  few = is.few;
+  most = is.most;
+  are_calls = is.are_calls;
+  distinct = is.distinct;
+  in_range = in-range (first_world (drawn_schedule events)) events worlds plays;
+}
 
 module _ {B : Type 0} (g : Ghosts B) (cuts : Cuts B) where
   -- one event after another was played
@@ -76,14 +94,8 @@ module _ {B : Type 0} (g : Ghosts B) (cuts : Cuts B) where
         let schedule : Schedule = drawn_schedule came.events in
         let played : HasPlayed g cuts schedule came.worlds bench new.bench =
         played-each (drawn_schedule []) [] bench came.events came.worlds old.bench new.bench first came.plays in
-        let lawful : IsSchedule schedule = record {
-          some = is_schedule.some;
-          few = is_schedule.few;
-          most = is_schedule.most;
-          are_calls = is_schedule.are_calls;
-          distinct = is_schedule.distinct;
-          in_range = in-range (first_world schedule) came.events came.worlds played.plays;
-        } in
+        let lawful : IsSchedule schedule =
+        lawful-of came.events came.worlds is_schedule played.plays in
         let whole = finished g cuts lasts_so schedule came.worlds bench new.bench fresh played lawful laws disk_now
         report ends in
         let turns : Turns (rounds count) (drawing old.state (first_world schedule) came.events came.worlds)
@@ -110,3 +122,74 @@ module _ {B : Type 0} (g : Ghosts B) (cuts : Cuts B) where
                 all_worlds = refl;
               });
         }
+
+  module _ (lasts_so : (old new : B) → g.lasts old new → LastsSo (cut_state g cuts old) (cut_state g cuts new))
+      (counts_now : (disk : B) (t : ℕ) (image : List ℕ) → t ≤ g.moment disk → g.images disk image
+      → g.images_since disk t image) (bench : List B) (fresh : AreFresh g cuts bench) (old : Bench B)
+      (first : HasPlayed g cuts (drawn_schedule []) [] bench old) (is_schedule : IsSchedule (drawn_schedule [])) where
+    -- these events were played, and the disks end so
+    ends-drawn :
+        (events : List Event) (worlds : List World) (now : Bench B) (rest : List Event) (bench_now : List B)
+        → PlaysEach g cuts (first_world (drawn_schedule [])) events worlds old now
+        → MayGoOn (last_world (first_world (drawn_schedule [])) worlds) rest
+        → ((station : Station) (stage : Stage B)
+        → IsStage (last_world (first_world (drawn_schedule [])) worlds) now station stage
+        → (disk_now : B) × (slice_get bench_now (place_of station) ≡ Some disk_now)
+        × EndsHalf g cuts rest station stage disk_now)
+        → ((place : ℕ) → client_count now.stations < place
+        → slice_get bench_now place ≡ slice_get (now.disk ∷ now.disks) place)
+        → length bench_now ≡ suc (length now.disks) → StopsDrawn g cuts bench bench_now
+    ends-drawn events worlds now rest bench_now plays next ends others many =
+        let front : Schedule = drawn_schedule events in
+        let played : HasPlayed g cuts front worlds bench now =
+        played-each (drawn_schedule []) [] bench events worlds old now first plays in
+        record {
+          schedule = drawn_schedule (events ++ rest);
+          drawn_for = record { size_is = refl; calls_are = refl };
+          wants =
+              inr
+              (record {
+                front = events;
+                rest = rest;
+                split = refl;
+                worlds = worlds;
+                run = record { is_schedule = lawful-of events worlds is_schedule played.plays; plays = played.plays };
+                next = next;
+                played =
+                    bench_played g cuts lasts_so front worlds bench now fresh played (EndsHalf g cuts rest) bench_now
+                    (λ station stage of_it is_stage. ends station stage is_stage)
+                    (λ place far. others place (let count = played.count_is in omega (arith, count, far))) many;
+              });
+        }
+
+    playing-last :
+        (events : List Event) (worlds : List World) (now : Bench B)
+        → PlaysEach g cuts (first_world (drawn_schedule [])) events worlds old now
+        → IsBench g cuts (last_world (first_world (drawn_schedule [])) worlds) now
+    playing-last events worlds now plays =
+        (played_by g cuts (first_world (drawn_schedule [])) events worlds old now first.playing plays).bench
+
+    -- Memory was wanting in an event.
+    pub halts-drawn :
+        (law : StoresLaw) (bench_now : List B) → Halts g cuts (first_world (drawn_schedule [])) old bench_now
+        → StopsDrawn g cuts bench bench_now
+    halts-drawn law bench_now it =
+        ends-drawn it.events it.worlds it.amid (it.event ∷ []) bench_now it.plays it.allowed
+        (event_ends g cuts lasts_so counts_now (last_world (first_world (drawn_schedule [])) it.worlds) it.amid
+        (playing-last it.events it.worlds it.amid it.plays) law it.event [] it.allowed bench_now it.stops)
+        it.stops.others it.stops.as_many
+
+    -- It was wanting at the end.
+    pub halts-at-end :
+        (events : List Event) (worlds : List World) (now : Bench B) (disk_now : B)
+        → PlaysEach g cuts (first_world (drawn_schedule [])) events worlds old now
+        → TriesToStart g the_server now.disk disk_now → StopsDrawn g cuts bench (disk_now ∷ now.disks)
+    halts-at-end events worlds now disk_now plays tries =
+        ends-drawn events worlds now [] (disk_now ∷ now.disks) plays tt
+        (end_ends g cuts lasts_so counts_now (last_world (first_world (drawn_schedule [])) worlds) now
+        (playing-last events worlds now plays) disk_now tries) others refl
+      where
+        others : (place : ℕ) → client_count now.stations < place
+            → slice_get (disk_now ∷ now.disks) place ≡ slice_get (now.disk ∷ now.disks) place
+        others zero far = absurd (let no : ⊥ = omega (arith, far) in no)
+        others (suc c) far = refl

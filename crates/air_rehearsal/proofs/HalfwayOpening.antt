@@ -1,5 +1,5 @@
 -- What is left of the disks where memory was wanting while the stations were made.
-use Rattle.std.specs.Prelude.{◌≡◌, ◌⊎◌, ℕ, zero, suc, ◌<◌, ◌≤◌, List, [], ◌∷◌, length, slice_get, slice_set, Some}
+use Rattle.std.specs.Prelude.{◌≡◌, ◌⊎◌, ℕ, zero, suc, ◌<◌, ◌≤◌, List, [], ◌∷◌, length, slice_get, slice_set, Some, refl}
 use Rattle.std.proofs.Common.{inl, inr, sym, ap, ◌∙◌, subst, arith}
 use Rattle.std.proofs.lemmas.Bool.{cases_lt}
 use Rattle.std.proofs.lemmas.Option.{same_Some}
@@ -113,6 +113,14 @@ module _ {B : Type 0} (g : Ghosts B) (cuts : Cuts B) where
             → slice_get (disk_now ∷ disks_now) place ≡ slice_get (disk ∷ disks) place
         others zero far = absurd (let no : ⊥ = omega (arith, far) in no)
         others (suc c) far = clients.others c (omega (arith, far))
+
+  -- none was touched
+  pub none_opened : (count : ℕ) (disks : List B) → StopsOpening g cuts count disks disks
+  none_opened count disks = record {
+    each = λ c was now within at also. inr (same_Some now was (sym also ∙ at));
+    others = λ c far. refl;
+    as_many = refl;
+  }
 
   -- all clients were opened
   pub all_opened :

@@ -10,7 +10,8 @@ use Rattle.air_rehearsal.specs.Generator.{times_of}
 use Rattle.air_rehearsal.specs.Playing.{Bench, bench_of}
 use Rattle.air_rehearsal.specs.declared.generator.Fate.{Fate}
 use Rattle.air_rehearsal.proofs.DrawLemmas.{carries-more, delivery-fits, none-between, put-off, put-off-fits}
-use Rattle.air_rehearsal.proofs.DriveLemmas.{Owes, Then, drives_draws, drives_in, drives_then, owes_done, owes_more, owes_none}
+use Rattle.air_rehearsal.proofs.DriveLemmas.{Owes, Then, drives_draws, drives_in, drives_then, owes_done, owes_more, owes_none, stops_then}
+use Rattle.air_rehearsal.proofs.HalfwayServer.{on_err_of}
 use Rattle.air_rehearsal.proofs.generator.Driver.carry.Goals as goal
 
 pub loop-place-init : goal.loop-place-init
@@ -26,7 +27,7 @@ pub repeat-requires-clause-ready : goal.repeat-requires-clause-ready
 repeat-requires-clause-ready g c = c.loop-place.invariant.drives.ready
 
 pub play-requires-clause-ready : goal.play-requires-clause-ready
-play-requires-clause-ready g c = c.in_ok-server.ensures.ready
+play-requires-clause-ready g c = c.in_ok-server.ensures.drives.ready
 
 pub play-requires-clause-fits : goal.play-requires-clause-fits
 play-requires-clause-fits g c = λ world sound plays. c.loop-place.invariant.late
@@ -65,7 +66,7 @@ loop-place-preserved g c =
     let amid : Driven _ = driven_by c.repeat.new.self c.in_ok-server.server c.repeat.new.disk c.repeat.new.disks in
     let second =
     subst (λ (n : ℕ). Drives g.B.Disk cuts (TriesTimes n (event (place + 1))) before amid)
-    (c.times.ensures ∙ ap times_of fate_is) c.in_ok-server.ensures in
+    (c.times.ensures ∙ ap times_of fate_is) c.in_ok-server.ensures.drives in
     record {
       late =
           subst (λ (o : Option _). IfSome o (λ it. IsInRange (event_value it))) (sym c.put_off-late.ensures)
@@ -83,11 +84,11 @@ loop-place-preserved g c =
           (drives_then g.B.Disk cuts (λ (old new : Drawing). new ≡ drawn 1 old)
           (Then (TriesTimes (times_of fate) (event (place + 1))) (TriesIf waiting)) _ _ _ first
           (drives_then g.B.Disk cuts (TriesTimes (times_of fate) (event (place + 1))) (TriesIf waiting) _ _ _ second
-          c.in_ok-server-2.ensures)));
+          c.in_ok-server-2.ensures.drives)));
     }
 
-pub returns : goal.returns
-returns g c =
+pub returns-clause-drives : goal.returns-clause-drives
+returns-clause-drives g c =
     let cuts = cuts_by g.B.CutDisk.restarts g.B.CutDisk.arming g.B.CutDisk.plain g.B.CutDisk.is_starved in
     let l = c.loop-place in
     let event : ℕ → Event = delivery_of c.args.way c.args.client in
@@ -97,3 +98,16 @@ returns g c =
     subst (λ (numbers : List ℕ). Carries event (option_map event_value l.late) numbers x x)
     (sym (none-between l.place c.args.to (let past = c.loop-place-test.false in omega (arith, past)))) refl)
     l.invariant.drives
+
+pub returns-in_err-server-clause-stops : goal.returns-in_err-server-clause-stops
+returns-in_err-server-clause-stops g c =
+    let cuts = (cuts_by g.B.CutDisk.restarts g.B.CutDisk.arming g.B.CutDisk.plain g.B.CutDisk.is_starved) in
+    on_err_of c.from_residual.result _
+    (stops_then g.B.Disk cuts _ _ _ _ _ c.loop-place.invariant.drives c.in_err-server.ensures.stops)
+
+pub returns-in_err-server-2-clause-stops : goal.returns-in_err-server-2-clause-stops
+returns-in_err-server-2-clause-stops g c =
+    let cuts = (cuts_by g.B.CutDisk.restarts g.B.CutDisk.arming g.B.CutDisk.plain g.B.CutDisk.is_starved) in
+    on_err_of c.from_residual-in_err-server-2.result _
+    (stops_then g.B.Disk cuts _ _ _ _ _ c.loop-place.invariant.drives
+    (stops_then g.B.Disk cuts _ _ _ _ _ c.in_ok-server.ensures.drives c.in_err-server-2.ensures.stops))

@@ -6,21 +6,22 @@ use Rattle.disk_model.specs.Cuts.{cuts_by}
 use Rattle.air_world.specs.Schedule.{to_client}
 use Rattle.air_rehearsal.specs.Generator.{Answers, Carries, between}
 use Rattle.air_rehearsal.proofs.DrawLemmas.{answers-carry, answers-tick, no-more, some-between}
-use Rattle.air_rehearsal.proofs.DriveLemmas.{drives_as}
+use Rattle.air_rehearsal.proofs.DriveLemmas.{drives_as, stops_then}
 use Rattle.air_rehearsal.proofs.ExchangeLemmas.{exchanged}
+use Rattle.air_rehearsal.proofs.HalfwayServer.{on_err}
 use Rattle.air_rehearsal.proofs.generator.Driver.exchange.Goals as goal
 
 pub carry-requires : goal.carry-requires
 carry-requires g c = c.requires
 
 pub tick-requires : goal.tick-requires
-tick-requires g c = c.in_ok-server.ensures.ready
+tick-requires g c = c.in_ok-server.ensures.drives.ready
 
 pub carry-requires-2 : goal.carry-requires-2
-carry-requires-2 g c = c.in_ok-server.ensures.ready
+carry-requires-2 g c = c.in_ok-server.ensures.drives.ready
 
-pub returns-then-not-is_beyond : goal.returns-then-not-is_beyond
-returns-then-not-is_beyond g c =
+pub returns-then-not-is_beyond-clause-drives : goal.returns-then-not-is_beyond-clause-drives
+returns-then-not-is_beyond-clause-drives g c =
     let cuts = cuts_by g.B.CutDisk.restarts g.B.CutDisk.arming g.B.CutDisk.plain g.B.CutDisk.is_starved in
     let client = c.args.client in
     let before = c.args.looked.now in
@@ -30,17 +31,17 @@ returns-then-not-is_beyond g c =
     (λ later ticks.
     exchanged g.B.Disk cuts client before sent answered _ _ _
     (λ world playing. c.count_to_server-looked.ensures world playing.bench.plays.stations)
-    (λ world playing. c.count_to_client-looked.ensures world playing.bench.plays.stations) c.in_ok-server.ensures
+    (λ world playing. c.count_to_client-looked.ensures world playing.bench.plays.stations) c.in_ok-server.ensures.drives
     (drives_as g.B.Disk cuts (Answers client [] [])
     (Answers client (between before.to_server sent) (between before.to_client answered)) _ _
     (λ x y both.
     answers-tick client before.to_server sent before.to_client answered x y
     (no-more before.to_server sent (λ more. let no = c.if-not-is_beyond.ensures.1 (inl more) in cc))
     (no-more before.to_client answered (λ more. let no = c.if-not-is_beyond.ensures.1 (inr more) in cc)) both) ticks))
-    c.tick.ensures
+    c.tick.ensures.drives
 
-pub returns : goal.returns
-returns g c =
+pub returns-clause-drives : goal.returns-clause-drives
+returns-clause-drives g c =
     let cuts = cuts_by g.B.CutDisk.restarts g.B.CutDisk.arming g.B.CutDisk.plain g.B.CutDisk.is_starved in
     let client = c.args.client in
     let before = c.args.looked.now in
@@ -50,7 +51,7 @@ returns g c =
     (λ later carried.
     exchanged g.B.Disk cuts client before sent answered _ _ _
     (λ world playing. c.count_to_server-looked.ensures world playing.bench.plays.stations)
-    (λ world playing. c.count_to_client-looked.ensures world playing.bench.plays.stations) c.in_ok-server.ensures
+    (λ world playing. c.count_to_client-looked.ensures world playing.bench.plays.stations) c.in_ok-server.ensures.drives
     (drives_as g.B.Disk cuts (Carries (to_client client) None (between before.to_client answered))
     (Answers client (between before.to_server sent) (between before.to_client answered)) _ _
     (λ x y carries.
@@ -62,4 +63,16 @@ returns g c =
       | inl more ↦ omega (arith, more, one)
       | inr more ↦ omega (arith, more, other)
     ]) carries) carried))
-    c.carry-2.ensures
+    c.carry-2.ensures.drives
+
+pub returns-then-not-is_beyond-clause-stops : goal.returns-then-not-is_beyond-clause-stops
+returns-then-not-is_beyond-clause-stops g c =
+    let cuts = (cuts_by g.B.CutDisk.restarts g.B.CutDisk.arming g.B.CutDisk.plain g.B.CutDisk.is_starved) in
+    on_err c.tick.result _ _ c.tick.ensures.stops
+    (λ stops. stops_then g.B.Disk cuts _ _ _ _ _ c.in_ok-server.ensures.drives stops)
+
+pub returns-clause-stops : goal.returns-clause-stops
+returns-clause-stops g c =
+    let cuts = (cuts_by g.B.CutDisk.restarts g.B.CutDisk.arming g.B.CutDisk.plain g.B.CutDisk.is_starved) in
+    on_err c.carry-2.result _ _ c.carry-2.ensures.stops
+    (λ stops. stops_then g.B.Disk cuts _ _ _ _ _ c.in_ok-server.ensures.drives stops)

@@ -4,7 +4,8 @@ use Rattle.disk_model.specs.Cuts.{cuts_by}
 use Rattle.air_rehearsal.specs.Generator.{Drawing, Exchange, Exchanges, IsClosed, none_looked, still_looked}
 use Rattle.air_rehearsal.specs.declared.generator.Looked.{Looked}
 use Rattle.air_rehearsal.proofs.DrawLemmas.{exchanges-closed, exchanges-more}
-use Rattle.air_rehearsal.proofs.DriveLemmas.{Owes, drives_in, drives_none, owes_all, owes_done, owes_more, owes_none}
+use Rattle.air_rehearsal.proofs.DriveLemmas.{Owes, drives_in, drives_none, owes_all, owes_done, owes_more, owes_none, stops_then}
+use Rattle.air_rehearsal.proofs.HalfwayServer.{on_err_of}
 use Rattle.air_rehearsal.proofs.generator.Driver.exchange_all.Goals as goal
 
 pub loop-init : goal.loop-init
@@ -21,8 +22,8 @@ loop-init g c =
 pub is_closed-requires : goal.is_closed-requires
 is_closed-requires g c = c.loop.invariant.ready.clients
 
-pub returns-then-is_closed : goal.returns-then-is_closed
-returns-then-is_closed g c =
+pub returns-then-is_closed-clause-drives : goal.returns-then-is_closed-clause-drives
+returns-then-is_closed-clause-drives g c =
     let cuts = cuts_by g.B.CutDisk.restarts g.B.CutDisk.arming g.B.CutDisk.plain g.B.CutDisk.is_starved in
     let client : ℕ = c.args.client in
     let left = Exchanges (20 - c.loop.counter) client c.loop.looked in
@@ -59,10 +60,10 @@ loop-preserved g c =
     (subst (λ w. IsClosed w client) is closed) in cc)
     (subst (λ (it : Looked). Exchange client it now x y)
     (c.at-looked.ensures world playing.bench.plays.stations ∙ ap (λ w. still_looked w client looked) (sym is)) exchange)
-    exchanges) c.in_ok-server.ensures)
+    exchanges) c.in_ok-server.ensures.drives)
 
-pub returns : goal.returns
-returns g c =
+pub returns-clause-drives : goal.returns-clause-drives
+returns-clause-drives g c =
     let cuts = cuts_by g.B.CutDisk.restarts g.B.CutDisk.arming g.B.CutDisk.plain g.B.CutDisk.is_starved in
     let client : ℕ = c.args.client in
     owes_done g.B.Disk cuts (λ (old new : Drawing). Exchanges 20 client (none_looked old.world client) old new)
@@ -70,3 +71,8 @@ returns g c =
     (λ x.
     subst (λ (n : ℕ). Exchanges n client c.loop.looked x x)
     (let e : 0 ≡ 20 - c.loop.counter = omega (arith, c.loop-test.false) in e) refl) c.loop.invariant
+
+pub returns-in_err-server-clause-stops : goal.returns-in_err-server-clause-stops
+returns-in_err-server-clause-stops g c =
+    let cuts = (cuts_by g.B.CutDisk.restarts g.B.CutDisk.arming g.B.CutDisk.plain g.B.CutDisk.is_starved) in
+    on_err_of c.from_residual.result _ (stops_then g.B.Disk cuts _ _ _ _ _ c.loop.invariant c.in_err-server.ensures.stops)

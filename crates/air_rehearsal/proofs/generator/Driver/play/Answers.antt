@@ -11,7 +11,8 @@ use Rattle.air_rehearsal.specs.Driving.{Drives, driven_by}
 use Rattle.air_rehearsal.specs.Generator.{TriesIf}
 use Rattle.air_rehearsal.specs.Playing.{bench_of}
 use Rattle.air_rehearsal.proofs.PlayParts.{on_ok_of}
-use Rattle.air_rehearsal.proofs.DriveLemmas.{drives_none, drives_refuses, played-drives}
+use Rattle.air_rehearsal.proofs.DriveLemmas.{drives_none, drives_refuses, played-drives, stops_first}
+use Rattle.air_rehearsal.proofs.HalfwayServer.{on_err}
 use Rattle.air_rehearsal.proofs.generator.Driver.play.Goals as goal
 
 pub play-requires-clause-server : goal.play-requires-clause-server
@@ -20,15 +21,15 @@ play-requires-clause-server g c = c.requires.ready.server
 pub play-requires-clause-clients : goal.play-requires-clause-clients
 play-requires-clause-clients g c = c.requires.ready.clients
 
-pub returns-in_default : goal.returns-in_default
-returns-in_default g c =
+pub returns-in_default-clause-drives : goal.returns-in_default-clause-drives
+returns-in_default-clause-drives g c =
     let cuts = cuts_by g.B.CutDisk.restarts g.B.CutDisk.arming g.B.CutDisk.plain g.B.CutDisk.is_starved in
     let at = driven_by c.args.self.now c.args.server c.args.disk.now c.args.disks.now in
     subst (λ (o : Option StoredEvent). Drives g.B.Disk cuts (TriesIf (option_map event_value o)) at at)
     (sym c.in_default.is) (drives_none g.B.Disk cuts at c.requires.ready)
 
-pub returns-then-not-allows : goal.returns-then-not-allows
-returns-then-not-allows g c =
+pub returns-then-not-allows-clause-drives : goal.returns-then-not-allows-clause-drives
+returns-then-not-allows-clause-drives g c =
     let cuts = cuts_by g.B.CutDisk.restarts g.B.CutDisk.arming g.B.CutDisk.plain g.B.CutDisk.is_starved in
     let at = driven_by c.args.self.now c.args.server c.args.disk.now c.args.disks.now in
     subst (λ (o : Option StoredEvent). Drives g.B.Disk cuts (TriesIf (option_map event_value o)) at at) (sym c.in-Some.is)
@@ -37,8 +38,8 @@ returns-then-not-allows g c =
     let no : false ≡ true =
     (c.if-not-allows.ensures world playing.bench.sound playing.bench.plays.stations).1 allowed.possible in cc))
 
-pub returns : goal.returns
-returns g c =
+pub returns-clause-drives : goal.returns-clause-drives
+returns-clause-drives g c =
     let cuts = cuts_by g.B.CutDisk.restarts g.B.CutDisk.arming g.B.CutDisk.plain g.B.CutDisk.is_starved in
     let old = driven_by c.args.self.now c.args.server c.args.disk.now c.args.disks.now in
     IfOk-weaker c.play.result _ _
@@ -59,3 +60,18 @@ returns g c =
           (c.if-not-allows.ensures world playing.bench.sound playing.bench.plays.stations).0 refl;
     }) c.play.ensures.server c.play.ensures.clients (on_ok_of c.play.result _ c.play.ensures.faults)
     c.play.ensures.plays)
+
+pub returns-clause-stops : goal.returns-clause-stops
+returns-clause-stops g c =
+    let cuts = (cuts_by g.B.CutDisk.restarts g.B.CutDisk.arming g.B.CutDisk.plain g.B.CutDisk.is_starved) in
+    let old = bench_of c.args.self.now.stations c.args.server c.args.disk.now c.args.disks.now in
+    on_err c.play.result _ _ c.play.ensures.stops
+    (λ stops.
+    stops_first g.B.Disk cuts (event_value c.in-Some.event) old c.play.new.disk c.play.new.disks
+    (λ world playing. record {
+      in_range =
+          subst (λ (o : Option StoredEvent). IfSome o (λ it. IsInRange (event_value it))) c.in-Some.is
+          (c.requires.fits world playing.bench.sound playing.bench.plays.stations);
+      possible =
+          (c.if-not-allows.ensures world playing.bench.sound playing.bench.plays.stations).0 refl;
+    }) c.play.ensures.faults stops)

@@ -5,7 +5,8 @@ use Rattle.air_world.specs.Schedule.{Event, IsInRange}
 use Rattle.air_rehearsal.specs.Driving.{delivery_of}
 use Rattle.air_rehearsal.specs.Generator.{Tries, TriesTimes}
 use Rattle.air_rehearsal.proofs.DrawLemmas.{delivery-fits, times-more}
-use Rattle.air_rehearsal.proofs.DriveLemmas.{Owes, drives_as, owes_done, owes_more, owes_none}
+use Rattle.air_rehearsal.proofs.DriveLemmas.{Owes, drives_as, owes_done, owes_more, owes_none, stops_then}
+use Rattle.air_rehearsal.proofs.HalfwayServer.{on_err_of}
 use Rattle.air_rehearsal.proofs.generator.Driver.repeat.Goals as goal
 
 pub loop-init : goal.loop-init
@@ -38,10 +39,10 @@ loop-preserved g c =
     (drives_as g.B.Disk cuts _ (Owes (TriesTimes (times - i) event) (TriesTimes (times - (i + 1)) event)) _ _
     (λ x y tries last left.
     times-more event times i x y last c.loop-test.true (subst (λ (e : Event). Tries e x y) c.delivery-delivery.ensures tries) left)
-    c.in_ok-server.ensures)
+    c.in_ok-server.ensures.drives)
 
-pub returns : goal.returns
-returns g c =
+pub returns-clause-drives : goal.returns-clause-drives
+returns-clause-drives g c =
     let cuts = cuts_by g.B.CutDisk.restarts g.B.CutDisk.arming g.B.CutDisk.plain g.B.CutDisk.is_starved in
     let event : Event = delivery_of c.args.way c.args.client (c.args.place + 1) in
     let times : ℕ = c.args.times in
@@ -50,3 +51,8 @@ returns g c =
     (λ x.
     subst (λ (n : ℕ). TriesTimes n event x x) (let e : 0 ≡ times - i = omega (arith, c.loop-test.false) in e) refl)
     c.loop.invariant
+
+pub returns-in_err-server-clause-stops : goal.returns-in_err-server-clause-stops
+returns-in_err-server-clause-stops g c =
+    let cuts = (cuts_by g.B.CutDisk.restarts g.B.CutDisk.arming g.B.CutDisk.plain g.B.CutDisk.is_starved) in
+    on_err_of c.from_residual.result _ (stops_then g.B.Disk cuts _ _ _ _ _ c.loop.invariant c.in_err-server.ensures.stops)

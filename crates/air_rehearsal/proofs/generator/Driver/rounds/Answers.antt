@@ -4,7 +4,8 @@ use Rattle.disk_model.specs.Cuts.{cuts_by}
 use Rattle.air_rehearsal.specs.Drawn.{rounds}
 use Rattle.air_rehearsal.specs.Generator.{Turns}
 use Rattle.air_rehearsal.proofs.DrawLemmas.{rounds-more}
-use Rattle.air_rehearsal.proofs.DriveLemmas.{Owes, drives_as, owes_done, owes_more, owes_none}
+use Rattle.air_rehearsal.proofs.DriveLemmas.{Owes, drives_as, owes_done, owes_more, owes_none, stops_then}
+use Rattle.air_rehearsal.proofs.HalfwayServer.{on_err_of}
 use Rattle.air_rehearsal.proofs.generator.Driver.rounds.Goals as goal
 
 pub loop-init : goal.loop-init
@@ -26,10 +27,10 @@ loop-preserved g c =
     owes_more g.B.Disk cuts (Turns (rounds count)) (Turns (rounds (count - i))) (Turns (rounds (count - (i + 1)))) _ _ _
     c.loop.invariant
     (drives_as g.B.Disk cuts (Turns (rounds 1)) (Owes (Turns (rounds (count - i))) (Turns (rounds (count - (i + 1))))) _ _
-    (λ x y turns last left. rounds-more count i x y last c.loop-test.true turns left) c.in_ok-server.ensures)
+    (λ x y turns last left. rounds-more count i x y last c.loop-test.true turns left) c.in_ok-server.ensures.drives)
 
-pub returns : goal.returns
-returns g c =
+pub returns-clause-drives : goal.returns-clause-drives
+returns-clause-drives g c =
     let cuts = cuts_by g.B.CutDisk.restarts g.B.CutDisk.arming g.B.CutDisk.plain g.B.CutDisk.is_starved in
     let count : ℕ = c.args.count in
     let i : ℕ = c.loop.counter in
@@ -37,3 +38,8 @@ returns g c =
     (λ x.
     subst (λ (n : ℕ). Turns (rounds n) x x) (let e : 0 ≡ count - i = omega (arith, c.loop-test.false) in e) refl)
     c.loop.invariant
+
+pub returns-in_err-server-clause-stops : goal.returns-in_err-server-clause-stops
+returns-in_err-server-clause-stops g c =
+    let cuts = (cuts_by g.B.CutDisk.restarts g.B.CutDisk.arming g.B.CutDisk.plain g.B.CutDisk.is_starved) in
+    on_err_of c.from_residual.result _ (stops_then g.B.Disk cuts _ _ _ _ _ c.loop.invariant c.in_err-server.ensures.stops)

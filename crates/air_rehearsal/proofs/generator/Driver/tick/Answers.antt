@@ -3,7 +3,8 @@ use Rattle.std.proofs.lemmas.Result.{IfOk-weaker}
 use Rattle.disk_model.specs.Cuts.{cuts_by}
 use Rattle.air_world.specs.Schedule.{tick_client, tick_server}
 use Rattle.air_rehearsal.specs.Generator.{Tries}
-use Rattle.air_rehearsal.proofs.DriveLemmas.{drives_then}
+use Rattle.air_rehearsal.proofs.DriveLemmas.{drives_then, stops_then}
+use Rattle.air_rehearsal.proofs.HalfwayServer.{on_err}
 use Rattle.air_rehearsal.proofs.generator.Driver.tick.Goals as goal
 
 pub play-requires-clause-ready : goal.play-requires-clause-ready
@@ -13,15 +14,21 @@ pub play-requires-clause-fits : goal.play-requires-clause-fits
 play-requires-clause-fits g c = λ world sound plays. tt
 
 pub play-requires-2-clause-ready : goal.play-requires-2-clause-ready
-play-requires-2-clause-ready g c = c.in_ok-server.ensures.ready
+play-requires-2-clause-ready g c = c.in_ok-server.ensures.drives.ready
 
 pub play-requires-2-clause-fits : goal.play-requires-2-clause-fits
 play-requires-2-clause-fits g c = λ world sound plays. tt
 
-pub returns : goal.returns
-returns g c =
+pub returns-clause-drives : goal.returns-clause-drives
+returns-clause-drives g c =
     let cuts = cuts_by g.B.CutDisk.restarts g.B.CutDisk.arming g.B.CutDisk.plain g.B.CutDisk.is_starved in
     IfOk-weaker c.play-2.result _ _
     (λ later last.
-    drives_then g.B.Disk cuts (Tries (tick_client c.args.client)) (Tries tick_server) _ _ _ c.in_ok-server.ensures last)
-    c.play-2.ensures
+    drives_then g.B.Disk cuts (Tries (tick_client c.args.client)) (Tries tick_server) _ _ _ c.in_ok-server.ensures.drives last)
+    c.play-2.ensures.drives
+
+pub returns-clause-stops : goal.returns-clause-stops
+returns-clause-stops g c =
+    let cuts = (cuts_by g.B.CutDisk.restarts g.B.CutDisk.arming g.B.CutDisk.plain g.B.CutDisk.is_starved) in
+    on_err c.play-2.result _ _ c.play-2.ensures.stops
+    (λ stops. stops_then g.B.Disk cuts _ _ _ _ _ c.in_ok-server.ensures.drives stops)

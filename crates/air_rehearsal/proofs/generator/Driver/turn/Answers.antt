@@ -2,11 +2,12 @@
 use Rattle.std.proofs.Common.{ap, subst, sym}
 use Rattle.std.proofs.lemmas.Result.{IfOk-weaker}
 use Rattle.disk_model.specs.Cuts.{cuts_by}
-use Rattle.air_rehearsal.specs.Driving.{IsReadyBench}
+use Rattle.air_rehearsal.specs.Driving.{IsReadyBench, StopsDriving}
 use Rattle.air_rehearsal.specs.Generator.{Drawing, Exchanges, Takes, Turn, ending, none_looked, wish}
 use Rattle.air_rehearsal.specs.Playing.{bench_of}
 use Rattle.air_rehearsal.specs.declared.stations.Stations.{Stations}
-use Rattle.air_rehearsal.proofs.DriveLemmas.{Then, drives_as, drives_takes, drives_then}
+use Rattle.air_rehearsal.proofs.DriveLemmas.{Then, drives_as, drives_takes, drives_then, stops_then}
+use Rattle.air_rehearsal.proofs.HalfwayServer.{on_err, on_err_of}
 use Rattle.air_rehearsal.proofs.generator.Driver.turn.Goals as goal
 
 pub play-requires-clause-ready : goal.play-requires-clause-ready
@@ -18,7 +19,7 @@ pub play-requires-clause-fits : goal.play-requires-clause-fits
 play-requires-clause-fits g c = c.wish-wish.ensures.fits
 
 pub exchange_all-requires : goal.exchange_all-requires
-exchange_all-requires g c = c.in_ok-server.ensures.ready
+exchange_all-requires g c = c.in_ok-server.ensures.drives.ready
 
 pub play-requires-2-clause-ready : goal.play-requires-2-clause-ready
 play-requires-2-clause-ready g c =
@@ -26,13 +27,13 @@ play-requires-2-clause-ready g c =
     (λ (s : Stations).
     IsReadyBench g.B.Disk
     (bench_of s c.in_ok-server-2.server c.exchange_all.new.disk c.exchange_all.new.disks))
-    (sym c.ending-ending.ensures.same) c.in_ok-server-2.ensures.ready
+    (sym c.ending-ending.ensures.same) c.in_ok-server-2.ensures.drives.ready
 
 pub play-requires-2-clause-fits : goal.play-requires-2-clause-fits
 play-requires-2-clause-fits g c = c.ending-ending.ensures.fits
 
-pub returns : goal.returns
-returns g c =
+pub returns-clause-drives : goal.returns-clause-drives
+returns-clause-drives g c =
     let cuts = cuts_by g.B.CutDisk.restarts g.B.CutDisk.arming g.B.CutDisk.plain g.B.CutDisk.is_starved in
     let client = c.args.client in
     IfOk-weaker c.play-2.result _ _
@@ -58,7 +59,45 @@ returns g c =
     (drives_takes g.B.Disk cuts (λ state world. wish state client world) c.wish-wish.result _ _ _
     (ap (λ (s : Stations). bench_of s c.args.server c.args.disk.now c.args.disks.now) c.wish-wish.ensures.same)
     (λ world playing. c.wish-wish.ensures.wish world playing.bench.sound playing.bench.plays.stations)
-    c.in_ok-server.ensures) c.in_ok-server-2.ensures)
+    c.in_ok-server.ensures.drives) c.in_ok-server-2.ensures.drives)
     (drives_takes g.B.Disk cuts (λ state world. ending state client) c.ending-ending.result _ _ _
     (ap (λ (s : Stations). bench_of s c.in_ok-server-2.server c.exchange_all.new.disk c.exchange_all.new.disks)
-    c.ending-ending.ensures.same) (λ world playing. c.ending-ending.ensures.ending) last))) c.play-2.ensures
+    c.ending-ending.ensures.same) (λ world playing. c.ending-ending.ensures.ending) last))) c.play-2.ensures.drives
+
+pub returns-in_err-server-clause-stops : goal.returns-in_err-server-clause-stops
+returns-in_err-server-clause-stops g c =
+    let cuts = (cuts_by g.B.CutDisk.restarts g.B.CutDisk.arming g.B.CutDisk.plain g.B.CutDisk.is_starved) in
+    on_err_of c.from_residual.result _
+    (
+    subst
+    (λ (s : Stations).
+    StopsDriving g.B.Disk cuts (bench_of s c.args.server c.args.disk.now c.args.disks.now) c.play.new.disk c.play.new.disks)
+    c.wish-wish.ensures.same c.in_err-server.ensures.stops)
+
+pub returns-in_err-server-2-clause-stops : goal.returns-in_err-server-2-clause-stops
+returns-in_err-server-2-clause-stops g c =
+    let cuts = (cuts_by g.B.CutDisk.restarts g.B.CutDisk.arming g.B.CutDisk.plain g.B.CutDisk.is_starved) in
+    on_err_of c.from_residual-in_err-server-2.result _
+    (
+    subst
+    (λ (s : Stations).
+    StopsDriving g.B.Disk cuts (bench_of s c.args.server c.args.disk.now c.args.disks.now) c.exchange_all.new.disk c.exchange_all.new.disks)
+    c.wish-wish.ensures.same
+    (stops_then g.B.Disk cuts _ _ _ _ _ c.in_ok-server.ensures.drives c.in_err-server-2.ensures.stops))
+
+pub returns-clause-stops : goal.returns-clause-stops
+returns-clause-stops g c =
+    let cuts = (cuts_by g.B.CutDisk.restarts g.B.CutDisk.arming g.B.CutDisk.plain g.B.CutDisk.is_starved) in
+    on_err c.play-2.result _ _ c.play-2.ensures.stops
+    (λ stops.
+    subst
+    (λ (s : Stations).
+    StopsDriving g.B.Disk cuts (bench_of s c.args.server c.args.disk.now c.args.disks.now) c.play-2.new.disk c.play-2.new.disks)
+    c.wish-wish.ensures.same
+    (stops_then g.B.Disk cuts _ _ _ _ _ c.in_ok-server.ensures.drives
+    (stops_then g.B.Disk cuts _ _ _ _ _ c.in_ok-server-2.ensures.drives
+    (subst
+    (λ (s : Stations).
+    StopsDriving g.B.Disk cuts
+    (bench_of s c.in_ok-server-2.server c.exchange_all.new.disk c.exchange_all.new.disks) c.play-2.new.disk
+    c.play-2.new.disks) c.ending-ending.ensures.same stops))))
