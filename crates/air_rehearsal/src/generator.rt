@@ -1,6 +1,7 @@
 //! A rehearsal whose events are drawn by a number.
 
-ghost use Rattle.std.specs.Prelude.{◌≡◌, ◌↔◌, ◌⊎◌, ◌+◌, ◌-◌, ◌%◌, ◌^◌, ◌<◌, ◌≤◌, [], ◌∷◌, length, None, IfOk, IsTrue, OnErr};
+ghost use Rattle.std.specs.Prelude.{◌≡◌, ◌↔◌, ◌⊎◌, ◌+◌, ◌-◌, ◌%◌, ◌^◌, ◌<◌, ◌≤◌, [], ◌∷◌, length, None, IfOk, IsTrue};
+ghost use Rattle.std.specs.Prelude.{OnErr};
 ghost use Rattle.std.specs.Option.{option_map};
 ghost use Rattle.px_base.specs.CallSign.{CallText};
 ghost use Rattle.disk_model.specs.Cuts.{AreFresh, cuts_by};
@@ -183,9 +184,9 @@ struct Driver {
 /// off, or a cut of its power or the server's may wait for the next event.
 ///
 /// One clause says of the report what [`rehearse`] says of a schedule, and that the schedule's events are those which
-/// the number draws. Where memory was wanting the other clause says what [`rehearse`] says then, of some schedule for the
-/// same clients. Both hold where the count of the server's disk's failed writes doesn't stand at its last number at the
-/// end.
+/// the number draws. Where memory was wanting the other one says of some schedule for the same clients what
+/// [`rehearse`] says then. Both hold where the count of the server's disk's failed writes doesn't stand at its last
+/// number at the end.
 ///
 /// [`rehearse`]: crate::rehearse
 pub fn drive<B: CutDisk>(
@@ -220,7 +221,8 @@ fn drive_over<B: CutDisk>(
         DrivenBy B.Disk (cuts_by B.restarts B.arming B.plain B.is_starved) seed count (disk.old ∷ disks.old)
         (disk.new ∷ disks.new) report) }
     ensures wants_memory { OnErr result (CanTell B.Disk (disk.new ∷ disks.new) →
-        StopsDrawn B.Disk (cuts_by B.restarts B.arming B.plain B.is_starved) (disk.old ∷ disks.old) (disk.new ∷ disks.new)) }
+        StopsDrawn B.Disk (cuts_by B.restarts B.arming B.plain B.is_starved) (disk.old ∷ disks.old)
+        (disk.new ∷ disks.new)) }
 {
     sound_law();
     parts_law();
