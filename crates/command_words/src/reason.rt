@@ -24,7 +24,7 @@ pub fn refusal_text(alloc: Global, words: &Words) -> Option<String> {
         return format!(in alloc; "there is no command '{command}'").ok();
     };
     let line = &words.as_slice()[2..];
-    let parser = parser_of(alloc, asked, command.as_str()).ok()?;
+    let parser = parser_of(alloc, asked, line, command.as_str()).ok()?;
     match parser.try_get_matches_from(line) {
         Ok(_) => String::from_str(alloc, reason_behind(asked)).ok(),
         Err(error) => format!(in alloc; "{error}").ok(),
@@ -49,10 +49,21 @@ fn reason_behind(asked: CommandWord) -> &'static str {
     }
 }
 
+/// Whether the words of a line of `rehearse` are the name of a schedule with others behind it, and not options.
+fn names_a_schedule(line: &[String]) -> bool {
+    line.len() > 1 && !line.iter().any(|word| is_of_drawing(word.as_str()))
+}
+
+/// Whether a word is an option by which a schedule is drawn, with its value or without.
+fn is_of_drawing(word: &str) -> bool {
+    word.starts_with("--seed") || word.starts_with("--count")
+}
+
 /// What `clap` reads the words of this command by.
 fn parser_of<'a>(
     alloc: Global,
     asked: CommandWord,
+    line: &[String],
     word: &'a str,
 ) -> Result<Command<'a>, AllocError> {
     match asked {
@@ -63,6 +74,7 @@ fn parser_of<'a>(
         CommandWord::PfhMake => make_command(alloc),
         CommandWord::PfhBody => body_command(alloc),
         CommandWord::Named(_) => line_command(alloc, word, "name"),
+        CommandWord::Rehearse if names_a_schedule(line) => line_command(alloc, word, "name"),
         CommandWord::Rehearse => drawn_command(alloc),
     }
 }
