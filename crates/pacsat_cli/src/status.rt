@@ -19,7 +19,7 @@ const LINE_ROOM: usize = 165;
 pub(crate) type Line = ArrayVec<u8, LINE_ROOM>;
 
 /// Why the content of a disk is no store of files, or no client's notes.
-#[derive(Clone, Copy, Debug, PartialEq, Eq)]
+#[derive(Clone, Copy)]
 pub enum BadStore {
     /// It has more than 16 octets, and they don't begin as those of one.
     NotAStore {
@@ -34,7 +34,7 @@ pub enum BadStore {
 }
 
 /// By what a file, or what a client asked of a server, was refused.
-#[derive(Clone, Copy, Debug, PartialEq, Eq)]
+#[derive(Clone, Copy)]
 pub enum RefusedBy {
     /// By the file's first fault, whose code the last line of what was shown says.
     Shown,
@@ -51,7 +51,7 @@ pub enum RefusedBy {
 }
 
 /// How a run of the program ended.
-#[derive(Clone, Copy, Debug, PartialEq, Eq)]
+#[derive(Clone, Copy)]
 pub enum Status {
     /// The command did what it says; a node that serves read the end of the air.
     Done,

@@ -10,12 +10,12 @@ use px_base::FileBytes;
 use thiserror::Error;
 
 /// A standard stream is closed, and can't be held open.
-#[derive(Clone, Copy, Debug, PartialEq, Eq, Error)]
+#[derive(Clone, Copy, Debug, Error)]
 #[error("a standard stream is closed")]
 pub struct NotHeld;
 
 /// Why there are no words.
-#[derive(Clone, Copy, Debug, PartialEq, Eq, Error)]
+#[derive(Clone, Copy, Debug, Error)]
 pub enum WordsRefusal {
     /// One of them isn't UTF-8.
     #[error("a word isn't UTF-8")]
