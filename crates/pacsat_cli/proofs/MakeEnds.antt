@@ -1,19 +1,23 @@
 -- A make of the octets that were loaded is one of the content of BODY, and their body is the one of the content of NAME.
-use Rattle.std.proofs.Common.{◌≡◌, ℕ, ◌<◌, ◌≤◌, List, length, refl, ap, sym, subst, ◌∙◌, inl, inr, arith}
-use Rattle.std.specs.Prelude.{Option, None, Some, IfSome, Ok, Err}
+use Rattle.std.proofs.Common.{◌≡◌, ℕ, ◌+◌, ◌<◌, ◌≤◌, List, length, refl, ap, sym, subst, ◌∙◌, inl, inr, arith, Bool, true, false}
+use Rattle.std.specs.Prelude.{Option, None, Some, IfSome, IsOkUnless, MatchOption, Ok, Err, nat_lt, if◌then◌else◌}
+use Rattle.std.specs.Option.{option_map}
 use Rattle.std.proofs.lemmas.Bool.Decides.{leb_tells}
 use Rattle.px_base.specs.Shelves.{Holding, Loads, content_of}
 use Rattle.px_base.specs.declared.shelf.ShelfRefusal.{ShelfRefusal}
 use Rattle.px_base.specs.declared.shelf.ShelfRefusal.TheVariants as refusal
 use Rattle.header_tool.specs.Bodies.{HasBody}
 use Rattle.header_tool.specs.Faults.{fault_code}
-use Rattle.header_tool.specs.Made.{IsMade, MakeValue}
+use Rattle.header_tool.specs.Built.{passing_len}
+use Rattle.header_tool.specs.Made.{IsMade, IsRefused, MakeValue, made_builder, make_refusal, or_long}
+use Rattle.header_tool.specs.declared.refusal.MakeRefusal.{MakeRefusal}
+use Rattle.header_tool.specs.declared.refusal.MakeRefusal.TheVariants as make
 use Rattle.pacsat_cli.specs.declared.status.RefusedBy.TheVariants as by
 use Rattle.pacsat_cli.specs.declared.status.Status.{Status}
 use Rattle.pacsat_cli.specs.declared.status.Status.TheVariants.{Done, Refused, Shelf, TooLong}
 use Rattle.pacsat_cli.specs.Bodies.{BodyEnd, BodyRan, IsBodyOf, OctetsBody, body_fault, body_status}
 use Rattle.pacsat_cli.specs.Files.{most_octets}
-use Rattle.pacsat_cli.specs.Making.{FileKept, IsMadeOf, IsOrHindered, MakeEnd, MakeRan, OctetsMade, make_status}
+use Rattle.pacsat_cli.specs.Making.{FileKept, IsMadeOf, IsOrHindered, IsPossible, MakeEnd, MakeRan, OctetsMade, length_status, make_status}
 use Rattle.pacsat_cli.specs.Stops.{status_of_load}
 use Rattle.pacsat_cli.proofs.Loading.{loaded, long, none}
 
@@ -91,3 +95,66 @@ unloaded_ends IsFile kept held refusal.OutOfMemory = refl
 
 pub unloaded-ran : (name kept : List ℕ) (held : Option Holding) (why : ShelfRefusal) → Loads held name most_octets (Err why) → BodyRan name kept held held (status_of_load why)
 unloaded-ran name kept held why loads = record { ends = unloaded_ends (IsBodyOf name held) kept held why; told = unloaded_told why held name loads }
+
+-- a body that is too long for a file makes one that is too long
+either_status : (a b : Bool) (header file : ℕ) → (b ≡ false → ⊥) → length_status (if a then Some header else if b then Some file else None) ≡ TooLong
+either_status true b header file above = refl
+either_status false true header file above = refl
+either_status false false header file above = absurd (above refl)
+
+above_most : (header body : ℕ) → most_octets < body → nat_lt 4194304 (header + body) ≡ false → ⊥
+above_most header body above test = elim (leb_tells 4194305 (header + body)) [
+  | inl p ↦ let yes = p.0 in cc
+  | inr q ↦ let below = q.1 in omega (arith, above, below)
+]
+
+of_header : (header body : ℕ) → most_octets < body → length_status (if nat_lt 65535 header then Some header else if nat_lt 4194304 (header + body) then Some (header + body) else None) ≡ TooLong
+of_header header body above = either_status (nat_lt 65535 header) (nat_lt 4194304 (header + body)) header (header + body) (above_most header body above)
+
+long_make : (spec : MakeValue) (octets : List ℕ) → most_octets < length octets → make_status spec (Some octets) ≡ TooLong
+long_make spec octets above = of_header _ (length octets) above
+
+make_told : (why : ShelfRefusal) (held : Option Holding) (spec : MakeValue) (body : List ℕ) → Loads held body most_octets (Err why) → IfSome held (λ shelf. IsOrHindered (make_status spec (content_of shelf body)) (status_of_load why))
+make_told why None spec body loads = tt
+make_told refusal.NoSuch (Some shelf) spec body loads = inl (sym (ap (make_status spec) (none most_octets (content_of shelf body) loads)))
+make_told refusal.TooLong (Some shelf) spec body loads = let h = long most_octets (content_of shelf body) loads in inl (sym (ap (make_status spec) h.1 ∙ long_make spec h.0 h.2))
+make_told refusal.Fault (Some shelf) spec body loads = inr (0, omega arith, refl)
+make_told refusal.OutOfMemory (Some shelf) spec body loads = inr (1, omega arith, refl)
+
+make_ends : (IsFile : List ℕ → Type 0) (name : List ℕ) (held : Option Holding) (why : ShelfRefusal) → MakeEnd IsFile name held held (status_of_load why)
+make_ends IsFile name held refusal.NoSuch = refl
+make_ends IsFile name held refusal.TooLong = refl
+make_ends IsFile name held refusal.Fault = inl refl
+make_ends IsFile name held refusal.OutOfMemory = refl
+
+pub unloaded-made : (spec : MakeValue) (body name : List ℕ) (held : Option Holding) (why : ShelfRefusal) → Loads held body most_octets (Err why) → MakeRan spec body name held held (status_of_load why)
+unloaded-made spec body name held why loads = record { ends = make_ends (IsMadeOf spec body held) name held why; told = make_told why held spec body loads }
+
+-- where no rule refuses the header, a file is refused by its length alone
+by_length : (spec : MakeValue) (octets : List ℕ) → IsPossible spec → make_refusal spec octets ≡ option_map make.TooLong (passing_len (made_builder spec) octets)
+by_length spec octets possible = ap (λ (r : Option MakeRefusal). or_long r (passing_len (made_builder spec) octets)) possible
+
+fits : (len : Option ℕ) (file : List ℕ) → MatchOption (option_map make.TooLong len) (IsOkUnless (Ok file) make.OutOfMemory) (IsRefused (Ok file)) → Done ≡ length_status len
+fits None file answer = refl
+fits (Some len) file answer = absurd (elim answer [ inl e ↦ cc | inr e ↦ cc ])
+
+passes : (len : Option ℕ) (why : MakeRefusal) (wanted : ℕ) → why ≡ make.TooLong wanted → MatchOption (option_map make.TooLong len) (why ≡ make.OutOfMemory) (IsRefused {T = List ℕ} (Err why)) → TooLong ≡ length_status len
+passes None why wanted is answer = absurd (let e = sym is ∙ answer in cc)
+passes (Some len) why wanted is answer = refl
+
+-- the file that is made was kept, or the shelf failed
+pub made-file : (spec : MakeValue) (octets name file : List ℕ) (before now : Option Holding) (s : Status) → IsPossible spec → MatchOption (make_refusal spec octets) (IsOkUnless (Ok file) make.OutOfMemory) (IsRefused (Ok file)) → IsMade spec octets file → FileKept name file before now s → OctetsMade spec octets name before now s
+made-file spec octets name file before now s possible answer made kept =
+    let Answered : Option MakeRefusal → Type 0 = λ r. MatchOption r (IsOkUnless (Ok file) make.OutOfMemory) (IsRefused (Ok file)) in
+    let done = fits (passing_len (made_builder spec) octets) file (subst Answered (by_length spec octets possible) answer) in
+    let Made : Status → Type 0 = λ t. OctetsMade spec octets name before now t in
+    elim kept [
+      | inl h ↦ subst Made (sym h.0) (record { ends = (file, made, h.1); told = inl done })
+      | inr h ↦ subst Made (sym h.0) (record { ends = inr (file, made, h.1); told = inr (0, omega arith, refl) })
+    ]
+
+-- it would be too long
+pub too_long-file : (spec : MakeValue) (octets name : List ℕ) (held : Option Holding) (why : MakeRefusal) (wanted : ℕ) → why ≡ make.TooLong wanted → IsPossible spec → MatchOption (make_refusal spec octets) (why ≡ make.OutOfMemory) (IsRefused {T = List ℕ} (Err why)) → OctetsMade spec octets name held held TooLong
+too_long-file spec octets name held why wanted is possible answer =
+    let Answered : Option MakeRefusal → Type 0 = λ r. MatchOption r (why ≡ make.OutOfMemory) (IsRefused {T = List ℕ} (Err why)) in
+    record { ends = refl; told = inl (passes (passing_len (made_builder spec) octets) why wanted is (subst Answered (by_length spec octets possible) answer)) }
