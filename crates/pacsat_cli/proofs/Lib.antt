@@ -22,3 +22,4 @@ mod RunRehearsal
 mod RunServe
 mod RunSession
 mod Starting
+mod Unasked
