@@ -15,7 +15,7 @@ mod top_call;
 
 pub use bench::fresh_bench;
 pub use command_words::Words;
-pub use startup::{Host, HostCall, MemoryHost, NotHeld, WordsRefusal, start};
+pub use startup::{Host, HostCall, NotHeld, WordsRefusal, start};
 pub use status::{BadStore, RefusedBy, Status};
 pub use top_call::{end_with, run};
 pub use uploader::FileSum;

@@ -7,12 +7,10 @@ ghost use Rattle.pacsat_cli.specs.Start.{Follows, IsRunOf, Starts, status_of_wor
 ghost use Rattle.pacsat_cli.specs.Status.{number_of};
 
 mod host;
-mod memory_host;
 
 use crate::Status;
 use command_words::{AirWord, Words, read_air};
 pub use host::{Host, HostCall, NotHeld, WordsRefusal};
-pub use memory_host::MemoryHost;
 
 /// Runs the program on this system, and gives the number that the process is to end with. Before anything else is opened
 /// standard input, output and error are seen to be open; where they can't be, the run ends with `Status::Disk`. Text goes

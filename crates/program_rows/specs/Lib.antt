@@ -1,1 +1,2 @@
+pub mod MemoryHost
 pub mod Ready

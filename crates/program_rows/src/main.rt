@@ -10,6 +10,7 @@
 mod air;
 mod client;
 mod command;
+mod memory_host;
 mod rehearsal;
 mod run;
 mod startup;

@@ -2,9 +2,10 @@
 //! words (`text`, `nottext` or `nomemory`), the status with which a run ends (`done`, `usage` or `disk`), and the words.
 //! The number that the process ends with is printed, and the calls of the system, in order.
 
+use crate::memory_host::MemoryHost;
 use anyhow::{Context, Result, bail};
 use command_words::Words;
-use pacsat_cli::{HostCall, MemoryHost, NotHeld, Status, WordsRefusal, start};
+use pacsat_cli::{HostCall, NotHeld, Status, WordsRefusal, start};
 use row_words::{Player, written};
 use std::alloc::Global;
 use std::str;

@@ -2,17 +2,17 @@
 
 ghost use Rattle.std.specs.Prelude.{◌≡◌, IfOk, None, Some};
 ghost use Rattle.px_base.specs.CallRecords.{no_calls, told};
-ghost use Rattle.pacsat_cli.specs.Start.{Follows, IsCalled, IsRun, words_given};
+ghost use Rattle.pacsat_cli.specs.Start.{Follows};
+ghost use Rattle.program_rows.specs.MemoryHost.{IsCalled, IsRun, words_given};
 
-use crate::Status;
-use crate::startup::host::{Host, HostCall, NotHeld, WordsRefusal};
 use command_words::Words;
+use pacsat_cli::{Host, HostCall, NotHeld, Status, WordsRefusal};
 use px_base::{CallRecord, FileBytes, OutOfMemory};
 use std::alloc::Global;
 use std::marker::Model;
 
-/// A system in memory. Its calls answer as it was made to; it tells those that reached it, until one finds no memory to be
-/// recorded.
+/// A system in memory. Its calls answer as it was made to; it tells those that reached it, until one finds no memory to
+/// be recorded.
 #[derive(Drop)]
 pub struct MemoryHost {
     alloc: Global,
@@ -23,7 +23,7 @@ pub struct MemoryHost {
 }
 
 impl Model for MemoryHost {
-    ghost use Rattle.pacsat_cli.specs.Start.{MemoryHostState};
+    ghost use Rattle.program_rows.specs.MemoryHost.{MemoryHostState};
 
     ghost Value = { MemoryHostState };
 
@@ -31,8 +31,8 @@ impl Model for MemoryHost {
 }
 
 impl MemoryHost {
-    /// A system whose streams are held so, whose words are these, or are refused so, at the first call that asks for them,
-    /// and on which each run ends with this status. Takes no memory.
+    /// A system whose streams are held so, whose words are these, or are refused so, at the first call that asks for
+    /// them, and on which each run ends with this status. Takes no memory.
     pub fn new(
         alloc: Global,
         held: Result<(), NotHeld>,
