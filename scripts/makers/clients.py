@@ -3,12 +3,13 @@
 import struct
 
 from frames import kiss_text, write_frame
+from headers import first_fault, is_short_form
 from journal import call_octets
 from links import DM, SABM, Link, response
 from notes import Refused
 from sessions import DATA, DATA_END, DIR_SHORT, DL_ACK, DL_COMPLETED, DL_ERROR, DL_NAK, DOWNLOAD, LENGTHS, LOGIN, PIECE, SELECT
-from sessions import SELECT_RESP, UL_ACK, UL_ERROR, UL_GO, UL_NAK, UPLOAD, is_short_form, packet, reader
-from stores import LONGEST, first_fault
+from sessions import SELECT_RESP, UL_ACK, UL_ERROR, UL_GO, UL_NAK, UPLOAD, packet, reader
+from stores import LONGEST
 
 ROOM, FREE, MOST_LISTING = 4096, 1280, 74752
 

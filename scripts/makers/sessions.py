@@ -3,10 +3,11 @@
 import struct
 
 from disks import Journal, Stopped
+from headers import first_fault, items_of, short_form, stamped
 from journal import call_octets
 from rows import sum16
 from selections import Fault, holds
-from stores import LONGEST, MAGIC, MANDATORY, Store, begin, blocks_of, drop, first_fault, grow, seal
+from stores import LONGEST, MAGIC, Store, begin, blocks_of, drop, grow, seal
 
 DATA, DATA_END, LOGIN, UPLOAD, UL_GO, UL_ERROR, UL_ACK, UL_NAK, DOWNLOAD, DL_ERROR = range(10)
 DL_ABORTED, DL_COMPLETED, DL_ACK, DL_NAK, DIR_SHORT, DIR_LONG, SELECT, SELECT_RESP = range(10, 18)
@@ -45,71 +46,6 @@ def login_text(moment, flags):
 
 def error(kind, code):
     return packet(kind, bytes([code]))
-
-
-# ---- headers
-
-
-def items_of(octets):
-    """The items of a header, and where it ends."""
-    items, at = [], 2
-    while True:
-        number, length = struct.unpack("<HB", octets[at : at + 3])
-        content = octets[at + 3 : at + 3 + length]
-        at += 3 + length
-        if number == 0 and length == 0:
-            return items, at
-        items.append((number, content))
-
-
-def header_of(items):
-    """The octets of a header with these items, and its sum renewed."""
-    text = b"\xaa\x55" + b"".join(struct.pack("<HB", number, len(content)) + content for number, content in items) + b"\0\0\0"
-    cleared = b"\xaa\x55" + b"".join(
-        struct.pack("<HB", number, len(content)) + (b"\0\0" if number == 0x0A else content) for number, content in items
-    )
-    total = struct.pack("<H", sum16(cleared))
-    at = 2
-    for number, content in items:
-        if number == 0x0A:
-            return text[: at + 3] + total + text[at + 5 :]
-        at += 3 + len(content)
-    return text
-
-
-def file_of(name, ext, moment, file_type, others, body):
-    """The file that is made of a body: the mandatory items in ascending order, the others, and the body."""
-    time = struct.pack("<I", moment)
-    items = [(1, bytes(4)), (2, name.ljust(8)), (3, ext.ljust(3)), (4, bytes(4)), (5, time), (6, time)]
-    items += [(7, b"\0"), (8, bytes([file_type])), (9, struct.pack("<H", sum16(body))), (10, bytes(2)), (11, bytes(2))]
-    items += others
-    length = len(header_of(items))
-    lengths = {4: struct.pack("<I", length + len(body)), 11: struct.pack("<H", length)}
-    return header_of([(key, lengths.get(key, content)) for key, content in items]) + body
-
-
-def stamped(octets, number, caller, moment):
-    """The file as a server keeps it."""
-    items, end = items_of(octets)
-    stamps = {(0x01, 4): struct.pack("<I", number), (0x11, 6): caller[:6], (0x12, 4): struct.pack("<I", moment)}
-    return header_of([(key, stamps.get((key, len(content)), content)) for key, content in items]) + octets[end:]
-
-
-def short_form(octets):
-    items = dict(reversed(items_of(octets)[0]))
-    return header_of([(number, items[number]) for number, _ in MANDATORY])
-
-
-def is_short_form(octets):
-    """Whether octets have the form of a short header: the mandatory items with their lengths, in ascending order."""
-    form = b"\xaa\x55" + b"".join(struct.pack("<HB", number, length) + bytes(length) for number, length in MANDATORY)
-    fixed, at = set(range(2)), 2
-    for _, length in MANDATORY:
-        fixed |= set(range(at, at + 3))
-        at += 3 + length
-    fixed |= set(range(at, at + 3))
-    form += bytes(3)
-    return len(octets) == len(form) and all(octets[place] == form[place] for place in fixed)
 
 
 # ---- the store on a disk

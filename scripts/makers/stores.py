@@ -2,12 +2,11 @@
 
 import struct
 
+from headers import first_fault
 from journal import call_octets, is_call, record, walk
-from rows import sum16
 
 MAGIC = b"PXSTORE0"
 LONGEST = 4194304
-MANDATORY = [(1, 4), (2, 8), (3, 3), (4, 4), (5, 4), (6, 4), (7, 1), (8, 1), (9, 2), (10, 2), (11, 2)]
 
 
 def begin(number=1, length=73, caller="NOCALL", moment=5, call=None):
@@ -29,34 +28,6 @@ def drop(number=1):
 
 def blocks_of(length):
     return (length + 511) // 512
-
-
-def first_fault(octets):
-    """The code of the first rule of headers that a file breaks, or None (PFH 1990)."""
-    if octets[:2] != b"\xaa\x55":
-        return 7
-    items, at = [], 2
-    while True:
-        if at + 3 > len(octets) or at + 3 + octets[at + 2] > len(octets):
-            return 14
-        number, length = struct.unpack("<HB", octets[at : at + 3])
-        content = octets[at + 3 : at + 3 + length]
-        at += 3 + length
-        if number == 0 and length == 0:
-            break
-        items.append((number, at - length, content))
-    stand = {number: [item for item in items if item[0] == number] for number, _ in MANDATORY}
-    if any(not stand[number] for number, _ in MANDATORY):
-        return 6
-    if any(len(stand[number]) != 1 or len(stand[number][0][2]) != length for number, length in MANDATORY):
-        return 14
-    say = {number: int.from_bytes(stand[number][0][2], "little") for number in (4, 9, 10, 11)}
-    if say[4] != len(octets) or say[11] != at:
-        return 14
-    place = stand[10][0][1]
-    if say[10] != sum16(octets[:place] + b"\0\0" + octets[place + 2 : at]):
-        return 15
-    return None if say[9] == sum16(octets[at:]) else 16
 
 
 class Store:
