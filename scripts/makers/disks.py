@@ -2,7 +2,7 @@
 
 import struct
 
-from journal import FIRST_GATE, header, walk
+from journal import GROWING, HEADER, block_place, blocks_in, first_gate, header, walk
 
 WIDTH = 2**64
 
@@ -13,10 +13,27 @@ class Stopped(Exception):
 
 class Disk:
     """A disk of these octets, which passes so many calls of write and sync, or all of them. The first write that fails leaves
-    its range open."""
+    its range open. The writes since the last sync stand with the octets that they found, by which they can be undone."""
 
     def __init__(self, octets, passes=None):
-        self.octets, self.synced, self.since, self.passes, self.torn = octets, octets, [], passes, False
+        self.present, self.least, self.since = bytearray(octets), len(octets), []
+        self.passes, self.torn = passes, False
+
+    @property
+    def octets(self):
+        """What a read gives."""
+        return bytes(self.present)
+
+    @property
+    def synced(self):
+        """What was synced last."""
+        octets = bytearray(self.present)
+        for at, _, _, found in reversed(self.since):
+            octets[at : at + len(found)] = found
+        return bytes(octets[: self.least])
+
+    def read(self, at, count):
+        return bytes(self.present[at : at + count])
 
     def counted(self):
         """Counts a call of write or sync, and tells whether it passes."""
@@ -28,17 +45,17 @@ class Disk:
     def write(self, at, octets):
         if not self.counted():
             if not self.torn:
-                self.since.append((at, len(octets), None))
+                self.since.append((at, len(octets), None, b""))
                 self.torn = True
             raise Stopped()
-        self.since.append((at, len(octets), octets))
-        self.octets = self.octets.ljust(at, b"\0")
-        self.octets = self.octets[:at] + octets + self.octets[at + len(octets) :]
+        self.since.append((at, len(octets), octets, self.read(at, len(octets))))
+        self.present += bytes(max(at - len(self.present), 0))
+        self.present[at : at + len(octets)] = octets
 
     def sync(self):
         if not self.counted():
             raise Stopped()
-        self.synced, self.since = self.octets, []
+        self.least, self.since = len(self.present), []
 
     def write_synced(self, at, octets):
         self.write(at, octets)
@@ -50,8 +67,8 @@ class Disk:
             return self.octets
         if pick % 4 == 0:
             return self.synced
-        draws = draw(pick)
-        greatest = max([len(self.synced)] + [at + count for at, count, _ in self.since])
+        draws, least = draw(pick), self.least
+        greatest = max([least] + [at + count for at, count, _, _ in self.since])
         fills = pick // 4 % 256 if pick % 4 == 2 else None
 
         def octet(old, new):
@@ -60,10 +77,9 @@ class Disk:
             which = next(draws) % 4
             return old if which == 0 else new if which == 1 else next(draws) % 256
 
-        least = len(self.synced)
         length = greatest if fills is not None else least + next(draws) % (greatest - least + 1)
         image = bytearray(self.synced) + bytes([octet(0, 0)]) * (length - least)
-        for at, count, octets in self.since:
+        for at, count, octets, _ in self.since:
             for place in range(min(at, length), min(at + count, length)):
                 old = image[place]
                 image[place] = octet(old, old if octets is None else octets[place - at])
@@ -82,38 +98,45 @@ def draw(number):
 class Journal:
     """A journal on a disk: recovered, and appended to."""
 
-    def __init__(self, disk, magic, blocks, take):
+    def __init__(self, disk, magic, blocks, take, layout=GROWING):
         self.disk, self.failed = disk, False
         disk.sync()
         octets = disk.octets
-        self.gate = FIRST_GATE
+        first = self.gate = first_gate(layout, blocks_in(octets) if len(octets) > HEADER else blocks)
 
         def taken(kind, content):
             take(kind, content)
             self.gate += 4 + len(content)
 
-        walk(octets, magic, taken)
-        if len(octets) <= 16:
+        walk(octets, magic, taken, layout)
+        if len(octets) <= HEADER:
             disk.write_synced(0, header(magic, blocks))
             self.format_gates()
-        elif len(octets) == 17:
+        elif len(octets) < first + 2:
             if octets[15] % 2 == 1:
                 disk.write_synced(15, b"\0")
             self.format_gates()
 
     def format_gates(self):
-        self.disk.write_synced(16, b"\0")
-        self.disk.write_synced(17, b"\0")
+        self.disk.write_synced(self.gate, b"\0")
+        self.disk.write_synced(self.gate + 1, b"\0")
 
     def append(self, record):
         """Appends a record, and fails from the first fault on."""
+        self.write_synced(self.gate + 1, record + b"\0")
+        self.write_synced(self.gate, b"\1")
+        self.gate += 1 + len(record)
+
+    def write_block(self, block, octets):
+        """Writes octets at the start of a block, and fails from the first fault on."""
+        self.write_synced(block_place(block), octets)
+
+    def write_synced(self, at, octets):
         try:
-            self.disk.write_synced(self.gate + 1, record + b"\0")
-            self.disk.write_synced(self.gate, b"\1")
+            self.disk.write_synced(at, octets)
         except Stopped:
             self.failed = True
             raise
-        self.gate += 1 + len(record)
 
 
 def octets_of(text):

@@ -1,9 +1,11 @@
-"""The journal of docs/FORMATS.md: a disk's octets that records make, and the records that octets stand for."""
+"""The journal of docs/FORMATS.md: a disk's octets that records make, and the records that octets stand for. Its layout says where
+the records begin: behind the header, or behind blocks of 512 octets that stand behind the header."""
 
 import struct
 
 MOST_CONTENT = 600
-FIRST_GATE = 16
+GROWING, BLOCKS = "growing", "blocks"
+HEADER, BLOCK = 16, 512
 
 
 class NotAStore(Exception):
@@ -18,29 +20,46 @@ def header(magic, blocks=8):
     return magic + struct.pack("<I", blocks) + bytes(4)
 
 
+def blocks_in(octets):
+    """The block number of a header."""
+    return struct.unpack("<I", octets[8:12])[0]
+
+
+def block_place(block):
+    """Where a block stands, in a layout that has blocks."""
+    return HEADER + BLOCK * block
+
+
+def first_gate(layout, blocks):
+    """Where the first gate stands."""
+    return block_place(blocks) if layout == BLOCKS else HEADER
+
+
 def record(kind, content, length=None):
     """A record without its gate; its length may be said wrong."""
     return bytes([kind]) + struct.pack("<H", len(content) if length is None else length) + content
 
 
-def disk(magic, *records, blocks=8):
-    """A disk with these records; without any it is as it was formatted."""
-    octets = header(magic, blocks)
+def disk(magic, *records, blocks=8, layout=GROWING, held=b""):
+    """A disk with these records; without any it is as it was formatted. Blocks have these octets, and zeros behind them."""
+    octets = header(magic, blocks) + held.ljust(first_gate(layout, blocks) - HEADER, b"\0")
     for each in records:
         octets += b"\x01" + each
     return octets + (b"\0" if records else b"\0\0")
 
 
-def walk(octets, magic, take):
+def walk(octets, magic, take, layout=GROWING):
     """Gives each record to `take`, which raises ValueError where the record isn't allowed."""
-    if len(octets) <= FIRST_GATE:
+    if len(octets) <= HEADER:
         return
     if octets[:8] != magic:
         raise NotAStore(octets[:8])
-    if not 1 <= struct.unpack("<I", octets[8:12])[0] <= 65536:
+    if not 1 <= blocks_in(octets) <= 65536:
         raise Damaged(8)
-    gate = FIRST_GATE
-    while len(octets) > 17 and octets[gate] == 1:
+    gate = first_gate(layout, blocks_in(octets))
+    if len(octets) < gate + 2:
+        return
+    while octets[gate] == 1:
         length = struct.unpack("<H", octets[gate + 2 : gate + 4])[0] if len(octets) >= gate + 4 else MOST_CONTENT + 1
         after = gate + 4 + length
         if length > MOST_CONTENT or after >= len(octets):
