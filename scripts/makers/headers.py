@@ -80,6 +80,11 @@ def stamped(octets, number, caller, moment):
     return header_of([(key, stamps.get((key, len(content)), content)) for key, content in items]) + octets[end:]
 
 
+def header_sum(octets):
+    """What a header says that its sum is."""
+    return int.from_bytes(dict(items_of(octets)[0])[0x0A], "little")
+
+
 def short_form(octets):
     items = dict(reversed(items_of(octets)[0]))
     return header_of([(number, items[number]) for number, _ in MANDATORY])

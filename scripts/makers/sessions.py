@@ -3,11 +3,11 @@
 import struct
 
 from disks import Journal, Stopped
-from headers import first_fault, items_of, short_form, stamped
-from journal import call_octets
+from headers import first_fault, header_sum, items_of, short_form, stamped
+from journal import BLOCK, GROWING, block_place, call_octets
 from rows import sum16
 from selections import Fault, holds
-from stores import LONGEST, MAGIC, Store, begin, blocks_of, drop, grow, seal
+from stores import LAYOUT, LONGEST, MAGICS, Store, begin, blocks_of, drop, grow, grow_in, seal, seal_with
 
 DATA, DATA_END, LOGIN, UPLOAD, UL_GO, UL_ERROR, UL_ACK, UL_NAK, DOWNLOAD, DL_ERROR = range(10)
 DL_ABORTED, DL_COMPLETED, DL_ACK, DL_NAK, DIR_SHORT, DIR_LONG, SELECT, SELECT_RESP = range(10, 18)
@@ -54,27 +54,40 @@ def error(kind, code):
 class FileStore(Store):
     """A store whose commands are records of a journal; what came of an upload and isn't held waits in memory."""
 
-    def __init__(self, disk, blocks):
-        self.entries, self.next, self.blocks = {}, 1, blocks
-        if len(disk.octets) > 16:
-            self.blocks = struct.unpack("<I", disk.octets[8:12])[0]
-        self.journal = Journal(disk, MAGIC, blocks, self.take)
+    def __init__(self, disk, blocks, layout=LAYOUT):
+        self.begin_empty(disk.octets, blocks, layout)
+        self.disk = disk
+        self.journal = Journal(disk, MAGICS[layout], blocks, self.take, layout)
+
+    def read_block(self, block):
+        return self.disk.read(block_place(block), BLOCK)
 
     def begun(self, number, rest):
         super().begun(number, rest)
-        self.entries[number].update(caller=rest[:7], waiting=b"", octets=None)
+        self.entries[number]["waiting"] = b""
 
-    def sealed(self, number, rest):
-        super().sealed(number, rest)
-        entry = self.entries[number]
-        entry["octets"] = stamped(entry["held"], number, entry["caller"], struct.unpack("<I", rest)[0])
-
-    def put(self, record):
+    def put(self, record, *block):
+        """Puts a record, behind the block that it says, where there is one: its number and its octets."""
         try:
+            if block:
+                self.journal.write_block(*block)
             self.journal.append(record)
         except Stopped:
             raise DiskFailed()
         self.take(record[0], record[3:])
+
+    def hold(self, number, octets):
+        """Holds these octets too, in the lowest block that is free where the layout has blocks."""
+        if self.layout == GROWING:
+            return self.put(grow(octets, number))
+        block = self.lowest_free()
+        self.put(grow_in(block, len(octets), number), block, octets)
+
+    def seal(self, number, moment):
+        if self.layout == GROWING:
+            return self.put(seal(number, moment))
+        entry = self.entries[number]
+        self.put(seal_with(header_sum(stamped(entry["held"], number, entry["caller"], moment)), number, moment))
 
     def complete(self, number):
         entry = self.entries.get(number)
@@ -183,9 +196,9 @@ class Session:
                 self.state = "Aborting"
                 return [error(UL_NAK, 1)]
             entry["waiting"] += information
-            while len(entry["waiting"]) >= 512:
-                store.put(grow(entry["waiting"][:512], self.number))
-                entry["waiting"] = entry["waiting"][512:]
+            while len(entry["waiting"]) >= BLOCK:
+                store.hold(self.number, entry["waiting"][:BLOCK])
+                entry["waiting"] = entry["waiting"][BLOCK:]
             return []
         if kind != DATA_END:
             return self.no_row(kind)
@@ -194,10 +207,13 @@ class Session:
             self.state = "Command"
             return [error(UL_NAK, 16)]
         if entry["waiting"]:
-            store.put(grow(entry["waiting"], self.number))
+            store.hold(self.number, entry["waiting"])
             entry["waiting"] = b""
         code = first_fault(entry["held"])
-        store.put(seal(self.number, moment) if code is None else drop(self.number))
+        if code is None:
+            store.seal(self.number, moment)
+        else:
+            store.put(drop(self.number))
         self.state = "Command"
         return [packet(UL_ACK) if code is None else error(UL_NAK, code)]
 
