@@ -1,5 +1,6 @@
 """What the makers share: parts of the files of rows, and the numbers and headers that rows are made of."""
 
+import re
 import struct
 import sys
 
@@ -47,6 +48,17 @@ def played_sections(path, play, before):
                 section.append(given[0])
                 left = given[1]
     return [part for part in parts if len(part) > 1]
+
+
+def words_of(*parts):
+    """Octets as the words of a row, each part by itself: hexadecimal digits, and of many alike one of them, and behind `*` how
+    often it stands."""
+
+    def word(found):
+        return " %02x*%d " % (found[0][0], len(found[0])) if len(found[0]) > 1 else found[0].hex()
+
+    texts = ["".join(word(found) for found in re.finditer(rb"(.)\1{15,}|.", part, re.S)) for part in parts]
+    return " ".join(" ".join(texts).split())
 
 
 class Counted:
