@@ -68,6 +68,7 @@ FIRST, SECOND = halves(TWO_BLOCKS)
 TWO = [begin(length=600), grow_in(0), grow_in(1, 88)]
 BOTH = {0: FIRST, 1: SECOND}
 STAMPED, STAMPS = [begin(length=89, caller="KA9XYZ-5"), grow_in(0, 89)], {"octets": WITH_STAMPS}
+STAMPED_SUM = total(WITH_STAMPS, caller="KA9XYZ-5")
 AREA = first_gate(BLOCKS, 8) - HEADER
 
 STANDING = [
@@ -95,7 +96,7 @@ STANDING = [
     ("a sealed file", filed(*SEALED)),
     ("a sealed file, and any octets behind it in its block and in the others", filed(*SEALED, fill=b"U")),
     ("a sealed file at moment 1", filed(*HELD, sealed(FILE, moment=1))),
-    ("a sealed file with the stamps of caller and moment", filed(*STAMPED, sealed(WITH_STAMPS, caller="KA9XYZ-5"), **STAMPS)),
+    ("a sealed file with the stamps of caller and moment", filed(*STAMPED, seal_with(STAMPED_SUM), **STAMPS)),
     ("a sealed file in the last block", store(begin(), grow_in(7, 73), sealed(FILE), held={7: FILE})),
     ("a sealed file in 1 block of 1", filed(*SEALED, blocks=1)),
     ("a file that fills its block", filed(*WHOLE, sealed(ONE_BLOCK), octets=ONE_BLOCK)),
@@ -221,7 +222,7 @@ GROWS = [
     ("Grow one octet long", store(begin(), record(2, grow_in(0, 73)[3:] + b"\0"))),
     ("Grow of three octets", store(begin(), record(2, b"\1\0\0"))),
     ("the Grow of the layout before", filed(begin(), grow(FILE))),
-    ("the Grow of the layout before, as long as one of this", store(begin(), grow(b"\0\0\0\0\0\2"))),
+    ("the Grow of the layout before, as long as one of this", store(begin(), grow(FILE[:6]))),
     ("the Grow of the layout before, of 512 octets", store(begin(length=600), grow(FIRST))),
 ]
 
@@ -234,7 +235,7 @@ SEALS = [
     ("Seal with a sum that is greater by one", filed(*HELD, seal_with(total(FILE) + 1))),
     ("Seal with a sum that is greater by 256", filed(*HELD, seal_with(total(FILE) + 256))),
     ("Seal with sum 0", filed(*HELD, seal_with(0))),
-    ("Seal with the sum of another moment", filed(*STAMPED, seal_with(total(WITH_STAMPS, caller="KA9XYZ-5"), moment=7), **STAMPS)),
+    ("Seal with the sum of another moment", filed(*STAMPED, seal_with(STAMPED_SUM, moment=7), **STAMPS)),
     ("Seal with the sum of another caller", filed(*STAMPED, sealed(WITH_STAMPS), **STAMPS)),
     ("Seal with the sum of another number", filed(begin(), drop(), begin(2), grow_in(0, 73, 2), seal_with(total(FILE), 2))),
     ("Seal of a file with another header sum, with the stamped one's", filed(*HELD, sealed(FAULTY), octets=FAULTY)),

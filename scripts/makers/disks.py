@@ -132,6 +132,9 @@ class Journal:
         self.write_synced(block_place(block), octets)
 
     def write_synced(self, at, octets):
+        """Writes and syncs; behind a fault it doesn't touch the disk."""
+        if self.failed:
+            raise Stopped()
         try:
             self.disk.write_synced(at, octets)
         except Stopped:
