@@ -3,6 +3,7 @@
 import struct
 
 from journal import GROWING, HEADER, block_place, blocks_in, first_gate, header, walk
+from octets import Octets
 
 WIDTH = 2**64
 
@@ -16,24 +17,25 @@ class Disk:
     its range open. The writes since the last sync stand with the octets that they found, by which they can be undone."""
 
     def __init__(self, octets, passes=None):
-        self.present, self.least, self.since = bytearray(octets), len(octets), []
+        self.present, self.least, self.since = Octets(octets), len(octets), []
         self.passes, self.torn = passes, False
 
     @property
     def octets(self):
         """What a read gives."""
-        return bytes(self.present)
+        return self.present[:]
 
     @property
     def synced(self):
         """What was synced last."""
-        octets = bytearray(self.present)
+        octets = Octets(self.present)
         for at, _, _, found in reversed(self.since):
-            octets[at : at + len(found)] = found
-        return bytes(octets[: self.least])
+            octets.put(at, found)
+        octets.cut(self.least)
+        return octets
 
     def read(self, at, count):
-        return bytes(self.present[at : at + count])
+        return self.present[at : at + count]
 
     def counted(self):
         """Counts a call of write or sync, and tells whether it passes."""
@@ -49,8 +51,7 @@ class Disk:
                 self.torn = True
             raise Stopped()
         self.since.append((at, len(octets), octets, self.read(at, len(octets))))
-        self.present += bytes(max(at - len(self.present), 0))
-        self.present[at : at + len(octets)] = octets
+        self.present.put(at, octets)
 
     def sync(self):
         if not self.counted():
@@ -64,7 +65,7 @@ class Disk:
     def crashed(self, pick):
         """The octets that a crash leaves, as the number picks them."""
         if pick % 4 == 1:
-            return self.octets
+            return Octets(self.present)
         if pick % 4 == 0:
             return self.synced
         draws, least = draw(pick), self.least
@@ -78,12 +79,13 @@ class Disk:
             return old if which == 0 else new if which == 1 else next(draws) % 256
 
         length = greatest if fills is not None else least + next(draws) % (greatest - least + 1)
-        image = bytearray(self.synced) + bytes([octet(0, 0)]) * (length - least)
+        image = self.synced
+        image.put(least, bytes([octet(0, 0)]) * (length - least))
         for at, count, octets, _ in self.since:
-            for place in range(min(at, length), min(at + count, length)):
-                old = image[place]
-                image[place] = octet(old, old if octets is None else octets[place - at])
-        return bytes(image)
+            olds = image[at : at + count]
+            news = olds if octets is None else octets
+            image.put(at, bytes(octet(old, new) for old, new in zip(olds, news)))
+        return image
 
 
 def draw(number):
@@ -101,7 +103,7 @@ class Journal:
     def __init__(self, disk, magic, blocks, take, layout=GROWING):
         self.disk, self.failed = disk, False
         disk.sync()
-        octets = disk.octets
+        octets = disk.octets if layout == GROWING else Octets(disk.present)
         first = self.gate = first_gate(layout, blocks_in(octets) if len(octets) > HEADER else blocks)
 
         def taken(kind, content):

@@ -55,7 +55,7 @@ class FileStore(Store):
     """A store whose commands are records of a journal; what came of an upload and isn't held waits in memory."""
 
     def __init__(self, disk, blocks, layout=LAYOUT):
-        self.begin_empty(disk.octets, blocks, layout)
+        self.begin_empty(disk.present, blocks, layout)
         self.disk = disk
         self.journal = Journal(disk, MAGICS[layout], blocks, self.take, layout)
 
