@@ -8,7 +8,7 @@ use Rattle.file_journal.specs.Form.{Form}
 use Rattle.file_journal.specs.Kept.{Does, IsKept, KeptOn, alone, kept_on}
 use Rattle.file_journal.specs.Position.{Position}
 use Rattle.file_journal.proofs.CallLemmas.{changes_none, changes_on, counts_none, counts_on, still, counts_same}
-use Rattle.file_journal.proofs.DoesLemmas.{fours_course, fours_then}
+use Rattle.file_journal.proofs.DoesLemmas.{turn_course, turn_then}
 use Rattle.file_journal.proofs.MomentLemmas.{reads}
 use Rattle.file_journal.proofs.ToldLemmas.{alike_on, alike_same}
 
@@ -92,18 +92,18 @@ module _ {D : Type 0} (g : Ghosts D) where
     -- commands alone
     pub among_does : (P : Type 0) (commands : List C) (old new : KeptOn D S) → Does g form P commands old new → DoesAmongReads g form P 0 commands old new
     among_does P commands old new does =
-        fours_course g form (alone g P) (among_reads g P 0) P P commands old new (λ p. p) (λ p. p) (λ same. subst (λ (d : D). ChangesReads g old.disk d) (sym same) (changes_none g old.disk))
+        turn_course g form (alone g P) (among_reads g P 0) P P commands old new (λ p. p) (λ p. p) (λ same. subst (λ (d : D). ChangesReads g old.disk d) (sym same) (changes_none g old.disk))
         (puts_among P old.disk new.disk) (λ _. some_still _ _ does.puts.reads) does
 
     pub among_same : (P Q : Type 0) (missed other : ℕ) (commands : List C) (old new : KeptOn D S) → (P → Q) → (Q → P) → missed ≡ other → DoesAmongReads g form P missed commands old new
         → DoesAmongReads g form Q other commands old new
     among_same P Q missed other commands old new there back same does =
-        fours_course g form (among_reads g P missed) (among_reads g Q other) P Q commands old new there back (λ i. i) (puts_among_same P Q old.disk new.disk there back)
+        turn_course g form (among_reads g P missed) (among_reads g Q other) P Q commands old new there back (λ i. i) (puts_among_same P Q old.disk new.disk there back)
         (subst (λ (n : ℕ). CountsSome (g.read_faults old.disk) (g.read_faults new.disk) n) same) does
 
     -- one part, and then another
     pub among_then : ((first second third : D) → g.lasts first second → g.lasts second third → g.lasts first third) → (P Q : Type 0) (missed other : ℕ) (a b : List C) (old mid new : KeptOn D S) → ¬ P
         → DoesAmongReads g form P missed a old mid → DoesAmongReads g form Q other b mid new → DoesAmongReads g form Q (missed + other) (a ++ b) old new
     among_then on P Q missed other a b old mid new fine first second =
-        fours_then g form (among_reads g P missed) (among_reads g Q other) (among_reads g Q (missed + other)) P Q a b old mid new fine first.puts.told first second
+        turn_then g form (among_reads g P missed) (among_reads g Q other) (among_reads g Q (missed + other)) P Q a b old mid new fine first.puts.told first second
         (changes_on g old.disk mid.disk new.disk) (puts_among_then on P Q old.disk mid.disk new.disk fine first.puts second.puts) (some_then _ _ _ missed other first.reads second.reads)

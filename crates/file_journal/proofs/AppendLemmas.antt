@@ -13,11 +13,14 @@ use Rattle.disk_model.specs.declared.disk.Disk.{Ghosts}
 use Rattle.file_journal.specs.Appending.{Appends, IsAppending, IsPutting, OpensGate, with_gate}
 use Rattle.file_journal.specs.Calls.{Leaves, Makes, images_now}
 use Rattle.file_journal.specs.Header.{HasHeader}
+use Rattle.file_journal.specs.Layout.{first_gate}
+use Rattle.file_journal.specs.declared.layout.Layout.{Layout}
 use Rattle.file_journal.specs.Records.{Record, IsRecord, record_of, record_text, records_text, StartsClosed, Reading, whole, StandsFrom, with_records, reading_from}
 use Rattle.file_journal.specs.Journal.{Standing, store, journal_of, store_of, with_last, IsBeforeOrAfter}
-use Rattle.file_journal.specs.Position.{Position, left_to_read, IsAt, StandsOn}
+use Rattle.file_journal.specs.Position.{Position, gate_of, left_to_read, store_in, IsAt, StandsOn}
 use Rattle.file_journal.proofs.CallLemmas.{on_ok_both}
 use Rattle.file_journal.proofs.JournalLemmas.{same_header, of_full, store_parts}
+use Rattle.file_journal.proofs.LayoutLemmas.{gate_behind}
 use Rattle.file_journal.proofs.MomentLemmas.{weaker}
 use Rattle.file_journal.proofs.OctetLemmas.{kept_back, torn_front, torn_wider}
 use Rattle.file_journal.proofs.PositionLemmas.{among_records, records_text-append, length-records_text-push, records-push}
@@ -25,46 +28,52 @@ use Rattle.file_journal.proofs.ReadingLemmas.{stands_from_read, reading_records,
 use Rattle.file_journal.proofs.ToldLemmas.{at_told, content_now, if_told, told_weaker}
 
 -- the store's records end at a gate at this place, which isn't open
-pub record Ends (magic : List ℕ) (blocks : ℕ) (entries : List Record) (place : ℕ) (octets : List ℕ) : Type 0 where
+pub record Ends (magic : List ℕ) (layout : Layout) (blocks : ℕ) (entries : List Record) (place : ℕ) (octets : List ℕ) : Type 0 where
   pub header : List ℕ
   pub gate : ℕ
   pub rest : List ℕ
   pub head : HasHeader magic blocks header
-  pub size : length header ≡ 16
-  pub long : 18 ≤ length octets
+  pub size : length header ≡ first_gate layout blocks
+  pub long : first_gate layout blocks + 2 ≤ length octets
   pub are : AllByRecursion IsRecord entries
-  pub is_place : place ≡ 16 + length (records_text entries)
+  pub is_place : place ≡ first_gate layout blocks + length (records_text entries)
   pub split : octets ≡ (header ++ records_text entries) ++ gate ∷ rest
   pub shut : gate ≢ 1
 
 -- A journal that has read its end stands there.
-ends_from : (journal : Position) (passed : List Record) (octets : List ℕ) → journal.ended ≡ true → IsAt journal passed octets → Ends journal.magic journal.blocks passed journal.place octets
+pub ends_from : (journal : Position) (passed : List Record) (octets : List ℕ) → journal.ended ≡ true → IsAt journal passed octets → Ends journal.magic journal.layout journal.blocks passed journal.place octets
 ends_from journal passed octets end at =
-    let is_store : journal_of journal.magic octets ≡ store (Some journal.blocks) (whole passed) =
+    let gate = gate_of journal in
+    let is_store : store_in journal octets ≡ store (Some journal.blocks) (whole passed) =
     at.records ∙ ap (λ (r : Reading). store_of journal.blocks (with_records passed r)) (at.ended end) ∙ ap (store_of journal.blocks) (all_whole passed) in
-    let parts = store_parts journal.magic octets journal.blocks passed at.formatted is_store in
-    let stands : StandsFrom 16 (drop 16 octets) (whole passed) =
-    subst (λ (r : Reading). StandsFrom 16 (drop 16 octets) r) parts.1
-    (stands_from_read (length (drop 16 octets)) 16 (drop 16 octets) (omega arith) (All-drop (λ octet. octet < 256) 16 octets at.are_octets) (omega (arith, at.formatted, length-drop 16 octets))) in
+    let parts = store_parts journal.magic journal.layout octets journal.blocks passed at.formatted is_store in
+    let stands : StandsFrom gate (drop gate octets) (whole passed) =
+    subst (λ (r : Reading). StandsFrom gate (drop gate octets) r) parts.1
+    (stands_from_read (length (drop gate octets)) gate (drop gate octets) (omega arith) (All-drop (λ octet. octet < 256) gate octets at.are_octets) (omega (arith, at.formatted, length-drop gate octets))) in
     behind parts.0 stands.0 stands.1 stands.2 stands.3
   where
-    behind : HasHeader journal.magic journal.blocks octets → (rest : List ℕ) → AllByRecursion IsRecord passed → drop 16 octets ≡ records_text passed ++ rest → StartsClosed rest
-        → Ends journal.magic journal.blocks passed journal.place octets
+    behind : HasHeader journal.magic journal.blocks octets → (rest : List ℕ) → AllByRecursion IsRecord passed → drop (gate_of journal) octets ≡ records_text passed ++ rest → StartsClosed rest
+        → Ends journal.magic journal.layout journal.blocks passed journal.place octets
     behind head [] are is shut = absurd shut
     behind head (gate ∷ later) are is shut = record {
-      header = take 16 octets;
+      header = take (gate_of journal) octets;
       gate = gate;
       rest = later;
-      head = same_header 16 journal.magic journal.blocks octets (take 16 octets) (omega arith) (take-take 16 16 octets (omega arith)) head;
-      size = length-take-le 16 octets (omega (arith, at.formatted));
+      head = same_header (gate_of journal) journal.magic journal.blocks octets (take (gate_of journal) octets) (omega (arith, gate_behind journal.layout journal.blocks))
+          (take-take (gate_of journal) (gate_of journal) octets (omega arith)) head;
+      size = length-take-le (gate_of journal) octets (omega (arith, at.formatted));
       long = at.formatted;
       are = are;
       is_place = at.place;
-      split = sym (take-append-drop 16 octets) ∙ ap (λ (l : List ℕ). take 16 octets ++ l) is ∙ sym (append_assoc (take 16 octets) (records_text passed) (gate ∷ later));
+      split =
+          sym (take-append-drop (gate_of journal) octets) ∙ ap (λ (l : List ℕ). take (gate_of journal) octets ++ l) is ∙ sym (append_assoc (take (gate_of journal) octets) (records_text passed) (gate ∷ later));
       shut = shut;
     }
 
-module _ (magic : List ℕ) (blocks : ℕ) (entries : List Record) (place : ℕ) (octets : List ℕ) (ends : Ends magic blocks entries place octets) where
+module _ (magic : List ℕ) (layout : Layout) (blocks : ℕ) (entries : List Record) (place : ℕ) (octets : List ℕ) (ends : Ends magic layout blocks entries place octets) where
+  abbrev first : ℕ
+  first = first_gate layout blocks
+
   front_size : length (ends.header ++ records_text entries) ≡ place
   front_size = omega (arith, ends.size, ends.is_place, length-append ends.header (records_text entries))
 
@@ -75,26 +84,29 @@ module _ (magic : List ℕ) (blocks : ℕ) (entries : List Record) (place : ℕ)
   front = ap (λ (l : List ℕ). take place l) ends.split ∙ take_at (ends.header ++ records_text entries) (ends.gate ∷ ends.rest) place front_size
 
   -- it stands for these records
-  pub ends_store : journal_of magic octets ≡ store (Some blocks) (whole entries)
+  pub ends_store : journal_of magic layout octets ≡ store (Some blocks) (whole entries)
   ends_store =
       let split : octets ≡ ends.header ++ (records_text entries ++ ends.gate ∷ ends.rest) = ends.split ∙ append_assoc ends.header (records_text entries) (ends.gate ∷ ends.rest) in
-      let head = same_header 16 magic blocks ends.header octets (omega arith) (ap (λ (l : List ℕ). take 16 l) split ∙ take-append-le 16 ends.header (records_text entries ++ ends.gate ∷ ends.rest) (omega (arith, ends.size))) ends.head in
-      of_full magic octets blocks head ends.long
+      let behind = gate_behind layout blocks in
+      let head =
+      same_header 16 magic blocks ends.header octets (omega arith)
+      (ap (λ (l : List ℕ). take 16 l) split ∙ take-append-le 16 ends.header (records_text entries ++ ends.gate ∷ ends.rest) (omega (arith, ends.size, behind))) ends.head in
+      of_full magic layout octets blocks head ends.long
       ∙ ap (store_of blocks)
-      (ap (reading_from 16) (ap (λ (l : List ℕ). drop 16 l) split ∙ drop_at ends.header (records_text entries ++ ends.gate ∷ ends.rest) 16 ends.size)
-      ∙ reading_records entries 16 ends.gate ends.rest ends.are
-      ∙ ap (with_records entries) (reading_closed (16 + length (records_text entries)) ends.gate ends.rest ends.shut)
+      (ap (reading_from first) (ap (λ (l : List ℕ). drop first l) split ∙ drop_at ends.header (records_text entries ++ ends.gate ∷ ends.rest) first ends.size)
+      ∙ reading_records entries first ends.gate ends.rest ends.are
+      ∙ ap (with_records entries) (reading_closed (first + length (records_text entries)) ends.gate ends.rest ends.shut)
       ∙ all_whole entries)
 
   -- and nothing is read at that place
-  ends_closed : reading_from place (drop place octets) ≡ whole []
+  pub ends_closed : reading_from place (drop place octets) ≡ whole []
   ends_closed = ap (reading_from place) (ap (λ (l : List ℕ). drop place l) ends.split ∙ drop_at (ends.header ++ records_text entries) (ends.gate ∷ ends.rest) place front_size) ∙ reading_closed place ends.gate ends.rest ends.shut
 
   -- so do octets that begin so, with a gate that isn't open
-  with_rest : (gate : ℕ) (rest image : List ℕ) → gate ≢ 1 → length octets ≤ length image → image ≡ (ends.header ++ records_text entries) ++ gate ∷ rest → Ends magic blocks entries place image
+  with_rest : (gate : ℕ) (rest image : List ℕ) → gate ≢ 1 → length octets ≤ length image → image ≡ (ends.header ++ records_text entries) ++ gate ∷ rest → Ends magic layout blocks entries place image
   with_rest gate rest image shut le split = grind (arith, common_steps)
 
-  pub ends_kept : (image : List ℕ) → take (place + 1) image ≡ take (place + 1) octets → length octets ≤ length image → Ends magic blocks entries place image
+  pub ends_kept : (image : List ℕ) → take (place + 1) image ≡ take (place + 1) octets → length octets ≤ length image → Ends magic layout blocks entries place image
   ends_kept image same le = with_rest ends.gate (drop (place + 1) image) image ends.shut le (sym (take-append-drop (place + 1) image)
       ∙ ap (λ (l : List ℕ). l ++ drop (place + 1) image)
       (same ∙ ap (λ (l : List ℕ). take (place + 1) l) (ends.split ∙ sym (append_assoc (ends.header ++ records_text entries) (ends.gate ∷ []) ends.rest))
@@ -125,12 +137,12 @@ module _ (magic : List ℕ) (blocks : ℕ) (entries : List Record) (place : ℕ)
           no_longer = omega (arith, place_front, is_count, length-append {A = ℕ}, length-drop {A = ℕ});
         }
 
-    pub gate_shut : gate ≢ 1 → Ends magic blocks entries place (with_gate place gate text octets)
+    pub gate_shut : gate ≢ 1 → Ends magic layout blocks entries place (with_gate place gate text octets)
     gate_shut shut = with_rest gate (text ++ drop (place + 1 + length text) octets) _ shut gated_length
         (append_assoc (take place octets) (gate ∷ text) (drop (place + 1 + length text) octets) ∙ ap (λ (l : List ℕ). l ++ gate ∷ (text ++ drop (place + 1 + length text) octets)) front)
 
   -- A record behind an open gate is one more.
-  pub gate_open : (entry : Record) → IsRecord entry → Ends magic blocks (entries ++ entry ∷ []) (place + 4 + length entry.content) (with_gate place 1 (record_text entry ++ 0 ∷ []) octets)
+  pub gate_open : (entry : Record) → IsRecord entry → Ends magic layout blocks (entries ++ entry ∷ []) (place + 4 + length entry.content) (with_gate place 1 (record_text entry ++ 0 ∷ []) octets)
   gate_open entry is = record {
     header = ends.header;
     gate = 0;
@@ -147,14 +159,14 @@ module _ (magic : List ℕ) (blocks : ℕ) (entries : List Record) (place : ℕ)
   }
 
 -- A journal whose place that is stands there, and has read its end.
-pub ends_at : (journal : Position) (passed : List Record) (octets : List ℕ) → IsOctets octets → Ends journal.magic journal.blocks passed journal.place octets → IsAt journal passed octets × (left_to_read journal octets ≡ whole [])
+pub ends_at : (journal : Position) (passed : List Record) (octets : List ℕ) → IsOctets octets → Ends journal.magic journal.layout journal.blocks passed journal.place octets → IsAt journal passed octets × (left_to_read journal octets ≡ whole [])
 ends_at journal passed octets are ends =
-    let end = ends_closed _ _ passed _ octets ends in (
+    let end = ends_closed _ _ _ passed _ octets ends in (
       record {
         are_octets = are;
         formatted = ends.long;
         place = ends.is_place;
-        records = ends_store _ _ passed _ octets ends ∙ sym (ap (λ (r : Reading). store_of journal.blocks (with_records passed r)) end ∙ ap (store_of journal.blocks) (all_whole passed));
+        records = ends_store _ _ _ passed _ octets ends ∙ sym (ap (λ (r : Reading). store_of journal.blocks (with_records passed r)) end ∙ ap (store_of journal.blocks) (all_whole passed));
         ended = λ e. end;
       },
       end,
@@ -169,8 +181,8 @@ module _ {D : Type 0} (g : Ghosts D) (journal : Position) (old : D) (ok : journa
   -- the content's records and those of each image end at the journal's place
   pub record AllEnd (octets : List ℕ) : Type 0 where
     pub entries : List Record
-    pub content : Ends journal.magic journal.blocks entries journal.place octets
-    pub images : (image : List ℕ) → images_now g old image → Ends journal.magic journal.blocks entries journal.place image
+    pub content : Ends journal.magic journal.layout journal.blocks entries journal.place octets
+    pub images : (image : List ℕ) → images_now g old image → Ends journal.magic journal.layout journal.blocks entries journal.place image
 
   pub all_end : (octets : List ℕ) → g.content old ≡ Some octets → AllEnd octets
   all_end octets told =
@@ -178,13 +190,13 @@ module _ {D : Type 0} (g : Ghosts D) (journal : Position) (old : D) (ok : journa
       record { entries = at.0; content = ends_from journal at.0 octets end at.1; images = λ image here. ends_from journal at.0 image end (at.2 image here).0 }
 
   pub gate_there : IfSome (g.content old) (λ octets. journal.place < length octets)
-  gate_there = if_told (g.content old) _ (λ octets told. ends_there _ _ _ _ octets (all_end octets told).content)
+  gate_there = if_told (g.content old) _ (λ octets told. ends_there _ _ _ _ _ octets (all_end octets told).content)
 
   module _ (entry : Record) (is : IsRecord entry) where
-    put_store : (octets : List ℕ) → AllEnd octets → journal_of journal.magic (with_gate journal.place 1 (record_text entry ++ 0 ∷ []) octets) ≡ with_last (journal_of journal.magic octets) entry
+    put_store : (octets : List ℕ) → AllEnd octets → store_in journal (with_gate journal.place 1 (record_text entry ++ 0 ∷ []) octets) ≡ with_last (store_in journal octets) entry
     put_store octets all =
-        ends_store _ _ _ _ _ (gate_open _ _ _ _ octets all.content entry is)
-        ∙ ap (λ (s : Standing). with_last s entry) (sym (ends_store _ _ _ _ octets all.content))
+        ends_store _ _ _ _ _ _ (gate_open _ _ _ _ _ octets all.content entry is)
+        ∙ ap (λ (s : Standing). with_last s entry) (sym (ends_store _ _ _ _ _ octets all.content))
 
     put_length : length (record_text entry ++ 0 ∷ []) ≡ 4 + length entry.content
     put_length = omega (arith, length-append entry.content (0 ∷ []))
@@ -196,20 +208,20 @@ module _ {D : Type 0} (g : Ghosts D) (journal : Position) (old : D) (ok : journa
         let all = all_end octets told in
         let before = all.images torn.0 (counts_now (g.moment old) torn.0 (omega arith) torn.1) in
         let count : length (record_text entry ++ 0 ∷ []) + 1 ≡ 5 + length entry.content = omega (arith, put_length) in
-        let image_ends = ends_kept _ _ _ _ torn.0 before image
-        (torn_front (journal.place + 1) (length (record_text entry ++ 0 ∷ [])) torn.0 image (omega (arith, ends_there _ _ _ _ torn.0 before)) torn.2) torn.2.no_shorter in
+        let image_ends = ends_kept _ _ _ _ _ torn.0 before image
+        (torn_front (journal.place + 1) (length (record_text entry ++ 0 ∷ [])) torn.0 image (omega (arith, ends_there _ _ _ _ _ torn.0 before)) torn.2) torn.2.no_shorter in
         record {
-          store = inl (ends_store _ _ _ _ image image_ends ∙ sym (ends_store _ _ _ _ octets all.content));
+          store = inl (ends_store _ _ _ _ _ image image_ends ∙ sym (ends_store _ _ _ _ _ octets all.content));
           beside = (torn.0, torn.1, subst (λ (n : ℕ). Torn journal.place n torn.0 image) count (torn_wider journal.place (length (record_text entry ++ 0 ∷ [])) torn.0 image torn.2));
         }
     putting counts_now octets told is_image image (inr put) =
         let all = all_end octets told in
         let text = record_text entry ++ 0 ∷ [] in
-        let torn = gated_torn _ _ _ _ octets all.content put.0 text (5 + length entry.content) (omega (arith, put_length)) in
+        let torn = gated_torn _ _ _ _ _ octets all.content put.0 text (5 + length entry.content) (omega (arith, put_length)) in
         record {
           store = elim (cases_eq put.0 1) [
-            | inl is_open ↦ inr (ap (journal_of journal.magic) (put.1 ∙ ap (λ (n : ℕ). with_gate journal.place n text octets) is_open) ∙ put_store octets all)
-            | inr shut ↦ inl (ap (journal_of journal.magic) put.1 ∙ ends_store _ _ _ _ _ (gate_shut _ _ _ _ octets all.content put.0 text shut) ∙ sym (ends_store _ _ _ _ octets all.content))
+            | inl is_open ↦ inr (ap (store_in journal) (put.1 ∙ ap (λ (n : ℕ). with_gate journal.place n text octets) is_open) ∙ put_store octets all)
+            | inr shut ↦ inl (ap (store_in journal) put.1 ∙ ends_store _ _ _ _ _ _ (gate_shut _ _ _ _ _ octets all.content put.0 text shut) ∙ sym (ends_store _ _ _ _ _ octets all.content))
           ];
           beside = (octets, is_image, subst (λ (l : List ℕ). Torn journal.place (5 + length entry.content) octets l) (sym put.1) torn);
         }
@@ -222,7 +234,7 @@ module _ {D : Type 0} (g : Ghosts D) (journal : Position) (old : D) (ok : journa
           (subst (λ (l : List ℕ). Makes g result old new (OpensGate seen.place l) (IsPutting seen.place l (g.images old))) text_is seen_makes)
 
       pub appends : OnOk result (HasContent (g.content old) (g.content new) (Appends journal entry))
-      appends = on_ok_weaker result (λ has. told_weaker (g.content old) _ _ (λ before told now. (now.0, now.1, record { octets = now.2; store = ap (journal_of journal.magic) now.2 ∙ put_store before (all_end before told) })) has) makes.ok
+      appends = on_ok_weaker result (λ has. told_weaker (g.content old) _ _ (λ before told now. (now.0, now.1, record { octets = now.2; store = ap (store_in journal) now.2 ∙ put_store before (all_end before told) })) has) makes.ok
 
       pub stands_after : (place : ℕ) → place ≡ seen.place + 4 + length entry.content → IfSome (g.content new) IsOctets → OnOk result (StandsOn g (record seen { place = place }) new)
       stands_after place is_place are = subst (λ (p : Position). OnOk result (StandsOn g (record p { place = place }) new)) (sym seen_is) (on_ok_both result (λ has rest. inr (if_told (g.content new) _ (λ now told_now.
@@ -230,8 +242,8 @@ module _ {D : Type 0} (g : Ghosts D) (journal : Position) (old : D) (ok : journa
           let all = all_end was.0 was.1 in
           let entries = all.entries ++ entry ∷ [] in
           let at_place : journal.place + 4 + length entry.content ≡ place = ap (λ (p : Position). p.place + 4 + length entry.content) (sym seen_is) ∙ sym is_place in
-          let ends = subst (λ (n : ℕ). Ends journal.magic journal.blocks entries n now) at_place
-          (subst (λ (l : List ℕ). Ends journal.magic journal.blocks entries (journal.place + 4 + length entry.content) l) (sym was.2) (gate_open _ _ _ _ was.0 all.content entry is)) in
+          let ends = subst (λ (n : ℕ). Ends journal.magic journal.layout journal.blocks entries n now) at_place
+          (subst (λ (l : List ℕ). Ends journal.magic journal.layout journal.blocks entries (journal.place + 4 + length entry.content) l) (sym was.2) (gate_open _ _ _ _ _ was.0 all.content entry is)) in
           let at = ends_at (record journal { place = place }) entries now (at_told IsOctets now told_now are) ends in (
             entries,
             at.0,
@@ -245,5 +257,5 @@ module _ {D : Type 0} (g : Ghosts D) (journal : Position) (old : D) (ok : journa
         leaves = told_weaker (g.content old) _ _ (λ before told left. weaker g.moment g.images_since old new _ _ (λ image put.
             putting counts_now before told (at_told (g.images old) before told is_image) image put) left) makes.since
 
-        pub any_moment : IfSome (g.content old) (λ before. LeavesSince (g.moment old) (g.images_since new) (λ image. IsBeforeOrAfter (journal_of journal.magic before) entry (journal_of journal.magic image)))
+        pub any_moment : IfSome (g.content old) (λ before. LeavesSince (g.moment old) (g.images_since new) (λ image. IsBeforeOrAfter (store_in journal before) entry (store_in journal image)))
         any_moment = grind (arith, common_steps, all_end, ends_store, leaves)

@@ -1,13 +1,12 @@
 -- What lists of commands make, one after another, and what images stand for while they are done.
-use Rattle.std.proofs.Common.{◌≡◌, ◌⊎◌, inl, inr, ⊎_elim, ℕ, ◌+◌, ◌-◌, ◌*◌, ◌<◌, ◌≤◌, nat_le, true, false, List, [], ◌∷◌, ◌++◌, length, take, refl, sym, ◌∙◌, ap, subst, arith, length-append}
+use Rattle.std.proofs.Common.{◌≡◌, ◌⊎◌, inl, inr, ⊎_elim, ℕ, ◌+◌, ◌-◌, ◌*◌, ◌<◌, ◌≤◌, nat_le, true, false, List, [], ◌∷◌, ◌++◌, length, take, drop, refl, sym, ◌∙◌, ap, subst, arith, length-append, zero, suc}
 use Rattle.std.proofs.lemmas.Bool.Decides.{leb_tells}
-use Rattle.std.proofs.lemmas.List.{take-append-le, take_all}
+use Rattle.std.proofs.lemmas.List.{take-append-drop, take-append-le, take-take, take_all}
 use Rattle.std.proofs.Math.Seq.{take-append-add}
 use Rattle.disk_model.specs.Moments.{LeavesOnly}
 use Rattle.disk_model.specs.declared.disk.Disk.{Ghosts}
-use Rattle.file_journal.specs.Commands.{AreAllowed, MakesBetween, MakesFirst, StayDone, after_all, after_first}
-use Rattle.file_journal.specs.Form.{Form, StandsFor}
-use Rattle.file_journal.specs.Kept.{by_fours}
+use Rattle.file_journal.specs.Commands.{AreAllowed, MakesBetween, MakesFirst, StayDone, after_all, after_first, calls_of, done_at}
+use Rattle.file_journal.specs.Form.{Form, StandsFor, record_calls}
 
 -- a list of no length
 pub nothing : {C : Type 0} (commands : List C) → length commands ≡ 0 → commands ≡ []
@@ -24,6 +23,21 @@ module _ {S C : Type 0} (after : S → C → S) where
     allowed_append [] b start first second = second
     allowed_append (command ∷ a) b start first second = (first.0, allowed_append a b (after start command) first.1 second)
 
+    -- of lists that are allowed one behind the other the first is, and the second is in the state after that
+    pub allowed_split : (a b : List C) (start : S) → AreAllowed allowed after start (a ++ b)
+        → AreAllowed allowed after start a × AreAllowed allowed after (after_all after start a) b
+    allowed_split [] b start both = (tt, both)
+    allowed_split (command ∷ a) b start both =
+        let rest = allowed_split a b (after start command) both.1 in ((both.0, rest.0), rest.1)
+
+    -- the first so many of commands that are allowed are
+    pub allowed_first : (count : ℕ) (commands : List C) (start : S) → AreAllowed allowed after start commands
+        → AreAllowed allowed after start (take count commands)
+    allowed_first zero commands start all = tt
+    allowed_first (suc count) [] start all = tt
+    allowed_first (suc count) (command ∷ commands) start all =
+        (all.0, allowed_first count commands (after start command) all.1)
+
 module _ {S C : Type 0} (form : Form S C) where
   -- the first of two lists of commands, within the first list
   pub first_append : (count : ℕ) (a b : List C) (start : S) → count ≤ length a → after_first form count start (a ++ b) ≡ after_first form count start a
@@ -35,6 +49,49 @@ module _ {S C : Type 0} (form : Form S C) where
 
   pub first_all : (commands : List C) (start : S) → after_first form (length commands) start commands ≡ after_all form.after start commands
   first_all commands start = ap (after_all form.after start) (take_all (length commands) commands (omega arith))
+
+  -- ---- how many calls of the disk they take
+
+  pub calls_append : (a b : List C) → calls_of form (a ++ b) ≡ calls_of form a + calls_of form b
+  calls_append [] b = omega arith
+  calls_append (command ∷ a) b = omega (arith, calls_append a b)
+
+  pub calls_first : (count : ℕ) (commands : List C) → calls_of form (take count commands) ≤ calls_of form commands
+  calls_first count commands =
+      let parts : calls_of form (take count commands ++ drop count commands) ≡ calls_of form commands = ap (calls_of form) (take-append-drop count commands) in
+      omega (arith, parts, calls_append (take count commands) (drop count commands))
+
+  -- commands of one record each
+  pub calls_records : ((command : C) → form.calls command ≡ record_calls) → (commands : List C) → calls_of form commands ≡ record_calls * length commands
+  calls_records each [] = omega arith
+  calls_records each (command ∷ commands) = omega (arith, each command, calls_records each commands)
+
+  -- ---- and when they are done
+
+  pub at_all : (start : ℕ) (commands : List C) → done_at form start commands (length commands) ≡ start + calls_of form commands
+  at_all start commands = ap (λ (cs : List C). start + calls_of form cs) (take_all (length commands) commands (omega arith))
+
+  -- the first so many are done no later than more of them
+  pub at_some : (start count more : ℕ) (commands : List C) → count ≤ more → done_at form start commands count ≤ done_at form start commands more
+  at_some start count more commands few =
+      let within : calls_of form (take count (take more commands)) ≡ calls_of form (take count commands) = ap (calls_of form) (take-take count more commands few) in
+      omega (arith, within, calls_first count (take more commands))
+
+  -- the first of two lists of commands, within the first list
+  pub at_first : (start count : ℕ) (a b : List C) → count ≤ length a → done_at form start (a ++ b) count ≡ done_at form start a count
+  at_first start count a b few = ap (λ (cs : List C). start + calls_of form cs) (take-append-le count a b few)
+
+  -- all of both
+  pub at_then : (start : ℕ) (a b : List C) → done_at form start (a ++ b) (length (a ++ b)) ≡ done_at form start a (length a) + calls_of form b
+  at_then start a b = omega (arith, at_all start (a ++ b), at_all start a, calls_append a b)
+
+  -- and past the first list, since that was done
+  pub at_later : (start middle count : ℕ) (a b : List C) → middle ≡ done_at form start a (length a) → done_at form start (a ++ b) (length a + count) ≡ done_at form middle b count
+  at_later start middle count a b then =
+      let parts : calls_of form (take (length a + count) (a ++ b)) ≡ calls_of form (a ++ take count b) = ap (calls_of form) (take-append-add a b count) in
+      omega (arith, then, at_all start a, parts, calls_append a (take count b))
+
+  -- ---- what images stand for
 
   -- what stands for the state stands for it after none of the commands
   pub makes_none : (start : S) (commands : List C) (image : List ℕ) → StandsFor form start image → MakesFirst form start commands image
@@ -77,15 +134,18 @@ module _ {S C : Type 0} (form : Form S C) where
     stay_none time start commands disk count some most = absurd (omega (arith, some, most))
 
     -- with further commands behind them
-    pub stay_longer : (time : ℕ → ℕ) (done : ℕ) (start : S) (a b : List C) (disk : D) → StayDone g form time done start a disk → StayDone g form time done start (a ++ b) disk
-    stay_longer time done start a b disk stay count some most image left =
-        makes_within count (length a) count (length (a ++ b)) start (a ++ b) image (omega arith) (omega (arith, length-append a b)) (makes_first count (length a) start a b image (omega arith) (stay count some most image left))
+    pub stay_longer : (ready done : ℕ) (start : S) (a b : List C) (disk : D) → done ≤ length a → StayDone g form (done_at form ready a) done start a disk
+        → StayDone g form (done_at form ready (a ++ b)) done start (a ++ b) disk
+    stay_longer ready done start a b disk few stay count some most image left =
+        let then = at_first ready count a b (omega (arith, few, most)) in
+        makes_within count (length a) count (length (a ++ b)) start (a ++ b) image (omega arith) (omega (arith, length-append a b))
+        (makes_first count (length a) start a b image (omega arith) (stay count some most image (subst (λ (t : ℕ). g.images_since disk t image) then left)))
 
     -- Since so many of the first are done: what might have been left before the second began, or what they leave; and since
     -- so many of the second are done, they all stay.
-    pub stay_then : (ready done : ℕ) (start middle : S) (a b : List C) (mid disk : D) → middle ≡ after_all form.after start a → g.moment mid ≡ ready + 4 * length a
-        → StayDone g form (by_fours ready) (length a) start a mid → LeavesOnly g.moment g.images_since mid disk (MakesFirst form middle b)
-        → StayDone g form (by_fours (g.moment mid)) done middle b disk → StayDone g form (by_fours ready) (length a + done) start (a ++ b) disk
+    pub stay_then : (ready done : ℕ) (start middle : S) (a b : List C) (mid disk : D) → middle ≡ after_all form.after start a → g.moment mid ≡ done_at form ready a (length a)
+        → StayDone g form (done_at form ready a) (length a) start a mid → LeavesOnly g.moment g.images_since mid disk (MakesFirst form middle b)
+        → StayDone g form (done_at form (g.moment mid) b) done middle b disk → StayDone g form (done_at form ready (a ++ b)) (length a + done) start (a ++ b) disk
     stay_then ready done start middle a b mid disk at then first leaves second count some most image left =
         let sum : length (a ++ b) ≡ length a + length b = length-append a b in
         ⊎_elim
@@ -94,10 +154,12 @@ module _ {S C : Type 0} (form : Form S C) where
         ⊎_elim
         (λ was. makes_within count (length a) count (length (a ++ b)) start (a ++ b) image (omega arith) (omega (arith, sum)) (makes_first count (length a) start a b image (omega arith) (first count some few image was)))
         (λ here. makes_second 0 (length b) count (length (a ++ b)) start middle a b image at (omega (arith, few)) (omega (arith, sum)) here)
-        (leaves.each (ready + 4 * count) image (omega (arith, few, then)) left))
+        (leaves.each (done_at form ready a count) image (omega (arith, then, at_some ready count (length a) a few)) (subst (λ (t : ℕ). g.images_since disk t image) (at_first ready count a b few) left)))
         (λ (w : (nat_le count (length a) ≡ false) × (length a < count)).
         let more = w.1 in
-        let later : ready + 4 * count ≡ g.moment mid + 4 * (count - length a) = omega (arith, more, then) in
+        let behind : length a + (count - length a) ≡ count = omega (arith, more) in
+        let later : done_at form ready (a ++ b) count ≡ done_at form (g.moment mid) b (count - length a) =
+        ap (done_at form ready (a ++ b)) (sym behind) ∙ at_later ready (g.moment mid) (count - length a) a b then in
         makes_second (count - length a) (length b) count (length (a ++ b)) start middle a b image at (omega (arith, more)) (omega (arith, sum))
         (second (count - length a) (omega (arith, more)) (omega (arith, more, most)) image (subst (λ (t : ℕ). g.images_since disk t image) later left)))
         (leb_tells count (length a))

@@ -1,14 +1,15 @@
 -- What the commands of a call do to a state that is kept, one list of them after another.
-use Rattle.std.proofs.Common.{◌≡◌, ℕ, ◌+◌, ◌*◌, ◌/◌, ◌<◌, ◌≤◌, min, false, List, [], ◌++◌, length, Some, IfSome, refl, sym, ◌∙◌, ap, ap₂, subst, arith, length-append}
+use Rattle.std.proofs.Common.{◌≡◌, ℕ, ◌+◌, ◌*◌, ◌<◌, ◌≤◌, min, false, List, [], ◌++◌, length, take, Some, IfSome, refl, sym, ◌∙◌, ap, ap₂, subst, arith, length-append}
+use Rattle.std.proofs.lemmas.List.{length-take-le}
 use Rattle.std.proofs.lemmas.Nat.{div-add-mod'}
 use Rattle.disk_model.specs.declared.disk.Disk.{Ghosts}
 use Rattle.file_journal.specs.Calls.{EachImage, Leaves, TellsAlike}
-use Rattle.file_journal.specs.Commands.{AreAllowed, MakesBetween, MakesFirst, StayDone, after_all, after_first}
-use Rattle.file_journal.specs.Form.{Form}
-use Rattle.file_journal.specs.Kept.{Course, Does, DoesByFours, IsCut, IsKept, KeptOn, alone, by_fours, done_within, kept_on}
+use Rattle.file_journal.specs.Commands.{AreAllowed, MakesBetween, MakesFirst, StayDone, after_all, after_first, done_at, done_within}
+use Rattle.file_journal.specs.Form.{Form, record_calls}
+use Rattle.file_journal.specs.Kept.{Course, Does, DoesInTurn, IsCut, IsKept, KeptOn, alone, kept_on}
 use Rattle.file_journal.specs.Position.{Position}
 use Rattle.file_journal.proofs.CallLemmas.{puts_none, puts_on, puts_same}
-use Rattle.file_journal.proofs.CommandLemmas.{after_all_append, allowed_append, first_append, first_then, makes_first, makes_later, makes_longer, makes_second, makes_within, nothing, stay_longer, stay_none, stay_then}
+use Rattle.file_journal.proofs.CommandLemmas.{after_all_append, allowed_append, at_all, at_first, at_later, at_then, calls_records, first_append, first_then, makes_first, makes_later, makes_longer, makes_second, makes_within, nothing, stay_longer, stay_none, stay_then}
 use Rattle.file_journal.proofs.MomentLemmas.{joined, started, weaker}
 use Rattle.file_journal.proofs.ToldLemmas.{at_told, if_told, told_before, told_weaker}
 
@@ -17,27 +18,32 @@ pub same_on : {D S : Type 0} (now other : S) (journal else_journal : Position) (
 same_on {S = S} now other journal else_journal disk state same = ap₂ (λ (s : S) (j : Position). kept_on s j disk) state same
 
 -- a call failed behind so many that passed, in the command behind so many that are done: these calls carry out no more
-within_done : (start now calls count : ℕ) → start + calls < now → now ≤ by_fours start (count + 1) → done_within calls ≤ count
+within_done : (start now calls count : ℕ) → start + calls < now → now ≤ start + record_calls * (count + 1) → done_within calls ≤ count
 within_done start now calls count passed soon = let parts = div-add-mod' calls 4 in omega (arith, passed, soon, parts)
 
 module _ {D S C : Type 0} (g : Ghosts D) (form : Form S C) where
-  -- Where a call failed behind so many that passed, no fewer of the commands stand than those carry out; more commands may
-  -- come behind them.
-  pub cut_makes : (a b : List C) (old new : KeptOn D S) (calls : ℕ) → IsCut g form (by_fours (g.moment old.disk)) a old new → g.moment old.disk + calls < g.moment new.disk
+  -- the moment by which one command more than so many would be done, where each is one record
+  soon_done : ((command : C) → form.calls command ≡ record_calls) → (start count : ℕ) (commands : List C) → count < length commands → done_at form start commands (count + 1) ≡ start + record_calls * (count + 1)
+  soon_done each start count commands fewer = omega (arith, calls_records form each (take (count + 1) commands), length-take-le (count + 1) commands (omega (arith, fewer)))
+
+  -- Where each command is one record, and a call failed behind so many that passed, no fewer of the commands stand than
+  -- those carry out; more commands may come behind them.
+  pub cut_makes : ((command : C) → form.calls command ≡ record_calls) → (a b : List C) (old new : KeptOn D S) (calls : ℕ) → IsCut g form (done_at form (g.moment old.disk) a) a old new → g.moment old.disk + calls < g.moment new.disk
       → IfSome (g.content old.disk) (λ _. EachImage g new.disk (MakesBetween form (min (length (a ++ b)) (done_within calls)) (length (a ++ b)) old.now (a ++ b)))
-  cut_makes a b old new calls some passed =
+  cut_makes each a b old new calls some passed =
       let sum : length (a ++ b) ≡ length a + length b = length-append a b in
       told_weaker (g.content old.disk) _ _ (λ before told soon.
-      let done : done_within calls ≤ some.count = within_done (g.moment old.disk) (g.moment new.disk) calls some.count passed soon in
-      told_weaker (g.content new.disk) _ _ (λ now here each image left.
+      let done : done_within calls ≤ some.count =
+      within_done (g.moment old.disk) (g.moment new.disk) calls some.count passed (omega (arith, soon, soon_done each (g.moment old.disk) some.count a some.fewer)) in
+      told_weaker (g.content new.disk) _ _ (λ now here stands image left.
       makes_within form some.count (some.count + 1) (min (length (a ++ b)) (done_within calls)) (length (a ++ b)) old.now (a ++ b) image (omega (arith, done)) (omega (arith, sum, some.fewer))
-      (makes_first form some.count (some.count + 1) old.now a b image (omega (arith, some.fewer)) (each image left))) some.images) some.at_most
+      (makes_first form some.count (some.count + 1) old.now a b image (omega (arith, some.fewer)) (stands image left))) some.images) some.at_most
 
   -- what comes to the same, by calls that are said otherwise
-  pub fours_course : (one other : Course D) (P Q : Type 0) (commands : List C) (old new : KeptOn D S) → (P → Q) → (Q → P) → (one.idle old.disk new.disk → other.idle old.disk new.disk)
-      → (one.puts old.disk new.disk → other.puts old.disk new.disk) → (one.reads old.disk new.disk → other.reads old.disk new.disk) → DoesByFours g form one P commands old new
-      → DoesByFours g form other Q commands old new
-  fours_course one other P Q commands old new there back idle puts reads does = record {
+  pub turn_course : (one other : Course D) (P Q : Type 0) (commands : List C) (old new : KeptOn D S) → (P → Q) → (Q → P) → (one.idle old.disk new.disk → other.idle old.disk new.disk)
+      → (one.puts old.disk new.disk → other.puts old.disk new.disk) → (one.reads old.disk new.disk → other.reads old.disk new.disk) → DoesInTurn g form one P commands old new
+      → DoesInTurn g form other Q commands old new
+  turn_course one other P Q commands old new there back idle puts reads does = record {
     healthy = does.healthy;
     stands_on = does.stands_on;
     allowed = does.allowed;
@@ -54,15 +60,15 @@ module _ {D S C : Type 0} (g : Ghosts D) (form : Form S C) where
   }
 
   -- no command
-  pub fours_none : (course : Course D) (P : Type 0) (now : S) (journal : Position) (old new : D) → ¬ P → IsKept g form (kept_on now journal new) → journal.failed ≡ false
+  pub turn_none : (course : Course D) (P : Type 0) (now : S) (journal : Position) (old new : D) → ¬ P → IsKept g form (kept_on now journal new) → journal.failed ≡ false
       → Leaves g old new (λ _. MakesFirst form now []) → g.moment new ≡ g.moment old → course.idle old new → course.puts old new → course.reads old new
-      → DoesByFours g form course P [] (kept_on now journal old) (kept_on now journal new)
-  fours_none course P now journal old new fine stands healthy since same idle puts reads = record {
+      → DoesInTurn g form course P [] (kept_on now journal old) (kept_on now journal new)
+  turn_none course P now journal old new fine stands healthy since same idle puts reads = record {
     healthy = healthy;
     stands_on = stands;
     allowed = tt;
     since = since;
-    stay = λ still. if_told (g.content old) _ (λ before told. stay_none form g (by_fours (g.moment old)) now [] new);
+    stay = λ still. if_told (g.content old) _ (λ before told. stay_none form g (done_at form (g.moment old) []) now [] new);
     calls = λ still. if_told (g.content old) _ (λ before told. omega (arith, same));
     at_most = omega (arith, same);
     none = λ is. idle;
@@ -74,9 +80,9 @@ module _ {D S C : Type 0} (g : Ghosts D) (form : Form S C) where
   }
 
   -- further commands behind those in one of which the disk failed
-  pub fours_longer : (course : Course D) (P : Type 0) (a b : List C) (old new : KeptOn D S) → P → AreAllowed form.allowed form.after old.now (a ++ b) → DoesByFours g form course P a old new
-      → DoesByFours g form course P (a ++ b) old new
-  fours_longer course P a b old new failed allowed does =
+  pub turn_longer : (course : Course D) (P : Type 0) (a b : List C) (old new : KeptOn D S) → P → AreAllowed form.allowed form.after old.now (a ++ b) → DoesInTurn g form course P a old new
+      → DoesInTurn g form course P (a ++ b) old new
+  turn_longer course P a b old new failed allowed does =
       let sum : length (a ++ b) ≡ length a + length b = length-append a b in
       let some = does.cut failed in
       let few = some.fewer in
@@ -88,7 +94,7 @@ module _ {D S C : Type 0} (g : Ghosts D) (form : Form S C) where
             weaker g.moment g.images_since old.disk new.disk (MakesFirst form old.now a) (MakesFirst form old.now (a ++ b)) (λ image here. makes_longer form old.now a b image here) left) does.since;
         stay = λ fine. absurd (fine failed);
         calls = λ fine. absurd (fine failed);
-        at_most = omega (arith, sum, does.at_most);
+        at_most = omega (arith, does.at_most, at_then form (g.moment old.disk) a b);
         none = λ is. let empty : length (a ++ b) ≡ 0 = ap length is in absurd (omega (arith, sum, few, empty));
         puts = does.puts;
         reads = does.reads;
@@ -100,16 +106,16 @@ module _ {D S C : Type 0} (g : Ghosts D) (form : Form S C) where
           failed = some.failed;
           images = told_weaker (g.content new.disk) _ _ (λ now told each image here.
               makes_first form some.count (some.count + 1) old.now a b image (omega (arith, few)) (each image here)) some.images;
-          stay = told_weaker (g.content old.disk) _ _ (λ before told stay. stay_longer form g (by_fours (g.moment old.disk)) some.count old.now a b new.disk stay) some.stay;
-          calls = some.calls;
-          at_most = some.at_most;
+          stay = told_weaker (g.content old.disk) _ _ (λ before told stay. stay_longer form g (g.moment old.disk) some.count old.now a b new.disk (omega (arith, few)) stay) some.stay;
+          calls = told_weaker (g.content old.disk) _ _ (λ before told later. omega (arith, later, at_first form (g.moment old.disk) some.count a b (omega (arith, few)))) some.calls;
+          at_most = told_weaker (g.content old.disk) _ _ (λ before told soon. omega (arith, soon, at_first form (g.moment old.disk) (some.count + 1) a b (omega (arith, few)))) some.at_most;
         };
         journal = does.journal;
       }
 
   -- One list of commands, and then another.
   module _ (one other both : Course D) (P Q : Type 0) (a b : List C) (old mid new : KeptOn D S) (fine : ¬ P) (alike : TellsAlike (g.content old.disk) (g.content mid.disk))
-      (first : DoesByFours g form one P a old mid) (second : DoesByFours g form other Q b mid new) where
+      (first : DoesInTurn g form one P a old mid) (second : DoesInTurn g form other Q b mid new) where
     sum : length (a ++ b) ≡ length a + length b
     sum = length-append a b
 
@@ -119,8 +125,8 @@ module _ {D S C : Type 0} (g : Ghosts D) (form : Form S C) where
     middle : (before : List ℕ) → g.content old.disk ≡ Some before → (octets : List ℕ) × (g.content mid.disk ≡ Some octets)
     middle before told = told_before (g.content mid.disk) (g.content old.disk) before (alike.1, alike.0) told
 
-    then : (before : List ℕ) → g.content old.disk ≡ Some before → g.moment mid.disk ≡ g.moment old.disk + 4 * length a
-    then before told = at_told (λ (_ : List ℕ). g.moment mid.disk ≡ g.moment old.disk + 4 * length a) before told (first.calls fine)
+    then : (before : List ℕ) → g.content old.disk ≡ Some before → g.moment mid.disk ≡ done_at form (g.moment old.disk) a (length a)
+    then before told = at_told (λ (_ : List ℕ). g.moment mid.disk ≡ done_at form (g.moment old.disk) a (length a)) before told (first.calls fine)
 
     since_both : Leaves g old.disk new.disk (λ _. MakesFirst form old.now (a ++ b))
     since_both = if_told (g.content old.disk) _ (λ before told.
@@ -130,13 +136,13 @@ module _ {D S C : Type 0} (g : Ghosts D) (form : Form S C) where
         (weaker g.moment g.images_since mid.disk new.disk (MakesFirst form mid.now b) (MakesFirst form old.now (a ++ b)) (λ image here. makes_later form old.now mid.now a b image at here)
         (at_told (λ (_ : List ℕ). _) (middle before told).0 (middle before told).1 second.since)))
 
-    stay_both : (done : ℕ) → IfSome (g.content mid.disk) (λ _. StayDone g form (by_fours (g.moment mid.disk)) done mid.now b new.disk)
-        → IfSome (g.content old.disk) (λ _. StayDone g form (by_fours (g.moment old.disk)) (length a + done) old.now (a ++ b) new.disk)
+    stay_both : (done : ℕ) → IfSome (g.content mid.disk) (λ _. StayDone g form (done_at form (g.moment mid.disk) b) done mid.now b new.disk)
+        → IfSome (g.content old.disk) (λ _. StayDone g form (done_at form (g.moment old.disk) (a ++ b)) (length a + done) old.now (a ++ b) new.disk)
     stay_both done stay = if_told (g.content old.disk) _ (λ before told.
         stay_then form g (g.moment old.disk) done old.now mid.now a b mid.disk new.disk at (then before told) (at_told (λ (_ : List ℕ). _) before told (first.stay fine))
         (at_told (λ (_ : List ℕ). _) (middle before told).0 (middle before told).1 second.since) (at_told (λ (_ : List ℕ). _) (middle before told).0 (middle before told).1 stay))
 
-    cut_both : IsCut g form (by_fours (g.moment mid.disk)) b mid new → IsCut g form (by_fours (g.moment old.disk)) (a ++ b) old new
+    cut_both : IsCut g form (done_at form (g.moment mid.disk) b) b mid new → IsCut g form (done_at form (g.moment old.disk) (a ++ b)) (a ++ b) old new
     cut_both some = record {
       count = length a + some.count;
       fewer = omega (arith, sum, some.fewer);
@@ -146,30 +152,32 @@ module _ {D S C : Type 0} (g : Ghosts D) (form : Form S C) where
           makes_second form some.count (some.count + 1) (length a + some.count) (length a + some.count + 1) old.now mid.now a b image at (omega arith) (omega arith) (each image here)) some.images;
       stay = stay_both some.count some.stay;
       calls = if_told (g.content old.disk) _ (λ before told.
-          let later : g.moment mid.disk + 4 * some.count ≤ g.moment new.disk = at_told (λ (_ : List ℕ). _) (middle before told).0 (middle before told).1 some.calls in
-          omega (arith, then before told, later));
+          let later : done_at form (g.moment mid.disk) b some.count ≤ g.moment new.disk = at_told (λ (_ : List ℕ). _) (middle before told).0 (middle before told).1 some.calls in
+          omega (arith, at_later form (g.moment old.disk) (g.moment mid.disk) some.count a b (then before told), later));
       at_most = if_told (g.content old.disk) _ (λ before told.
-          let soon : g.moment new.disk ≤ g.moment mid.disk + 4 * (some.count + 1) = at_told (λ (_ : List ℕ). _) (middle before told).0 (middle before told).1 some.at_most in
-          omega (arith, then before told, soon));
+          let soon : g.moment new.disk ≤ done_at form (g.moment mid.disk) b (some.count + 1) = at_told (λ (_ : List ℕ). _) (middle before told).0 (middle before told).1 some.at_most in
+          let one : done_at form (g.moment old.disk) (a ++ b) (length a + some.count + 1) ≡ done_at form (g.moment old.disk) (a ++ b) (length a + (some.count + 1)) =
+          ap (done_at form (g.moment old.disk) (a ++ b)) (omega arith) in
+          omega (arith, one, at_later form (g.moment old.disk) (g.moment mid.disk) (some.count + 1) a b (then before told), soon));
     }
 
     -- and then no fewer of both are done than the first were
-    pub cut_least : IsCut g form (by_fours (g.moment mid.disk)) b mid new → (all : IsCut g form (by_fours (g.moment old.disk)) (a ++ b) old new) × (length a ≤ all.count)
+    pub cut_least : IsCut g form (done_at form (g.moment mid.disk) b) b mid new → (all : IsCut g form (done_at form (g.moment old.disk) (a ++ b)) (a ++ b) old new) × (length a ≤ all.count)
     unfolding cut_both
     cut_least some = (cut_both some, omega arith)
 
-    pub fours_then : (one.idle old.disk mid.disk → other.idle mid.disk new.disk → both.idle old.disk new.disk) → both.puts old.disk new.disk → both.reads old.disk new.disk
-        → DoesByFours g form both Q (a ++ b) old new
-    fours_then idle puts reads = record {
+    pub turn_then : (one.idle old.disk mid.disk → other.idle mid.disk new.disk → both.idle old.disk new.disk) → both.puts old.disk new.disk → both.reads old.disk new.disk
+        → DoesInTurn g form both Q (a ++ b) old new
+    turn_then idle puts reads = record {
       healthy = first.healthy;
       stands_on = second.stands_on;
       allowed = allowed_append form.after form.allowed a b old.now first.allowed (subst (λ (s : S). AreAllowed form.allowed form.after s b) at second.allowed);
       since = since_both;
-      stay = λ still. subst (λ (n : ℕ). IfSome (g.content old.disk) (λ _. StayDone g form (by_fours (g.moment old.disk)) n old.now (a ++ b) new.disk)) (sym sum) (stay_both (length b) (second.stay still));
+      stay = λ still. subst (λ (n : ℕ). IfSome (g.content old.disk) (λ _. StayDone g form (done_at form (g.moment old.disk) (a ++ b)) n old.now (a ++ b) new.disk)) (sym sum) (stay_both (length b) (second.stay still));
       calls = λ still. if_told (g.content old.disk) _ (λ before told.
-          let later : g.moment new.disk ≡ g.moment mid.disk + 4 * length b = at_told (λ (_ : List ℕ). _) (middle before told).0 (middle before told).1 (second.calls still) in
-          omega (arith, sum, then before told, later));
-      at_most = omega (arith, sum, first.at_most, second.at_most);
+          let later : g.moment new.disk ≡ done_at form (g.moment mid.disk) b (length b) = at_told (λ (_ : List ℕ). _) (middle before told).0 (middle before told).1 (second.calls still) in
+          omega (arith, then before told, later, at_then form (g.moment old.disk) a b, at_all form (g.moment mid.disk) b));
+      at_most = omega (arith, first.at_most, second.at_most, at_then form (g.moment old.disk) a b, at_all form (g.moment mid.disk) b);
       none = λ is.
           let empty : length (a ++ b) ≡ 0 = ap length is in
           idle (first.none (nothing a (omega (arith, sum, empty)))) (second.none (nothing b (omega (arith, sum, empty))));
@@ -187,17 +195,17 @@ module _ {D S C : Type 0} (g : Ghosts D) (form : Form S C) where
   pub does_none : (P : Type 0) (now : S) (journal : Position) (disk : D) → ¬ P → IsKept g form (kept_on now journal disk) → journal.failed ≡ false → g.lasts disk disk
       → Does g form P [] (kept_on now journal disk) (kept_on now journal disk)
   does_none P now journal disk fine stands healthy same =
-      fours_none (alone g P) P now journal disk disk fine stands healthy (if_told (g.content disk) _ (λ before told. started g.moment g.images_since disk (MakesFirst form now []))) refl refl
+      turn_none (alone g P) P now journal disk disk fine stands healthy (if_told (g.content disk) _ (λ before told. started g.moment g.images_since disk (MakesFirst form now []))) refl refl
       (puts_none g disk P fine same) tt
 
   -- how the failure is named makes no difference
   pub does_same : (P Q : Type 0) (commands : List C) (old new : KeptOn D S) → (P → Q) → (Q → P) → Does g form P commands old new → Does g form Q commands old new
-  does_same P Q commands old new there back does = fours_course (alone g P) (alone g Q) P Q commands old new there back (λ i. i) (puts_same g old.disk new.disk P Q there back) (λ r. r) does
+  does_same P Q commands old new there back does = turn_course (alone g P) (alone g Q) P Q commands old new there back (λ i. i) (puts_same g old.disk new.disk P Q there back) (λ r. r) does
 
   pub does_longer : (P : Type 0) (a b : List C) (old new : KeptOn D S) → P → AreAllowed form.allowed form.after old.now (a ++ b) → Does g form P a old new → Does g form P (a ++ b) old new
-  does_longer P a b old new = fours_longer (alone g P) P a b old new
+  does_longer P a b old new = turn_longer (alone g P) P a b old new
 
   pub does_then : ((first second third : D) → g.lasts first second → g.lasts second third → g.lasts first third) → (P Q : Type 0) (a b : List C) (old mid new : KeptOn D S) → ¬ P
       → Does g form P a old mid → Does g form Q b mid new → Does g form Q (a ++ b) old new
   does_then on P Q a b old mid new fine first second =
-      fours_then (alone g P) (alone g Q) (alone g Q) P Q a b old mid new fine first.puts.told first second (λ i j. j ∙ i) (puts_on g on old.disk mid.disk new.disk P Q fine first.puts second.puts) tt
+      turn_then (alone g P) (alone g Q) (alone g Q) P Q a b old mid new fine first.puts.told first second (λ i j. j ∙ i) (puts_on g on old.disk mid.disk new.disk P Q fine first.puts second.puts) tt

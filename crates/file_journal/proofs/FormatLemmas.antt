@@ -1,17 +1,17 @@
 -- What formatting makes of octets, and what a crash in it leaves.
 use Rattle.std.proofs.lemmas.Grind.{common_steps}
-use Rattle.std.proofs.Common.{◌≡◌, ℕ, ◌%◌, ◌==◌, nat_lt, ◌≤◌, List, [], ◌∷◌, ◌++◌, length, get_or, take, drop, Some, sym, ◌∙◌, ap, subst, arith, append_assoc, append-nil, length-append, length-drop, take-take, get_or-take, take_all, eq-eqb}
-use Rattle.std.proofs.lemmas.List.{drop_all, take_at, length-take-le, get_or_at}
+use Rattle.std.proofs.Common.{◌≡◌, ℕ, ◌+◌, ◌-◌, ◌%◌, ◌==◌, ◌<◌, ◌≤◌, List, [], ◌∷◌, ◌++◌, length, get_or, take, drop, Some, refl, sym, ◌∙◌, ap, subst, arith, append_assoc, length-append, length-drop, take-take, get_or-drop, get_or-take, eq-eqb}
+use Rattle.std.proofs.lemmas.List.{drop_all, drop_more, take_at, length-take-le, get_or_at}
 use Rattle.std.proofs.lemmas.Bool.Decides.{nat_tests}
-use Rattle.std.proofs.lemmas.Bool.{cond-true, cond-false, le-ltb}
-use Rattle.file_journal.specs.Journal.{after_finishing, even_selector}
+use Rattle.std.proofs.lemmas.Bool.{cond-true}
+use Rattle.file_journal.specs.Journal.{HasGates, IsAfterFinishing, even_header, even_selector}
 use Rattle.disk_model.specs.Disk.{Only, Torn, Writes}
 use Rattle.file_journal.specs.Appending.{IsTornFrom}
 use Rattle.file_journal.specs.Formatting.{IsFinishing, IsMakingEven, IsMakingGates, MakesEven, MakesGates}
 use Rattle.disk_model.specs.declared.disk.Disk.{Ghosts}
 use Rattle.file_journal.specs.Calls.{IsQuietNow}
 use Rattle.file_journal.proofs.CallLemmas.{quiet_images}
-use Rattle.file_journal.proofs.OctetLemmas.{written, torn_front, torn_length}
+use Rattle.file_journal.proofs.OctetLemmas.{written, three_parts, torn_front, torn_length}
 
 -- what is torn from the one image that there was
 torn_only : (at n : ℕ) (before : List ℕ) (images : List ℕ → Type 0) → Only images before → (image : List ℕ) → IsTornFrom images at n image → Torn at n before image
@@ -34,90 +34,129 @@ even_by before new long odd writes =
     written 15 (0 ∷ []) before new (omega arith) writes ∙ append_assoc (take 15 before) (0 ∷ []) (drop 16 before)
     ∙ ap (λ (n : ℕ). take 15 before ++ n ∷ drop 16 before) (sym (cond-true (get_or before 15 0 % 2 == 1) 0 (get_or before 15 0) (eq-eqb (get_or before 15 0 % 2) 1 odd)))
 
--- the header and one gate
-abbrev pub one_gate : List ℕ → List ℕ
-one_gate before = take 16 before ++ 0 ∷ []
+-- an octet that was written
+octet_there : (at octet : ℕ) (new : List ℕ) → take 1 (drop at new) ≡ octet ∷ [] → get_or new at 0 ≡ octet
+octet_there at octet new is =
+    ap (λ (i : ℕ). get_or new i 0) (let same : at ≡ at + 0 = omega arith in same) ∙ sym (get_or-drop at new 0 0) ∙ sym (get_or-take 1 (drop at new) 0 0 (omega arith))
+    ∙ ap (λ (l : List ℕ). get_or l 0 0) is
 
-module _ (before : List ℕ) (low : 16 ≤ length before) (high : length before ≤ 17) where
-  front : length (take 16 before) ≡ 16
-  front = length-take-le 16 before low
+-- What stays before a place, where a write is whole or torn.
+module _ (at : ℕ) (old new : List ℕ) (same : take at (take (length old) new) ≡ take at old) where
+  header_kept : 16 ≤ at → 16 ≤ length old → take 16 new ≡ take 16 old
+  header_kept le long =
+      sym (take-take 16 (length old) new long) ∙ sym (take-take 16 at (take (length old) new) le) ∙ ap (λ (l : List ℕ). take 16 l) same ∙ take-take 16 at old le
 
-  pub one_gate_length : length (one_gate before) ≡ 17
-  one_gate_length = omega (arith, front, length-append (take 16 before) (0 ∷ []))
+  octet_kept : (i : ℕ) → i < at → i < length old → get_or new i 0 ≡ get_or old i 0
+  octet_kept i lt inside =
+      sym (get_or-take (length old) new i 0 inside) ∙ sym (get_or-take at (take (length old) new) i 0 lt) ∙ ap (λ (l : List ℕ). get_or l i 0) same ∙ get_or-take at old i 0 lt
 
-  one_gate_by : (new : List ℕ) → Writes 16 (0 ∷ []) before new → new ≡ one_gate before
-  one_gate_by new writes =
-      written 16 (0 ∷ []) before new low writes
-      ∙ ap (λ (l : List ℕ). take 16 before ++ (0 ∷ []) ++ l) (drop_all 17 before high)
-      ∙ append-nil (one_gate before)
+-- two octets 00 at the end
+two_left : (gate : ℕ) (new : List ℕ) → length new ≡ gate + 2 → get_or new gate 0 ≡ 0 → get_or new (gate + 1) 0 ≡ 0 → drop gate new ≡ 0 ∷ 0 ∷ []
+two_left gate new size first second =
+    drop_more new gate 0 (omega (arith, size)) ∙ ap (λ (n : ℕ). n ∷ drop (gate + 1) new) first
+    ∙ ap (λ (l : List ℕ). 0 ∷ l)
+    (drop_more new (gate + 1) 0 (omega (arith, size)) ∙ ap (λ (n : ℕ). n ∷ drop (gate + 1 + 1) new) second
+    ∙ ap (λ (l : List ℕ). 0 ∷ l) (drop_all (gate + 1 + 1) new (omega (arith, size))))
 
-  pub gates_by : (mid new : List ℕ) → Writes 16 (0 ∷ []) before mid → Writes 17 (0 ∷ []) mid new → MakesGates before new
+module _ (gate : ℕ) (before : List ℕ) (behind : 16 ≤ gate) (low : 16 ≤ length before) (high : length before ≤ gate + 1) where
+  -- the header and one gate, which is the last octet
+  record HasOneGate (mid : List ℕ) : Type 0 where
+    pub size : length mid ≡ gate + 1
+    pub header : take 16 mid ≡ take 16 before
+    pub closed : get_or mid gate 0 ≡ 0
+
+  one_gate_by : (mid : List ℕ) → Writes gate (0 ∷ []) before mid → HasOneGate mid
+  one_gate_by mid writes = record {
+    size = omega (arith, writes.size, high);
+    header = header_kept gate before mid writes.before behind low;
+    closed = octet_there gate 0 mid writes.there;
+  }
+
+  pub gates_by : (mid new : List ℕ) → Writes gate (0 ∷ []) before mid → Writes (gate + 1) (0 ∷ []) mid new → MakesGates gate before new
   gates_by mid new first writes =
-      written 17 (0 ∷ []) (one_gate before) new (omega (arith, one_gate_length)) (subst (λ (l : List ℕ). Writes 17 (0 ∷ []) l new) (one_gate_by mid first) writes)
-      ∙ ap (λ (l : List ℕ). l ++ (0 ∷ []) ++ drop 18 (one_gate before)) (take_all 17 (one_gate before) (omega (arith, one_gate_length)))
-      ∙ ap (λ (l : List ℕ). one_gate before ++ (0 ∷ []) ++ l) (drop_all 18 (one_gate before) (omega (arith, one_gate_length)))
-      ∙ append-nil (one_gate before ++ 0 ∷ []) ∙ append_assoc (take 16 before) (0 ∷ []) (0 ∷ [])
-
-  pub first_gate_crash : (image : List ℕ) → Torn 16 1 before image → IsMakingGates before image
-  first_gate_crash image torn =
+      let one = one_gate_by mid first in
+      let size : length new ≡ gate + 2 = omega (arith, writes.size, one.size) in
+      let header : take 16 new ≡ take 16 before = header_kept (gate + 1) mid new writes.before (omega (arith, behind)) (omega (arith, one.size, behind)) ∙ one.header in
+      let closed : get_or new gate 0 ≡ 0 = octet_kept (gate + 1) mid new writes.before gate (omega arith) (omega (arith, one.size)) ∙ one.closed in
+      let last : drop (16 + (gate - 16)) new ≡ 0 ∷ 0 ∷ [] =
+      ap (λ (i : ℕ). drop i new) (let same : 16 + (gate - 16) ≡ gate = omega (arith, behind) in same) ∙ two_left gate new size closed (octet_there (gate + 1) 0 new writes.there) in
       record {
-        header = torn_front 16 1 before image low torn;
-        no_shorter = torn.no_shorter;
-        no_longer = omega (arith, torn.no_longer);
-        closed = λ long. absurd (omega (arith, torn.no_longer, long));
+        gap = take (gate - 16) (drop 16 new);
+        size = omega (arith, behind, size, length-drop 16 new, length-take-le (gate - 16) (drop 16 new) (omega (arith, size, length-drop 16 new)));
+        octets =
+            three_parts 16 (gate - 16) new ∙ ap (λ (l : List ℕ). l ++ take (gate - 16) (drop 16 new) ++ drop (16 + (gate - 16)) new) header
+            ∙ ap (λ (l : List ℕ). take 16 before ++ take (gate - 16) (drop 16 new) ++ l) last;
       }
 
-  pub second_gate_crash : (mid image : List ℕ) → Writes 16 (0 ∷ []) before mid → Torn 17 1 mid image → IsMakingGates before image
-  second_gate_crash mid image first torn_mid =
-      let torn = subst (λ (l : List ℕ). Torn 17 1 l image) (one_gate_by mid first) torn_mid in
-      let same : take 17 image ≡ one_gate before =
-      torn_front 17 1 (one_gate before) image (omega (arith, one_gate_length)) torn ∙ take_all 17 (one_gate before) (omega (arith, one_gate_length)) in
+  pub first_gate_crash : (image : List ℕ) → Torn gate 1 before image → IsMakingGates gate before image
+  first_gate_crash image torn =
       record {
-        header = sym (take-take 16 17 image (omega arith)) ∙ ap (λ (l : List ℕ). take 16 l) same ∙ take_at (take 16 before) (0 ∷ []) 16 front;
-        no_shorter = omega (arith, torn.no_shorter, one_gate_length);
-        no_longer = omega (arith, torn.no_longer, one_gate_length);
-        closed = λ long. sym (get_or-take 17 image 16 0 (omega arith)) ∙ ap (λ (l : List ℕ). get_or l 16 0) same ∙ get_or_at (take 16 before) 0 [] 0 16 front;
+        header = header_kept gate before image torn.before behind low;
+        no_shorter = torn.no_shorter;
+        no_longer = omega (arith, torn.no_longer, high);
+        closed = λ long. absurd (omega (arith, torn.no_longer, long, high));
+      }
+
+  pub second_gate_crash : (mid image : List ℕ) → Writes gate (0 ∷ []) before mid → Torn (gate + 1) 1 mid image → IsMakingGates gate before image
+  second_gate_crash mid image first torn =
+      let one = one_gate_by mid first in
+      record {
+        header = header_kept (gate + 1) mid image torn.before (omega (arith, behind)) (omega (arith, one.size, behind)) ∙ one.header;
+        no_shorter = omega (arith, torn.no_shorter, one.size, high);
+        no_longer = omega (arith, torn.no_longer, one.size);
+        closed = λ long. octet_kept (gate + 1) mid image torn.before gate (omega arith) (omega (arith, one.size)) ∙ one.closed;
       }
 
 even_selector_even : (before : List ℕ) → even_selector before % 2 ≡ 0
 even_selector_even before = grind (arith, nat_tests)
 
 -- The content once the selector is even.
-module _ (before : List ℕ) (size : length before ≡ 17) where
+module _ (before : List ℕ) (long : 16 < length before) where
   abbrev pub evened : List ℕ
   evened = take 15 before ++ even_selector before ∷ drop 16 before
 
   front15 : length (take 15 before) ≡ 15
-  front15 = length-take-le 15 before (omega (arith, size))
+  front15 = length-take-le 15 before (omega (arith, long))
 
-  pub evened_length : length evened ≡ 17
-  evened_length = omega (arith, front15, size, length-append (take 15 before) (even_selector before ∷ drop 16 before), length-drop 16 before)
+  pub evened_length : length evened ≡ length before
+  evened_length = omega (arith, front15, long, length-append (take 15 before) (even_selector before ∷ drop 16 before), length-drop 16 before)
 
   pub evened_front : take 15 evened ≡ take 15 before
   evened_front = take_at (take 15 before) (even_selector before ∷ drop 16 before) 15 front15
 
-  pub evened_header : take 16 evened ≡ take 15 before ++ even_selector before ∷ []
+  pub evened_header : take 16 evened ≡ even_header before
   evened_header = grind (arith, common_steps)
 
-  pub even_finishing : (image : List ℕ) → IsMakingEven before image → IsFinishing before image
-  even_finishing image making = grind (arith, common_steps)
+  module _ (gate : ℕ) (short : length before < gate + 2) where
+    pub even_finishing : (image : List ℕ) → IsMakingEven before image → IsFinishing gate before image
+    even_finishing image making = record {
+      interrupted = short;
+      header = making.0;
+      no_shorter = omega (arith, making.1);
+      no_longer = omega (arith, making.1, short);
+      even = λ more. absurd (omega (arith, making.1, short, more));
+      closed = λ more. absurd (omega (arith, making.1, short, more));
+    }
 
-  pub gates_finishing : (image : List ℕ) → IsMakingGates evened image → IsFinishing before image
-  gates_finishing image making =
-      let selector : get_or image 15 0 ≡ even_selector before =
-      sym (get_or-take 16 image 15 0 (omega arith)) ∙ ap (λ (l : List ℕ). get_or l 15 0) (making.header ∙ evened_header) ∙ get_or_at (take 15 before) (even_selector before) [] 0 15 front15 in
-      record {
-        interrupted = size;
-        header = sym (take-take 15 16 image (omega arith)) ∙ ap (λ (l : List ℕ). take 15 l) making.header ∙ take-take 15 16 evened (omega arith) ∙ evened_front;
-        no_shorter = omega (arith, making.no_shorter, evened_length);
-        no_longer = making.no_longer;
-        even = λ long. ap (λ (n : ℕ). n % 2) selector ∙ even_selector_even before;
-        closed = making.closed;
-      }
+    pub gates_finishing : (image : List ℕ) → IsMakingGates gate evened image → IsFinishing gate before image
+    gates_finishing image making =
+        let selector : get_or image 15 0 ≡ even_selector before =
+        sym (get_or-take 16 image 15 0 (omega arith)) ∙ ap (λ (l : List ℕ). get_or l 15 0) (making.header ∙ evened_header) ∙ get_or_at (take 15 before) (even_selector before) [] 0 15 front15 in
+        record {
+          interrupted = short;
+          header = sym (take-take 15 16 image (omega arith)) ∙ ap (λ (l : List ℕ). take 15 l) making.header ∙ take-take 15 16 evened (omega arith) ∙ evened_front;
+          no_shorter = omega (arith, making.no_shorter, evened_length);
+          no_longer = making.no_longer;
+          even = λ more. ap (λ (n : ℕ). n % 2) selector ∙ even_selector_even before;
+          closed = making.closed;
+        }
 
-  pub finished_by : (new : List ℕ) → MakesGates evened new → new ≡ after_finishing before
-  finished_by new is = grind (arith, common_steps)
+    pub finished_by : (new : List ℕ) → MakesGates gate evened new → IsAfterFinishing gate before new
+    finished_by new is = record {
+      finished = λ less. subst (λ (header : List ℕ). HasGates gate header new) evened_header is;
+      same = λ full. absurd (omega (arith, short, full));
+    }
 
 -- what is formatted stays
-pub finished_before : (before : List ℕ) → 18 ≤ length before → before ≡ after_finishing before
-finished_before before long = sym (cond-false (nat_lt (length before) 18) _ before (le-ltb (length before) 18 long))
+pub finished_before : (gate : ℕ) (before : List ℕ) → gate + 2 ≤ length before → IsAfterFinishing gate before before
+finished_before gate before full = record { finished = λ short. absurd (omega (arith, short, full)); same = λ _. refl }

@@ -1,19 +1,22 @@
 -- What the octets of a disk stand for, by their header and their length.
 use Rattle.std.proofs.lemmas.Grind.{common_steps}
-use Rattle.std.proofs.Common.{◌≡◌, ◌≢◌, ℕ, ◌+◌, ◌<◌, ◌≤◌, true, false, cond, not, nat_le, nat_lt, List, [], ◌∷◌, ◌++◌, length, get_or, take, drop, None, Some, refl, sym, ◌∙◌, ap, subst, arith, append_assoc, append-nil, length-append, take-take, get_or-take, inl, inr}
+use Rattle.std.proofs.Common.{◌≡◌, ◌≢◌, ℕ, ◌+◌, ◌<◌, ◌≤◌, false, cond, not, nat_le, nat_lt, List, [], ◌∷◌, ◌++◌, length, get_or, take, None, Some, refl, sym, ◌∙◌, ap, subst, arith, append_assoc, append-nil, length-append, take-take, get_or-take, inl, inr}
 use Rattle.std.proofs.lemmas.Bool.{cond-true, cond-false, cases_Bool, cases_lt, and_from, false_from_ne_true, both_ways, not_from_true, not_from_false, le-leb, lt-leb, lt-ltb, le-ltb}
 use Rattle.std.proofs.lemmas.Slice.Eq.{bytes_eq-Decides}
-use Rattle.std.proofs.lemmas.List.{take_at, drop_more, get_or-append-add}
+use Rattle.std.proofs.lemmas.List.{take_at, get_or-append-add}
 use Rattle.std.specs.Str.{bytes_eq}
 use Rattle.px_base.specs.Numbers.{le32, le32_octets}
-use Rattle.file_journal.specs.Records.{Record, whole, reading_from}
+use Rattle.file_journal.specs.Layout.{first_gate}
+use Rattle.file_journal.specs.Records.{Record, whole, reading_at}
+use Rattle.file_journal.specs.declared.layout.Layout.{Layout}
 use Rattle.file_journal.specs.Journal.{Standing, store, bad_number, no_store, is_block_number, store_of, journal_of, header_text, IsSameStore, HasGoodHeader}
 use Rattle.file_journal.specs.Formatting.{IsMakingGates}
 use Rattle.file_journal.specs.Header.{HasHeader}
-use Rattle.file_journal.proofs.ReadingLemmas.{reading_closed}
+use Rattle.file_journal.proofs.LayoutLemmas.{gate_behind}
+use Rattle.file_journal.proofs.ReadingLemmas.{read_closed}
 
-module _ (magic octets : List ℕ) where
-  pub of_short : length octets ≤ 16 → journal_of magic octets ≡ store None (whole [])
+module _ (magic : List ℕ) (layout : Layout) (octets : List ℕ) where
+  pub of_short : length octets ≤ 16 → journal_of magic layout octets ≡ store None (whole [])
   unfolding journal_of
   of_short short = cond-true (nat_le (length octets) 16) _ _ (le-leb (length octets) 16 short)
 
@@ -21,7 +24,7 @@ module _ (magic octets : List ℕ) where
   longer : (rest : Standing) → 16 < length octets → cond (nat_le (length octets) 16) (store None (whole [])) rest ≡ rest
   longer rest long = cond-false (nat_le (length octets) 16) (store None (whole [])) rest (lt-leb (length octets) 16 long)
 
-  pub of_foreign : 16 < length octets → take 8 octets ≢ magic → journal_of magic octets ≡ no_store (take 8 octets)
+  pub of_foreign : 16 < length octets → take 8 octets ≢ magic → journal_of magic layout octets ≡ no_store (take 8 octets)
   unfolding journal_of
   of_foreign long foreign =
       longer _ long
@@ -32,38 +35,38 @@ module _ (magic octets : List ℕ) where
   known : (found rest : Standing) → take 8 octets ≡ magic → cond (not (bytes_eq (take 8 octets) magic)) found rest ≡ rest
   known found rest is = cond-false (not (bytes_eq (take 8 octets) magic)) found rest (not_from_true _ ((bytes_eq-Decides (take 8 octets) magic).1 is))
 
-  pub of_bad_number : 16 < length octets → take 8 octets ≡ magic → is_block_number (le32 octets 8) ≡ false → journal_of magic octets ≡ bad_number
+  pub of_bad_number : 16 < length octets → take 8 octets ≡ magic → is_block_number (le32 octets 8) ≡ false → journal_of magic layout octets ≡ bad_number
   unfolding journal_of
   of_bad_number long is bad = longer _ long ∙ known _ _ is ∙ cond-true (not (is_block_number (le32 octets 8))) _ _ (not_from_false _ bad)
 
   module _ (blocks : ℕ) (head : HasHeader magic blocks octets) where
     -- the right block number
-    good : 16 < length octets → journal_of magic octets ≡ cond (nat_lt (length octets) 18) (store (Some blocks) (whole [])) (store_of blocks (reading_from 16 (drop 16 octets)))
+    good : 16 < length octets
+        → journal_of magic layout octets ≡ cond (nat_lt (length octets) (first_gate layout blocks + 2)) (store (Some blocks) (whole [])) (store_of blocks (reading_at (first_gate layout blocks) octets))
     unfolding journal_of
     good long = grind (arith, common_steps)
 
-    pub of_17 : length octets ≡ 17 → journal_of magic octets ≡ store (Some blocks) (whole [])
-    of_17 size = good (omega (arith, size)) ∙ cond-true (nat_lt (length octets) 18) _ _ (lt-ltb (length octets) 18 (omega (arith, size)))
+    pub of_interrupted : 16 < length octets → length octets < first_gate layout blocks + 2 → journal_of magic layout octets ≡ store (Some blocks) (whole [])
+    of_interrupted long short = good long ∙ cond-true (nat_lt (length octets) (first_gate layout blocks + 2)) _ _ (lt-ltb (length octets) (first_gate layout blocks + 2) short)
 
-    pub of_full : 18 ≤ length octets → journal_of magic octets ≡ store_of blocks (reading_from 16 (drop 16 octets))
-    of_full size = good (omega (arith, size)) ∙ cond-false (nat_lt (length octets) 18) _ _ (le-ltb (length octets) 18 size)
+    pub of_full : first_gate layout blocks + 2 ≤ length octets → journal_of magic layout octets ≡ store_of blocks (reading_at (first_gate layout blocks) octets)
+    of_full size =
+        good (omega (arith, size, gate_behind layout blocks))
+        ∙ cond-false (nat_lt (length octets) (first_gate layout blocks + 2)) _ _ (le-ltb (length octets) (first_gate layout blocks + 2) size)
 
     -- a store whose first gate isn't open, or isn't there yet
-    pub of_empty : 17 ≤ length octets → (17 < length octets → get_or octets 16 0 ≢ 1) → journal_of magic octets ≡ store (Some blocks) (whole [])
-    of_empty long shut = elim (cases_lt 17 (length octets)) [
-      | inr short ↦ of_17 (omega (arith, long, short))
-      | inl more ↦
-          of_full (omega (arith, more))
-          ∙ ap (store_of blocks)
-          (ap (reading_from 16) (drop_more octets 16 0 (omega (arith, more)))
-          ∙ reading_closed 16 (get_or octets 16 0) (drop 17 octets) (shut more))
+    pub of_empty : 16 < length octets → (first_gate layout blocks + 1 < length octets → get_or octets (first_gate layout blocks) 0 ≢ 1)
+        → journal_of magic layout octets ≡ store (Some blocks) (whole [])
+    of_empty long shut = elim (cases_lt (first_gate layout blocks + 1) (length octets)) [
+      | inr short ↦ of_interrupted long (omega (arith, short))
+      | inl more ↦ of_full (omega (arith, more)) ∙ ap (store_of blocks) (read_closed (first_gate layout blocks) octets (omega (arith, more)) (shut more))
     ]
 
 -- such octets aren't refused
-pub is_store : (magic octets : List ℕ) (blocks : ℕ) → 16 < length octets → HasHeader magic blocks octets → HasGoodHeader (journal_of magic octets)
-is_store magic octets blocks long head = elim (cases_lt 17 (length octets)) [
-  | inr short ↦ (let is = of_17 magic octets blocks head (omega (arith, long, short)) in (λ found foreign. cc, λ bad. cc))
-  | inl more ↦ (let is = of_full magic octets blocks head (omega (arith, more)) in (λ found foreign. cc, λ bad. cc))
+pub is_store : (magic : List ℕ) (layout : Layout) (octets : List ℕ) (blocks : ℕ) → 16 < length octets → HasHeader magic blocks octets → HasGoodHeader (journal_of magic layout octets)
+is_store magic layout octets blocks long head = elim (cases_lt (first_gate layout blocks + 1) (length octets)) [
+  | inr short ↦ (let is = of_interrupted magic layout octets blocks head long (omega (arith, short)) in (λ found foreign. cc, λ bad. cc))
+  | inl more ↦ (let is = of_full magic layout octets blocks head (omega (arith, more)) in (λ found foreign. cc, λ bad. cc))
 ]
 
 -- octets with the same front have the same header
@@ -98,31 +101,42 @@ header_written magic blocks rest eight some most =
     }
 
 -- while the gates of a new store are written
-pub new_gates : (magic : List ℕ) (blocks : ℕ) (image : List ℕ) → length magic ≡ 8 → 1 ≤ blocks → blocks ≤ 65536 → IsMakingGates (header_text magic blocks) image → IsSameStore blocks (store None (whole [])) (journal_of magic image)
-new_gates magic blocks image eight some most making = elim (cases_lt 16 (length image)) [
-  | inr short ↦ inl (of_short magic image short)
+pub new_gates : (magic : List ℕ) (layout : Layout) (blocks : ℕ) (image : List ℕ) → length magic ≡ 8 → 1 ≤ blocks → blocks ≤ 65536 → IsMakingGates (first_gate layout blocks) (header_text magic blocks) image
+    → IsSameStore blocks (store None (whole [])) (journal_of magic layout image)
+new_gates magic layout blocks image eight some most making = elim (cases_lt 16 (length image)) [
+  | inr short ↦ inl (of_short magic layout image short)
   | inl long ↦
       let head = subst (λ (l : List ℕ). HasHeader magic blocks l) (append-nil (header_text magic blocks)) (header_written magic blocks [] eight some most) in
       inr (
         refl,
-        of_empty magic image blocks (same_header 16 magic blocks (header_text magic blocks) image (omega arith) making.header head) (omega (arith, long))
+        of_empty magic layout image blocks (same_header 16 magic blocks (header_text magic blocks) image (omega arith) making.header head) long
             (λ more is_open. absurd (omega (arith, making.closed more, is_open))),
       )
 ]
 
--- what a whole store of at least 18 octets has
-pub store_parts : (magic octets : List ℕ) (blocks : ℕ) (entries : List Record) → 18 ≤ length octets → journal_of magic octets ≡ store (Some blocks) (whole entries)
-    → HasHeader magic blocks octets × (reading_from 16 (drop 16 octets) ≡ whole entries)
-store_parts magic octets blocks entries long is = elim (cases_Bool (bytes_eq (take 8 octets) magic)) [
-  | inr foreign ↦ absurd (cc (sym is ∙ of_foreign magic octets (omega (arith, long)) (λ same. both_ways _ foreign ((bytes_eq-Decides (take 8 octets) magic).1 same))))
+-- what a whole store has, of which the first two gates are there
+pub store_parts : (magic : List ℕ) (layout : Layout) (octets : List ℕ) (blocks : ℕ) (entries : List Record) → first_gate layout blocks + 2 ≤ length octets → journal_of magic layout octets ≡ store (Some blocks) (whole entries)
+    → HasHeader magic blocks octets × (reading_at (first_gate layout blocks) octets ≡ whole entries)
+store_parts magic layout octets blocks entries full is = elim (cases_Bool (bytes_eq (take 8 octets) magic)) [
+  | inr foreign ↦ absurd (cc (sym is ∙ of_foreign magic layout octets long (λ same. both_ways _ foreign ((bytes_eq-Decides (take 8 octets) magic).1 same))))
   | inl same ↦ elim (cases_Bool (is_block_number (le32 octets 8))) [
-    | inr bad ↦ absurd (cc (sym is ∙ of_bad_number magic octets (omega (arith, long)) ((bytes_eq-Decides (take 8 octets) magic).0 same) bad))
-    | inl good ↦ parts ((bytes_eq-Decides (take 8 octets) magic).0 same) good
+    | inr bad ↦ absurd (cc (sym is ∙ of_bad_number magic layout octets long ((bytes_eq-Decides (take 8 octets) magic).0 same) bad))
+    | inl good ↦ parts (record { magic_is = (bytes_eq-Decides (take 8 octets) magic).0 same; blocks_are = refl; is_number = good })
   ]
 ]
   where
-    parts : take 8 octets ≡ magic → is_block_number (le32 octets 8) ≡ true → HasHeader magic blocks octets × (reading_from 16 (drop 16 octets) ≡ whole entries)
-    parts is_magic good =
-        let here = of_full magic octets (le32 octets 8) (record { magic_is = is_magic; blocks_are = refl; is_number = good }) long in
-        let number : le32 octets 8 ≡ blocks = cc in
-        (record { magic_is = is_magic; blocks_are = number; is_number = ap is_block_number (sym number) ∙ good }, cc)
+    long : 16 < length octets
+    long = omega (arith, full, gate_behind layout blocks)
+
+    parts : HasHeader magic (le32 octets 8) octets → HasHeader magic blocks octets × (reading_at (first_gate layout blocks) octets ≡ whole entries)
+    parts head = elim (cases_lt (length octets) (first_gate layout (le32 octets 8) + 2)) [
+      | inl short ↦
+          (let here = of_interrupted magic layout octets (le32 octets 8) head long short in
+          let number : le32 octets 8 ≡ blocks = cc (sym is ∙ here) in
+          absurd (omega (arith, short, full, ap (first_gate layout) number)))
+      | inr all ↦
+          (let here = of_full magic layout octets (le32 octets 8) head all in
+          let number : le32 octets 8 ≡ blocks = cc (sym is ∙ here) in
+          let read : reading_at (first_gate layout (le32 octets 8)) octets ≡ whole entries = cc (sym is ∙ here) in
+          (subst (λ (n : ℕ). HasHeader magic n octets) number head, ap (λ (n : ℕ). reading_at (first_gate layout n) octets) (sym number) ∙ read))
+    ]

@@ -1,51 +1,44 @@
--- What a state that a journal keeps stands for, and what putting one record does to it.
-use Rattle.std.proofs.lemmas.Grind.{common_steps}
-use Rattle.std.proofs.Common.{◌≡◌, ◌⊎◌, ℕ, ◌+◌, ◌*◌, ◌≤◌, true, false, List, [], ◌∷◌, Some, IfSome, Result, IsErr, refl, ◌∙◌, ap, subst, arith}
+-- What a state that a journal keeps stands for, and what putting one command does to it.
+use Rattle.std.proofs.Common.{◌≡◌, ◌⊎◌, inl, inr, ℕ, ◌+◌, ◌≤◌, true, false, List, [], ◌∷◌, IfSome, refl, sym, ◌∙◌, ap, subst, arith}
+use Rattle.disk_model.specs.Disk.{Only}
 use Rattle.disk_model.specs.declared.disk.Disk.{Ghosts}
-use Rattle.file_journal.specs.Appending.{Appends, LeavesAppending, LeavesBeforeOrAfter}
-use Rattle.file_journal.specs.Calls.{EachImage, Leaves, Puts, TakesStep, TellsAlike, images_now}
-use Rattle.file_journal.specs.Commands.{MakesFirst, StayDone}
-use Rattle.file_journal.specs.Form.{Form, StandsFor, standing_of}
-use Rattle.file_journal.specs.Journal.{IsBeforeOrAfter, journal_of}
-use Rattle.file_journal.specs.Kept.{AnswersPut, Does, IsCut, IsKept, KeptOn, StandsAt, by_fours, kept_on}
-use Rattle.file_journal.specs.Position.{Position, StandsOn}
-use Rattle.file_journal.specs.Records.{Record}
+use Rattle.file_journal.specs.Calls.{EachImage, Leaves, Puts, TellsAlike, images_now}
+use Rattle.file_journal.specs.Commands.{MakesBetween, MakesFirst, StayDone, done_at}
+use Rattle.file_journal.specs.Form.{Form, StandsFor, TellsItsNumber}
+use Rattle.file_journal.specs.Kept.{Does, IsCut, IsKept, KeptOn, kept_on}
+use Rattle.file_journal.specs.Position.{Position}
 use Rattle.file_journal.specs.Walk.{state}
 use Rattle.file_journal.proofs.CommandLemmas.{makes_one, stay_none}
 use Rattle.file_journal.proofs.MomentLemmas.{weaker}
 use Rattle.file_journal.proofs.ToldLemmas.{at_told, if_told, told_before, told_weaker}
-use Rattle.file_journal.proofs.WalkLemmas.{append_keeps, failed_keeps, one_step}
 
 module _ {S C : Type 0} (form : Form S C) where
   module _ {D : Type 0} (g : Ghosts D) where
     -- What a state that is kept has on its disk stands for it.
-    content_here : (blocks : ℕ) (at : KeptOn D S) → StandsAt g form at → at.journal.failed ≡ false → IfSome (g.content at.disk) (λ octets. standing_of form blocks octets ≡ state at.now)
-    content_here blocks at stands healthy = grind (arith, common_steps)
+    pub images_here : TellsItsNumber form → (at : KeptOn D S) → IsKept g form at → at.journal.failed ≡ false → EachImage g at.disk (StandsFor form at.now)
+    images_here own at keeps healthy = if_told (g.content at.disk) _ (λ octets told image left.
+        subst (StandsFor form at.now) (sym (at_told (Only (images_now g at.disk)) octets told (keeps.quiet healthy) image left))
+        (own at.journal.blocks octets at.now (at_told (λ (o : List ℕ). form.standing at.journal.blocks o ≡ state at.now) octets told (keeps.content healthy))))
 
-    pub images_here : (at : KeptOn D S) → StandsAt g form at → at.journal.failed ≡ false → EachImage g at.disk (StandsFor form at.now)
-    images_here at stands healthy = grind (arith, common_steps)
+    -- ---- one command
 
-    -- ---- one record
-
-    module _ (old new : D) (now : S) (journal after : Position) (command : C) (entry : Record) (stands : StandsAt g form (kept_on now journal old)) (healthy : journal.failed ≡ false)
-        (allowed : form.allowed now command) (steps : form.step now entry ≡ Some (form.after now command))
+    module _ (old new : D) (now next : S) (journal after : Position) (command : C) (healthy : journal.failed ≡ false) (allowed : form.allowed now command) (next_is : next ≡ form.after now command)
         (moved : after ≡ record journal { place = after.place; failed = after.failed }) (told : TellsAlike (g.content old) (g.content new))
-        (since : LeavesAppending g journal entry old new) (at_most : g.moment new ≤ g.moment old + 4) where
-      abbrev next : S
-      next = form.after now command
+        (since : Leaves g old new (λ _ image. StandsFor form now image ⊎ StandsFor form next image)) (at_most : g.moment new ≤ g.moment old + form.calls command) where
+      abbrev time : ℕ → ℕ
+      time = done_at form (g.moment old) (command ∷ [])
 
-      -- what stands for the records from before, with the new one or without
-      either : (before image : List ℕ) → g.content old ≡ Some before → IsBeforeOrAfter (journal_of journal.magic before) entry (journal_of journal.magic image) → StandsFor form now image ⊎ StandsFor form next image
-      either before image told_old left = grind (arith, common_steps, content_here, one_step)
+      one : (image : List ℕ) → StandsFor form now image ⊎ StandsFor form next image → MakesBetween form 0 1 now (command ∷ []) image
+      one image (inl was) = makes_one form now command image (inl was)
+      one image (inr is) = makes_one form now command image (inr (subst (λ (s : S). StandsFor form s image) next_is is))
 
       leaves : Leaves g old new (λ _. MakesFirst form now (command ∷ []))
-      leaves = told_weaker (g.content old) _ _ (λ before told_old left.
-          weaker g.moment g.images_since old new _ (MakesFirst form now (command ∷ [])) (λ image here. makes_one form now command image (either before image told_old here.store)) left) since
+      leaves = told_weaker (g.content old) _ _ (λ before told_old left. weaker g.moment g.images_since old new _ (MakesFirst form now (command ∷ [])) one left) since
 
       -- what is done, by what comes of it where the disk failed and where it didn't
       does_put : (P : Type 0) (state_now : S) → IsKept g form (kept_on state_now after new) → Puts g P old new
-          → (¬ P → IfSome (g.content old) (λ _. g.moment new ≡ g.moment old + 4) × IfSome (g.content old) (λ _. StayDone g form (by_fours (g.moment old)) 1 now (command ∷ []) new) × (state_now ≡ next) × (after.failed ≡ false))
-          → (P → IsCut g form (by_fours (g.moment old)) (command ∷ []) (kept_on now journal old) (kept_on state_now after new)) → Does g form P (command ∷ []) (kept_on now journal old) (kept_on state_now after new)
+          → (¬ P → IfSome (g.content old) (λ _. g.moment new ≡ g.moment old + form.calls command) × IfSome (g.content old) (λ _. StayDone g form time 1 now (command ∷ []) new) × (state_now ≡ next) × (after.failed ≡ false))
+          → (P → IsCut g form time (command ∷ []) (kept_on now journal old) (kept_on state_now after new)) → Does g form P (command ∷ []) (kept_on now journal old) (kept_on state_now after new)
       does_put P state_now keeps puts done cut = record {
         healthy = healthy;
         stands_on = keeps;
@@ -57,55 +50,39 @@ module _ {S C : Type 0} (form : Form S C) where
         none = λ empty. absurd (cc empty);
         puts = puts;
         reads = tt;
-        done = λ still. ((done still).2, (done still).3);
+        done = λ still. ((done still).2 ∙ next_is, (done still).3);
         cut = cut;
         journal = moved;
       }
 
       -- it is done
-      pub answers_done : {T E : Type 0} (result : Result T E) → ¬ IsErr result → Puts g (IsErr result) old new → IfSome (g.content old) (λ _. g.moment new ≡ g.moment old + 4) → after.failed ≡ false
-          → StandsOn g after new → TakesStep g old new (Appends journal entry) → AnswersPut g form command (kept_on now journal old) (kept_on next after new) result
-      answers_done result good puts calls fine stands_on ok =
-          let stands_now : StandsAt g form (kept_on next after new) = record {
-            magic_is = ap (λ (p : Position). p.magic) moved ∙ stands.magic_is;
-            keeps = append_keeps g form.fresh form.step old new journal after now next entry stands.keeps steps healthy stands_on moved ok told;
-          } in
-          record {
-            does = does_put (IsErr result) next stands_now.keeps puts
-                (λ still. (
-                  calls,
-                  if_told (g.content old) _ (λ before told_old count some most image left.
-                      let there = told_before (g.content new) (g.content old) before (told.1, told.0) told_old in
-                      let done : g.moment new ≡ g.moment old + 4 = at_told (λ (_ : List ℕ). g.moment new ≡ g.moment old + 4) before told_old calls in
-                      let one : g.moment old + 4 * count ≡ g.moment new = omega (arith, done, some, most) in
-                      let each = at_told (λ (_ : List ℕ). (image : List ℕ) → images_now g new image → StandsFor form next image) there.0 there.1 (images_here (kept_on next after new) stands_now fine) in
-                      (1, omega (arith, most), omega arith, each image (subst (λ (t : ℕ). g.images_since new t image) one left))),
-                  refl,
-                  fine,
-                ))
-                (λ bad. absurd (good bad));
-            stands_at = stands_now;
-          }
+      pub put_done : (P : Type 0) → ¬ P → Puts g P old new → IfSome (g.content old) (λ _. g.moment new ≡ g.moment old + form.calls command) → after.failed ≡ false
+          → IsKept g form (kept_on next after new) → EachImage g new (StandsFor form next) → Does g form P (command ∷ []) (kept_on now journal old) (kept_on next after new)
+      put_done P good puts calls fine keeps here = does_put P next keeps puts
+          (λ still. (
+            calls,
+            if_told (g.content old) _ (λ before told_old count some most image left.
+                let there = told_before (g.content new) (g.content old) before (told.1, told.0) told_old in
+                let done : g.moment new ≡ g.moment old + form.calls command = at_told (λ (_ : List ℕ). g.moment new ≡ g.moment old + form.calls command) before told_old calls in
+                let first : count ≡ 1 = omega (arith, some, most) in
+                let end : time count ≡ g.moment new = ap time first ∙ omega (arith, done) in
+                let each = at_told (λ (_ : List ℕ). (image : List ℕ) → images_now g new image → StandsFor form next image) there.0 there.1 here in
+                (1, omega (arith, most), omega arith, subst (λ (s : S). StandsFor form s image) next_is (each image (subst (λ (t : ℕ). g.images_since new t image) end left)))),
+            refl,
+            fine,
+          ))
+          (λ bad. absurd (good bad))
 
       -- or the disk failed in it
-      pub answers_cut : ((disk : D) (t u : ℕ) (image : List ℕ) → t ≤ u → g.images_since disk u image → g.images_since disk t image) → LeavesBeforeOrAfter g journal entry old new → after.failed ≡ true → StandsOn g after new
-          → {T E : Type 0} (result : Result T E) → IsErr result → Puts g (IsErr result) old new → AnswersPut g form command (kept_on now journal old) (kept_on now after new) result
-      answers_cut earlier any_moment failed stands_on result bad puts =
-          let stands_cut : StandsAt g form (kept_on now after new) = record { magic_is = ap (λ (p : Position). p.magic) moved ∙ stands.magic_is; keeps = failed_keeps g form.fresh form.step after now new failed stands_on } in
-          record {
-            does = does_put (IsErr result) now stands_cut.keeps puts (λ still. absurd (still bad)) (λ again. record {
-              count = 0;
-              fewer = omega arith;
-              state = refl;
-              failed = failed;
-              images = if_told (g.content new) _ (λ octets told_new image here.
-                  let was = told_before (g.content old) (g.content new) octets told told_new in
-                  let later = at_told (λ (_ : List ℕ). _) was.0 was.1 since in
-                  makes_one form now command image
-                  (either was.0 image was.1 (at_told (λ (_ : List ℕ). _) was.0 was.1 (any_moment healthy) image (earlier new (g.moment old) (g.moment new) image later.later here))));
-              stay = if_told (g.content old) _ (λ before told_old. stay_none form g (by_fours (g.moment old)) now (command ∷ []) new);
-              calls = told_weaker (g.content old) _ _ (λ before told_old left. omega (arith, left.later)) since;
-              at_most = if_told (g.content old) _ (λ before told_old. omega (arith, at_most));
-            });
-            stands_at = stands_cut;
-          }
+      pub put_cut : (P : Type 0) → P → Puts g P old new → after.failed ≡ true → IsKept g form (kept_on now after new) → EachImage g new (λ image. StandsFor form now image ⊎ StandsFor form next image)
+          → Does g form P (command ∷ []) (kept_on now journal old) (kept_on now after new)
+      put_cut P bad puts failed keeps here = does_put P now keeps puts (λ still. absurd (still bad)) (λ again. record {
+        count = 0;
+        fewer = omega arith;
+        state = refl;
+        failed = failed;
+        images = told_weaker (g.content new) _ _ (λ octets told_new each image left. one image (each image left)) here;
+        stay = if_told (g.content old) _ (λ before told_old. stay_none form g time now (command ∷ []) new);
+        calls = told_weaker (g.content old) _ _ (λ before told_old left. omega (arith, left.later)) since;
+        at_most = if_told (g.content old) _ (λ before told_old. omega (arith, at_most));
+      })

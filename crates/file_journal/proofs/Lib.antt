@@ -1,11 +1,16 @@
 mod AmongLemmas
 mod AppendLemmas
+mod BlockLemmas
+mod BlockOctetLemmas
 mod CallLemmas
 mod CommandLemmas
+mod ContentLemmas
 mod DoesLemmas
 mod FormatLemmas
 mod JournalLemmas
+mod HoldLemmas
 mod KeptLemmas
+mod LayoutLemmas
 mod LedgerLemmas
 mod MomentLemmas
 mod NextLemmas
@@ -13,9 +18,12 @@ mod OctetLemmas
 pub mod Offered
 mod PositionLemmas
 mod PutLemmas
+mod PuttingLemmas
 mod ReadingLemmas
 mod RecoverLemmas
 mod RestoringLemmas
+mod StepsLemmas
+mod StandingLemmas
 mod ThroughLemmas
 mod ToldLemmas
 mod WalkLawLemmas

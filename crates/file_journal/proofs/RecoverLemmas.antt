@@ -1,135 +1,170 @@
 -- What a recovery leaves of a content, what it answers, and where its journal stands.
 use Rattle.std.proofs.lemmas.Grind.{common_steps}
-use Rattle.std.proofs.Common.{◌≡◌, ◌↔◌, inl, inr, ℕ, ◌+◌, ◌%◌, ◌<◌, ◌≤◌, nat_le, nat_lt, false, List, [], ◌∷◌, ◌++◌, length, get_or, take, Some, IfSome, Result, Ok, Err, refl, sym, ◌∙◌, ap, subst, arith, append_assoc, append-nil, length-append, get_or-take, take-take}
+use Rattle.std.specs.Prelude.{if◌then◌else◌}
+use Rattle.std.proofs.Common.{◌≡◌, ◌↔◌, inl, inr, ℕ, ◌+◌, ◌%◌, ◌<◌, ◌≤◌, nat_le, List, [], ◌∷◌, ◌++◌, length, get_or, take, Some, IfSome, Result, Ok, Err, refl, sym, ◌∙◌, ap, subst, arith, append_assoc, append-nil, length-append, get_or-take, take-take}
 use Rattle.std.proofs.lemmas.List.{get_or-append-add, get_or_at, take-append-le, take_at, length-take-le}
-use Rattle.std.proofs.lemmas.Bool.{cases_lt, cond-false, cond-true, le-leb, lt-leb, lt-ltb}
-use Rattle.px_base.specs.Numbers.{le32_octets}
+use Rattle.std.proofs.lemmas.Bool.{cases_lt, cond-false, cond-true, le-leb, lt-leb}
+use Rattle.px_base.specs.Numbers.{le32, le32_octets}
 use Rattle.px_base.specs.Octets.{IsOctets}
 use Rattle.disk_model.specs.Disk.{HasContent, Only}
 use Rattle.disk_model.specs.declared.disk.Disk.{Ghosts}
+use Rattle.file_journal.specs.declared.layout.Layout.{Layout}
 use Rattle.file_journal.specs.declared.faults.RecoverFault.{RecoverFault}
 use Rattle.file_journal.specs.declared.faults.RecoverFault.TheVariants as fault
 use Rattle.file_journal.specs.Calls.{ChangesReads, IsQuietNow, Leaves, TellsAlike, images_now}
 use Rattle.file_journal.specs.Formatting.{IsFinishing, IsMakingGates}
 use Rattle.file_journal.specs.Header.{HasHeader}
-use Rattle.file_journal.specs.Journal.{Standing, store, no_store, bad_number, journal_of, header_text, even_selector, after_finishing, after_recovery, HasGoodHeader, IsSameStore, store_of}
-use Rattle.file_journal.specs.Position.{Position, left_to_read, IsAt, StandsOn}
+use Rattle.file_journal.specs.Journal.{Standing, store, no_store, bad_number, journal_of, header_text, even_header, even_selector, HasGates, HasGoodHeader, IsAfterFinishing, IsAfterRecovery, IsSameStore, store_of}
+use Rattle.file_journal.specs.Layout.{first_gate}
+use Rattle.file_journal.specs.Position.{Position, gate_of, left_to_read, position_at_first, IsAt, StandsOn}
 use Rattle.file_journal.specs.Records.{whole}
-use Rattle.file_journal.specs.Recovery.{IsRecovered, IsRecovering, RefusesExactly}
-use Rattle.file_journal.proofs.FormatLemmas.{finished_before}
-use Rattle.file_journal.proofs.JournalLemmas.{header_length, header_written, new_gates, of_17, of_empty, of_full, of_short, same_header}
+use Rattle.file_journal.specs.Recovery.{IsRecovered, IsRecovering, RefusesExactly, gate_in}
+use Rattle.file_journal.proofs.JournalLemmas.{header_length, header_written, new_gates, of_empty, of_full, of_interrupted, of_short, same_header}
+use Rattle.file_journal.proofs.LayoutLemmas.{gate_behind}
 use Rattle.file_journal.proofs.ToldLemmas.{at_told, content_now, if_told, told_weaker}
 use Rattle.file_journal.proofs.MomentLemmas.{reads}
 
 -- Refusals.
-module _ (magic before : List ℕ) where
+module _ (magic : List ℕ) (layout : Layout) (before : List ℕ) where
   -- a store is refused nowhere
-  pub refuses_none : {T : Type 0} (x : T) → HasGoodHeader (journal_of magic before) → RefusesExactly magic before (Ok x)
+  pub refuses_none : {T : Type 0} (x : T) → HasGoodHeader (journal_of magic layout before) → RefusesExactly magic layout before (Ok x)
   refuses_none x good = record { not_a_store = λ found. (λ same. cc, λ is. absurd (good.0 found is)); damaged = λ at. (λ same. cc, λ is. absurd (good.1 is.1)) }
 
   -- the refusal that was answered is handed on, and so is none
-  pub refuses_alike : {T U : Type 0} (result : Result T RecoverFault) (other : Result U RecoverFault) → ((e : RecoverFault) → (result ≡ Err e) ↔ (other ≡ Err e)) → RefusesExactly magic before result
-      → RefusesExactly magic before other
+  pub refuses_alike : {T U : Type 0} (result : Result T RecoverFault) (other : Result U RecoverFault) → ((e : RecoverFault) → (result ≡ Err e) ↔ (other ≡ Err e)) → RefusesExactly magic layout before result
+      → RefusesExactly magic layout before other
   refuses_alike result other same refuses = record {
     not_a_store = λ found. (λ is. (refuses.not_a_store found).0 ((same (fault.NotAStore found)).1 is), λ is. (same (fault.NotAStore found)).0 ((refuses.not_a_store found).1 is));
     damaged = λ at. (λ is. (refuses.damaged at).0 ((same (fault.Damaged at)).1 is), λ is. (same (fault.Damaged at)).0 ((refuses.damaged at).1 is));
   }
 
 -- the refusal of a content by its header
-pub refusal_of : {T : Type 0} (magic octets : List ℕ) (result : Result T RecoverFault) → ((x : T) → result ≡ Ok x → HasGoodHeader (journal_of magic octets))
-    → ((found : List ℕ) → result ≡ Err (fault.NotAStore found) → journal_of magic octets ≡ no_store found)
-    → ((at : ℕ) → result ≡ Err (fault.Damaged at) → (at ≡ 8) × (journal_of magic octets ≡ bad_number)) → ¬ (result ≡ Err fault.Disk) → RefusesExactly magic octets result
-refusal_of magic octets (Ok x) good foreign bad healthy = refuses_none magic octets x (good x refl)
-refusal_of magic octets (Err (fault.NotAStore found)) good foreign bad healthy =
+pub refusal_of : {T : Type 0} (magic : List ℕ) (layout : Layout) (octets : List ℕ) (result : Result T RecoverFault) → ((x : T) → result ≡ Ok x → HasGoodHeader (journal_of magic layout octets))
+    → ((found : List ℕ) → result ≡ Err (fault.NotAStore found) → journal_of magic layout octets ≡ no_store found)
+    → ((at : ℕ) → result ≡ Err (fault.Damaged at) → (at ≡ 8) × (journal_of magic layout octets ≡ bad_number)) → ¬ (result ≡ Err fault.Disk) → RefusesExactly magic layout octets result
+refusal_of magic layout octets (Ok x) good foreign bad healthy = refuses_none magic layout octets x (good x refl)
+refusal_of magic layout octets (Err (fault.NotAStore found)) good foreign bad healthy =
     let is = foreign found refl in record { not_a_store = λ other. (λ same. cc, λ now. cc); damaged = λ at. (λ same. cc, λ now. cc (now.1)) }
-refusal_of magic octets (Err (fault.Damaged at)) good foreign bad healthy =
+refusal_of magic layout octets (Err (fault.Damaged at)) good foreign bad healthy =
     let is = bad at refl in record { not_a_store = λ found. (λ same. cc, λ now. cc (is.1)); damaged = λ other. (λ same. (cc (is.0), is.1), λ now. cc (is.0, now.0)) }
-refusal_of magic octets (Err fault.Disk) good foreign bad healthy = absurd (healthy refl)
-
--- A journal at its first gate.
-abbrev pub first_gate : List ℕ → ℕ → Position
-first_gate magic blocks = record { magic = magic; blocks = blocks; place = 16; ended = false; failed = false }
+refusal_of magic layout octets (Err fault.Disk) good foreign bad healthy = absurd (healthy refl)
 
 -- two closed gates behind a header of 16 octets
-two_gates : (magic : List ℕ) (blocks : ℕ) (front now : List ℕ) → length front ≡ 16 → HasHeader magic blocks front → now ≡ front ++ 0 ∷ 0 ∷ []
-    → HasHeader magic blocks now × (18 ≤ length now) × (journal_of magic now ≡ store (Some blocks) (whole []))
-two_gates magic blocks front now size head is = grind (arith, common_steps, same_header, take-append-le, length-append, get_or_at, of_empty)
+two_gates : (magic : List ℕ) (layout : Layout) (blocks : ℕ) (front now : List ℕ) → length front ≡ 16 → HasHeader magic blocks front → HasGates (first_gate layout blocks) front now
+    → HasHeader magic blocks now × (first_gate layout blocks + 2 ≤ length now) × (journal_of magic layout now ≡ store (Some blocks) (whole []))
+two_gates magic layout blocks front now size head gates =
+    let gate = first_gate layout blocks in
+    let parts : length (front ++ gates.gap) ≡ gate = omega (arith, size, gates.size, length-append front gates.gap) in
+    let long : length now ≡ gate + 2 = omega (arith, ap length gates.octets, parts, length-append (front ++ gates.gap) (0 ∷ 0 ∷ [])) in
+    let has : HasHeader magic blocks now =
+    same_header 16 magic blocks front now (omega arith) (ap (λ (l : List ℕ). take 16 l) (gates.octets ∙ append_assoc front gates.gap (0 ∷ 0 ∷ [])) ∙ take-append-le 16 front (gates.gap ++ 0 ∷ 0 ∷ []) (omega (arith, size))) head in
+    let closed : get_or now gate 0 ≡ 0 = ap (λ (l : List ℕ). get_or l gate 0) gates.octets ∙ get_or_at (front ++ gates.gap) 0 (0 ∷ []) 0 gate parts in
+    (has, omega (arith, long), of_empty magic layout now blocks has (omega (arith, long, gate_behind layout blocks)) (λ more is_open. absurd (omega (arith, closed, is_open))))
 
 -- a store whose formatting is done to its end
-pub finishing : (magic : List ℕ) (blocks : ℕ) (before image : List ℕ) → HasHeader magic blocks before → IsFinishing before image → journal_of magic image ≡ journal_of magic before
-finishing magic blocks before image head making = grind (arith, common_steps, of_empty, same_header, of_17)
+pub finishing : (magic : List ℕ) (layout : Layout) (blocks : ℕ) (before image : List ℕ) → 16 < length before → HasHeader magic blocks before → IsFinishing (first_gate layout blocks) before image
+    → journal_of magic layout image ≡ journal_of magic layout before
+finishing magic layout blocks before image long head making =
+    of_empty magic layout image blocks (same_header 15 magic blocks before image (omega arith) making.header head) (omega (arith, long, making.no_shorter))
+    (λ more is_open. absurd (omega (arith, making.closed more, is_open)))
+    ∙ sym (of_interrupted magic layout before blocks head long making.interrupted)
 
-finished_store : (magic : List ℕ) (blocks : ℕ) (before now : List ℕ) → 16 < length before → HasHeader magic blocks before → now ≡ after_finishing before
-    → HasHeader magic blocks now × (18 ≤ length now) × (journal_of magic now ≡ journal_of magic before)
-finished_store magic blocks before now long head is = elim (cases_lt (length before) 18) [
+finished_store : (magic : List ℕ) (layout : Layout) (blocks : ℕ) (before now : List ℕ) → 16 < length before → HasHeader magic blocks before → IsAfterFinishing (first_gate layout blocks) before now
+    → HasHeader magic blocks now × (first_gate layout blocks + 2 ≤ length now) × (journal_of magic layout now ≡ journal_of magic layout before)
+finished_store magic layout blocks before now long head is = elim (cases_lt (length before) (first_gate layout blocks + 2)) [
   | inr full ↦
-      let same : now ≡ before = is ∙ sym (finished_before before full) in
-      (subst (λ (l : List ℕ). HasHeader magic blocks l) (sym same) head, omega (arith, ap length same, full), ap (journal_of magic) same)
+      let same : now ≡ before = is.same full in
+      (subst (λ (l : List ℕ). HasHeader magic blocks l) (sym same) head, omega (arith, ap length same, full), ap (journal_of magic layout) same)
   | inl short ↦
-      let front : length (take 15 before) ≡ 15 = length-take-le 15 before (omega arith) in
-      let even : List ℕ = take 15 before ++ even_selector before ∷ [] in
-      let even_head = same_header 15 magic blocks before even (omega arith) (take_at (take 15 before) (even_selector before ∷ []) 15 front) head in
+      let front : length (take 15 before) ≡ 15 = length-take-le 15 before (omega (arith, long)) in
+      let even_head = same_header 15 magic blocks before (even_header before) (omega arith) (take_at (take 15 before) (even_selector before ∷ []) 15 front) head in
       let made =
-      two_gates magic blocks even now (omega (arith, length-append (take 15 before) (even_selector before ∷ []))) even_head
-      (is ∙ cond-true (nat_lt (length before) 18) _ before (lt-ltb (length before) 18 short) ∙ sym (append_assoc (take 15 before) (even_selector before ∷ []) (0 ∷ 0 ∷ []))) in
-      (made.0, made.1, made.2 ∙ sym (of_17 magic before blocks head (omega arith)))
+      two_gates magic layout blocks (even_header before) now (omega (arith, front, length-append (take 15 before) (even_selector before ∷ []))) even_head (is.finished short) in
+      (made.0, made.1, made.2 ∙ sym (of_interrupted magic layout before blocks head long short))
 ]
 
 -- What a recovery leaves of a content.
-module _ (magic : List ℕ) (blocks : ℕ) (before : List ℕ) where
-  -- more than 16 octets
-  pub known_after : 16 < length before → after_recovery magic blocks before ≡ after_finishing before
-  known_after long = cond-false (nat_le (length before) 16) (header_text magic blocks ++ 0 ∷ 0 ∷ []) (after_finishing before) (lt-leb (length before) 16 long)
+module _ (magic : List ℕ) (layout : Layout) (blocks : ℕ) (before : List ℕ) where
+  -- more than 16 octets have their block number, and keep their first 15
+  known_gate : 16 < length before → gate_in layout blocks before ≡ first_gate layout (le32 before 8)
+  known_gate long = ap (first_gate layout) (cond-false (nat_le (length before) 16) blocks (le32 before 8) (lt-leb (length before) 16 long))
 
-  -- more than 16 octets keep their first 15
-  kept_front : 16 < length before → length before < 18 → take 15 (after_recovery magic blocks before) ≡ take 15 before
-  kept_front long short = grind (arith, common_steps)
+  -- the octets whose first 15 stand in front
+  abbrev front_of : List ℕ
+  front_of = if nat_le (length before) 16 then header_text magic blocks else before
+
+  known_front : 16 < length before → take 15 front_of ≡ take 15 before
+  known_front long = ap (take 15) (cond-false (nat_le (length before) 16) (header_text magic blocks) before (lt-leb (length before) 16 long))
+
+  known_after : (number : ℕ) → HasHeader magic number before → 16 < length before → (now : List ℕ) → IsAfterFinishing (first_gate layout number) before now → IsAfterRecovery magic layout blocks before now
+  known_after number head long now is = record {
+    new = λ short. absurd (omega (arith, long, short));
+    known = λ _. subst (λ (n : ℕ). IsAfterFinishing (first_gate layout n) before now) (sym head.blocks_are) is;
+  }
 
   -- the content as it was
-  pub recovering_same : IsRecovering magic blocks before before
-  recovering_same = grind (arith, common_steps)
+  pub recovering_same : IsRecovering magic layout blocks before before
+  recovering_same = record {
+    same = inl refl;
+    formatted = λ _. refl;
+    no_longer = λ short. omega (arith, short);
+    header = λ long. sym (known_front long);
+    even = λ short more. absurd (omega (arith, short, more));
+    closed = λ short more. absurd (omega (arith, short, more));
+  }
 
   -- an interrupted formatting
-  pub recovering_finishing : (number : ℕ) (image : List ℕ) → HasHeader magic number before → IsFinishing before image → IsRecovering magic blocks before image
-  recovering_finishing number image head making = record {
-    same = inl (finishing magic number before image head making);
-    formatted = λ long. absurd (omega (arith, making.interrupted, long));
-    no_longer = λ short. making.no_longer;
-    header = λ long. making.header ∙ sym (kept_front (omega (arith, making.interrupted)) (omega (arith, making.interrupted)));
-    even = λ short long. making.even long;
-    closed = λ short long. making.closed long;
-  }
+  pub recovering_finishing : (number : ℕ) (image : List ℕ) → 16 < length before → HasHeader magic number before → IsFinishing (first_gate layout number) before image → IsRecovering magic layout blocks before image
+  recovering_finishing number image long head making =
+      let gate : first_gate layout number ≡ gate_in layout blocks before = ap (first_gate layout) (sym head.blocks_are) ∙ sym (known_gate long) in
+      let here : IsFinishing (gate_in layout blocks before) before image = subst (λ (n : ℕ). IsFinishing n before image) gate making in
+      record {
+        same = inl (finishing magic layout number before image long head making);
+        formatted = λ full. absurd (omega (arith, here.interrupted, full));
+        no_longer = λ short. here.no_longer;
+        header = λ more. here.header ∙ sym (known_front long);
+        even = λ short more. here.even more;
+        closed = λ short more. here.closed more;
+      }
 
   -- a new store
   module _ (short : length before ≤ 16) where
-    pub new_after : after_recovery magic blocks before ≡ header_text magic blocks ++ 0 ∷ 0 ∷ []
-    new_after = cond-true (nat_le (length before) 16) (header_text magic blocks ++ 0 ∷ 0 ∷ []) (after_finishing before) (le-leb (length before) 16 short)
+    new_gate : gate_in layout blocks before ≡ first_gate layout blocks
+    new_gate = ap (first_gate layout) (cond-true (nat_le (length before) 16) blocks (le32 before 8) (le-leb (length before) 16 short))
 
-    pub recovering_short : (image : List ℕ) → length image ≤ 16 → IsRecovering magic blocks before image
+    new_behind : 16 ≤ gate_in layout blocks before
+    new_behind = omega (arith, new_gate, gate_behind layout blocks)
+
+    new_front : take 15 front_of ≡ take 15 (header_text magic blocks)
+    new_front = ap (take 15) (cond-true (nat_le (length before) 16) (header_text magic blocks) before (le-leb (length before) 16 short))
+
+    pub new_after : (now : List ℕ) → HasGates (first_gate layout blocks) (header_text magic blocks) now → IsAfterRecovery magic layout blocks before now
+    new_after now is = record { new = λ _. is; known = λ long. absurd (omega (arith, short, long)) }
+
+    pub recovering_short : (image : List ℕ) → length image ≤ 16 → IsRecovering magic layout blocks before image
     recovering_short image short_now = record {
-      same = inl (of_short magic image short_now ∙ sym (of_short magic before short));
-      formatted = λ long. absurd (omega (arith, long));
-      no_longer = λ less. omega (arith, short_now);
-      header = λ long. absurd (omega (arith, long));
-      even = λ less long. absurd (omega (arith, long));
-      closed = λ less long. absurd (omega (arith, long));
+      same = inl (of_short magic layout image short_now ∙ sym (of_short magic layout before short));
+      formatted = λ full. absurd (omega (arith, full, short, new_behind));
+      no_longer = λ less. omega (arith, short_now, new_behind);
+      header = λ long. absurd (omega (arith, long, short_now));
+      even = λ less more. absurd (omega (arith, more, short_now, new_behind));
+      closed = λ less more. absurd (omega (arith, more, short_now, new_behind));
     }
 
-    pub recovering_gates : (image : List ℕ) → length magic ≡ 8 → 1 ≤ blocks → blocks ≤ 65536 → IsMakingGates (header_text magic blocks) image → IsRecovering magic blocks before image
-    recovering_gates image eight some most making = record {
-      same = subst (λ (s : Standing). IsSameStore blocks s (journal_of magic image)) (sym (of_short magic before short)) (new_gates magic blocks image eight some most making);
-      formatted = λ long. absurd (omega (arith, long));
-      no_longer = λ less. making.no_longer;
-      header = λ long.
-          sym (take-take 15 16 image (omega arith)) ∙ ap (λ (l : List ℕ). take 15 l) making.header ∙ take-take 15 16 (header_text magic blocks) (omega arith)
-          ∙ sym (ap (λ (l : List ℕ). take 15 l) new_after ∙ take-append-le 15 (header_text magic blocks) (0 ∷ 0 ∷ []) (omega (arith, size)));
-      even = λ less long. ap (λ (n : ℕ). n % 2) selector;
-      closed = λ less long. making.closed long;
-    }
+    pub recovering_gates : (image : List ℕ) → length magic ≡ 8 → 1 ≤ blocks → blocks ≤ 65536 → IsMakingGates (first_gate layout blocks) (header_text magic blocks) image → IsRecovering magic layout blocks before image
+    recovering_gates image eight some most making =
+        let gate : first_gate layout blocks ≡ gate_in layout blocks before = sym new_gate in
+        let here : IsMakingGates (gate_in layout blocks before) (header_text magic blocks) image = subst (λ (n : ℕ). IsMakingGates n (header_text magic blocks) image) gate making in
+        record {
+          same = subst (λ (s : Standing). IsSameStore blocks s (journal_of magic layout image)) (sym (of_short magic layout before short)) (new_gates magic layout blocks image eight some most making);
+          formatted = λ full. absurd (omega (arith, full, short, new_behind));
+          no_longer = λ less. here.no_longer;
+          header = λ long.
+              sym (take-take 15 16 image (omega arith)) ∙ ap (λ (l : List ℕ). take 15 l) making.header ∙ take-take 15 16 (header_text magic blocks) (omega arith) ∙ sym new_front;
+          even = λ less more. ap (λ (n : ℕ). n % 2) selector;
+          closed = λ less more. here.closed more;
+        }
       where
-        size : length (header_text magic blocks) ≡ 16
-        size = header_length magic blocks eight
-
         get_or_at_end : get_or (header_text magic blocks) 15 0 ≡ 0
         get_or_at_end =
             ap (λ (n : ℕ). get_or (header_text magic blocks) n 0) (let at : 15 ≡ length (magic ++ le32_octets blocks) + 3 = omega (arith, eight, length-append magic (le32_octets blocks)) in at)
@@ -141,19 +176,20 @@ module _ (magic : List ℕ) (blocks : ℕ) (before : List ℕ) where
             ∙ get_or_at_end
 
 -- What a recovery of a disk gives.
-module _ {D : Type 0} (g : Ghosts D) (magic : List ℕ) (blocks : ℕ) where
+module _ {D : Type 0} (g : Ghosts D) (magic : List ℕ) (layout : Layout) (blocks : ℕ) where
   -- a store that has this header now, and the records from before
   pub record IsFormatted (number : ℕ) (before now : List ℕ) : Type 0 where
     pub head : HasHeader magic number now
-    pub long : 18 ≤ length now
-    pub octets : now ≡ after_recovery magic blocks before
-    pub same : IsSameStore blocks (journal_of magic before) (journal_of magic now)
+    pub long : first_gate layout number + 2 ≤ length now
+    pub octets : IsAfterRecovery magic layout blocks before now
+    pub same : IsSameStore blocks (journal_of magic layout before) (journal_of magic layout now)
 
-  pub recovered : (old new : D) (number : ℕ) (journal : Position) → journal ≡ first_gate magic number → TellsAlike (g.content old) (g.content new) → IsQuietNow g new
-      → IfSome (g.content new) (λ now. IsOctets now) → HasContent (g.content old) (g.content new) (IsFormatted number) → IsRecovered g magic blocks old new journal
+  pub recovered : (old new : D) (number : ℕ) (journal : Position) → journal ≡ position_at_first magic layout number → TellsAlike (g.content old) (g.content new) → IsQuietNow g new
+      → IfSome (g.content new) (λ now. IsOctets now) → HasContent (g.content old) (g.content new) (IsFormatted number) → IsRecovered g magic layout blocks old new journal
   recovered old new number journal is alike rest are has = record {
     magic_is = ap (λ (journal : Position). journal.magic) is;
-    place = ap (λ (journal : Position). journal.place) is;
+    layout_is = ap (λ (journal : Position). journal.layout) is;
+    place = subst (λ (journal : Position). journal.place ≡ gate_of journal) (sym is) refl;
     unread = ap (λ (journal : Position). journal.ended) is;
     healthy = ap (λ (journal : Position). journal.failed) is;
     content = told_weaker (g.content old) _ _ (λ before told now. (
@@ -163,40 +199,47 @@ module _ {D : Type 0} (g : Ghosts D) (magic : List ℕ) (blocks : ℕ) where
         octets = now.2.octets;
         number = ap (λ (journal : Position). journal.blocks) is ∙ sym now.2.head.blocks_are;
         same = now.2.same;
-        whole = subst (λ (journal : Position). journal_of magic now.0 ≡ store_of journal.blocks (left_to_read journal now.0)) (sym is) (of_full magic now.0 number now.2.head now.2.long);
+        whole = subst (λ (journal : Position). journal_of magic layout now.0 ≡ store_of journal.blocks (left_to_read journal now.0)) (sym is)
+            (of_full magic layout now.0 number now.2.head now.2.long);
       },
     )) has;
     quiet = rest;
     stands_on = subst (λ (journal : Position). StandsOn g journal new) (sym is) (inr (if_told (g.content new) _ (λ now told.
         let was = content_now _ _ (IsFormatted number) now alike has told in
-        let at : IsAt (first_gate magic number) [] now =
-        record { are_octets = at_told _ now told are; formatted = was.2.long; place = refl; records = of_full magic now number was.2.head was.2.long; ended = λ end. cc } in (
+        let first = position_at_first magic layout number in
+        let at : IsAt first [] now = record {
+          are_octets = at_told _ now told are;
+          formatted = was.2.long;
+          place = omega arith;
+          records = of_full magic layout now number was.2.head was.2.long;
+          ended = λ end. cc;
+        } in (
           [],
           at,
           λ image here.
               let same = at_told (Only (images_now g new)) now told rest image here in
-              (subst (λ (l : List ℕ). IsAt (first_gate magic number) [] l) (sym same) at, ap (left_to_read (first_gate magic number)) same),
+              (subst (λ (l : List ℕ). IsAt first [] l) (sym same) at, ap (left_to_read first) same),
         ))));
   }
 
   -- of at most 16 octets
   pub new_formatted : (old new : D) → length magic ≡ 8 → 1 ≤ blocks → blocks ≤ 65536 → IfSome (g.content old) (λ before. length before ≤ 16)
-      → HasContent (g.content old) (g.content new) (λ before now. now ≡ after_recovery magic blocks before) → HasContent (g.content old) (g.content new) (IsFormatted blocks)
+      → HasContent (g.content old) (g.content new) (IsAfterRecovery magic layout blocks) → HasContent (g.content old) (g.content new) (IsFormatted blocks)
   new_formatted old new eight some most short has = told_weaker (g.content old) _ _ (λ before told now.
       let less = at_told _ before told short in
       let head = subst (λ (l : List ℕ). HasHeader magic blocks l) (append-nil (header_text magic blocks)) (header_written magic blocks [] eight some most) in
-      let is = two_gates magic blocks (header_text magic blocks) now.0 (header_length magic blocks eight) head (now.2 ∙ new_after magic blocks before less) in
-      (now.0, now.1, record { head = is.0; long = is.1; octets = now.2; same = inr (of_short magic before less, is.2) })) has
+      let is = two_gates magic layout blocks (header_text magic blocks) now.0 (header_length magic blocks eight) head (now.2.new less) in
+      (now.0, now.1, record { head = is.0; long = is.1; octets = now.2; same = inr (of_short magic layout before less, is.2) })) has
 
   -- of more
-  module _ (old mid new : D) (number : ℕ) (only : ChangesReads g old mid) (head : IfSome (g.content old) (HasHeader magic number)) where
-    pub known_formatted : IfSome (g.content old) (λ before. 16 < length before) → HasContent (g.content mid) (g.content new) (λ before now. now ≡ after_finishing before)
-        → HasContent (g.content old) (g.content new) (IsFormatted number)
-    known_formatted long has = if_told (g.content old) _ (λ before told.
+  module _ (old mid new : D) (number : ℕ) (only : ChangesReads g old mid) (head : IfSome (g.content old) (HasHeader magic number)) (long : IfSome (g.content old) (λ before. 16 < length before)) where
+    pub known_formatted : HasContent (g.content mid) (g.content new) (IsAfterFinishing (first_gate layout number)) → HasContent (g.content old) (g.content new) (IsFormatted number)
+    known_formatted has = if_told (g.content old) _ (λ before told.
         let now = at_told _ before (only.same_content ∙ told) has in
         let more = at_told _ before told long in
-        let is = finished_store magic number before now.0 more (at_told _ before told head) now.2 in
-        (now.0, now.1, record { head = is.0; long = is.1; octets = now.2 ∙ sym (known_after magic blocks before more); same = inl is.2 }))
+        let is_head = at_told (HasHeader magic number) before told head in
+        let is = finished_store magic layout number before now.0 more is_head now.2 in
+        (now.0, now.1, record { head = is.0; long = is.1; octets = known_after magic layout blocks before number is_head more now.0 now.2; same = inl is.2 }))
 
-    pub known_leaves : Leaves g mid new IsFinishing → Leaves g old new (IsRecovering magic blocks)
-    known_leaves leaves = grind (arith, common_steps, reads, recovering_finishing, head)
+    pub known_leaves : Leaves g mid new (IsFinishing (first_gate layout number)) → Leaves g old new (IsRecovering magic layout blocks)
+    known_leaves leaves = grind (arith, common_steps, reads, recovering_finishing, head, long)

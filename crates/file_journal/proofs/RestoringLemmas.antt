@@ -1,6 +1,6 @@
 -- The recovery of a state that is kept.
 use Rattle.std.proofs.lemmas.Grind.{common_steps}
-use Rattle.std.proofs.Common.{◌≡◌, ◌↔◌, inl, inr, ⊎_elim, ℕ, ◌<◌, ◌≤◌, Bool, true, false, not, nat_le, nat_lt, List, [], length, take, drop, Option, None, Some, IfSome, Result, Ok, Err, IsErrOf, refl, sym, ◌∙◌, ap, subst, arith}
+use Rattle.std.proofs.Common.{◌≡◌, ◌↔◌, inl, inr, ⊎_elim, ℕ, ◌+◌, ◌<◌, ◌≤◌, Bool, true, false, not, nat_le, nat_lt, List, [], length, take, Option, None, Some, IfSome, Result, Ok, Err, IsErrOf, refl, sym, ◌∙◌, ap, subst, arith}
 use Rattle.std.specs.Prelude.{if◌then◌else◌}
 use Rattle.std.specs.Str.{bytes_eq}
 use Rattle.std.proofs.lemmas.Bool.{cases_lt, lt-ltb}
@@ -8,19 +8,23 @@ use Rattle.px_base.specs.Numbers.{le32}
 use Rattle.px_base.specs.Outside.{Rose}
 use Rattle.disk_model.specs.Disk.{Only}
 use Rattle.disk_model.specs.declared.disk.Disk.{Ghosts}
-use Rattle.file_journal.specs.Calls.{ChangesReads, Leaves, Reads, Runs, TellsAlike, images_now}
+use Rattle.file_journal.specs.Calls.{ChangesReads, IsQuietNow, Leaves, Reads, Runs, TellsAlike, images_now}
 use Rattle.file_journal.specs.Form.{Form, standing_of}
 use Rattle.file_journal.specs.Journal as journal
-use Rattle.file_journal.specs.Journal.{after_recovery, is_block_number, journal_of}
-use Rattle.file_journal.specs.Kept.{kept_on}
+use Rattle.file_journal.specs.Journal.{IsAfterRecovery, IsSameStore, Standing, is_block_number, journal_of}
+use Rattle.file_journal.specs.Kept.{StandsAt, kept_on}
+use Rattle.file_journal.specs.Layout.{Blocks, block_in, blocks_on, first_gate}
 use Rattle.file_journal.specs.Ledger.{AnswersAll, AppliesAll}
-use Rattle.file_journal.specs.Position.{Position, StandsOn}
-use Rattle.file_journal.specs.Records.{Reading, reading_from, whole}
+use Rattle.file_journal.specs.Position.{Position, StandsOn, left_to_read}
+use Rattle.file_journal.specs.Records.{Reading, Record, reading_at, whole}
 use Rattle.file_journal.specs.Recovery as recovering
-use Rattle.file_journal.specs.Recovery.{IsFailedSync, IsRecovering, IsSyncedFirst, Recovers}
+use Rattle.file_journal.specs.Recovery.{IsFailedSync, IsRecovering, IsSyncedFirst, Recovers, gate_in}
 use Rattle.file_journal.specs.Refusals.{fault_of_read, fault_of_recovery}
 use Rattle.file_journal.specs.Restoring.{AnswersRecovery, IsRestored, RefusesExactly, StandsAlike}
-use Rattle.file_journal.specs.Walk.{damaged_at, no_store, stands_of, state, walk_left}
+use Rattle.file_journal.specs.Steps.{IsSeenBy, Steps, walked}
+use Rattle.file_journal.specs.Walk.{Stands, damaged_at, no_store, number_or, see, stands_of, state, walk, walk_left}
+use Rattle.file_journal.specs.declared.layout.Layout.{Layout}
+use Rattle.file_journal.specs.declared.layout.Layout.TheVariants as layout
 use Rattle.file_journal.specs.declared.faults.RecoverFault.{RecoverFault}
 use Rattle.file_journal.specs.declared.faults.RecoverFault.TheVariants as recovery
 use Rattle.file_journal.specs.declared.faults.ReadFault.{ReadFault}
@@ -28,9 +32,11 @@ use Rattle.file_journal.specs.declared.faults.ReadFault.TheVariants as read
 use Rattle.file_journal.specs.declared.faults.StoreFault.{StoreFault}
 use Rattle.file_journal.specs.declared.faults.StoreFault.TheVariants as fault
 use Rattle.file_journal.proofs.CallLemmas.{changes_none, reads_now, stops_on, stops_reads}
+use Rattle.file_journal.proofs.HoldLemmas.{held_kept, quiet_holds}
+use Rattle.file_journal.proofs.LayoutLemmas.{gate_behind}
 use Rattle.file_journal.proofs.MomentLemmas.{joined, reads, weaker}
-use Rattle.file_journal.proofs.ToldLemmas.{alike_on, alike_same, at_told, if_told, told_before, told_weaker}
-use Rattle.file_journal.proofs.WalkLemmas.{for_recovering, read_keeps}
+use Rattle.file_journal.proofs.StepsLemmas.{fresh_same}
+use Rattle.file_journal.proofs.ToldLemmas.{alike_on, alike_same, at_told, content_now, if_told, told_before, told_weaker}
 
 -- ---- what is refused
 
@@ -49,56 +55,112 @@ module _ {S C T : Type 0} (form : Form S C) (blocks : ℕ) (before : List ℕ) (
   exactly_state : (now : S) (x : T) → standing_of form blocks before ≡ state now → result ≡ Ok x → RefusesExactly form blocks before result
   exactly_state now x stands answered = record { not_a_store = λ other. (λ is. cc, λ is. cc); damaged = λ at. (λ is. cc, λ is. cc) }
 
-  -- a refusal of the journal
-  refused_recovery : {U : Type 0} (e : RecoverFault) → recovering.RefusesExactly {T = U} form.magic before (Err e) → result ≡ Err (fault_of_recovery e) → ¬ (result ≡ Err fault.Disk) → RefusesExactly form blocks before result
-  refused_recovery (recovery.NotAStore found) refuses is healthy = exactly_no_store found (ap (stands_of form.fresh form.step blocks) ((refuses.not_a_store found).0 refl)) is
-  refused_recovery (recovery.Damaged at) refuses is healthy =
-      let bad = (refuses.damaged at).0 refl in
-      exactly_damaged at (ap (stands_of form.fresh form.step blocks) bad.1 ∙ ap (λ (n : ℕ). damaged_at n) (sym bad.0)) is
-  refused_recovery recovery.Disk refuses is healthy = absurd (healthy is)
-
   -- what is answered behind a reading
-  answered_read : {U : Type 0} (reading : Result U ReadFault) (first : Position) (start now : S) (octets : List ℕ) → standing_of form blocks before ≡ walk_left form.step first start octets
-      → AppliesAll form.step first start now octets reading → IsAnswerOf reading result → ¬ (result ≡ Err fault.Disk) → ¬ (result ≡ Err fault.OutOfMemory) → RefusesExactly form blocks before result
-  answered_read (Ok x) first start now octets left all is healthy room = exactly_state now is.0 (left ∙ all.ok) is.1
-  answered_read (Err (read.Damaged at)) first start now octets left all is healthy room = exactly_damaged at (left ∙ (all.damaged at).0 refl) is
-  answered_read (Err read.Disk) first start now octets left all is healthy room = absurd (healthy is)
-  answered_read (Err read.OutOfMemory) first start now octets left all is healthy room = absurd (room is)
+  answered_read : {R U : Type 0} (step : R → Record → Option R) (seen : R → S) (reading : Result U ReadFault) (first : Position) (start now : R) (octets : List ℕ)
+      → standing_of form blocks before ≡ see seen (walk_left step first start octets)
+      → AppliesAll step first start now octets reading → IsAnswerOf reading result → ¬ (result ≡ Err fault.Disk) → ¬ (result ≡ Err fault.OutOfMemory) → RefusesExactly form blocks before result
+  answered_read step seen (Ok x) first start now octets left all is healthy room = exactly_state (seen now) is.0 (left ∙ ap (see seen) all.ok) is.1
+  answered_read step seen (Err (read.Damaged at)) first start now octets left all is healthy room = exactly_damaged at (left ∙ ap (see seen) ((all.damaged at).0 refl)) is
+  answered_read step seen (Err read.Disk) first start now octets left all is healthy room = absurd (healthy is)
+  answered_read step seen (Err read.OutOfMemory) first start now octets left all is healthy room = absurd (room is)
 
 -- ---- damage is found behind a whole header alone
 
-module _ {S C : Type 0} (form : Form S C) (blocks : ℕ) where
-  tests_damage : (a b c d : Bool) (found : List ℕ) (n at : ℕ) (reading : Reading) → d ≡ true
-      → ((if a then journal.store None (whole []) else if b then journal.no_store found else if c then journal.bad_number else if d then journal.store (Some n) (whole []) else journal.store_of n reading) ≡ journal.bad_number → ⊥)
-      → stands_of form.fresh form.step blocks
-      (if a then journal.store None (whole []) else if b then journal.no_store found else if c then journal.bad_number else if d then journal.store (Some n) (whole []) else journal.store_of n reading) ≡ damaged_at at → ⊥
-  tests_damage true b c d found n at reading short good is = cc is
-  tests_damage false true c d found n at reading short good is = cc is
-  tests_damage false false true d found n at reading short good is = good refl
-  tests_damage false false false true found n at reading short good is = cc is
-  tests_damage false false false false found n at reading short good is = cc short
+-- without records
+abbrev HasNoRecords : Standing → Type 0
+HasNoRecords (journal.no_store found) = Unit {0}
+HasNoRecords journal.bad_number = Unit {0}
+HasNoRecords (journal.store number reading) = reading ≡ whole []
 
-  short_damage : (octets : List ℕ) (at : ℕ) → length octets < 18 → (journal_of form.magic octets ≡ journal.bad_number → ⊥) → standing_of form blocks octets ≡ damaged_at at → ⊥
+tests_short : (a b c d : Bool) (found : List ℕ) (n : ℕ) (reading : Reading) → d ≡ true
+    → HasNoRecords (if a then journal.store None (whole []) else if b then journal.no_store found else if c then journal.bad_number else if d then journal.store (Some n) (whole []) else journal.store_of n reading)
+tests_short true b c d found n reading short = refl
+tests_short false true c d found n reading short = tt
+tests_short false false true d found n reading short = tt
+tests_short false false false true found n reading short = refl
+tests_short false false false false found n reading short = cc short
+
+see_damaged : {S V : Type 0} (seen : S → V) (stands : Stands S) (at : ℕ) → see seen stands ≡ damaged_at at → stands ≡ damaged_at at
+see_damaged seen (no_store found) at is = absurd (cc is)
+see_damaged seen (damaged_at place) at is = ap (λ (n : ℕ). damaged_at n) (let same : place ≡ at = cc is in same)
+see_damaged seen (state now) at is = absurd (cc is)
+
+module _ {S V C : Type 0} (steps : Steps S) (seen : Blocks → S → V) (form : Form V C) (law : IsSeenBy steps seen form) (blocks : ℕ) where
+  -- the place of the first gate of octets that have their block number
+  abbrev gate_at : List ℕ → ℕ
+  gate_at octets = first_gate form.layout (le32 octets 8)
+
+  -- a store that isn't formatted whole has no records
+  short_store : (octets : List ℕ) → length octets < gate_at octets + 2 → HasNoRecords (journal_of form.magic form.layout octets)
   unfolding journal_of
-  short_damage octets at short good is =
-      tests_damage (nat_le (length octets) 16) (not (bytes_eq (take 8 octets) form.magic)) (not (is_block_number (le32 octets 8))) (nat_lt (length octets) 18) (take 8 octets) (le32 octets 8) at
-      (reading_from 16 (drop 16 octets)) (lt-ltb (length octets) 18 short) good is
+  short_store octets short =
+      tests_short (nat_le (length octets) 16) (not (bytes_eq (take 8 octets) form.magic)) (not (is_block_number (le32 octets 8))) (nat_lt (length octets) (gate_at octets + 2)) (take 8 octets)
+      (le32 octets 8) (reading_at (gate_at octets) octets) (lt-ltb (length octets) (gate_at octets + 2) short)
 
-  formatted : (octets : List ℕ) (at : ℕ) → (journal_of form.magic octets ≡ journal.bad_number → ⊥) → standing_of form blocks octets ≡ damaged_at at → 18 ≤ length octets
-  formatted octets at good is = elim (cases_lt (length octets) 18) [ inl short ↦ absurd (short_damage octets at short good is) | inr long ↦ long ]
+  -- so it is no damage, but by its number
+  short_sound : (held : Blocks) (stands : Standing) (at : ℕ) → HasNoRecords stands → (stands ≡ journal.bad_number → ⊥) → stands_of steps.fresh (steps.step held) form.layout blocks stands ≡ damaged_at at → ⊥
+  short_sound held (journal.no_store found) at none good is = cc is
+  short_sound held journal.bad_number at none good is = good refl
+  short_sound held (journal.store number reading) at none good is =
+      let damage : walk (steps.step held) (steps.fresh (number_or blocks number)) (first_gate form.layout (number_or blocks number)) (whole []) ≡ damaged_at at =
+      ap (λ (r : Reading). walk (steps.step held) (steps.fresh (number_or blocks number)) (first_gate form.layout (number_or blocks number)) r) (sym none) ∙ is in
+      cc damage
 
-  stays : (octets : List ℕ) → 18 ≤ length octets → after_recovery form.magic blocks octets ≡ octets
-  stays octets long = grind (arith, common_steps)
+  formatted : (octets : List ℕ) (at : ℕ) → (journal_of form.magic form.layout octets ≡ journal.bad_number → ⊥) → standing_of form blocks octets ≡ damaged_at at → gate_at octets + 2 ≤ length octets
+  formatted octets at good is = elim (cases_lt (length octets) (gate_at octets + 2)) [
+    | inl short ↦
+        absurd (short_sound (block_in octets) (journal_of form.magic form.layout octets) at (short_store octets short) good
+        (see_damaged (seen (block_in octets)) (walked steps form.magic form.layout blocks octets) at (sym (law.standing blocks octets) ∙ is)))
+    | inr long ↦ long
+  ]
 
-  stands_alike : (before image : List ℕ) → IsRecovering form.magic blocks before image → StandsAlike form blocks before image
-  stands_alike before image left = record { same = for_recovering form.step form.fresh form.magic blocks before image left; octets = left }
+  stays : (octets now : List ℕ) → gate_at octets + 2 ≤ length octets → IsAfterRecovery form.magic form.layout blocks octets now → now ≡ octets
+  stays octets now full after = (after.known (omega (arith, full, gate_behind form.layout (le32 octets 8)))).same full
+
+  -- without records it stands for the same, whatever the blocks hold
+  fresh_seen : (one other : Blocks) (store : Standing) → HasNoRecords store
+      → see (seen other) (stands_of steps.fresh (steps.step other) form.layout blocks store) ≡ see (seen one) (stands_of steps.fresh (steps.step one) form.layout blocks store)
+  fresh_seen one other (journal.no_store found) none = refl
+  fresh_seen one other journal.bad_number none = refl
+  fresh_seen one other (journal.store number reading) none =
+      let n = number_or blocks number in
+      let at : (held : Blocks) → see (seen held) (walk (steps.step held) (steps.fresh n) (first_gate form.layout n) reading) ≡ state (seen held (steps.fresh n)) =
+      λ held. ap (λ (r : Reading). see (seen held) (walk (steps.step held) (steps.fresh n) (first_gate form.layout n) r)) none in
+      at other ∙ ap (λ (v : V). state v) (fresh_same steps seen form law one other n) ∙ sym (at one)
+
+  -- Octets that are the same store stand for the same, where a store that is formatted whole is left as it is.
+  same_standing : (before image : List ℕ) → IsSameStore blocks (journal_of form.magic form.layout before) (journal_of form.magic form.layout image) → (gate_at before + 2 ≤ length before → image ≡ before)
+      → standing_of form blocks image ≡ standing_of form blocks before
+  same_standing before image same kept = elim (cases_lt (length before) (gate_at before + 2)) [
+    | inr full ↦ ap (standing_of form blocks) (kept full)
+    | inl short ↦ law.standing blocks image ∙ by (short_store before short) same ∙ sym (law.standing blocks before)
+  ]
+    where
+      by : HasNoRecords (journal_of form.magic form.layout before) → IsSameStore blocks (journal_of form.magic form.layout before) (journal_of form.magic form.layout image)
+          → see (seen (block_in image)) (walked steps form.magic form.layout blocks image) ≡ see (seen (block_in before)) (walked steps form.magic form.layout blocks before)
+      by none (inl is) =
+          ap (λ (s : Standing). see (seen (block_in image)) (stands_of steps.fresh (steps.step (block_in image)) form.layout blocks s)) is
+          ∙ fresh_seen (block_in before) (block_in image) (journal_of form.magic form.layout before) none
+      by none (inr is) =
+          ap (λ (s : Standing). see (seen (block_in image)) (stands_of steps.fresh (steps.step (block_in image)) form.layout blocks s)) is.1
+          ∙ ap (λ (v : V). state v) (fresh_same steps seen form law (block_in before) (block_in image) blocks)
+          ∙ sym (ap (λ (s : Standing). see (seen (block_in before)) (stands_of steps.fresh (steps.step (block_in before)) form.layout blocks s)) is.0)
+
+  stands_alike : (before image : List ℕ) → IsRecovering form.magic form.layout blocks before image → StandsAlike form blocks before image
+  stands_alike before image left = record { same = same_standing before image left.same (λ full. left.formatted (full_in before full)); octets = left }
+    where
+      full_in : (octets : List ℕ) → gate_at octets + 2 ≤ length octets → gate_in form.layout blocks octets + 2 ≤ length octets
+      full_in octets full = grind (arith, common_steps, gate_behind)
 
   module _ {D : Type 0} (g : Ghosts D) (old mid new : D) where
-    leaves_alike : Leaves g old mid (IsRecovering form.magic blocks) → Leaves g old mid (StandsAlike form blocks)
+    leaves_alike : Leaves g old mid (IsRecovering form.magic form.layout blocks) → Leaves g old mid (StandsAlike form blocks)
     leaves_alike leaves = told_weaker (g.content old) _ _ (λ before told left. weaker g.moment g.images_since old mid _ (StandsAlike form blocks before) (stands_alike before) left) leaves
 
-    synced_alike : (before : List ℕ) → ChangesReads g mid new → IsSyncedFirst g old mid (IsRecovering form.magic blocks before) → IsSyncedFirst g old new (StandsAlike form blocks before)
-    synced_alike before only synced = grind (arith, common_steps)
+    synced_alike : (before : List ℕ) → ChangesReads g mid new → IsSyncedFirst g old mid (IsRecovering form.magic form.layout blocks before) → IsSyncedFirst g old new (StandsAlike form blocks before)
+    synced_alike before only synced = record {
+      later = omega (arith, synced.later, only.same_moment);
+      each = λ image left. stands_alike before image (synced.each image ((only.same_past (g.moment old + 1) image).0 left));
+    }
 
 untold : (before now : Option (List ℕ)) → TellsAlike before now → before ≡ None → now ≡ None
 untold before None alike none = refl
@@ -153,71 +215,122 @@ reads_fault (Err read.OutOfMemory) result is = ((λ was. cc, λ was. cc), λ was
 
 -- ---- what is answered
 
-module _ {D S C : Type 0} (g : Ghosts D) (form : Form S C) (blocks : ℕ) where
+module _ {D S V C : Type 0} (g : Ghosts D) (steps : Steps S) (seen : Blocks → S → V) (form : Form V C) (law : IsSeenBy steps seen form) (blocks : ℕ) where
+  refused_as : (before : List ℕ) (stands : Standing) → journal_of form.magic form.layout before ≡ stands
+      → standing_of form blocks before ≡ see (seen (block_in before)) (stands_of steps.fresh (steps.step (block_in before)) form.layout blocks stands)
+  refused_as before stands is = law.standing blocks before ∙ ap (λ (s : Standing). see (seen (block_in before)) (stands_of steps.fresh (steps.step (block_in before)) form.layout blocks s)) is
+
+  -- a refusal of the journal
+  refused_recovery : {T U : Type 0} (before : List ℕ) (result : Result T StoreFault) (e : RecoverFault) → recovering.RefusesExactly {T = U} form.magic form.layout before (Err e) → result ≡ Err (fault_of_recovery e)
+      → ¬ (result ≡ Err fault.Disk) → RefusesExactly form blocks before result
+  refused_recovery before result (recovery.NotAStore found) refuses is healthy = exactly_no_store form blocks before result found (refused_as before _ ((refuses.not_a_store found).0 refl)) is
+  refused_recovery before result (recovery.Damaged at) refuses is healthy =
+      let bad = (refuses.damaged at).0 refl in
+      exactly_damaged form blocks before result at (refused_as before _ bad.1 ∙ ap (λ (n : ℕ). damaged_at n) (sym bad.0)) is
+  refused_recovery before result recovery.Disk refuses is healthy = absurd (healthy is)
+
   -- where the journal is refused
-  pub answers_refused : {U T : Type 0} (old new : D) (e : RecoverFault) (result : Result T StoreFault) → result ≡ Err (fault_of_recovery e) → recovering.Refuses {T = U} form.magic (g.content old) (Err e)
-      → (¬ IsErrOf {T = U} (Err e) recovery.Disk → g.content new ≡ g.content old) → Runs g (IsErrOf {T = U} (Err e) recovery.Disk) old new → Leaves g old new (IsRecovering form.magic blocks)
-      → recovering.LeavesSinceSync {T = U} g (Err e) old new (IsRecovering form.magic blocks) → AnswersRecovery g form blocks result old new
+  pub answers_refused : {U T : Type 0} (old new : D) (e : RecoverFault) (result : Result T StoreFault) → result ≡ Err (fault_of_recovery e) → recovering.Refuses {T = U} form.magic form.layout (g.content old) (Err e)
+      → (¬ IsErrOf {T = U} (Err e) recovery.Disk → g.content new ≡ g.content old) → Runs g (IsErrOf {T = U} (Err e) recovery.Disk) old new → Leaves g old new (IsRecovering form.magic form.layout blocks)
+      → recovering.LeavesSinceSync {T = U} g (Err e) old new (IsRecovering form.magic form.layout blocks) → AnswersRecovery g form blocks result old new
   answers_refused {U} old new e result is refuses same runs since_start since_sync =
       let there = λ (was : IsErrOf {T = U} (Err e) recovery.Disk). let is_disk : e ≡ recovery.Disk = cc in is ∙ ap (λ (e : RecoverFault). Err (fault_of_recovery e)) is_disk in
       record {
-        refuses = λ healthy room. told_weaker (g.content old) _ _ (λ before told refuses. refused_recovery form blocks before result e refuses is healthy) (refuses (λ was. healthy (there was)));
+        refuses = λ healthy room. told_weaker (g.content old) _ _ (λ before told refuses. refused_recovery before result e refuses is healthy) (refuses (λ was. healthy (there was)));
         untouched = λ found was. same (λ disk. cc (there disk, was));
         untouched_damage = λ at was. same (λ disk. cc (there disk, was));
         runs = runs_same g _ _ old new there (λ was. ap Err (recovery_disk e (cc (is, was)))) runs;
-        since_start = leaves_alike form blocks g old new new since_start;
-        since_sync = told_weaker (g.content old) _ _ (λ before told left. ⊎_elim (λ synced. inl (synced_alike form blocks g old new new before (changes_none g new) synced)) (λ failed. inr (there failed.0, failed.1)) left) since_sync;
+        since_start = leaves_alike steps seen form law blocks g old new new since_start;
+        since_sync = told_weaker (g.content old) _ _ (λ before told left. ⊎_elim (λ synced. inl (synced_alike steps seen form law blocks g old new new before (changes_none g new) synced)) (λ failed. inr (there failed.0, failed.1)) left) since_sync;
       }
 
   -- What was recovered, and read from then on.
-  module _ {P Q : Type 0} (old mid new : D) (first : Position) (start : S) (recovered : recovering.IsRecovered g form.magic blocks old mid first) (fine : ¬ P) (runs : Runs g P old mid)
-      (fresh : start ≡ form.fresh first.blocks) (run : Reads g Q mid new) where
+  module _ {P Q : Type 0} (old mid new : D) (first : Position) (start : S) (recovered : recovering.IsRecovered g form.magic form.layout blocks old mid first) (fine : ¬ P) (runs : Runs g P old mid)
+      (fresh : start ≡ steps.fresh first.blocks) (run : Reads g Q mid new) where
+    -- what is read of the store is what is left
+    walked_left : (octets : List ℕ) → journal_of form.magic form.layout octets ≡ journal.store_of first.blocks (left_to_read first octets) → (n : ℕ)
+        → walked steps form.magic form.layout n octets ≡ walk_left (steps.step (block_in octets)) first start octets
+    walked_left octets stands n =
+        let step = steps.step (block_in octets) in
+        ap (stands_of steps.fresh step form.layout n) stands ∙ ap (λ (s : S). walk step s (first_gate form.layout first.blocks) (left_to_read first octets)) (sym fresh)
+        ∙ ap (λ (place : ℕ). walk step start place (left_to_read first octets)) (sym (recovered.place ∙ ap (λ (l : Layout). first_gate l first.blocks) recovered.layout_is))
+
     -- all is left to read
-    left_to_read : (before : List ℕ) → g.content old ≡ Some before
-        → (octets : List ℕ) × (g.content mid ≡ Some octets) × Recovers form.magic blocks first before octets × (standing_of form blocks before ≡ walk_left form.step first start octets)
-    left_to_read before told = grind (arith, common_steps)
+    all_left : (before : List ℕ) → g.content old ≡ Some before
+        → (octets : List ℕ) × (g.content mid ≡ Some octets) × Recovers form.magic form.layout blocks first before octets
+        × (standing_of form blocks before ≡ see (seen (block_in octets)) (walk_left (steps.step (block_in octets)) first start octets))
+    all_left before told =
+        let made = at_told (λ (b : List ℕ). (octets : List ℕ) × (g.content mid ≡ Some octets) × Recovers form.magic form.layout blocks first b octets) before told recovered.content in (
+          made.0,
+          made.1,
+          made.2,
+          sym (same_standing steps seen form law blocks before made.0 made.2.same (λ full. stays steps seen form law blocks before made.0 full made.2.octets))
+              ∙ law.standing blocks made.0 ∙ ap (see (seen (block_in made.0))) (walked_left made.0 made.2.whole blocks),
+        )
 
     -- a state was read
-    pub restored : (position : Position) (now : S) → IfSome (g.content mid) (λ octets. walk_left form.step first start octets ≡ state now) → StandsOn g position new → position ≡ record first { place = position.place; ended = position.ended }
-        → position.ended ≡ true → IsRestored g form blocks old (kept_on now position new)
-    restored position now all stands same ended = record {
-      content = if_told (g.content old) _ (λ before told. let left = left_to_read before told in left.3 ∙ at_told (λ (octets : List ℕ). walk_left form.step first start octets ≡ state now) left.0 left.1 all);
-      octets = if_told (g.content old) _ (λ before told. let left = left_to_read before told in (left.0, run.only.same_content ∙ left.1, left.2.octets));
-      healthy = ap (λ (p : Position). p.failed) same ∙ recovered.healthy;
-      ended = ended;
-      stands_at = record {
+    module _ (position : Position) (now : S) (all : IfSome (g.content mid) (λ octets. walk_left (steps.step (block_in octets)) first start octets ≡ state now)) (stands : StandsOn g position new)
+        (same : position ≡ record first { place = position.place; ended = position.ended }) (ended : position.ended ≡ true) (number : steps.number now ≡ steps.number start) where
+      quiet_now : IsQuietNow g new
+      quiet_now = if_told (g.content new) _ (λ octets told image here. at_told (Only (images_now g mid)) octets (sym run.only.same_content ∙ told) recovered.quiet image (reads_now g mid new run.only image here))
+
+      pub restored_at : StandsAt g form steps position now new
+      restored_at = record {
         magic_is = ap (λ (p : Position). p.magic) same ∙ recovered.magic_is;
-        keeps = read_keeps g form.fresh form.step form.magic blocks old mid new first position now recovered runs.told stands same ended run.only
-            (told_weaker (g.content mid) _ _ (λ octets told is. ap (λ (s : S). walk_left form.step first s octets) (sym fresh) ∙ is) all);
-      };
-      quiet = if_told (g.content new) _ (λ octets told image here. at_told (Only (images_now g mid)) octets (sym run.only.same_content ∙ told) recovered.quiet image (reads_now g mid new run.only image here));
-    }
+        layout_is = ap (λ (p : Position). p.layout) same ∙ recovered.layout_is;
+        holds = quiet_holds g steps seen form law position now new stands ended
+            (if_told (g.content new) _ (λ octets told_new.
+            let told_mid : g.content mid ≡ Some octets = sym run.only.same_content ∙ told_new in
+            let was = content_now (g.content old) (g.content mid) (Recovers form.magic form.layout blocks first) octets runs.told recovered.content told_mid in
+            ap (λ (p : Position). walked steps p.magic p.layout p.blocks octets) same
+            ∙ subst (λ (m : List ℕ). walked steps m first.layout first.blocks octets ≡ state now) (sym recovered.magic_is)
+            (subst (λ (l : Layout). walked steps form.magic l first.blocks octets ≡ state now) (sym recovered.layout_is)
+            (walked_left octets was.2.whole first.blocks ∙ at_told (λ (o : List ℕ). walk_left (steps.step (block_in o)) first start o ≡ state now) octets told_mid all))))
+            quiet_now
+            (λ is.
+            let blocks_layout : form.layout ≡ layout.Blocks = sym recovered.layout_is ∙ sym (ap (λ (p : Position). p.layout) same) ∙ is in
+            ap (λ (p : Position). p.blocks) same ∙ sym (number ∙ ap steps.number fresh ∙ law.fresh_number blocks_layout first.blocks));
+      }
+
+      pub restored : IsRestored g form blocks old (kept_on (seen (blocks_on (g.content new)) now) position new)
+      restored = record {
+        content = if_told (g.content old) _ (λ before told.
+            let left = all_left before told in
+            left.3 ∙ ap (see (seen (block_in left.0))) (at_told (λ (o : List ℕ). walk_left (steps.step (block_in o)) first start o ≡ state now) left.0 left.1 all)
+            ∙ ap (λ (o : Option (List ℕ)). state (seen (blocks_on o) now)) (sym (run.only.same_content ∙ left.1)));
+        octets = if_told (g.content old) _ (λ before told. let left = all_left before told in (left.0, run.only.same_content ∙ left.1, left.2.octets));
+        healthy = ap (λ (p : Position). p.failed) same ∙ recovered.healthy;
+        ended = ended;
+        magic_is = restored_at.magic_is;
+        keeps = held_kept g steps seen form law position now new restored_at;
+        quiet = quiet_now;
+      }
 
     -- damage leaves the content as it was
-    damage_leaves : (at : ℕ) → IfSome (g.content old) (λ before. journal_of form.magic before ≡ journal.bad_number → ⊥) → IfSome (g.content mid) (λ octets. walk_left form.step first start octets ≡ damaged_at at)
+    damage_leaves : (at : ℕ) → IfSome (g.content old) (λ before. journal_of form.magic form.layout before ≡ journal.bad_number → ⊥) → IfSome (g.content mid) (λ octets. walk_left (steps.step (block_in octets)) first start octets ≡ damaged_at at)
         → g.content new ≡ g.content old
     damage_leaves at good damaged = by (g.content old) refl
       where
         by : (o : Option (List ℕ)) → g.content old ≡ o → g.content new ≡ g.content old
         by None none = run.only.same_content ∙ untold (g.content old) (g.content mid) runs.told none ∙ sym none
         by (Some before) told =
-            let left = left_to_read before told in
-            let is = left.3 ∙ at_told (λ (octets : List ℕ). walk_left form.step first start octets ≡ damaged_at at) left.0 left.1 damaged in
-            let long = formatted form blocks before at (at_told (λ (l : List ℕ). journal_of form.magic l ≡ journal.bad_number → ⊥) before told good) is in
-            run.only.same_content ∙ left.1 ∙ ap (λ (l : List ℕ). Some l) (left.2.octets ∙ stays form blocks before long) ∙ sym told
+            let left = all_left before told in
+            let is = left.3 ∙ ap (see (seen (block_in left.0))) (at_told (λ (octets : List ℕ). walk_left (steps.step (block_in octets)) first start octets ≡ damaged_at at) left.0 left.1 damaged) in
+            let long = formatted steps seen form law blocks before at (at_told (λ (l : List ℕ). journal_of form.magic form.layout l ≡ journal.bad_number → ⊥) before told good) is in
+            run.only.same_content ∙ left.1 ∙ ap (λ (l : List ℕ). Some l) (stays steps seen form law blocks before left.0 long left.2.octets) ∙ sym told
 
   pub answers_read : {U T : Type 0} (on : (a b c : D) → g.lasts a b → g.lasts b c → g.lasts a c) (same : (disk : D) → g.lasts disk disk) (old mid new : D) (first : Position) (start now : S)
-      (reading : Result U ReadFault) (result : Result T StoreFault) → IsAnswerOf reading result → start ≡ form.fresh first.blocks
-      → recovering.IsRecovered g form.magic blocks old mid first → recovering.Refuses form.magic (g.content old) (Ok first) → Runs g (IsErrOf (Ok first) recovery.Disk) old mid
-      → Leaves g old mid (IsRecovering form.magic blocks) → recovering.LeavesSinceSync g (Ok first) old mid (IsRecovering form.magic blocks)
-      → AnswersAll form.step first start now (g.content mid) reading → Reads g (IsErrOf reading read.Disk) mid new → AnswersRecovery g form blocks result old new
+      (reading : Result U ReadFault) (result : Result T StoreFault) → IsAnswerOf reading result → start ≡ steps.fresh first.blocks
+      → recovering.IsRecovered g form.magic form.layout blocks old mid first → recovering.Refuses form.magic form.layout (g.content old) (Ok first) → Runs g (IsErrOf (Ok first) recovery.Disk) old mid
+      → Leaves g old mid (IsRecovering form.magic form.layout blocks) → recovering.LeavesSinceSync g (Ok first) old mid (IsRecovering form.magic form.layout blocks)
+      → AnswersAll steps.step first start now (g.content mid) reading → Reads g (IsErrOf reading read.Disk) mid new → AnswersRecovery g form blocks result old new
   answers_read on same old mid new first start now reading result is fresh recovered refuses runs since_start since_sync all run =
       let faults = reads_fault reading result is in
       let fine : ¬ IsErrOf (Ok first) recovery.Disk = λ failed. cc in
       record {
         refuses = λ healthy room. if_told (g.content old) _ (λ before told.
-            let left = left_to_read old mid new first start recovered fine runs fresh run before told in
-            answered_read form blocks before result reading first start now left.0 left.3
+            let left = all_left old mid new first start recovered fine runs fresh run before told in
+            answered_read form blocks before result (steps.step (block_in left.0)) (seen (block_in left.0)) reading first start now left.0 left.3
             (at_told _ left.0 left.1 (all (λ was. healthy (faults.0.0 was)) (λ was. room (faults.1 was)))) is healthy room);
         untouched = λ found was. absurd (faults.3 found was);
         untouched_damage = λ at was.
@@ -227,6 +340,6 @@ module _ {D S C : Type 0} (g : Ghosts D) (form : Form S C) (blocks : ℕ) where
         runs = runs_read g on same _ _ _ old mid new fine faults.0.0 faults.0.1 runs run;
         since_start = told_weaker (g.content old) _ _ (λ before told left.
             joined g.moment g.images_since old mid new (StandsAlike form blocks before) left (reads g.moment g.images_since mid new (StandsAlike form blocks before) run.only.same_moment run.only.same_past))
-            (leaves_alike form blocks g old mid new since_start);
-        since_sync = told_weaker (g.content old) _ _ (λ before told left. ⊎_elim (λ synced. inl (synced_alike form blocks g old mid new before run.only synced)) (λ failed. absurd (fine failed.0)) left) since_sync;
+            (leaves_alike steps seen form law blocks g old mid new since_start);
+        since_sync = told_weaker (g.content old) _ _ (λ before told left. ⊎_elim (λ synced. inl (synced_alike steps seen form law blocks g old mid new before run.only synced)) (λ failed. absurd (fine failed.0)) left) since_sync;
       }

@@ -1,12 +1,11 @@
 -- What stands on the disk from the recovery of a state on, through commands.
-use Rattle.std.proofs.Common.{◌≡◌, ⊎_elim, ℕ, ◌+◌, List, ◌++◌, Some, IfSome, refl, ◌∙◌, ap, subst, arith}
+use Rattle.std.proofs.Common.{◌≡◌, ⊎_elim, ℕ, ◌+◌, List, ◌++◌, Some, IfSome, refl, ◌∙◌, subst, arith}
 use Rattle.disk_model.specs.declared.disk.Disk.{Ghosts}
 use Rattle.file_journal.specs.AmongReads.{CountsSome, PutsAmongReads}
 use Rattle.file_journal.specs.Calls.{EachImage, Leaves, Runs, TellsAlike}
 use Rattle.file_journal.specs.Commands.{MakesFirst}
 use Rattle.file_journal.specs.Form.{Form, StandsFor, TellsItsNumber, standing_of}
-use Rattle.file_journal.specs.Kept.{Course, DoesByFours, KeptOn}
-use Rattle.file_journal.specs.Position.{Position}
+use Rattle.file_journal.specs.Kept.{Course, DoesInTurn, KeptOn}
 use Rattle.file_journal.specs.Recovery.{IsSyncedFirst}
 use Rattle.file_journal.specs.Restoring.{StandsAlike}
 use Rattle.file_journal.specs.Through.{StandsThrough}
@@ -23,8 +22,8 @@ use Rattle.file_journal.proofs.ToldLemmas.{at_told, if_told, told_before, told_w
 module _ {D S C : Type 0} (g : Ghosts D) (form : Form S C) (own : TellsItsNumber form) (blocks : ℕ) (failed : Type 0) (disk : D) (start between new : KeptOn D S) (done cut : List C)
     (alike : TellsAlike (g.content disk) (g.content start.disk)) (stood : IfSome (g.content disk) (λ before. standing_of form blocks before ≡ state start.now))
     (since_start : Leaves g disk start.disk (StandsAlike form blocks)) (since_sync : IfSome (g.content disk) (λ before. IsSyncedFirst g disk start.disk (StandsAlike form blocks before)))
-    (magic_is : start.journal.magic ≡ form.magic) (course first_course second_course : Course D) (all : DoesByFours g form course failed (done ++ cut) start new)
-    (first : DoesByFours g form first_course ⊥ done start between) (second : DoesByFours g form second_course failed cut between new)
+    (course first_course second_course : Course D) (all : DoesInTurn g form course failed (done ++ cut) start new)
+    (first : DoesInTurn g form first_course ⊥ done start between) (second : DoesInTurn g form second_course failed cut between new)
     (between_alike : TellsAlike (g.content start.disk) (g.content between.disk)) where
   -- what stands for the same as the content stands for the state before the first command
   none_yet : (before image : List ℕ) → g.content disk ≡ Some before → StandsAlike form blocks before image → MakesFirst form start.now (done ++ cut) image
@@ -66,7 +65,7 @@ module _ {D S C : Type 0} (g : Ghosts D) (form : Form S C) (own : TellsItsNumber
       all_done = λ fine.
           let made = all.done fine in
           subst (λ (s : S). EachImage g new.disk (StandsFor form s)) made.0
-          (images_here form g new (record { magic_is = ap (λ (p : Position). p.magic) all.journal ∙ magic_is; keeps = all.stands_on }) made.1);
+          (images_here form g own new all.stands_on made.1);
       interrupted = λ stopped.
           let both = cut_least g form first_course second_course course ⊥ failed done cut start between new (λ never. never) between_alike first second (second.cut stopped) in
           record {

@@ -1,17 +1,11 @@
 -- What a walk over records comes to, and how appends and recoveries keep what octets stand for.
-use Rattle.std.proofs.lemmas.Grind.{common_steps}
-use Rattle.std.proofs.Common.{◌≡◌, inl, inr, ℕ, ◌+◌, true, false, List, [], ◌∷◌, ◌++◌, length, Option, None, Some, IfSome, refl, sym, ◌∙◌, ap, ap₂, arith, length-append}
-use Rattle.disk_model.specs.declared.disk.Disk.{Ghosts}
-use Rattle.file_journal.specs.Appending.{Appends}
-use Rattle.file_journal.specs.Calls.{ChangesReads, TakesStep, TellsAlike}
+use Rattle.std.proofs.Common.{◌≡◌, inl, inr, ℕ, ◌+◌, List, [], ◌∷◌, ◌++◌, length, Option, None, Some, refl, sym, ◌∙◌, ap, ap₂, arith, length-append}
 use Rattle.file_journal.specs.Journal as journal
 use Rattle.file_journal.specs.Journal.{journal_of, store_of, with_last}
+use Rattle.file_journal.specs.Layout.{first_gate}
 use Rattle.file_journal.specs.Ledger.{Takes}
-use Rattle.file_journal.specs.Position.{Position, StandsOn}
 use Rattle.file_journal.specs.Records.{Reading, Record, broken, records_text, whole, with_end, with_record, with_records}
-use Rattle.file_journal.specs.Recovery.{IsRecovered, IsRecovering}
-use Rattle.file_journal.specs.Walk.{IsOneStep, KeepsState, StandAsBefore, StandFor, Stands, StandsForSame, damaged_at, number_or, on_from, stands_for, stands_of, state, walk, walk_left, walk_over}
-use Rattle.file_journal.proofs.ToldLemmas.{at_told, content_now, if_told}
+use Rattle.file_journal.specs.Walk.{IsOneStep, Stands, StandsForSame, damaged_at, number_or, on_from, stands_of, state, walk, walk_over}
 
 -- What comes of a gate is what comes of each state behind it.
 on_step : {S : Type 0} (place : ℕ) (o : Option S) (f h : S → Stands S) (now after : S) → ((t : S) → f t ≡ state now → h t ≡ state after)
@@ -81,46 +75,11 @@ module _ {S : Type 0} (step : S → Record → Option S) where
   walk_end (broken entries at) before now after place entry is allowed = absurd (broken_no_state entries before now place at is)
 
   pub one_step : IsOneStep step
-  one_step fresh blocks (journal.no_store found) before after entry is allowed = absurd (cc is)
-  one_step fresh blocks journal.bad_number before after entry is allowed = absurd (cc is)
-  one_step fresh blocks (journal.store number reading) before after entry is allowed = walk_end reading (fresh (number_or blocks number)) before after 16 entry is allowed
+  one_step fresh layout blocks (journal.no_store found) before after entry is allowed = absurd (cc is)
+  one_step fresh layout blocks journal.bad_number before after entry is allowed = absurd (cc is)
+  one_step fresh layout blocks (journal.store number reading) before after entry is allowed =
+      walk_end reading (fresh (number_or blocks number)) before after (first_gate layout (number_or blocks number)) entry is allowed
 
   pub for_same : StandsForSame step
-  for_same fresh blocks before now (inl same) = ap (stands_of fresh step blocks) same
-  for_same fresh blocks before now (inr new) = ap (stands_of fresh step blocks) new.1 ∙ sym (ap (stands_of fresh step blocks) new.0)
-
-  -- A recovery.
-  module _ (fresh : ℕ → S) (magic : List ℕ) (blocks : ℕ) where
-    -- what a crash in it leaves
-    pub for_recovering : (before image : List ℕ) → IsRecovering magic blocks before image → StandAsBefore fresh step magic blocks before image
-    for_recovering before image left = for_same fresh blocks (journal_of magic before) (journal_of magic image) left.same
-
--- What a journal keeps.
-module _ {D S : Type 0} (g : Ghosts D) (fresh : ℕ → S) (step : S → Record → Option S) where
-  -- one that has failed keeps any state
-  pub failed_keeps : (position : Position) (now : S) (disk : D) → position.failed ≡ true → StandsOn g position disk → KeepsState fresh step g position now disk
-  failed_keeps position now disk failed stands = grind (arith, common_steps)
-
-  -- one that stands on its disk and has read its end keeps what the content stands for
-  pub stands_keeps : (position : Position) (now : S) (disk : D) → StandsOn g position disk → (position.failed ≡ false → position.ended ≡ true)
-      → (position.failed ≡ false → IfSome (g.content disk) (StandFor fresh step position now)) → KeepsState fresh step g position now disk
-  stands_keeps position now disk stands ended content = grind (arith, common_steps)
-
-  -- One that was recovered and read to its end.
-  pub read_keeps : (magic : List ℕ) (blocks : ℕ) (old mid new : D) (first position : Position) (now : S)
-      → IsRecovered g magic blocks old mid first → TellsAlike (g.content old) (g.content mid)
-      → StandsOn g position new → position ≡ record first { place = position.place; ended = position.ended } → position.ended ≡ true
-      → ChangesReads g mid new → IfSome (g.content mid) (λ octets. walk_left step first (fresh first.blocks) octets ≡ state now)
-      → KeepsState fresh step g position now new
-  read_keeps magic blocks old mid new first position now recovered alike stands same ended only comes = grind (arith, common_steps)
-
-  -- An append of a record that the state allows.
-  module _ (old new : D) (position after : Position) (s t : S) (entry : Record) (keeps : KeepsState fresh step g position s old) (allowed : step s entry ≡ Some t) where
-    pub append_keeps : position.failed ≡ false → StandsOn g after new → after ≡ record position { place = after.place; failed = after.failed } → TakesStep g old new (Appends position entry)
-        → TellsAlike (g.content old) (g.content new) → KeepsState fresh step g after t new
-    append_keeps healthy stands same ok alike =
-        stands_keeps after t new stands (λ fine. ap (λ (p : Position). p.ended) same ∙ keeps.ended healthy)
-        (λ fine. if_told (g.content new) _ (λ octets told.
-        let was = content_now _ _ (Appends position entry) octets alike ok told in
-        ap (λ (p : Position). stands_for fresh step p.magic p.blocks octets) same ∙ ap (stands_of fresh step position.blocks) was.2.store
-        ∙ one_step step fresh position.blocks (journal_of position.magic was.0) s t entry (at_told (StandFor fresh step position s) was.0 was.1 (keeps.content healthy)) allowed))
+  for_same fresh layout blocks before now (inl same) = ap (stands_of fresh step layout blocks) same
+  for_same fresh layout blocks before now (inr new) = ap (stands_of fresh step layout blocks) new.1 ∙ sym (ap (stands_of fresh step layout blocks) new.0)

@@ -4,20 +4,17 @@ use Rattle.disk_model.specs.Moments.{TimePasses}
 use Rattle.disk_model.specs.declared.disk.Disk.{Ghosts}
 use Rattle.file_journal.specs.Calls.{ChangesReads, CountsFault, TellsAlike}
 use Rattle.file_journal.specs.Form.{Form}
-use Rattle.file_journal.specs.Kept.{Course, DoesByFours, KeptOn}
-
--- one write or sync at most, or nothing but reads
-abbrev pub IsLastWrite : {D : Type 0} → Ghosts D → D → D → Type 0
-IsLastWrite g old new =
-    ((g.moment new ≤ g.moment old + 1) × TimePasses g.moment g.images g.images_since old new) ⊎ ChangesReads g old new
+use Rattle.file_journal.specs.Kept.{Course, DoesInTurn, KeptOn}
 
 -- No write and no sync comes after one that failed: up to some disk between the two none failed, and since that came
--- one at most. A read that failed stops nothing.
+-- one at most, or nothing but reads. A read that failed stops nothing.
 pub record StopsAtFailedWrite {D : Type 0} (g : Ghosts D) (old new : D) : Type 0 where
   pub last : D
   pub lasts : g.lasts old last
   pub writes : g.write_faults last ≡ g.write_faults old
-  pub since : IsLastWrite g last new
+  pub since :
+      ((g.moment new ≤ g.moment last + 1) × TimePasses g.moment g.images g.images_since last new)
+      ⊎ ChangesReads g last new
 
 -- A run of writes and syncs, which failed or didn't, with reads among them.
 pub record PutsAmongReads {D : Type 0} (g : Ghosts D) (failed : Type 0) (old new : D) : Type 0 where
@@ -52,4 +49,4 @@ among_reads g failed missed =
 abbrev pub DoesAmongReads :
     {D S C : Type 0} → Ghosts D → Form S C → Type 0 → ℕ → List C → KeptOn D S → KeptOn D S → Type 0
 DoesAmongReads g form failed missed commands old new =
-    DoesByFours g form (among_reads g failed missed) failed commands old new
+    DoesInTurn g form (among_reads g failed missed) failed commands old new

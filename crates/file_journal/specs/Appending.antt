@@ -4,8 +4,8 @@ use Rattle.disk_model.specs.Disk.{Torn}
 use Rattle.disk_model.specs.Moments.{LeavesSince}
 use Rattle.disk_model.specs.declared.disk.Disk.{Ghosts}
 use Rattle.file_journal.specs.Calls.{Leaves}
-use Rattle.file_journal.specs.Journal.{IsBeforeOrAfter, journal_of, with_last}
-use Rattle.file_journal.specs.Position.{Position}
+use Rattle.file_journal.specs.Journal.{IsBeforeOrAfter, with_last}
+use Rattle.file_journal.specs.Position.{Position, store_in}
 use Rattle.file_journal.specs.Records.{Record, record_text}
 
 -- torn from an image from before: any octets in this range and past the old end, the same elsewhere
@@ -20,13 +20,13 @@ with_gate place gate text octets = take place octets ++ gate ∷ text ++ drop (p
 -- the store has one record more.
 pub record Appends (journal : Position) (entry : Record) (before now : List ℕ) : Type 0 where
   pub octets : now ≡ with_gate journal.place 1 (record_text entry ++ 0 ∷ []) before
-  pub store : journal_of journal.magic now ≡ with_last (journal_of journal.magic before) entry
+  pub store : store_in journal now ≡ with_last (store_in journal before) entry
 
 -- What a crash in an append leaves: the records from before, or these and the new one; and outside the gate, the record
 -- and the gate behind it, the octets of an image from before.
 pub record IsAppending (journal : Position) (entry : Record) (images : List ℕ → Type 0) (before image : List ℕ)
     : Type 0 where
-  pub store : IsBeforeOrAfter (journal_of journal.magic before) entry (journal_of journal.magic image)
+  pub store : IsBeforeOrAfter (store_in journal before) entry (store_in journal image)
   pub beside : IsTornFrom images journal.place (5 + length entry.content) image
 
 -- since the append began
@@ -39,12 +39,12 @@ abbrev pub LeavesBeforeOrAfter : {D : Type 0} → Ghosts D → Position → Reco
 LeavesBeforeOrAfter g journal entry old new =
     journal.failed ≡ false
     → IfSome (g.content old) (λ before. LeavesSince (g.moment old) (g.images_since new)
-    (λ image. IsBeforeOrAfter (journal_of journal.magic before) entry (journal_of journal.magic image)))
+    (λ image. IsBeforeOrAfter (store_in journal before) entry (store_in journal image)))
 
--- An append takes four calls of the disk, where the content is told and none of them failed; and at most four.
-pub record TakesFour {D T E : Type 0} (g : Ghosts D) (old new : D) (result : Result T E) : Type 0 where
-  pub each : OnOk result (IfSome (g.content old) (λ _. g.moment new ≡ g.moment old + 4))
-  pub at_most : g.moment new ≤ g.moment old + 4
+-- It takes so many writes and syncs, where the content is told and none of them failed; and at most so many.
+pub record TakesCalls {D T E : Type 0} (g : Ghosts D) (count : ℕ) (old new : D) (result : Result T E) : Type 0 where
+  pub each : OnOk result (IfSome (g.content old) (λ _. g.moment new ≡ g.moment old + count))
+  pub at_most : g.moment new ≤ g.moment old + count
 
 -- these octets are put behind the gate at this place, and it is opened
 abbrev pub OpensGate : ℕ → List ℕ → List ℕ → List ℕ → Type 0

@@ -50,21 +50,17 @@ pub record CountsFaults {D : Type 0} (g : Ghosts D) (failed : Type 0) (old new :
 abbrev pub ChangesReads : {D : Type 0} → Ghosts D → D → D → Type 0
 ChangesReads g = OnlyReads g.content g.images g.moment g.images_since g.write_faults
 
--- one write or sync at most, or nothing but reads
-abbrev pub IsLastCall : {D : Type 0} → Ghosts D → D → D → Type 0
-IsLastCall g old new =
-    ((g.read_faults new ≡ g.read_faults old) × (g.moment new ≤ g.moment old + 1)
-    × TimePasses g.moment g.images g.images_since old new)
-    ⊎ ChangesReads g old new
-
 -- No write and no sync comes after a call that failed: up to some disk between the two none failed, and since that came
--- one call, or reads alone.
+-- one write or sync at most, or nothing but reads.
 pub record StopsAtFault {D : Type 0} (g : Ghosts D) (old new : D) : Type 0 where
   pub last : D
   pub lasts : g.lasts old last
   pub reads : g.read_faults last ≡ g.read_faults old
   pub writes : g.write_faults last ≡ g.write_faults old
-  pub since : IsLastCall g last new
+  pub since :
+      ((g.read_faults new ≡ g.read_faults last) × (g.moment new ≤ g.moment last + 1)
+      × TimePasses g.moment g.images g.images_since last new)
+      ⊎ ChangesReads g last new
 
 -- A run of reads, which failed or didn't.
 pub record Reads {D : Type 0} (g : Ghosts D) (failed : Type 0) (old new : D) : Type 0 where

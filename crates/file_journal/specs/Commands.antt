@@ -1,8 +1,8 @@
 -- What commands make of a state, one after another, and what images stand for while they are done.
-use Rattle.std.specs.Prelude.{ℕ, ◌≤◌, List, [], ◌∷◌, length, take, ⊤}
+use Rattle.std.specs.Prelude.{ℕ, ◌+◌, ◌/◌, ◌≤◌, List, [], ◌∷◌, length, take, ⊤}
 use Rattle.disk_model.specs.Moments.{LeavesSince}
 use Rattle.disk_model.specs.declared.disk.Disk.{Ghosts}
-use Rattle.file_journal.specs.Form.{Form, StandsFor}
+use Rattle.file_journal.specs.Form.{Form, StandsFor, record_calls}
 
 -- the state after these commands, by the one after each
 abbrev pub after_all : {S C : Type 0} → (S → C → S) → S → List C → S
@@ -18,6 +18,19 @@ AreAllowed allowed after start (command ∷ commands) =
 -- the state after the first so many of these commands
 abbrev pub after_first : {S C : Type 0} → Form S C → ℕ → S → List C → S
 after_first form count start commands = after_all form.after start (take count commands)
+
+-- how many calls of the disk these commands take
+abbrev pub calls_of : {S C : Type 0} → Form S C → List C → ℕ
+calls_of form [] = 0
+calls_of form (command ∷ commands) = form.calls command + calls_of form commands
+
+-- at which moment the first so many of these commands are done, where the first of them begins at this one
+abbrev pub done_at : {S C : Type 0} → Form S C → ℕ → List C → ℕ → ℕ
+done_at form start commands count = start + calls_of form (take count commands)
+
+-- how many commands of one record each so many calls of the disk carry out
+abbrev pub done_within : ℕ → ℕ
+done_within calls = calls / record_calls
 
 -- The image stands for the state after the first of these commands, for some number of them from one number to another.
 abbrev pub MakesBetween : {S C : Type 0} → Form S C → ℕ → ℕ → S → List C → List ℕ → Type 0

@@ -1,12 +1,14 @@
 -- What a call does to a state that is kept in a journal, and to its disk, at every moment of it.
-use Rattle.std.specs.Prelude.{◌≡◌, ℕ, ◌+◌, ◌*◌, ◌/◌, ◌<◌, ◌≤◌, List, [], ◌∷◌, length, false, true, IfSome, Result}
-use Rattle.std.specs.Prelude.{IsErr, ⊤}
+use Rattle.std.specs.Prelude.{◌≡◌, ℕ, ◌+◌, ◌<◌, ◌≤◌, List, [], length, false, true, IfSome}
+use Rattle.std.specs.Prelude.{⊤}
 use Rattle.disk_model.specs.declared.disk.Disk.{Ghosts}
 use Rattle.file_journal.specs.Calls.{EachImage, Leaves, Puts}
-use Rattle.file_journal.specs.Commands.{AreAllowed, MakesBetween, MakesFirst, StayDone, after_all, after_first}
+use Rattle.file_journal.specs.Commands.{AreAllowed, MakesBetween, MakesFirst, StayDone, after_all, after_first, done_at}
 use Rattle.file_journal.specs.Form.{Form}
+use Rattle.file_journal.specs.Layout.{Blocks, blocks_on}
 use Rattle.file_journal.specs.Position.{Position}
-use Rattle.file_journal.specs.Walk.{KeepsState}
+use Rattle.file_journal.specs.Steps.{Holds, Steps}
+use Rattle.file_journal.specs.Walk.{KeepsStanding, state}
 use Rattle.file_journal.specs.declared.kept.Kept.{Kept}
 
 -- A state, the journal of its records, and the disk on which that stands: what a call is lent, and what it leaves.
@@ -19,19 +21,30 @@ pub record KeptOn (D S : Type 0) : Type 0 where
 abbrev pub kept_on : {D S : Type 0} → S → Position → D → KeptOn D S
 kept_on now journal disk = record { now = now; journal = journal; disk = disk }
 
--- what a kept state and its disk are, by the state that a ledger holds
-abbrev pub kept_at : {D L S : Type 0} → (L → S) → Kept L → D → KeptOn D S
-kept_at state kept disk = kept_on (state kept.ledger) kept.journal disk
+-- what a kept state and its disk are, by the state that a ledger holds, and what that is seen as
+abbrev pub kept_at : {D L S V : Type 0} → Ghosts D → (Blocks → S → V) → (L → S) → Kept L → D → KeptOn D V
+kept_at g seen held kept disk =
+    kept_on (seen (blocks_on (g.content disk)) (held kept.ledger)) kept.journal disk
 
--- The journal keeps the state on the disk: it has failed, or the content, where it is told, and each image stand for
--- the state.
+-- The journal keeps the state on the disk: it has failed, or the content, where it is told, stands for the state, and
+-- a crash leaves nothing else.
 abbrev pub IsKept : {D S C : Type 0} → Ghosts D → Form S C → KeptOn D S → Type 0
-IsKept g form at = KeepsState form.fresh form.step g at.journal at.now at.disk
+IsKept g form at =
+    KeepsStanding g at.journal (λ octets. form.standing at.journal.blocks octets ≡ state at.now) at.disk
 
--- the same of a journal of this form's magic
-pub record StandsAt {D S C : Type 0} (g : Ghosts D) (form : Form S C) (at : KeptOn D S) : Type 0 where
-  pub magic_is : at.journal.magic ≡ form.magic
-  pub keeps : IsKept g form at
+-- A journal of this form's magic and layout holds the state that records made on the disk.
+pub record StandsAt {D S V C : Type 0} (g : Ghosts D) (form : Form V C) (steps : Steps S) (journal : Position)
+    (now : S) (disk : D) : Type 0 where
+  pub magic_is : journal.magic ≡ form.magic
+  pub layout_is : journal.layout ≡ form.layout
+  pub holds : Holds g steps journal now disk
+
+-- It hasn't failed, and the change of the state may be made.
+pub record MayTurn {D S V C : Type 0} (g : Ghosts D) (form : Form V C) (steps : Steps S) (journal : Position)
+    (now : S) (disk : D) (allowed : Type 0) : Type 0 where
+  pub stands_at : StandsAt g form steps journal now disk
+  pub healthy : journal.failed ≡ false
+  pub may : allowed
 
 -- The disk failed in one of the commands: the state is the one after those before it. Each image has these, and that
 -- one or not; and those before it stay. They were done in time, and the one in which it failed would have been: the
@@ -76,19 +89,11 @@ pub record DoesBy {D S C : Type 0} (g : Ghosts D) (form : Form S C) (course : Co
   pub cut : failed → IsCut g form time commands old new
   pub journal : new.journal ≡ record old.journal { place = new.journal.place; failed = new.journal.failed }
 
--- four calls of the disk each, from this moment on
-abbrev pub by_fours : ℕ → ℕ → ℕ
-by_fours start count = start + 4 * count
-
--- how many commands so many calls of the disk carry out
-abbrev pub done_within : ℕ → ℕ
-done_within calls = calls / 4
-
--- each of the commands is one record, and takes four calls of the disk
-abbrev pub DoesByFours :
+-- the commands come one behind another, and each takes the calls of the disk that its form says
+abbrev pub DoesInTurn :
     {D S C : Type 0} → Ghosts D → Form S C → Course D → Type 0 → List C → KeptOn D S → KeptOn D S → Type 0
-DoesByFours g form course failed commands old new =
-    DoesBy g form course failed (by_fours (g.moment old.disk)) commands old new
+DoesInTurn g form course failed commands old new =
+    DoesBy g form course failed (done_at form (g.moment old.disk) commands) commands old new
 
 -- writes and syncs alone, which failed or didn't
 abbrev pub alone : {D : Type 0} → Ghosts D → Type 0 → Course D
@@ -96,10 +101,4 @@ alone g failed = record { idle = λ old new. new ≡ old; puts = Puts g failed; 
 
 -- It did these commands, and no other call of the disk.
 abbrev pub Does : {D S C : Type 0} → Ghosts D → Form S C → Type 0 → List C → KeptOn D S → KeptOn D S → Type 0
-Does g form failed commands old new = DoesByFours g form (alone g failed) failed commands old new
-
--- What a put of one command comes to: the command is done, or the disk failed in it.
-pub record AnswersPut {D S C T E : Type 0} (g : Ghosts D) (form : Form S C) (command : C) (old new : KeptOn D S)
-    (result : Result T E) : Type 0 where
-  pub does : Does g form (IsErr result) (command ∷ []) old new
-  pub stands_at : StandsAt g form new
+Does g form failed commands old new = DoesInTurn g form (alone g failed) failed commands old new

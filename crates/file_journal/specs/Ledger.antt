@@ -1,5 +1,6 @@
 -- What is made of a ledger by the records of a journal.
 use Rattle.std.specs.Prelude.{◌≡◌, ◌↔◌, ℕ, ◌+◌, List, [], ◌∷◌, length, Bool, true, false, Option, Some, IfSome, Result, Ok, IsErrOf, OnOk}
+use Rattle.file_journal.specs.Layout.{Blocks, block_in}
 use Rattle.file_journal.specs.Position.{Position, left_to_read}
 use Rattle.file_journal.specs.Records.{Reading, Record, whole, with_record, with_records}
 use Rattle.file_journal.specs.Walk.{damaged_at, state, walk_left}
@@ -13,10 +14,10 @@ Takes step before (entry ∷ entries) now =
     (after : _) × (step before entry ≡ Some after) × Takes step after entries now
 
 -- the state is the one after some of the records that were left, in order from the first, each of which is allowed
-abbrev pub AppliesSome : {S : Type 0} → (S → Record → Option S) → Position → S → S → List ℕ → Type 0
+abbrev pub AppliesSome : {S : Type 0} → (Blocks → S → Record → Option S) → Position → S → S → List ℕ → Type 0
 AppliesSome step journal before now octets =
     (entries : List Record) × (later : Reading) × (left_to_read journal octets ≡ with_records entries later)
-    × Takes step before entries now
+    × Takes (step (block_in octets)) before entries now
 
 -- All that is left is read and applied, and the state is the one that this comes to; or it comes to damage, and
 -- `Damaged` is answered exactly there.
@@ -34,10 +35,10 @@ pub record AppliesAll {S T : Type 0}
 -- but for a fault of the disk and want of memory, and where the content is told
 abbrev pub AnswersAll :
     {S T : Type 0}
-    → (S → Record → Option S) → Position → S → S → Option (List ℕ) → Result T ReadFault → Type 0
+    → (Blocks → S → Record → Option S) → Position → S → S → Option (List ℕ) → Result T ReadFault → Type 0
 AnswersAll step journal before now content result =
     ¬ IsErrOf result fault.Disk → ¬ IsErrOf result fault.OutOfMemory
-    → IfSome content (λ octets. AppliesAll step journal before now octets result)
+    → IfSome content (λ octets. AppliesAll (step (block_in octets)) journal before now octets result)
 
 -- The next record is this one, the state allows it, and it is applied and passed.
 pub record AppliesOne {S : Type 0}

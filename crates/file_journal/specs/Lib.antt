@@ -1,5 +1,6 @@
 pub mod AmongReads
 pub mod Appending
+pub mod Blocks
 pub mod Calls
 pub mod Commands
 pub mod Form
@@ -8,13 +9,16 @@ pub mod Header
 pub mod Journal
 pub mod Kept
 pub mod Laws
+pub mod Layout
 pub mod Ledger
 pub mod Finding
 pub mod Next
 pub mod Position
+pub mod Putting
 pub mod Records
 pub mod Recovery
 pub mod Refusals
 pub mod Restoring
+pub mod Steps
 pub mod Through
 pub mod Walk

@@ -1,55 +1,72 @@
 -- What a recovery makes of a disk, what it answers, and what a crash in it leaves.
-use Rattle.std.specs.Prelude.{◌≡◌, ◌⊎◌, ◌↔◌, ℕ, ◌+◌, ◌%◌, ◌<◌, ◌≤◌, List, length, take, slice_index, false, Option, IfSome, Result, IsErrOf}
+use Rattle.std.specs.Prelude.{◌≡◌, ◌⊎◌, ◌↔◌, ℕ, ◌+◌, ◌%◌, ◌<◌, ◌≤◌, List, length, take, slice_index, false, nat_le, if◌then◌else◌, Option, IfSome, Result, IsErrOf}
 use Rattle.px_base.specs.Numbers.{le32}
 use Rattle.px_base.specs.Outside.{Rose}
 use Rattle.disk_model.specs.Moments.{LeavesSince}
 use Rattle.disk_model.specs.declared.disk.Disk.{Ghosts}
 use Rattle.file_journal.specs.Calls.{IsQuietNow, TakesStep}
-use Rattle.file_journal.specs.Journal.{IsSameStore, after_recovery, bad_number, journal_of, no_store, store_of}
-use Rattle.file_journal.specs.Position.{Position, StandsOn, left_to_read}
+use Rattle.file_journal.specs.Journal.{IsAfterRecovery, IsSameStore, header_text}
+use Rattle.file_journal.specs.Journal.{bad_number, journal_of, no_store, store_of}
+use Rattle.file_journal.specs.Layout.{first_gate}
+use Rattle.file_journal.specs.Position.{Position, StandsOn, gate_of, left_to_read}
+use Rattle.file_journal.specs.declared.layout.Layout.{Layout}
 use Rattle.file_journal.specs.declared.faults.RecoverFault.{RecoverFault}
 use Rattle.file_journal.specs.declared.faults.RecoverFault.TheVariants as fault
 
 -- What a recovery makes of the content: the octets are those of a formatted store, with the journal's block number; it
 -- stands for the records from before, and all of them are left to read.
-pub record Recovers (magic : List ℕ) (blocks : ℕ) (journal : Position) (before now : List ℕ) : Type 0 where
-  pub octets : now ≡ after_recovery magic blocks before
+pub record Recovers (magic : List ℕ) (layout : Layout) (blocks : ℕ) (journal : Position) (before now : List ℕ)
+    : Type 0 where
+  pub octets : IsAfterRecovery magic layout blocks before now
   pub number : journal.blocks ≡ le32 now 8
-  pub same : IsSameStore blocks (journal_of magic before) (journal_of magic now)
-  pub whole : journal_of magic now ≡ store_of journal.blocks (left_to_read journal now)
+  pub same : IsSameStore blocks (journal_of magic layout before) (journal_of magic layout now)
+  pub whole : journal_of magic layout now ≡ store_of journal.blocks (left_to_read journal now)
 
 -- The journal that a recovery gives stands at the first gate, with nothing read, on a quiet disk.
-pub record IsRecovered {D : Type 0} (g : Ghosts D) (magic : List ℕ) (blocks : ℕ) (old new : D) (journal : Position)
-    : Type 0 where
+pub record IsRecovered {D : Type 0} (g : Ghosts D) (magic : List ℕ) (layout : Layout) (blocks : ℕ) (old new : D)
+    (journal : Position) : Type 0 where
   pub magic_is : journal.magic ≡ magic
-  pub place : journal.place ≡ 16
+  pub layout_is : journal.layout ≡ layout
+  pub place : journal.place ≡ gate_of journal
   pub unread : journal.ended ≡ false
   pub healthy : journal.failed ≡ false
-  pub content : TakesStep g old new (Recovers magic blocks journal)
+  pub content : TakesStep g old new (Recovers magic layout blocks journal)
   pub quiet : IsQuietNow g new
   pub stands_on : StandsOn g journal new
 
 -- Each refusal comes exactly where the content stands for it.
-pub record RefusesExactly {T : Type 0} (magic before : List ℕ) (result : Result T RecoverFault) : Type 0 where
+pub record RefusesExactly {T : Type 0} (magic : List ℕ) (layout : Layout) (before : List ℕ)
+    (result : Result T RecoverFault) : Type 0 where
   pub not_a_store :
-      (found : List ℕ) → IsErrOf result (fault.NotAStore found) ↔ (journal_of magic before ≡ no_store found)
-  pub damaged : (at : ℕ) → IsErrOf result (fault.Damaged at) ↔ ((at ≡ 8) × (journal_of magic before ≡ bad_number))
+      (found : List ℕ) → IsErrOf result (fault.NotAStore found) ↔ (journal_of magic layout before ≡ no_store found)
+  pub damaged :
+      (at : ℕ) → IsErrOf result (fault.Damaged at) ↔ ((at ≡ 8) × (journal_of magic layout before ≡ bad_number))
 
 -- but for a fault of the disk, and where the content is told
-abbrev pub Refuses : {T : Type 0} → List ℕ → Option (List ℕ) → Result T RecoverFault → Type 0
-Refuses magic content result =
-    ¬ IsErrOf result fault.Disk → IfSome content (λ before. RefusesExactly magic before result)
+abbrev pub Refuses : {T : Type 0} → List ℕ → Layout → Option (List ℕ) → Result T RecoverFault → Type 0
+Refuses magic layout content result =
+    ¬ IsErrOf result fault.Disk → IfSome content (λ before. RefusesExactly magic layout before result)
+
+-- the place of the first gate of a store of this content, which has this block number where it has none yet
+abbrev pub gate_in : Layout → ℕ → List ℕ → ℕ
+gate_in layout blocks octets = first_gate layout (if nat_le (length octets) 16 then blocks else le32 octets 8)
 
 -- What a crash leaves of a recovery of this content: the same store. A formatted content stays as it is. Of another
--- there are at most 18 octets; where they are more than 16, the first 15 are those of the header; where they are 18,
--- octet 15 is even and the first gate closed.
-pub record IsRecovering (magic : List ℕ) (blocks : ℕ) (before image : List ℕ) : Type 0 where
-  pub same : IsSameStore blocks (journal_of magic before) (journal_of magic image)
-  pub formatted : 18 ≤ length before → image ≡ before
-  pub no_longer : length before < 18 → length image ≤ 18
-  pub header : 16 < length image → take 15 image ≡ take 15 (after_recovery magic blocks before)
-  pub even : length before < 18 → 17 < length image → slice_index image 15 % 2 ≡ 0
-  pub closed : length before < 18 → 17 < length image → slice_index image 16 ≡ 0
+-- there are no octets behind the second gate; where they are more than 16, the first 15 are those of the header; where
+-- the second gate is there, octet 15 is even and the first gate closed.
+pub record IsRecovering (magic : List ℕ) (layout : Layout) (blocks : ℕ) (before image : List ℕ) : Type 0 where
+  pub same : IsSameStore blocks (journal_of magic layout before) (journal_of magic layout image)
+  pub formatted : gate_in layout blocks before + 2 ≤ length before → image ≡ before
+  pub no_longer : length before < gate_in layout blocks before + 2 → length image ≤ gate_in layout blocks before + 2
+  pub header :
+      16 < length image
+      → take 15 image ≡ take 15 (if nat_le (length before) 16 then header_text magic blocks else before)
+  pub even :
+      length before < gate_in layout blocks before + 2 → gate_in layout blocks before + 1 < length image
+      → slice_index image 15 % 2 ≡ 0
+  pub closed :
+      length before < gate_in layout blocks before + 2 → gate_in layout blocks before + 1 < length image
+      → slice_index image (gate_in layout blocks before) ≡ 0
 
 -- The first sync passed, and a crash since its end, one moment after the start, leaves what has P.
 pub record IsSyncedFirst {D : Type 0} (g : Ghosts D) (old new : D) (P : List ℕ → Type 0) : Type 0 where

@@ -1,10 +1,10 @@
 -- What a recovery of a state makes of a disk, what it answers, and what a crash in it leaves.
 use Rattle.std.specs.Prelude.{◌≡◌, ◌⊎◌, ◌↔◌, ℕ, List, false, true, Option, IfSome, Result, IsErrOf}
 use Rattle.disk_model.specs.declared.disk.Disk.{Ghosts}
-use Rattle.file_journal.specs.Calls.{Becomes, IsQuietNow, Leaves, Runs, TakesStep}
+use Rattle.file_journal.specs.Calls.{IsQuietNow, Leaves, Runs, TakesStep}
 use Rattle.file_journal.specs.Form.{Form, standing_of}
-use Rattle.file_journal.specs.Journal.{after_recovery}
-use Rattle.file_journal.specs.Kept.{KeptOn, StandsAt}
+use Rattle.file_journal.specs.Journal.{IsAfterRecovery}
+use Rattle.file_journal.specs.Kept.{IsKept, KeptOn}
 use Rattle.file_journal.specs.Recovery.{IsFailedSync, IsRecovering, IsSyncedFirst}
 use Rattle.file_journal.specs.Walk.{damaged_at, no_store, state}
 use Rattle.file_journal.specs.declared.faults.StoreFault.{StoreFault}
@@ -16,10 +16,11 @@ use Rattle.file_journal.specs.declared.faults.StoreFault.TheVariants as fault
 pub record IsRestored {D S C : Type 0} (g : Ghosts D) (form : Form S C) (blocks : ℕ) (disk : D) (new : KeptOn D S)
     : Type 0 where
   pub content : IfSome (g.content disk) (λ before. standing_of form blocks before ≡ state new.now)
-  pub octets : TakesStep g disk new.disk (Becomes (after_recovery form.magic blocks))
+  pub octets : TakesStep g disk new.disk (IsAfterRecovery form.magic form.layout blocks)
   pub healthy : new.journal.failed ≡ false
   pub ended : new.journal.ended ≡ true
-  pub stands_at : StandsAt g form new
+  pub magic_is : new.journal.magic ≡ form.magic
+  pub keeps : IsKept g form new
   pub quiet : IsQuietNow g new.disk
 
 -- Each refusal comes exactly where the content stands for it.
@@ -35,14 +36,14 @@ RefusesRecovery form blocks content result =
     ¬ IsErrOf result fault.Disk → ¬ IsErrOf result fault.OutOfMemory
     → IfSome content (λ before. RefusesExactly form blocks before result)
 
--- The octets stand for what these stand for, and differ from them only as the journal's recovery may leave them: 18
--- octets or more are left as they are.
+-- The octets stand for what these stand for, and differ from them only as the journal's recovery may leave them: a
+-- formatted store is left as it is.
 pub record StandsAlike {S C : Type 0} (form : Form S C) (blocks : ℕ) (before image : List ℕ) : Type 0 where
   pub same : standing_of form blocks image ≡ standing_of form blocks before
-  pub octets : IsRecovering form.magic blocks before image
+  pub octets : IsRecovering form.magic form.layout blocks before image
 
--- Since the end of the first sync a crash leaves what stands for the same as the content before, and a content of 18
--- octets or more as it is; only where that sync failed, and the answer is that fault, a crash may leave what it might
+-- Since the end of the first sync a crash leaves what stands for the same as the content before, and a formatted store
+-- as it is; only where that sync failed, and the answer is that fault, a crash may leave what it might
 -- have left before.
 abbrev pub LeavesAlikeSinceSync : {D S C T : Type 0} → Ghosts D → Form S C → ℕ → Result T StoreFault → D → D → Type 0
 LeavesAlikeSinceSync g form blocks result disk disk_now =

@@ -2,11 +2,13 @@
 -- record, where the state before it allows that record.
 use Rattle.std.specs.Prelude.{◌≡◌, ℕ, ◌+◌, List, [], ◌∷◌, length, true, false, Option, None, Some, IfSome}
 use Rattle.disk_model.specs.declared.disk.Disk.{Ghosts}
-use Rattle.file_journal.specs.Calls.{images_now}
+use Rattle.file_journal.specs.Calls.{IsQuietNow}
 use Rattle.file_journal.specs.Journal as journal
 use Rattle.file_journal.specs.Journal.{IsSameStore, Standing, journal_of, with_last}
+use Rattle.file_journal.specs.Layout.{first_gate}
 use Rattle.file_journal.specs.Position.{Position, StandsOn, left_to_read}
 use Rattle.file_journal.specs.Records.{Reading, Record, broken, whole}
+use Rattle.file_journal.specs.declared.layout.Layout.{Layout}
 
 -- What octets stand for: for no store, since they begin with these eight octets; for none, by what stands at this
 -- place; or for this state.
@@ -41,58 +43,48 @@ abbrev pub number_or : ℕ → Option ℕ → ℕ
 number_or blocks None = blocks
 number_or blocks (Some number) = number
 
--- what a store stands for, whose state before the first record is the fresh one of its block number; where it has no
--- number yet, that of the number `blocks`
-abbrev pub stands_of : {S : Type 0} → (ℕ → S) → (S → Record → Option S) → ℕ → Standing → Stands S
-stands_of fresh step blocks (journal.no_store found) = no_store found
-stands_of fresh step blocks journal.bad_number = damaged_at 8
-stands_of fresh step blocks (journal.store number reading) = walk step (fresh (number_or blocks number)) 16 reading
+-- what a store of this layout stands for, whose state before the first record is the fresh one of its block number;
+-- where it has no number yet, that of the number `blocks`
+abbrev pub stands_of : {S : Type 0} → (ℕ → S) → (S → Record → Option S) → Layout → ℕ → Standing → Stands S
+stands_of fresh step layout blocks (journal.no_store found) = no_store found
+stands_of fresh step layout blocks journal.bad_number = damaged_at 8
+stands_of fresh step layout blocks (journal.store number reading) =
+    walk step (fresh (number_or blocks number)) (first_gate layout (number_or blocks number)) reading
 
 -- what the octets of a disk stand for
-abbrev pub stands_for : {S : Type 0} → (ℕ → S) → (S → Record → Option S) → List ℕ → ℕ → List ℕ → Stands S
-stands_for fresh step magic blocks octets = stands_of fresh step blocks (journal_of magic octets)
+abbrev pub stands_for : {S : Type 0} → (ℕ → S) → (S → Record → Option S) → List ℕ → Layout → ℕ → List ℕ → Stands S
+stands_for fresh step magic layout blocks octets = stands_of fresh step layout blocks (journal_of magic layout octets)
 
 -- octets stand for what other octets stood for
 abbrev pub StandAsBefore :
-    {S : Type 0} → (ℕ → S) → (S → Record → Option S) → List ℕ → ℕ → List ℕ → List ℕ → Type 0
-StandAsBefore fresh step magic blocks before octets =
-    stands_for fresh step magic blocks octets ≡ stands_for fresh step magic blocks before
+    {S : Type 0} → (ℕ → S) → (S → Record → Option S) → List ℕ → Layout → ℕ → List ℕ → List ℕ → Type 0
+StandAsBefore fresh step magic layout blocks before octets =
+    stands_for fresh step magic layout blocks octets ≡ stands_for fresh step magic layout blocks before
 
--- the octets are the journal's store, and stand for this state
-abbrev pub StandFor : {S : Type 0} → (ℕ → S) → (S → Record → Option S) → Position → S → List ℕ → Type 0
-StandFor fresh step position now octets = stands_for fresh step position.magic position.blocks octets ≡ state now
+-- what octets stand for, with each state seen so
+abbrev pub see : {S V : Type 0} → (S → V) → Stands S → Stands V
+see seen (no_store found) = no_store found
+see seen (damaged_at at) = damaged_at at
+see seen (state now) = state (seen now)
 
--- each octet list that a crash since this moment might have left stands for this state
-abbrev pub ImagesStandFor : {D S : Type 0} → (ℕ → S) → (S → Record → Option S) → Ghosts D → Position → S → D → Type 0
-ImagesStandFor fresh step g position now disk =
-    (image : List ℕ) → images_now g disk image → StandFor fresh step position now image
-
--- The journal stands on its disk. It has failed; or it is read to its end, and the content, where it is told, and each
--- octet list that a crash since this moment might have left stand for this state.
-pub record KeepsState
-    {D S : Type 0}
-    (fresh : ℕ → S)
-    (step : S → Record → Option S)
-    (g : Ghosts D)
-    (position : Position)
-    (now : S)
-    (disk : D)
+-- The journal stands on its disk. It has failed; or it is read to its end, the content, where it is told, stands so,
+-- and a crash since this moment leaves nothing else.
+pub record KeepsStanding {D : Type 0} (g : Ghosts D) (position : Position) (stands : List ℕ → Type 0) (disk : D)
     : Type 0 where
   pub stands_on : StandsOn g position disk
   pub ended : position.failed ≡ false → position.ended ≡ true
-  pub content : position.failed ≡ false → IfSome (g.content disk) (StandFor fresh step position now)
-  pub images :
-      position.failed ≡ false → IfSome (g.content disk) (λ octets. ImagesStandFor fresh step g position now disk)
+  pub content : position.failed ≡ false → IfSome (g.content disk) stands
+  pub quiet : position.failed ≡ false → IsQuietNow g disk
 
 -- A record that the state allows, put at the end of a store, takes what it stands for to the state after it.
 abbrev pub IsOneStep : {S : Type 0} → (S → Record → Option S) → Type 0
 IsOneStep {S} step =
-    (fresh : ℕ → S) (blocks : ℕ) (store : Standing) (before after : S) (entry : Record)
-    → stands_of fresh step blocks store ≡ state before → step before entry ≡ Some after
-    → stands_of fresh step blocks (with_last store entry) ≡ state after
+    (fresh : ℕ → S) (layout : Layout) (blocks : ℕ) (store : Standing) (before after : S) (entry : Record)
+    → stands_of fresh step layout blocks store ≡ state before → step before entry ≡ Some after
+    → stands_of fresh step layout blocks (with_last store entry) ≡ state after
 
 -- The same store stands for the same, whether it had its block number already or gets it.
 abbrev pub StandsForSame : {S : Type 0} → (S → Record → Option S) → Type 0
 StandsForSame {S} step =
-    (fresh : ℕ → S) (blocks : ℕ) (before now : Standing) → IsSameStore blocks before now
-    → stands_of fresh step blocks now ≡ stands_of fresh step blocks before
+    (fresh : ℕ → S) (layout : Layout) (blocks : ℕ) (before now : Standing) → IsSameStore blocks before now
+    → stands_of fresh step layout blocks now ≡ stands_of fresh step layout blocks before

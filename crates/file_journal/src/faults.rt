@@ -1,10 +1,11 @@
 //! The refusals of a journal.
 
 ghost use Rattle.std.specs.Prelude.{◌≡◌};
-ghost use Rattle.file_journal.specs.Refusals.{fault_of_read, fault_of_recovery};
+ghost use Rattle.file_journal.specs.Refusals.{fault_of_apply, fault_of_read, fault_of_recovery};
+ghost use Rattle.file_journal.specs.declared.faults.ApplyFault.TheVariants.{Disk as ApplyDisk, OutOfMemory as ApplyNoMemory};
 ghost use Rattle.file_journal.specs.declared.faults.JournalFault.TheVariants.{Disk as append_disk};
 ghost use Rattle.file_journal.specs.declared.faults.RecoverFault.TheVariants.{Disk};
-ghost use Rattle.file_journal.specs.declared.faults.ReadFault.TheVariants.{Disk as ReadDisk, OutOfMemory as NoMemory};
+ghost use Rattle.file_journal.specs.declared.faults.ReadFault.TheVariants.{Disk as ReadDisk};
 
 use disk_model::DiskFault;
 use px_base::OutOfMemory;
@@ -40,6 +41,33 @@ impl From<DiskFault> for RecoverFault {
     }
 }
 
+/// Why a record that was read wasn't applied, and nothing is known of what it would make.
+#[derive(Clone, Copy, Debug, PartialEq, Eq, Error)]
+pub enum ApplyFault {
+    /// The disk failed, and its count of faults rose.
+    #[error("the disk failed")]
+    Disk,
+    /// There was no memory for what a record makes of the ledger.
+    #[error("out of memory")]
+    OutOfMemory,
+}
+
+impl From<DiskFault> for ApplyFault {
+    ghost from_gives = { λ _ fault. fault ≡ ApplyDisk };
+
+    fn from(_fault: DiskFault) -> ApplyFault {
+        ApplyFault::Disk
+    }
+}
+
+impl From<OutOfMemory> for ApplyFault {
+    ghost from_gives = { λ _ fault. fault ≡ ApplyNoMemory };
+
+    fn from(_refused: OutOfMemory) -> ApplyFault {
+        ApplyFault::OutOfMemory
+    }
+}
+
 /// Why the records of a journal weren't all read and applied.
 #[derive(Clone, Copy, Debug, PartialEq, Eq, Error)]
 pub enum ReadFault {
@@ -66,11 +94,14 @@ impl From<DiskFault> for ReadFault {
     }
 }
 
-impl From<OutOfMemory> for ReadFault {
-    ghost from_gives = { λ _ fault. fault ≡ NoMemory };
+impl From<ApplyFault> for ReadFault {
+    ghost from_gives = { λ fault result. result ≡ fault_of_apply fault };
 
-    fn from(_refused: OutOfMemory) -> ReadFault {
-        ReadFault::OutOfMemory
+    fn from(fault: ApplyFault) -> ReadFault {
+        match fault {
+            ApplyFault::Disk => ReadFault::Disk,
+            ApplyFault::OutOfMemory => ReadFault::OutOfMemory,
+        }
     }
 }
 
@@ -122,13 +153,13 @@ impl From<ReadFault> for StoreFault {
     }
 }
 
-/// Why a record wasn't appended.
+/// Why a record wasn't appended, or a block wasn't written.
 #[derive(Clone, Copy, Debug, PartialEq, Eq, Error)]
 pub enum JournalFault {
-    /// The disk failed, and its count of faults rose. The record may stand or not.
+    /// The disk failed, and its count of faults rose. The record, or the octets of the block, may stand or not.
     #[error("the disk failed")]
     Disk,
-    /// An earlier append failed; a new recovery is needed.
+    /// An earlier append, or a write of a block, failed; a new recovery is needed.
     #[error("the journal failed before")]
     Failed,
 }

@@ -1,22 +1,18 @@
 //! Formatting: the header, and the first two gates.
 
-ghost use Rattle.std.specs.Prelude.{◌≡◌, ◌<◌, ◌≤◌, length, IfSome};
-ghost use Rattle.file_journal.specs.Calls.{Becomes, IsQuietNow, Makes};
+ghost use Rattle.std.specs.Prelude.{◌≡◌, ◌+◌, ◌^◌, ◌<◌, ◌≤◌, length, IfSome};
+ghost use Rattle.file_journal.specs.Calls.{IsQuietNow, Makes};
 ghost use Rattle.file_journal.specs.Formatting.{IsFinishing, IsMakingEven, IsMakingGates, MakesEven, MakesGates};
 ghost use Rattle.file_journal.specs.Header.{AreBlocks, HasSelector};
-ghost use Rattle.file_journal.specs.Journal.{after_finishing, after_recovery, header_text};
+ghost use Rattle.file_journal.specs.Journal.{IsAfterFinishing, IsAfterRecovery, header_text};
 ghost use Rattle.file_journal.specs.Recovery.{IsRecovering};
 
+use crate::Layout;
+use crate::layout::HEADER;
 use crate::write::write_synced;
 use arrayvec::ArrayVec;
 use byteorder::{ByteOrder, LittleEndian};
 use disk_model::{Disk, DiskFault};
-
-/// The place of the first gate.
-pub(crate) const FIRST_GATE: u64 = 16;
-
-/// The number of octets of a formatted disk without records.
-const FORMATTED: u64 = 18;
 
 /// The place of the selector.
 const SELECTOR: u64 = 15;
@@ -26,30 +22,40 @@ pub(crate) fn format_new<D: Disk>(
     disk: &mut D,
     magic: [u8; 8],
     blocks: u32,
+    layout: Layout,
 ) -> Result<(), DiskFault>
     requires quiet { IsQuietNow D.Disk disk.old }
     requires short { IfSome (D.content disk.old) (λ octets. length octets ≤ 16) }
     requires blocks { AreBlocks blocks }
-    ensures { Makes D.Disk result disk.old disk.new (Becomes (after_recovery magic blocks)) (IsRecovering magic blocks) }
+    ensures { Makes D.Disk result disk.old disk.new
+        (IsAfterRecovery magic layout blocks) (IsRecovering magic layout blocks) }
 {
     // A crash before this is synced leaves at most 16 octets, whatever they are: the formatting begins anew.
     write_synced(disk, 0, encode_header(magic, blocks).as_slice())?;
-    format_gates(disk)
+    format_gates(disk, layout.first_gate(blocks))
 }
 
-/// Formats a disk of more than 16 octets to its end, if its formatting was interrupted: it has 17 octets then.
-pub(crate) fn finish_format<D: Disk>(disk: &mut D, len: u64, selector: u8) -> Result<(), DiskFault>
+/// Formats a disk of more than 16 octets to its end, if its formatting was interrupted: no octet stands behind its
+/// first gate then, whose place this is.
+pub(crate) fn finish_format<D: Disk>(
+    disk: &mut D,
+    len: u64,
+    gate: u64,
+    selector: u8,
+) -> Result<(), DiskFault>
     requires quiet { IsQuietNow D.Disk disk.old }
     requires long { IfSome (D.content disk.old) (λ octets. 16 < length octets) }
     requires len { IfSome (D.content disk.old) (λ octets. len ≡ length octets) }
     requires selector { HasSelector (D.content disk.old) selector }
-    ensures { Makes D.Disk result disk.old disk.new (Becomes after_finishing) IsFinishing }
+    requires behind { 16 ≤ gate }
+    requires fits { gate < 2 ^ 26 }
+    ensures { Makes D.Disk result disk.old disk.new (IsAfterFinishing gate) (IsFinishing gate) }
 {
-    if len >= FORMATTED {
+    if len >= gate + 2 {
         return Ok(());
     }
     make_selector_even(disk, selector)?;
-    format_gates(disk)
+    format_gates(disk, gate)
 }
 
 /// The octets of a header.
@@ -75,21 +81,25 @@ fn make_selector_even<D: Disk>(disk: &mut D, selector: u8) -> Result<(), DiskFau
     if selector % 2 == 0 {
         return Ok(());
     }
-    // An odd selector chooses the other half of the records once there are two: so it is made even before there are 18
-    // octets. A crash before this is synced leaves 17, of which no record is read, whatever octet 15 is.
+    // An odd selector chooses the other half of the records once there are two: so it is made even before there is an
+    // octet behind the first gate. A crash before this is synced leaves none there, and no record is read, whatever
+    // octet 15 is.
     write_synced(disk, SELECTOR, &[0])
 }
 
-/// Writes the first gate, closed, and one more octet 00 behind it, each synced, on a disk of 16 or 17 octets.
-fn format_gates<D: Disk>(disk: &mut D) -> Result<(), DiskFault>
+/// Writes the first gate, closed, at this place, and one more octet 00 behind it, each synced, on a disk of 16 octets
+/// or more, but none behind that gate.
+fn format_gates<D: Disk>(disk: &mut D, gate: u64) -> Result<(), DiskFault>
     requires quiet { IsQuietNow D.Disk disk.old }
     requires long { IfSome (D.content disk.old) (λ octets. 16 ≤ length octets) }
-    requires short { IfSome (D.content disk.old) (λ octets. length octets ≤ 17) }
-    ensures { Makes D.Disk result disk.old disk.new MakesGates IsMakingGates }
+    requires short { IfSome (D.content disk.old) (λ octets. length octets ≤ gate + 1) }
+    requires behind { 16 ≤ gate }
+    requires fits { gate < 2 ^ 26 }
+    ensures { Makes D.Disk result disk.old disk.new (MakesGates gate) (IsMakingGates gate) }
 {
-    // A crash before this is synced leaves 16 or 17 octets, of which no record is read, whatever the last one is.
-    write_synced(disk, FIRST_GATE, &[0])?;
-    // The first gate is synced by now, and closed. A crash before this is synced leaves 17 octets, or 18 of which the
-    // last one is any: no record is read behind a closed gate.
-    write_synced(disk, FIRST_GATE + 1, &[0])
+    // A crash before this is synced leaves no octet behind the gate, and no record is read, whatever is before it.
+    write_synced(disk, gate, &[0])?;
+    // The first gate is synced by now, and closed. A crash before this is synced leaves no octet behind it, or one,
+    // which is any: no record is read behind a closed gate.
+    write_synced(disk, gate + 1, &[0])
 }

@@ -4,6 +4,7 @@ ghost use Rattle.std.specs.Prelude.{◌≡◌, ◌<◌, List, ℕ, length, slice
 ghost use Rattle.file_journal.specs.Calls.{Reads};
 ghost use Rattle.file_journal.specs.Header.{AreBlocks, HasBadNumber, HasHeader, HasSelector, IsForeignBy};
 ghost use Rattle.file_journal.specs.Recovery.{Refuses};
+ghost use Rattle.file_journal.specs.declared.layout.Layout.{Layout};
 
 use crate::RecoverFault;
 use disk_model::Disk;
@@ -24,7 +25,7 @@ pub(crate) fn read_header<D: Disk>(disk: &mut D, magic: [u8; 8]) -> Result<Heade
     ensures header { IfOk result (λ header. IfSome (D.content disk.old) (HasHeader magic header.blocks)) }
     ensures selector { IfOk result (λ header. HasSelector (D.content disk.old) header.selector) }
     ensures blocks { IfOk result (λ header. AreBlocks header.blocks) }
-    ensures refuses { Refuses magic (D.content disk.old) result }
+    ensures refuses { (layout : Layout) → Refuses magic layout (D.content disk.old) result }
     ensures reads { Reads D.Disk (IsErrOf result RecoverFault.Disk) disk.old disk.new }
 {
     let mut octets = [0; 16];

@@ -1,19 +1,25 @@
 //! The journal: recovery, reading, appending.
 
 ghost use Rattle.std.specs.Prelude.{◌≡◌, ◌↔◌, ℕ, ◌+◌, ◌^◌, ◌<◌, ◌≤◌, List, [], ◌∷◌, ◌++◌, length, true, false, IfOk, IfSome, IsErr, IsErrOf, MatchResult, None, OnErr, OnOk, OnSome};
-ghost use Rattle.file_journal.specs.Appending.{Appends, LeavesAppending, LeavesBeforeOrAfter, TakesFour};
+ghost use Rattle.disk_model.specs.Disk.{FillsRoom};
+ghost use Rattle.file_journal.specs.Appending.{Appends, LeavesAppending, LeavesBeforeOrAfter, TakesCalls};
+ghost use Rattle.file_journal.specs.Blocks.{GoesOnOrFails, HasBlock, LeavesRecords, LeavesWritingBlock};
+ghost use Rattle.file_journal.specs.Blocks.{MayWriteBlock, WritesBlock};
 ghost use Rattle.file_journal.specs.Calls.{IsQuietNow, Leaves, Puts, Reads, Runs, TakesStep};
 ghost use Rattle.file_journal.specs.Header.{AreBlocks};
+ghost use Rattle.file_journal.specs.Layout.{block_in};
 ghost use Rattle.file_journal.specs.Next.{AnswersNext, HasLength};
-ghost use Rattle.file_journal.specs.Position.{StandsOn};
+ghost use Rattle.file_journal.specs.Position.{StandsOn, position_at_first};
 ghost use Rattle.file_journal.specs.Records.{IsRecord, record_of, record_text};
 ghost use Rattle.file_journal.specs.Recovery.{IsRecovered, IsRecovering, LeavesSinceSync, Refuses};
 
 use crate::content::{RecordContent, close_text};
-use crate::format::{FIRST_GATE, finish_format, format_new};
+use crate::format::{finish_format, format_new};
 use crate::header::read_header;
+use crate::layout::{HEADER, block_place};
 use crate::record::{RecordRoom, put_record, read_record};
-use crate::{JournalFault, RecoverFault};
+use crate::write::write_synced;
+use crate::{JournalFault, Layout, RecoverFault};
 use arrayvec::ArrayVec;
 use disk_model::{Disk, DiskFault};
 use std::marker::Model;
@@ -22,6 +28,7 @@ use std::marker::Model;
 #[derive(Debug, Drop)]
 pub struct Journal {
     magic: [u8; 8],
+    layout: Layout,
     blocks: u32,
     /// The place of the next gate.
     place: u64,
@@ -38,16 +45,23 @@ impl Model for Journal {
     ghost Value = { Position };
 
     ghost view = { λ a.
-        record { magic = a.magic; blocks = a.blocks; place = a.place; ended = a.ended; failed = a.failed } };
+        record {
+          magic = a.magic;
+          layout = a.layout;
+          blocks = a.blocks;
+          place = a.place;
+          ended = a.ended;
+          failed = a.failed;
+        } };
 
     ghost invariant = { λ a. (a.place < 2 ^ 63) × (1 ≤ a.blocks) × (a.blocks ≤ 65536) };
 }
 
 impl Journal {
-    /// Recovers the journal of this magic from whatever a crash, a fault or a killed program left on the disk, and
-    /// stands at its first gate. It syncs before it reads. A disk of at most 16 octets is formatted with the block
-    /// number `blocks`, 1 to 65,536; one whose formatting was interrupted is formatted to its end. It may be cut at
-    /// any of its writes and syncs, and is then done again.
+    /// Recovers the journal of this magic and layout from whatever a crash, a fault or a killed program left on the
+    /// disk, and stands at its first gate. It syncs before it reads. A disk of at most 16 octets is formatted with the
+    /// block number `blocks`, 1 to 65,536; one whose formatting was interrupted is formatted to its end. It may be cut
+    /// at any of its writes and syncs, and is then done again.
     ///
     /// `NotAStore` and `Damaged` leave the content as it was. After `Disk` the disk is to be recovered again: once the
     /// first sync passed, a crash leaves the records of the content before; where that sync failed nothing is changed, and
@@ -57,26 +71,27 @@ impl Journal {
         disk: &mut D,
         magic: [u8; 8],
         blocks: u32,
+        layout: Layout,
     ) -> Result<Journal, RecoverFault>
         requires blocks { AreBlocks blocks }
-        ensures recovered { IfOk result (IsRecovered D.Disk magic blocks disk.old disk.new) }
+        ensures recovered { IfOk result (IsRecovered D.Disk magic layout blocks disk.old disk.new) }
 
         // But for a fault of the disk, each refusal comes exactly where the content stands for it, and leaves it so.
-        ensures refuses { Refuses magic (D.content disk.old) result }
+        ensures refuses { Refuses magic layout (D.content disk.old) result }
         ensures untouched { OnErr result
             (¬ IsErrOf result RecoverFault.Disk → D.content disk.new ≡ D.content disk.old) }
         ensures runs { Runs D.Disk (IsErrOf result RecoverFault.Disk) disk.old disk.new }
 
         // A crash since the start leaves what it might have left before, or the same records; since the end of the
         // first sync the same records, but where that sync failed.
-        ensures since_start { Leaves D.Disk disk.old disk.new (IsRecovering magic blocks) }
-        ensures since_sync { LeavesSinceSync D.Disk result disk.old disk.new (IsRecovering magic blocks) }
+        ensures since_start { Leaves D.Disk disk.old disk.new (IsRecovering magic layout blocks) }
+        ensures since_sync { LeavesSinceSync D.Disk result disk.old disk.new (IsRecovering magic layout blocks) }
     {
         // A crash before this sync leaves any octets where an earlier write wasn't synced, whatever a read gives; after
         // it, what is read. Where it fails, nothing is read, and it isn't tried again.
         disk.sync()?;
         let len = disk.len()?;
-        Journal::recover_synced(disk, len, magic, blocks)
+        Journal::recover_synced(disk, len, magic, blocks, layout)
     }
 
     /// Recovers the journal from a quiet disk of `len` octets.
@@ -85,35 +100,37 @@ impl Journal {
         len: u64,
         magic: [u8; 8],
         blocks: u32,
+        layout: Layout,
     ) -> Result<Journal, RecoverFault>
         requires len { IfSome (D.content disk.old) (λ octets. len ≡ length octets) }
         requires quiet { IsQuietNow D.Disk disk.old }
         requires blocks { AreBlocks blocks }
-        ensures recovered { IfOk result (IsRecovered D.Disk magic blocks disk.old disk.new) }
-        ensures refuses { Refuses magic (D.content disk.old) result }
+        ensures recovered { IfOk result (IsRecovered D.Disk magic layout blocks disk.old disk.new) }
+        ensures refuses { Refuses magic layout (D.content disk.old) result }
         ensures untouched { OnErr result
             (¬ IsErrOf result RecoverFault.Disk → D.content disk.new ≡ D.content disk.old) }
         ensures runs { Runs D.Disk (IsErrOf result RecoverFault.Disk) disk.old disk.new }
-        ensures since { Leaves D.Disk disk.old disk.new (IsRecovering magic blocks) }
+        ensures since { Leaves D.Disk disk.old disk.new (IsRecovering magic layout blocks) }
     {
-        if len <= FIRST_GATE {
-            format_new(disk, magic, blocks)?;
-            return Ok(Journal::at_first_gate(magic, blocks));
+        if len <= HEADER {
+            format_new(disk, magic, blocks, layout)?;
+            return Ok(Journal::at_first_gate(magic, layout, blocks));
         }
         let header = read_header(disk, magic)?;
-        finish_format(disk, len, header.selector)?;
-        Ok(Journal::at_first_gate(magic, header.blocks))
+        finish_format(disk, len, layout.first_gate(header.blocks), header.selector)?;
+        Ok(Journal::at_first_gate(magic, layout, header.blocks))
     }
 
     /// At the first gate, with nothing read yet.
-    fn at_first_gate(magic: [u8; 8], blocks: u32) -> Journal
+    fn at_first_gate(magic: [u8; 8], layout: Layout, blocks: u32) -> Journal
         requires blocks { AreBlocks blocks }
-        ensures { result ≡ record { magic = magic; blocks = blocks; place = 16; ended = false; failed = false } }
+        ensures { result ≡ position_at_first magic layout blocks }
     {
         Journal {
             magic,
+            layout,
             blocks,
-            place: FIRST_GATE,
+            place: layout.first_gate(blocks),
             ended: false,
             failed: false,
         }
@@ -225,7 +242,7 @@ impl Journal {
         // the record and the gates before and behind it, the octets of an image from before.
         ensures any_moment { LeavesBeforeOrAfter D.Disk self.old (record_of kind content.now) disk.old disk.new }
         ensures since { LeavesAppending D.Disk self.old (record_of kind content.now) disk.old disk.new }
-        ensures calls { TakesFour D.Disk disk.old disk.new result }
+        ensures calls { TakesCalls D.Disk 4 disk.old disk.new result }
     {
         if self.failed {
             return Err(JournalFault::Failed);
@@ -256,7 +273,7 @@ impl Journal {
         ensures puts { Puts D.Disk (IsErr result) disk.old disk.new }
         ensures any_moment { LeavesBeforeOrAfter D.Disk self.old (record_of kind content.old) disk.old disk.new }
         ensures since { LeavesAppending D.Disk self.old (record_of kind content.old) disk.old disk.new }
-        ensures calls { TakesFour D.Disk disk.old disk.new result }
+        ensures calls { TakesCalls D.Disk 4 disk.old disk.new result }
     {
         close_text(&mut content.text, kind, content.len);
         let text = &content.text[..4 + content.len];
@@ -278,7 +295,7 @@ impl Journal {
         requires text { text.now ≡ record_text (record_of _kind _content.now) ++ 0 ∷ [] }
         ensures stands_on { StandsOn D.Disk self.new disk.new }
         ensures journal { (self.new ≡ record self.old { place = self.new.place; failed = self.new.failed })
-            × TakesFour D.Disk disk.old disk.new result }
+            × TakesCalls D.Disk 4 disk.old disk.new result }
         ensures ok { OnOk result (TakesStep D.Disk disk.old disk.new (Appends self.old (record_of _kind _content.now))) }
         ensures ends { MatchResult result (λ _. IsQuietNow D.Disk disk.new × (self.new.failed ≡ false))
             (λ _. self.new ≡ record self.old { failed = true }) }
@@ -298,6 +315,91 @@ impl Journal {
         }
     }
 
+    /// Reads the octets of a block of the store, from octet `at` of it on, into the room. No append and no write of a
+    /// block failed before. It reads once, and changes no octet. Takes no memory.
+    pub fn read_block<D: Disk>(
+        &self,
+        disk: &mut D,
+        block: u32,
+        at: u16,
+        room: &mut [u8],
+    ) -> Result<(), DiskFault>
+        requires stands_on { StandsOn D.Disk self.now disk.old }
+        requires healthy { self.now.failed ≡ false }
+        requires block { HasBlock self.now block }
+        requires within { at + length room.old ≤ 512 }
+        ensures stands_on { StandsOn D.Disk self.now disk.new }
+        ensures room { OnOk result (IfSome (D.content disk.old) (λ octets.
+            FillsRoom (block_in octets block) at (length room.old) room.new)) }
+        ensures reads { Reads D.Disk (IsErr result) disk.old disk.new }
+    {
+        let _ = &self.magic;
+        disk.read(block_place(block) + u64::from(at), room)
+    }
+
+    /// Writes octets over the front of a block of the store, at most 512. `next` has to have answered `None`. After
+    /// `Ok` a crash leaves them; until then any octets in their place, and all others, the records too, as they were.
+    /// It makes one write and one sync, and reads nothing. Takes no memory.
+    ///
+    /// `Disk`: the octets may stand or not, and the journal answers `Failed` from then on, where nothing is touched; a
+    /// new recovery is needed. No sync follows a write that failed.
+    pub fn write_block<D: Disk>(
+        &mut self,
+        disk: &mut D,
+        block: u32,
+        bytes: &[u8],
+    ) -> Result<(), JournalFault>
+        requires stands_on { StandsOn D.Disk self.old disk.old }
+        requires may { MayWriteBlock self.old block (length bytes.now) }
+        ensures stands_on { StandsOn D.Disk self.new disk.new }
+        ensures journal { self.new ≡ record self.old { failed = self.new.failed } }
+        ensures ok { OnOk result (TakesStep D.Disk disk.old disk.new (WritesBlock self.old block bytes.now)) }
+        ensures ends { GoesOnOrFails D.Disk self.old self.new disk.new result }
+
+        // `Failed` comes exactly after an earlier `Disk`, and touches nothing.
+        ensures failed { IsErrOf result JournalFault.Failed ↔ (self.old.failed ≡ true) }
+        ensures untouched { IsErrOf result JournalFault.Failed → (self.new ≡ self.old) × (disk.new ≡ disk.old) }
+        ensures puts { Puts D.Disk (IsErrOf result JournalFault.Disk) disk.old disk.new }
+
+        // A crash at any moment since the start leaves the records from before; and outside the octets that are
+        // written, those of an image from before.
+        ensures any_moment { LeavesRecords D.Disk self.old disk.old disk.new }
+        ensures since { LeavesWritingBlock D.Disk self.old block (length bytes.now) disk.old disk.new }
+        ensures calls { TakesCalls D.Disk 2 disk.old disk.new result }
+    {
+        if self.failed {
+            return Err(JournalFault::Failed);
+        }
+        self.put_block(disk, block, bytes)?;
+        Ok(())
+    }
+
+    /// Writes octets over the front of a block, as [`write_block`](Journal::write_block) does, of a journal of which
+    /// nothing failed before.
+    pub(crate) fn put_block<D: Disk>(
+        &mut self,
+        disk: &mut D,
+        block: u32,
+        bytes: &[u8],
+    ) -> Result<(), DiskFault>
+        requires stands_on { StandsOn D.Disk self.old disk.old }
+        requires healthy { self.old.failed ≡ false }
+        requires may { MayWriteBlock self.old block (length bytes.now) }
+        ensures stands_on { StandsOn D.Disk self.new disk.new }
+        ensures journal { self.new ≡ record self.old { failed = self.new.failed } }
+        ensures ok { OnOk result (TakesStep D.Disk disk.old disk.new (WritesBlock self.old block bytes.now)) }
+        ensures ends { GoesOnOrFails D.Disk self.old self.new disk.new result }
+        ensures puts { Puts D.Disk (IsErr result) disk.old disk.new × TakesCalls D.Disk 2 disk.old disk.new result }
+        ensures any_moment { LeavesRecords D.Disk self.old disk.old disk.new }
+        ensures since { LeavesWritingBlock D.Disk self.old block (length bytes.now) disk.old disk.new }
+    {
+        // A crash before these octets are synced leaves any in their place, which is before the first gate: each record
+        // stays as it is.
+        let written = write_synced(disk, block_place(block), bytes);
+        self.failed = written.is_err();
+        written
+    }
+
     /// The place of the next gate. Takes no memory.
     pub(crate) fn place(&self) -> u64
         ensures { result ≡ self.now.place }
@@ -313,7 +415,7 @@ impl Journal {
         self.blocks
     }
 
-    /// Whether an append answered `Disk`. Takes no memory.
+    /// Whether an append, or a write of a block, answered `Disk`. Takes no memory.
     pub fn failed(&self) -> bool
         ensures { result ≡ self.now.failed }
     {

@@ -1,9 +1,16 @@
 //! A state that is kept in a journal.
 
-ghost use Rattle.std.specs.Prelude.{◌≡◌, false, IfOk, OnErr, OnOk};
+ghost use Rattle.std.specs.Prelude.{◌≡◌, ◌+◌, ◌∷◌, [], false, IfOk, IfSome, IsErr, OnErr, OnOk};
+ghost use Rattle.file_journal.specs.Appending.{TakesCalls};
+ghost use Rattle.file_journal.specs.Calls.{Leaves};
+ghost use Rattle.file_journal.specs.Form.{StandsFor, record_calls};
 ghost use Rattle.file_journal.specs.Header.{AreBlocks};
-ghost use Rattle.file_journal.specs.Kept.{AnswersPut, StandsAt, kept_at};
+ghost use Rattle.file_journal.specs.Kept.{Does, MayTurn, StandsAt, kept_at};
+ghost use Rattle.file_journal.specs.Layout.{HoldSame, block_in, blocks_on};
+ghost use Rattle.file_journal.specs.Putting.{GoesOn, TurnsInto};
+ghost use Rattle.file_journal.specs.Records.{record_of};
 ghost use Rattle.file_journal.specs.Restoring.{AnswersRecovery, IsRestored};
+ghost use Rattle.file_journal.specs.Steps.{HasPut, Knows, WritesTurn, block_calls};
 
 use crate::{Change, Journal, Ledger, RecordContent, StoreFault};
 use disk_model::{Disk, DiskFault};
@@ -31,11 +38,13 @@ impl<L: Ledger> Kept<L> {
     pub fn recover<D: Disk>(alloc: Global, disk: &mut D, blocks: u32) -> Result<Kept<L>, StoreFault>
         requires blocks { AreBlocks blocks }
         ensures restored { IfOk result (λ kept.
-            IsRestored D.Disk L.form blocks disk.old (kept_at L.state kept disk.new)) }
+            IsRestored D.Disk L.form blocks disk.old (kept_at D.Disk L.seen L.state kept disk.new)) }
+        ensures stands_at { IfOk result (λ kept.
+            StandsAt D.Disk L.form L.steps kept.journal (L.state kept.ledger) disk.new) }
         ensures by_records { IfOk result (λ kept. L.by_records kept.ledger) }
         ensures answers { AnswersRecovery D.Disk L.form blocks result disk.old disk.new }
     {
-        let mut journal = Journal::recover(disk, L::magic(), blocks)?;
+        let mut journal = Journal::recover(disk, L::magic(), blocks, L::layout())?;
         let mut ledger = L::fresh(alloc, journal.blocks());
         journal.read_into(disk, &mut ledger)?;
         Ok(Kept {
@@ -45,22 +54,96 @@ impl<L: Ledger> Kept<L> {
         })
     }
 
-    /// Makes a change of the ledger that may be made. Its record is put at the end of the journal and synced, by two
-    /// writes and two syncs, before memory changes: after `Ok` a crash leaves the state after it; before, the one
-    /// before it or the one after it. No put failed before. Takes no memory.
+    /// Makes a change of the ledger that may be made. What it puts in a block, if anything, is written and synced
+    /// first. Then its record is put at the end of the journal and synced, by two writes and two syncs, before memory
+    /// changes: after `Ok` a crash leaves the state after it; before, the one before it or the one after it. No put
+    /// failed before. Takes no memory.
     ///
     /// An error: the record may stand or not; the ledger is as it was, and has failed from then on. A new recovery is
     /// needed.
     pub fn put<D: Disk, C: Change<L>>(&mut self, disk: &mut D, change: &C) -> Result<(), DiskFault>
-        requires stands_at { StandsAt D.Disk C.form (kept_at C.state self.old disk.old) }
+        requires stands_at { StandsAt D.Disk C.form C.steps self.old.journal (C.state self.old.ledger) disk.old }
         requires healthy { self.old.journal.failed ≡ false }
         requires may { C.may change.now self.old.ledger }
-        ensures answers { AnswersPut D.Disk C.form (C.command change.now self.old.ledger)
-            (kept_at C.state self.old disk.old) (kept_at C.state self.new disk.new) result }
+        requires lets { Knows C.form (D.content disk.old)
+            → (C.turn change.now self.old.ledger).lets (blocks_on (D.content disk.old)) }
+        ensures stands_at { StandsAt D.Disk C.form C.steps self.new.journal (C.state self.new.ledger) disk.new }
+
+        // What it does is known where what is seen doesn't stand on the disk, or the disk tells.
+        ensures does { Knows C.form (D.content disk.old)
+            → Does D.Disk C.form (IsErr result) ((C.turn change.now self.old.ledger).command ∷ [])
+            (kept_at D.Disk C.seen C.state self.old disk.old) (kept_at D.Disk C.seen C.state self.new disk.new) }
+        ensures goes { GoesOn D.Disk (IsErr result) self.old.journal self.new.journal disk.old disk.new }
         ensures makes { OnOk result (C.makes change.now self.old.ledger self.new.ledger) }
         ensures err { OnErr result (self.new.ledger ≡ self.old.ledger) }
     {
         let kind = change.write(&self.ledger, &mut self.content);
+        self.put_block(disk, change)?;
+        match self.put_record(disk, change, kind) {
+            Ok(()) => Ok(()),
+            Err(fault) => Err(fault),
+        }
+    }
+
+    /// Puts what a change puts in a block before its record, if anything.
+    fn put_block<D: Disk, C: Change<L>>(
+        &mut self,
+        disk: &mut D,
+        change: &C,
+    ) -> Result<(), DiskFault>
+        requires may { MayTurn D.Disk C.form C.steps self.old.journal (C.state self.old.ledger) disk.old
+            (C.may change.now self.old.ledger) }
+        ensures kept { self.new ≡ record self.old { journal = self.new.journal } }
+        ensures stands_at { StandsAt D.Disk C.form C.steps self.new.journal (C.state self.old.ledger) disk.new }
+        ensures same { HoldSame (C.steps.uses (C.state self.old.ledger))
+            (blocks_on (D.content disk.old)) (blocks_on (D.content disk.new)) }
+        ensures there { OnOk result (Knows C.form (D.content disk.old)
+            → HasPut (C.turn change.now self.old.ledger).puts (blocks_on (D.content disk.new))) }
+        ensures since { Leaves D.Disk disk.old disk.new (λ before.
+            StandsFor C.form (C.seen (block_in before) (C.state self.old.ledger))) }
+        ensures goes { GoesOn D.Disk (IsErr result) self.old.journal self.new.journal disk.old disk.new }
+        ensures calls { TakesCalls D.Disk (block_calls (C.turn change.now self.old.ledger).puts)
+            disk.old disk.new result }
+    {
+        let Some(put) = change.block(&self.ledger) else {
+            return Ok(());
+        };
+        // A crash before this is synced leaves any octets in a block that the state doesn't use: none of them is read.
+        match self.journal.put_block(disk, put.block, put.octets) {
+            Ok(()) => Ok(()),
+            Err(fault) => Err(fault),
+        }
+    }
+
+    /// Puts the record of a change, of this kind, whose content was written, behind what it puts in a block, and makes
+    /// it.
+    fn put_record<D: Disk, C: Change<L>>(
+        &mut self,
+        disk: &mut D,
+        change: &C,
+        kind: u8,
+    ) -> Result<(), DiskFault>
+        requires may { MayTurn D.Disk C.form C.steps self.old.journal (C.state self.old.ledger) disk.old
+            (C.may change.now self.old.ledger) }
+        requires lets { Knows C.form (D.content disk.old)
+            → (C.turn change.now self.old.ledger).lets (blocks_on (D.content disk.old)) }
+        requires there { Knows C.form (D.content disk.old)
+            → HasPut (C.turn change.now self.old.ledger).puts (blocks_on (D.content disk.old)) }
+        requires writes { WritesTurn C.form C.steps C.seen (C.state self.old.ledger) (C.turn change.now self.old.ledger)
+            (record_of kind self.old.content) }
+        ensures stands_at { StandsAt D.Disk C.form C.steps self.new.journal (C.state self.new.ledger) disk.new }
+        ensures same { HoldSame (C.steps.uses (C.state self.new.ledger))
+            (blocks_on (D.content disk.old)) (blocks_on (D.content disk.new)) }
+        ensures turns { Knows C.form (D.content disk.old) → TurnsInto D.Disk C.form
+            (C.seen (blocks_on (D.content disk.old)) (C.state self.old.ledger))
+            (C.seen (blocks_on (D.content disk.old)) (C.turn change.now self.old.ledger).next)
+            (IsErr result) disk.old disk.new }
+        ensures goes { GoesOn D.Disk (IsErr result) self.old.journal self.new.journal disk.old disk.new }
+        ensures calls { TakesCalls D.Disk record_calls disk.old disk.new result }
+        ensures state { OnOk result (C.state self.new.ledger ≡ (C.turn change.now self.old.ledger).next) }
+        ensures makes { OnOk result (C.makes change.now self.old.ledger self.new.ledger) }
+        ensures err { OnErr result (self.new.ledger ≡ self.old.ledger) }
+    {
         // A crash before the record's gate is synced leaves the state before the change, or the one after it: it is
         // told of only after that. A crash behind it leaves the one after it.
         match self.journal.put(disk, kind, &mut self.content) {

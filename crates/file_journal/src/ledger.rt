@@ -5,14 +5,15 @@ ghost use Rattle.file_journal.specs.Calls.{Reads};
 ghost use Rattle.file_journal.specs.Form.{Form};
 ghost use Rattle.file_journal.specs.Header.{AreBlocks};
 ghost use Rattle.file_journal.specs.Ledger.{AnswersAll, AppliesNext, AppliesSome};
+ghost use Rattle.file_journal.specs.Layout.{Blocks, block_in};
 ghost use Rattle.file_journal.specs.Next.{HasLength};
 ghost use Rattle.file_journal.specs.Position.{StandsOn};
 ghost use Rattle.file_journal.specs.Records.{Record, record_of};
+ghost use Rattle.file_journal.specs.Steps.{IsSeenBy, Steps};
 
 use crate::record::RecordRoom;
-use crate::{Journal, ReadFault, RecoverFault};
+use crate::{ApplyFault, Journal, Layout, ReadFault, RecoverFault};
 use disk_model::Disk;
-use px_base::OutOfMemory;
 use std::alloc::Global;
 
 /// What the records of a journal are applied to, in order: it holds the state that they make, and in memory maybe more.
@@ -20,11 +21,20 @@ pub trait Ledger: Drop {
     /// The states that records make.
     ghost State: { Type 0 };
 
-    /// The commands that change a state, each of which is one record.
+    /// What such a state is seen as.
+    ghost Seen: { Type 0 };
+
+    /// The commands that change what is seen, each of which is one record.
     ghost Command: { Type 0 };
 
-    /// What octets stand for as a state, and what records and commands make of one.
-    ghost form: { Form Self.State Self.Command };
+    /// What octets stand for, and what commands make of it.
+    ghost form: { Form Self.Seen Self.Command };
+
+    /// What records make of a state.
+    ghost steps: { Steps Self.State };
+
+    /// What a state is seen as, with what the blocks of the disk hold.
+    ghost seen: { Blocks → Self.State → Self.Seen };
 
     /// The state that a ledger holds.
     ghost state: { Self → Self.State };
@@ -36,24 +46,46 @@ pub trait Ledger: Drop {
     fn magic() -> [u8; 8]
         ensures { result ≡ form.magic };
 
+    /// Where the parts of such a store stand on its disk.
+    fn layout() -> Layout
+        ensures { result ≡ form.layout };
+
     /// The ledger of a store of so many blocks, 1 to 65,536, before the first record. Takes no memory yet.
     fn fresh(alloc: Global, blocks: u32) -> Self
         requires blocks { AreBlocks blocks }
-        ensures state { state result ≡ form.fresh blocks }
+        ensures state { state result ≡ steps.fresh blocks }
         ensures by_records { by_records result };
 
     /// Applies a record that was read, and answers whether the state allows it; one that it doesn't allow changes
-    /// nothing. The content has at most 600 octets. Takes memory.
+    /// nothing. The content has at most 600 octets. It may read blocks of the disk, by the journal. Takes memory.
     ///
-    /// `OutOfMemory`: nothing is said of the ledger any more.
-    fn apply(&mut self, kind: u8, content: &[u8]) -> Result<bool, OutOfMemory>
+    /// `Disk`: a read of the disk failed, and the ledger is as it was. `OutOfMemory`: nothing is said of the ledger any
+    /// more.
+    fn apply<D: Disk>(
+        &mut self,
+        journal: &Journal,
+        disk: &mut D,
+        kind: u8,
+        content: &[u8],
+    ) -> Result<bool, ApplyFault>
         requires most { length content.now ≤ 600 }
         requires by_records { by_records self.old }
-        ensures allowed { result ≡ Ok true
-            → form.step (state self.old) (record_of kind content.now) ≡ Some (state self.new) }
-        ensures refused { result ≡ Ok false → form.step (state self.old) (record_of kind content.now) ≡ None }
+        requires stands_on { StandsOn D.Disk journal.now disk.old }
+        requires healthy { journal.now.failed ≡ false }
+        requires layout { journal.now.layout ≡ form.layout }
+        requires number { form.layout ≡ Layout.Blocks → journal.now.blocks ≡ steps.number (state self.old) }
+        ensures allowed { result ≡ Ok true → IfSome (D.content disk.old) (λ octets.
+            steps.step (block_in octets) (state self.old) (record_of kind content.now) ≡ Some (state self.new)) }
+        ensures refused { result ≡ Ok false → IfSome (D.content disk.old) (λ octets.
+            steps.step (block_in octets) (state self.old) (record_of kind content.now) ≡ None) }
         ensures same { result ≡ Ok false → self.new ≡ self.old }
-        ensures by_records { OnOk result (by_records self.new) };
+        ensures untouched { IsErrOf result ApplyFault.Disk → self.new ≡ self.old }
+        ensures number { OnOk result (steps.number (state self.new) ≡ steps.number (state self.old)) }
+        ensures by_records { OnOk result (by_records self.new) }
+        ensures reads { Reads D.Disk (IsErrOf result ApplyFault.Disk) disk.old disk.new };
+
+    /// What is seen is what octets stand for.
+    ghost is_seen: { IsSeenBy steps seen form };
 }
 
 /// The fault of a reading, which answers no `NotAStore`.
@@ -87,16 +119,19 @@ impl Journal {
         requires stands_on { StandsOn D.Disk self.old disk.old }
         requires healthy { self.old.failed ≡ false }
         requires by_records { L.by_records ledger.old }
+        requires layout { self.old.layout ≡ L.form.layout }
+        requires number { L.form.layout ≡ Layout.Blocks → self.old.blocks ≡ L.steps.number (L.state ledger.old) }
         ensures stands_on { StandsOn D.Disk self.new disk.new }
         ensures journal { self.new ≡ record self.old { place = self.new.place; ended = self.new.ended } }
         ensures ended { OnOk result (self.new.ended ≡ true) }
 
         // But for a fault of the disk and want of memory, it answers exactly what the records that are left come to.
-        ensures all { AnswersAll L.form.step self.old (L.state ledger.old) (L.state ledger.new)
+        ensures all { AnswersAll L.steps.step self.old (L.state ledger.old) (L.state ledger.new)
             (D.content disk.old) result }
         ensures by_records { OnOk result (L.by_records ledger.new) }
-        ensures some { ¬ IsErrOf result ReadFault.OutOfMemory
-            → IfSome (D.content disk.old) (AppliesSome L.form.step self.old (L.state ledger.old) (L.state ledger.new)) }
+        ensures number { OnOk result (L.steps.number (L.state ledger.new) ≡ L.steps.number (L.state ledger.old)) }
+        ensures some { ¬ IsErrOf result ReadFault.OutOfMemory → IfSome (D.content disk.old)
+            (AppliesSome L.steps.step self.old (L.state ledger.old) (L.state ledger.new)) }
         ensures reads { Reads D.Disk (IsErrOf result ReadFault.Disk) disk.old disk.new }
     {
         let end = disk.len()?;
@@ -118,6 +153,8 @@ impl Journal {
         requires stands_on { StandsOn D.Disk self.old disk.old }
         requires healthy { self.old.failed ≡ false }
         requires by_records { L.by_records ledger.old }
+        requires layout { self.old.layout ≡ L.form.layout }
+        requires number { L.form.layout ≡ Layout.Blocks → self.old.blocks ≡ L.steps.number (L.state ledger.old) }
         ensures stands_on { StandsOn D.Disk self.new disk.new }
         ensures journal { self.new ≡ record self.old { place = self.new.place; ended = self.new.ended } }
         ensures ended { result ≡ Ok false → self.new.ended ≡ true }
@@ -125,8 +162,10 @@ impl Journal {
         ensures fits { self.new.place < 2 ^ 63 }
         ensures next { ¬ IsErrOf result ReadFault.Disk → ¬ IsErrOf result ReadFault.OutOfMemory
             → IfSome (D.content disk.old) (λ octets.
-            AppliesNext L.form.step self.old self.new (L.state ledger.old) (L.state ledger.new) octets result) }
+            AppliesNext (L.steps.step (block_in octets)) self.old self.new
+            (L.state ledger.old) (L.state ledger.new) octets result) }
         ensures by_records { OnOk result (L.by_records ledger.new) }
+        ensures number { OnOk result (L.steps.number (L.state ledger.new) ≡ L.steps.number (L.state ledger.old)) }
         ensures same { ¬ IsErrOf result ReadFault.OutOfMemory → OnErr result (ledger.new ≡ ledger.old) }
         ensures reads { Reads D.Disk (IsErrOf result ReadFault.Disk) disk.old disk.new }
     {
@@ -134,7 +173,7 @@ impl Journal {
         match self.find_next(disk, end, room) {
             Ok(None) => Ok(false),
             Ok(Some(kind)) => {
-                if !ledger.apply(kind, room.content())? {
+                if !ledger.apply(self, disk, kind, room.content())? {
                     return Err(ReadFault::Damaged { at: gate });
                 }
                 Ok(true)

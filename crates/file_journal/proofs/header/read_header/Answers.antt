@@ -17,21 +17,21 @@ returns-clause-selector g c =
     c.parse_header.ensures.selector
 
 pub returns-clause-refuses : goal.returns-clause-refuses
-returns-clause-refuses g c healthy =
+returns-clause-refuses g c layout healthy =
     let disk = c.args.disk.now in
     let says = c.parse_header.ensures in
     let magic = c.args.magic in
     if_told (g.D.Disk.content disk) _ (λ octets told.
     let front = front16 octets c.read.new.room (at_told _ octets told c.in_ok-read.ensures.room) in
     let long = at_told _ octets told c.requires in
-    refusal_of magic octets c.parse_header.result
+    refusal_of magic layout octets c.parse_header.result
     (λ header is.
     let head = at_ok (λ (header : Header). HasHeader magic header.blocks c.read.new.room) header is says.header in
-    is_store magic octets header.blocks long (record { magic_is = sym front.2 ∙ head.magic_is; blocks_are = sym front.0 ∙ head.blocks_are; is_number = head.is_number }))
+    is_store magic layout octets header.blocks long (record { magic_is = sym front.2 ∙ head.magic_is; blocks_are = sym front.0 ∙ head.blocks_are; is_number = head.is_number }))
     (λ found is.
     let other = says.not_a_store found is in
-    of_foreign magic octets long (λ same. other.other (other.found_is ∙ front.2 ∙ same)) ∙ ap no_store (sym (other.found_is ∙ front.2)))
+    of_foreign magic layout octets long (λ same. other.other (other.found_is ∙ front.2 ∙ same)) ∙ ap no_store (sym (other.found_is ∙ front.2)))
     (λ at is.
     let other = says.damaged at is in
-    (other.0, of_bad_number magic octets long (sym front.2 ∙ other.1.magic_is) (ap is_block_number (sym front.0) ∙ other.1.is_bad)))
+    (other.0, of_bad_number magic layout octets long (sym front.2 ∙ other.1.magic_is) (ap is_block_number (sym front.0) ∙ other.1.is_bad)))
     healthy)

@@ -2,4 +2,4 @@ use Rattle.file_journal.proofs.WalkLawLemmas.{one_walk}
 use Rattle.file_journal.proofs.laws.walk_law.Goals as goal
 
 pub returns : goal.returns
-returns g c = one_walk g.L.Ledger.form.step
+returns g c held = one_walk (g.L.Ledger.steps.step held)

@@ -1,4 +1,5 @@
 use Rattle.std.proofs.Common.{ap}
+use Rattle.file_journal.specs.Layout.{block_in}
 use Rattle.file_journal.specs.Records.{Reading}
 use Rattle.file_journal.specs.Walk.{walk}
 use Rattle.file_journal.proofs.ToldLemmas.{told_weaker}
@@ -11,5 +12,5 @@ returns-in-Err-clause-next g c healthy memory =
       none = λ is. absurd (cc is);
       damaged = λ at is.
           let found = (answers.damaged at).0 (cc (c.reading_fault.ensures.damaged at (cc is))) in
-          ap (λ (r : Reading). walk g.L.Ledger.form.step (g.L.Ledger.state c.args.ledger.now) c.args.self.now.place r) found.1;
+          ap (λ (r : Reading). walk (g.L.Ledger.steps.step (block_in octets)) (g.L.Ledger.state c.args.ledger.now) c.args.self.now.place r) found.1;
     }) (c.in-Err.ensures.next (λ is. healthy (cc (c.reading_fault.ensures.disk (cc is)))))

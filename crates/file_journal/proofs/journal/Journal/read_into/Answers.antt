@@ -20,6 +20,7 @@ loop-preserved g c =
             (reads_same g.D.Disk c.loop.disk c.apply_next.new.disk _ ⊥ (λ is. cc (sym is ∙ c.in_ok-apply_next.was)) (λ none. absurd none) c.apply_next.ensures.reads),
         grind (arith, common_steps, on_more),
         grind (arith, common_steps),
+        grind (arith, common_steps),
       ),
       record {
         told = subst (λ (content : Option (List ℕ)). IfSome content (λ octets. c.in_ok-end.end ≡ length octets)) (sym same) length_is.told;

@@ -1,5 +1,6 @@
 use Rattle.std.proofs.Common.{◌≡◌, ◌-◌, ◌^◌, IfSome}
 use Rattle.file_journal.specs.Calls.{Reads}
+use Rattle.file_journal.specs.Layout.{block_in}
 use Rattle.file_journal.specs.Next.{HasLength}
 use Rattle.file_journal.specs.Position.{StandsOn}
 use Rattle.file_journal.proofs.LedgerLemmas.{IsOn}
@@ -10,8 +11,9 @@ invariant-loop g l =
     (StandsOn g.D.Disk l.self l.disk
     × (l.self ≡ record l.fn.self { place = l.self.place; ended = l.self.ended })
     × Reads g.D.Disk ⊥ l.fn.disk l.disk
-    × IfSome (g.D.Disk.content l.fn.disk) (IsOn g.L.Ledger.form.step l.fn.self l.self (g.L.Ledger.state l.fn.ledger) (g.L.Ledger.state l.ledger))
-    × g.L.Ledger.by_records l.ledger)
+    × IfSome (g.D.Disk.content l.fn.disk) (λ octets. IsOn (g.L.Ledger.steps.step (block_in octets)) l.fn.self l.self (g.L.Ledger.state l.fn.ledger) (g.L.Ledger.state l.ledger) octets)
+    × g.L.Ledger.by_records l.ledger
+    × (g.L.Ledger.steps.number (g.L.Ledger.state l.ledger) ≡ g.L.Ledger.steps.number (g.L.Ledger.state l.fn.ledger)))
     × HasLength g.D.Disk l.disk l.end
 
 abbrev pub decreases-loop : goal.decreases-loop

@@ -16,14 +16,14 @@ returns-clause-since_sync g c =
     let only = c.len.ensures.only_reads in
     let rest = quiet_by_sync D old synced c.sync.ensures.content c.in_ok-sync.ensures.durable c.in_ok-sync.ensures.moment.one c.sync.ensures.since_now in
     if_told (D.content old) _ (λ before told.
-    let P = IsRecovering c.args.magic c.args.blocks before in
+    let P = IsRecovering c.args.magic c.args.layout c.args.blocks before in
     let first : D.moment old + 1 ≡ D.moment mid = sym (at_told _ before told c.in_ok-sync.ensures.moment.one) ∙ sym only.same_moment in
     let leaves = at_told _ before (only.same_content ∙ c.sync.ensures.content ∙ told) c.recover_synced.ensures.since in
     let quiet = at_told (Only (images_now D synced)) before (c.sync.ensures.content ∙ told) rest in
     inl (record {
       later = omega (arith, first, leaves.later);
       each = λ image since. ⊎_elim
-          (λ past. subst P (sym (quiet image (reads_now D synced mid only image past))) (recovering_same c.args.magic c.args.blocks before))
+          (λ past. subst P (sym (quiet image (reads_now D synced mid only image past))) (recovering_same c.args.magic c.args.layout c.args.blocks before))
           (λ here. here)
           (leaves.each (D.moment mid) image (omega arith) (subst (λ (t : ℕ). D.images_since c.recover_synced.new.disk t image) first since));
     }))

@@ -1,23 +1,40 @@
-use Rattle.std.proofs.Common.{Ok, sym, ap, subst, Err, refl}
-use Rattle.disk_model.specs.declared.disk.DiskFault.{DiskFault}
-use Rattle.file_journal.specs.Kept.{AnswersPut, kept_on}
-use Rattle.file_journal.specs.Position.{Position}
-use Rattle.file_journal.proofs.KeptLemmas.{answers_cut, answers_done}
+use Rattle.std.proofs.Common.{refl, ◌∙◌, ap}
+use Rattle.file_journal.proofs.PuttingLemmas.{knows_on, turn_cut, turn_cut_first, turn_done}
 use Rattle.file_journal.proofs.kept.Kept.put.Goals as goal
 
-pub returns-in-Err-clause-answers : goal.returns-in-Err-clause-answers
-returns-in-Err-clause-answers g c =
-    let form = g.C.Change.form in
-    let steps = c.write-kind.ensures.steps in
-    let cut = c.in-Err.ensures in
-    answers_cut form g.D.Disk _ _ _ _ _ _ _ c.requires.stands_at c.requires.healthy c.write-kind.ensures.allowed steps cut.journal cut.puts.told cut.since cut.calls.at_most
-    g.met.D.Disk.earlier cut.any_moment (ap (λ (p : Position). p.failed) cut.fails) cut.stands_on (Err c.in-Err.fault) refl cut.puts
+pub returns-in_err-put_block-clause-does : goal.returns-in_err-put_block-clause-does
+returns-in_err-put_block-clause-does g c known =
+    let change = g.C.Change in
+    let asked = c.requires in
+    let writes = c.write-kind.ensures.writes in
+    let first = c.in_err-put_block.ensures in
+    turn_cut_first g.D.Disk change.steps change.seen change.form g.met.C.Change.is_seen g.met.D.Disk.earlier g.met.D.Disk.lasts_on _ _ _ _ _ _ _ writes asked.stands_at asked.healthy known (asked.lets known)
+    _ first.same first.since first.goes refl _ (ap (λ k. change.state k.ledger) first.kept) first.stands_at first.calls.at_most _ c.from_residual.ensures.0
 
-pub returns-in-Ok-clause-answers : goal.returns-in-Ok-clause-answers
-returns-in-Ok-clause-answers g c =
-    let form = g.C.Change.form in
-    let steps = c.write-kind.ensures.steps in
+pub returns-in-Ok-clause-does : goal.returns-in-Ok-clause-does
+returns-in-Ok-clause-does g c known =
+    let change = g.C.Change in
+    let asked = c.requires in
+    let writes = c.write-kind.ensures.writes in
+    let first = c.in_ok-put_block.ensures in
+    let mid_known = knows_on change.form _ _ first.goes.puts.told known in
+    let kept = ap (λ k. k.ledger) first.kept in
     let made = c.in-Ok.ensures in
-    subst (λ s. AnswersPut {E = DiskFault} g.D.Disk form (g.C.Change.command c.args.change.now c.args.self.now.ledger) (kept_on (g.C.Change.state c.args.self.now.ledger) c.args.self.now.journal c.args.disk.now) (kept_on s c.put.new.self c.put.new.disk) (Ok (tt {0}))) (sym c.make.ensures.state)
-    (answers_done form g.D.Disk _ _ _ _ _ _ _ c.requires.stands_at c.requires.healthy c.write-kind.ensures.allowed steps made.journal made.puts.told made.since made.calls.at_most
-    (Ok (tt {0})) (λ bad. cc bad) made.puts made.calls.each made.goes_on made.stands_on made.ok)
+    turn_done g.D.Disk change.steps change.seen change.form g.met.C.Change.is_seen g.met.D.Disk.earlier g.met.D.Disk.lasts_on _ _ _ _ _ _ _ writes asked.stands_at asked.healthy known (asked.lets known)
+    _ first.same first.since first.goes
+    _ _ (λ bad. cc bad) (first.calls.each, first.calls.at_most) (g.met.C.Change.lets_same _ _ _ _ first.same (asked.lets known)) (first.there known)
+    _ (rw kept at (made.turns mid_known)) made.goes made.calls.at_most (λ bad. cc bad) _ (rw kept at made.state) made.stands_at made.same made.calls.each
+
+pub returns-in-Err-clause-does : goal.returns-in-Err-clause-does
+returns-in-Err-clause-does g c known =
+    let change = g.C.Change in
+    let asked = c.requires in
+    let writes = c.write-kind.ensures.writes in
+    let first = c.in_ok-put_block.ensures in
+    let mid_known = knows_on change.form _ _ first.goes.puts.told known in
+    let kept = ap (λ k. k.ledger) first.kept in
+    let made = c.in-Err.ensures in
+    turn_cut g.D.Disk change.steps change.seen change.form g.met.C.Change.is_seen g.met.D.Disk.earlier g.met.D.Disk.lasts_on _ _ _ _ _ _ _ writes asked.stands_at asked.healthy known (asked.lets known)
+    _ first.same first.since first.goes
+    _ _ (λ bad. cc bad) (first.calls.each, first.calls.at_most) (g.met.C.Change.lets_same _ _ _ _ first.same (asked.lets known)) (first.there known)
+    _ (rw kept at (made.turns mid_known)) made.goes made.calls.at_most refl _ (ap change.state (made.err ∙ kept)) made.stands_at made.same
