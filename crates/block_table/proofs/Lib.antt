@@ -1,0 +1,8 @@
+mod FreeLemmas
+mod GoneLemmas
+mod KeptLemmas
+mod LineLemmas
+mod MarkLemmas
+pub mod Offered
+mod PlaceLemmas
+mod RunLemmas

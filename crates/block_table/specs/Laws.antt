@@ -1,0 +1,31 @@
+-- Laws of every table.
+use Rattle.std.specs.Prelude.{◌≡◌, ◌↔◌, ℕ, ◌≤◌, ◌<◌, length, slice_index}
+use Rattle.block_table.specs.Table.{Begins, HasRoom, IsFree, IsTable, IsTaken, Table, after_taking, left_in, new_table}
+use Rattle.block_table.specs.Table.{run_at, without}
+
+-- the block at this place of this run, where both are there
+pub record StandsAt (table : Table) (run at block : ℕ) : Type 0 where
+  pub there : run < length table.runs
+  pub place : at < length (run_at table run).blocks
+  pub block_is : slice_index (run_at table run).blocks at ≡ block
+
+-- it stands in some run
+abbrev pub Stands : Table → ℕ → Type 0
+Stands table block = (run : ℕ) × ((at : ℕ) × StandsAt table run at block)
+
+-- A block is taken exactly where it stands in a run, and it stands at one place of one run.
+abbrev pub PlacesLaw : Type 0
+PlacesLaw =
+    ((table : Table) (block : ℕ) → IsTaken table block ↔ Stands table block)
+    × ((table : Table) (block run at other_run other_at : ℕ) → IsTable table → StandsAt table run at block
+    → StandsAt table other_run other_at block → (run ≡ other_run) × (at ≡ other_at))
+
+-- A table without runs keeps the rules of a table, and so does each call that changes one.
+abbrev pub RulesLaw : Type 0
+RulesLaw =
+    ((limit : ℕ) → 1 ≤ limit → limit ≤ 65536 → IsTable (new_table limit))
+    × ((before now : Table) (room : ℕ) → IsTable before → room ≤ left_in before → Begins before room now
+    → IsTable now)
+    × ((table : Table) (run block : ℕ) → IsTable table → HasRoom table run → IsFree table block
+    → IsTable (after_taking table run block))
+    × ((table : Table) (run : ℕ) → IsTable table → run < length table.runs → IsTable (without table run))

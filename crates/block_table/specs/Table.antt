@@ -1,0 +1,100 @@
+-- Which blocks of a store its files take: for each file a run of blocks.
+use Rattle.std.specs.Prelude.{◌≡◌, ℕ, ◌+◌, ◌-◌, ◌<◌, ◌≤◌, ◌==◌, List, [], ◌∷◌, ◌++◌, length, count_by, sum_by}
+use Rattle.std.specs.Prelude.{slice_index_or, slice_set}
+use Rattle.std.specs.List.{All, remove}
+
+-- the blocks that a file's octets stand in, in their order, and how many it may have
+pub record Run : Type 0 where
+  pub blocks : List ℕ
+  pub room : ℕ
+
+-- the runs, how many blocks there are, and for how many further runs there is memory
+pub record Table : Type 0 where
+  pub runs : List Run
+  pub limit : ℕ
+  pub spare : ℕ
+
+-- a run that was just begun
+abbrev pub new_run : ℕ → Run
+new_run room = record { blocks = []; room = room }
+
+-- no run yet, and no memory for one
+abbrev pub new_table : ℕ → Table
+new_table limit = record { runs = []; limit = limit; spare = 0 }
+
+-- the run at this place; one that may have no block where there is none
+abbrev pub run_at : Table → ℕ → Run
+run_at table run = slice_index_or table.runs run (new_run 0)
+
+-- how many blocks these runs may have together
+abbrev pub rooms_of : List Run → ℕ
+rooms_of runs = sum_by (λ r. r.room) runs
+
+-- how many blocks a further run may have at most
+abbrev pub left_in : Table → ℕ
+left_in table = table.limit - rooms_of table.runs
+
+-- how often a block stands in a run
+abbrev pub times_in : ℕ → Run → ℕ
+times_in block run = count_by (λ b. b == block) run.blocks
+
+-- how often it stands in these runs together
+abbrev pub times_of : ℕ → List Run → ℕ
+times_of block runs = sum_by (times_in block) runs
+
+-- a run has the block
+abbrev pub IsTaken : Table → ℕ → Type 0
+IsTaken table block = 1 ≤ times_of block table.runs
+
+-- there is such a block, and no run has it
+pub record IsFree (table : Table) (block : ℕ) : Type 0 where
+  pub below : block < table.limit
+  pub free : times_of block table.runs ≡ 0
+
+-- no run has this block, and some run has each one below it
+pub record IsLowestFree (table : Table) (block : ℕ) : Type 0 where
+  pub here : IsFree table block
+  pub lower : (other : ℕ) → other < block → IsTaken table other
+
+-- this run is there, and may have one more block
+pub record HasRoom (table : Table) (run : ℕ) : Type 0 where
+  pub there : run < length table.runs
+  pub room : length (run_at table run).blocks < (run_at table run).room
+
+-- a run has no more blocks than it may, each one of those that there are
+pub record IsRun (limit : ℕ) (run : Run) : Type 0 where
+  pub fits : length run.blocks ≤ run.room
+  pub below : All (λ b. b < limit) run.blocks
+
+-- each run is one; they may have no more blocks together than there are; and no block stands twice, be it in one run or
+-- in two
+pub record AreRuns (runs : List Run) (limit : ℕ) : Type 0 where
+  pub each : All (IsRun limit) runs
+  pub rooms : rooms_of runs ≤ limit
+  pub once : (block : ℕ) → times_of block runs ≤ 1
+  pub some : 1 ≤ limit
+  pub most : limit ≤ 65536
+
+-- what holds of each table
+abbrev pub IsTable : Table → Type 0
+IsTable table = AreRuns table.runs table.limit
+
+-- this run with one more block behind its others
+abbrev pub with_block : Run → ℕ → Run
+with_block run block = record { blocks = run.blocks ++ block ∷ []; room = run.room }
+
+-- a run without blocks, which may have so many, came behind the others
+pub record Begins (before : Table) (room : ℕ) (now : Table) : Type 0 where
+  pub runs : now.runs ≡ before.runs ++ new_run room ∷ []
+  pub limit : now.limit ≡ before.limit
+  pub spare : before.spare ≤ now.spare + 1
+
+-- this run has this block behind its others
+abbrev pub after_taking : Table → ℕ → ℕ → Table
+after_taking table run block =
+    let now = slice_set table.runs run (with_block (run_at table run) block) in
+    record { runs = now; limit = table.limit; spare = table.spare }
+
+-- this run is gone, and the later ones moved up
+abbrev pub without : Table → ℕ → Table
+without table run = record { runs = remove table.runs run; limit = table.limit; spare = table.spare + 1 }

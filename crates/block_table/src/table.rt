@@ -1,0 +1,174 @@
+//! The table of runs.
+
+ghost use Rattle.std.specs.Prelude.{◌≡◌, ◌↔◌, ℕ, ◌≤◌, ◌<◌, length, IsTrue, IfOk, OnOk, OnErr};
+ghost use Rattle.std.specs.Prelude.{slice_index};
+ghost use Rattle.block_table.specs.Table.{Begins, HasRoom, IsFree, IsLowestFree, IsTable, IsTaken};
+ghost use Rattle.block_table.specs.Table.{after_taking, left_in, new_table, run_at, without};
+
+use crate::marks::{RunMark, first_free, free_blocks, move_up};
+use px_base::OutOfMemory;
+use std::alloc::Global;
+use std::marker::Model;
+
+/// The runs of blocks of a store's files. Contracts see it as a `Table`.
+#[derive(Drop)]
+pub struct BlockTable {
+    /// The numbers of the blocks: those of a run stand one behind another, from its first place on.
+    numbers: Vec<u16>,
+    /// Of each block, whether a run has it.
+    taken: Vec<bool>,
+    /// Each block below this one is taken.
+    lowest: u32,
+    runs: Vec<RunMark>,
+    /// How many blocks the runs may have together: so many places of the list of numbers are theirs.
+    rooms: u32,
+    limit: u32,
+}
+
+impl Model for BlockTable {
+    ghost use Rattle.std.specs.Prelude.{◌-◌, vec_capacity, vec_len};
+    ghost use Rattle.block_table.specs.Table.{Table};
+
+    ghost Value = { Table };
+
+    ghost use Rattle.block_table.specs.Kept.{IsKept, runs_in};
+
+    ghost view = { λ a. record {
+      runs = runs_in a.numbers.items a.runs.items;
+      limit = a.limit;
+      spare = vec_capacity a.runs - vec_len a.runs;
+    } };
+
+    ghost invariant = { λ a. IsKept (record {
+      marks = a.runs.items;
+      numbers = a.numbers.items;
+      taken = a.taken.items;
+      lowest = a.lowest;
+      rooms = a.rooms;
+      limit = a.limit;
+    }) };
+}
+
+impl BlockTable {
+    /// A table without runs, of so many blocks. Takes memory: 3 octets for each block.
+    pub fn new(alloc: Global, limit: u32) -> Result<BlockTable, OutOfMemory>
+        requires some { 1 ≤ limit }
+        requires most { limit ≤ 65536 }
+        ensures { IfOk result (λ table. table ≡ new_table limit) }
+    {
+        let blocks = limit as usize;
+        Ok(BlockTable {
+            numbers: vec![in alloc; 0; blocks]?,
+            taken: vec![in alloc; false; blocks]?,
+            lowest: 0,
+            runs: Vec::new(alloc),
+            rooms: 0,
+            limit,
+        })
+    }
+
+    /// Makes room in memory for one more run, or changes nothing. Takes memory.
+    pub fn reserve(&mut self) -> Result<(), OutOfMemory>
+        ensures runs { self.new.runs ≡ self.old.runs }
+        ensures limit { self.new.limit ≡ self.old.limit }
+        ensures ok { OnOk result (1 ≤ self.new.spare) }
+        ensures err { OnErr result (self.new ≡ self.old) }
+    {
+        self.runs.reserve(1)?;
+        Ok(())
+    }
+
+    /// How many blocks a run that is begun next may have at most. Takes no memory.
+    pub fn left(&self) -> u32
+        ensures left { result ≡ left_in self.now }
+        ensures rules { IsTable self.now }
+    {
+        self.limit - self.rooms
+    }
+
+    /// Begins a run, which has no block yet, and may have so many. There is room for it in memory. Takes no memory.
+    pub fn begin(&mut self, room: u32)
+        requires room { room ≤ left_in self.old }
+        requires memory { 1 ≤ self.old.spare }
+        ensures { Begins self.old room self.new }
+    {
+        let mark = RunMark {
+            first: self.rooms,
+            count: 0,
+            room,
+        };
+        self.runs.push(mark).unwrap();
+        self.rooms += room;
+    }
+
+    /// Whether a run has this block. Takes no memory.
+    pub fn is_taken(&self, block: u32) -> bool
+        ensures { IsTrue result ↔ IsTaken self.now block }
+    {
+        match self.taken.get(block as usize) {
+            Some(taken) => *taken,
+            None => false,
+        }
+    }
+
+    /// The lowest block that no run has. There is one, since a run may have one more. Takes no memory. The work is at
+    /// most a look at the mark of each block.
+    pub fn lowest_free(&self) -> u32
+        requires { (run : ℕ) × HasRoom self.now run }
+        ensures { IsLowestFree self.now result }
+    {
+        let from = self.lowest as usize;
+        let ahead = first_free(&self.taken[from..]).unwrap();
+        (from + ahead) as u32
+    }
+
+    /// A run, which has room for it, has this block behind its others; no run had it. Takes no memory. The work is the
+    /// same for each table.
+    pub fn take(&mut self, run: usize, block: u32)
+        requires room { HasRoom self.old run }
+        requires free { IsFree self.old block }
+        ensures { self.new ≡ after_taking self.old run block }
+    {
+        let mark = &mut self.runs[run];
+        self.numbers[(mark.first + mark.count) as usize] = block as u16;
+        mark.count += 1;
+        self.taken[block as usize] = true;
+        if block == self.lowest {
+            self.lowest += 1;
+        }
+    }
+
+    /// How many blocks this run has. Takes no memory.
+    pub fn count(&self, run: usize) -> usize
+        requires { run < length self.now.runs }
+        ensures count { result ≡ length (run_at self.now run).blocks }
+        ensures rules { IsTable self.now }
+    {
+        self.runs[run].count as usize
+    }
+
+    /// The block at this place of a run. Takes no memory. The work is the same for each place.
+    pub fn block(&self, run: usize, at: usize) -> u32
+        requires there { run < length self.now.runs }
+        requires place { at < length (run_at self.now run).blocks }
+        ensures { result ≡ slice_index (run_at self.now run).blocks at }
+    {
+        let mark = self.runs[run];
+        u32::from(self.numbers[mark.first as usize + at])
+    }
+
+    /// This run is gone, the later ones move up, and its blocks are free. Takes no memory.
+    pub fn remove(&mut self, run: usize)
+        requires { run < length self.old.runs }
+        ensures { self.new ≡ without self.old run }
+    {
+        let gone = self.runs.remove(run);
+        let first = gone.first as usize;
+        let blocks = &self.numbers[first..first + gone.count as usize];
+        self.lowest = free_blocks(&mut self.taken, blocks, self.lowest);
+        let behind = first + gone.room as usize;
+        self.numbers.copy_within(behind..self.rooms as usize, first);
+        move_up(&mut self.runs[run..], gone.room);
+        self.rooms -= gone.room;
+    }
+}
