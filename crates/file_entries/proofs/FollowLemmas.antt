@@ -1,5 +1,5 @@
 -- What holds of a store that follows another.
-use Rattle.std.proofs.Common.{◌≡◌, ℕ, ◌≤◌, ◌<◌, not, List, [], ◌∷◌, ◌++◌, length, filter, refl, ap, sym, ◌∙◌, subst, arith, Option, None, Some, inl, inr, ◌==◌, length-append, zero, suc, take}
+use Rattle.std.proofs.Common.{◌≡◌, ℕ, ◌≤◌, ◌<◌, not, List, [], ◌∷◌, ◌++◌, length, filter, refl, ap, sym, ◌∙◌, subst, arith, Option, None, Some, inl, inr, ◌==◌, length-append, take}
 use Rattle.std.specs.Prelude.{find, IsTrue, ⊤}
 use Rattle.std.specs.List.{AllByRecursion}
 use Rattle.std.proofs.lemmas.Bool.Decides.{nat_tests, eqb_tells}
@@ -8,20 +8,19 @@ use Rattle.std.proofs.lemmas.List.Elements.{All-append, All-drop, All-from_recur
 use Rattle.std.proofs.lemmas.Option.{same_Some}
 use Rattle.px_base.specs.CallSign.{CallSign, IsCall}
 use Rattle.px_base.specs.Octets.{IsOctets}
-use Rattle.file_journal.specs.Commands as kept
-use Rattle.file_journal.proofs.Offered.{allowed_append}
+use Rattle.file_journal.proofs.Offered.{allowed_append, allowed_first}
 use Rattle.pfh_items.specs.Layout.{header_text}
 use Rattle.pfh_items.specs.Stamp.{StampValue, stamped}
 use Rattle.pfh_items.proofs.Offered.{octets_as_body}
 use Rattle.pfh_writer.proofs.ClientLemmas.{kept_file}
 use Rattle.pfh_writer.proofs.StampedLemmas.{length-stamped}
-use Rattle.file_entries.specs.Command.{Command, IsAllowed, DoesAll, begin, grow, seal, drop_entry, is_good, is_allowed, grown, kept_with, sealed, stamp_of, with_holding, with_more, after, after_all, AreAllowed, HasCall, HaveCalls}
+use Rattle.file_entries.specs.Command.{Command, DoesAll, begin, grow, seal, drop_entry, is_good, is_allowed, grown, kept_with, sealed, stamp_of, with_holding, with_more, after, after_all, AreAllowed, HasCall, HaveCalls}
 use Rattle.file_entries.specs.Follows.{AreOf, BringsOctets, Continues, Follows, FollowsLaw, HaveFiles, IsFile, IsOf, KeepsEntries, KeepsOthers}
 use Rattle.file_entries.specs.IsStore.{IsStore}
 use Rattle.file_entries.specs.Store.{Entry, Holding, partial, complete, Store, entry_of, new_entry, octets_of}
 use Rattle.file_entries.proofs.AfterLemmas.{after-IsStore, after-same, after_all-IsStore, after_all-KeepsComplete, begin-allowed, find-push, found-passes, good-fault, may-come, number_of}
 use Rattle.file_entries.proofs.EntriesLemmas.{find-map-changed, find_past, found-caller, found-fits, has_number}
-use Rattle.file_entries.proofs.GrowLemmas.{AreAllowed-append, after_all-append}
+use Rattle.file_entries.proofs.GrowLemmas.{AreAllowed-append, AreAllowed-first, after_all-append}
 use Rattle.file_entries.proofs.LawLemmas.{after-next, after_all-gone}
 
 abbrev IsOctet : ℕ → Type 0
@@ -210,13 +209,6 @@ then-does before between now a b one two = (
   two.1 ∙ ap (λ (s : Store). after_all s b) one.1 ∙ sym (after_all-append a b before),
 )
 
--- the first of the commands
-first-allowed : (allowed : Store → Command → Type 0) (n : ℕ) (store : Store) (commands : List Command) → kept.AreAllowed allowed after store commands
-    → kept.AreAllowed allowed after store (take n commands)
-first-allowed allowed zero store commands ok = tt
-first-allowed allowed (suc n) store [] ok = tt
-first-allowed allowed (suc n) store (command ∷ commands) ok = (ok.0, first-allowed allowed n (after store command) commands ok.1)
-
 pub follows_law : FollowsLaw
 follows_law = record {
   entries = entries;
@@ -240,11 +232,11 @@ follows_law = record {
   first = λ before now count f. record {
     commands = take count f.commands;
     calls = recursion_from_All HasCall (take count f.commands) (All-take HasCall count f.commands (All-from_recursion HasCall f.commands f.calls));
-    does = (first-allowed IsAllowed count before f.commands f.does.0, refl);
+    does = (AreAllowed-first count f.commands before f.does.0, refl);
   };
   first_by = λ caller before now count f. record {
     commands = take count f.commands;
-    own = first-allowed (IsOf caller) count before f.commands f.own;
-    does = (first-allowed IsAllowed count before f.commands f.does.0, refl);
+    own = allowed_first after (IsOf caller) count f.commands before f.own;
+    does = (AreAllowed-first count f.commands before f.does.0, refl);
   };
 }

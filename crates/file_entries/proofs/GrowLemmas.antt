@@ -4,7 +4,7 @@ use Rattle.std.specs.Prelude.{IsTrue}
 use Rattle.std.proofs.lemmas.Bool.Decides.{nat_tests}
 use Rattle.std.proofs.lemmas.List.{length-take-le, append-nil}
 use Rattle.std.proofs.Math.Seq.{take-add}
-use Rattle.file_journal.proofs.Offered.{after_all_append, allowed_append}
+use Rattle.file_journal.proofs.Offered.{after_all_append, allowed_append, allowed_first, allowed_split}
 use Rattle.file_entries.specs.Command.{Command, IsAllowed, HaveCalls, grow, has_room, passes, is_allowed, grown, changed, with_holding, with_more, after, after_all, AreAllowed, grows, last_grow}
 use Rattle.file_entries.specs.Store.{Entry, Holding, partial, complete, Store, entry_of}
 use Rattle.file_entries.proofs.EntriesLemmas.{find-map-changed}
@@ -65,6 +65,14 @@ after_all-append = after_all_append after
 
 pub AreAllowed-append : (a b : List Command) (store : Store) → AreAllowed store a → AreAllowed (after_all store a) b → AreAllowed store (a ++ b)
 AreAllowed-append = allowed_append after IsAllowed
+
+pub AreAllowed-split : (a b : List Command) (store : Store) → AreAllowed store (a ++ b)
+    → AreAllowed store a × AreAllowed (after_all store a) b
+AreAllowed-split = allowed_split after IsAllowed
+
+pub AreAllowed-first : (count : ℕ) (commands : List Command) (store : Store) → AreAllowed store commands
+    → AreAllowed store (take count commands)
+AreAllowed-first = allowed_first after IsAllowed
 
 pub both-true : (a b : Bool) → IsTrue a → IsTrue b → IsTrue (a && b)
 both-true a b p q = rw (p, q) refl

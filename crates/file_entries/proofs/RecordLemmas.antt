@@ -1,77 +1,17 @@
 -- Lemmas on the records of commands.
-use Rattle.std.proofs.Common.{◌≡◌, ℕ, ◌+◌, ◌*◌, ◌/◌, ◌%◌, ◌^◌, ◌<◌, ◌≤◌, ◌==◌, Bool, true, false, ◌&&◌, nat_le, nat_lt, List, [], ◌∷◌, ◌++◌, length, take, drop, Option, None, Some, refl, sym, ap, ◌∙◌, subst, arith, inl, inr, lit<, add-zero, length-drop, take-append-drop}
-use Rattle.std.specs.Prelude.{◌↔◌, if◌then◌else◌, slice_index}
-use Rattle.std.specs.Option.{option_map}
-use Rattle.std.proofs.lemmas.Bool.{and_parts, cases_lt, eq-eqb, eqb-true, le-leb, leb-true, lt-ltb, ltb-true, ne_eqb}
+use Rattle.std.proofs.Common.{◌≡◌, ℕ, ◌^◌, ◌<◌, ◌≤◌, ◌==◌, Bool, true, ◌&&◌, nat_le, nat_lt, List, [], ◌∷◌, ◌++◌, length, take, drop, None, Some, refl, sym, ap, ◌∙◌, subst, arith, inl, inr, length-drop, take-append-drop}
+use Rattle.std.specs.Prelude.{◌↔◌, if◌then◌else◌}
+use Rattle.std.proofs.lemmas.Bool.{and_parts, eq-eqb, eqb-true, le-leb, leb-true, lt-ltb, ltb-true, ne_eqb}
 use Rattle.std.proofs.lemmas.Bool.Decides.{eqb_tells}
-use Rattle.std.proofs.lemmas.List.{get_or-drop, get_or_past}
-use Rattle.std.proofs.lemmas.List.Elements.{All-append, All-cons, All-drop, All-nil, All-take}
-use Rattle.px_base.specs.CallSign.{CallSign, IsCall}
+use Rattle.px_base.specs.CallSign.{CallSign}
 use Rattle.px_base.specs.Numbers.{le32, le32_octets}
 use Rattle.px_base.specs.Octets.{IsOctets}
 use Rattle.px_base.specs.CallOctets.{call_in, call_octets, call_of}
 use Rattle.px_base.proofs.Spelled.{law, length-IsSpelled}
-use Rattle.pfh_items.proofs.Offered.{IsOctets-chars, IsOctets-le32}
 use Rattle.file_journal.specs.Records.{IsRecord, Record, record_of}
+use Rattle.file_journal.proofs.Offered.{eight, four, if_some, le32_below, map_some, number_at, number_front, octets_call, octets_drop, octets_joined, octets_le32}
 use Rattle.file_entries.specs.Command.{Command, begin, drop_entry, grow, seal}
 use Rattle.file_entries.specs.Records.{IsWritable, Writes, begin_by, begin_content, begin_in, command_of, drop_in, grow_in, record_of_command, seal_in}
-
-abbrev IsOctet : ℕ → Type 0
-IsOctet n = n < 256
-
--- a part of octets is octets
-pub IsOctets-part : (octets : List ℕ) (i n : ℕ) → IsOctets octets → IsOctets (take n (drop i octets))
-IsOctets-part octets i n h = All-take IsOctet n (drop i octets) (All-drop IsOctet i octets h)
-
-IsOctets-drop : (octets : List ℕ) (i : ℕ) → IsOctets octets → IsOctets (drop i octets)
-IsOctets-drop octets i h = All-drop IsOctet i octets h
-
--- the octet at any place, 0 past the end
-octet_at : (octets : List ℕ) → IsOctets octets → (i : ℕ) → slice_index octets i < 256
-octet_at octets h i =
-    elim (cases_lt i (length octets)) [
-      | inl below ↦ h i 0 below
-      | inr past ↦ rw (get_or_past octets i 0 past) (lit< tt)
-    ]
-
-le32-below : (octets : List ℕ) (at : ℕ) → IsOctets octets → le32 octets at < 2 ^ 32
-le32-below octets at h = let octet = octet_at octets h in omega (arith, octet at, octet (at + 1), octet (at + 2), octet (at + 3))
-
-four_octets : (a b c d : ℕ) → a < 256 → b < 256 → c < 256 → d < 256
-    → le32_octets (a + 256 * b + 65536 * c + 16777216 * d) ≡ a ∷ b ∷ c ∷ d ∷ []
-four_octets a b c d ha hb hc hd =
-    let n : ℕ = a + 256 * b + 65536 * c + 16777216 * d in
-    let first : n % 256 ≡ a = omega arith in
-    let second : n / 256 % 256 ≡ b = omega arith in
-    let third : n / 65536 % 256 ≡ c = omega arith in
-    let fourth : n / 16777216 % 256 ≡ d = omega arith in
-    rw (first, second, third, fourth) refl
-
--- the octets of a number that stands at the front are the first four
-number_front : (octets : List ℕ) → IsOctets octets → 4 ≤ length octets → le32_octets (le32 octets 0) ≡ take 4 octets
-number_front (a ∷ b ∷ c ∷ d ∷ rest) h some =
-    let octet = octet_at (a ∷ b ∷ c ∷ d ∷ rest) h in
-    four_octets a b c d (octet 0) (octet 1) (octet 2) (octet 3)
-number_front octets h some = absurd (omega arith)
-
-le32-drop : (octets : List ℕ) (at : ℕ) → le32 (drop at octets) 0 ≡ le32 octets at
-le32-drop octets at = simp (get_or-drop, add-zero)
-
--- and of one that stands further on
-number_at : (octets : List ℕ) (at : ℕ) → IsOctets octets → at + 4 ≤ length octets → le32_octets (le32 octets at) ≡ take 4 (drop at octets)
-number_at octets at h some =
-    ap le32_octets (sym (le32-drop octets at))
-    ∙ number_front (drop at octets) (IsOctets-drop octets at h) (let left = length-drop at octets in omega (arith, left))
-
--- ---- tests
-
-if-some : (b : Bool) (o : Option Command) (command : Command) → (if b then o else None) ≡ Some command → (b ≡ true) × (o ≡ Some command)
-if-some true o command h = (refl, h)
-if-some false o command h = absurd (cc)
-
-map-some : (f : CallSign → Command) (o : Option CallSign) (command : Command) → option_map f o ≡ Some command → (call : CallSign) × (o ≡ Some call) × (command ≡ f call)
-map-some f None command h = absurd (cc)
-map-some f (Some call) command h = (call, refl, cc)
 
 -- ---- a content that is read is the command's
 
@@ -81,19 +21,11 @@ nineteen : (octets : List ℕ) → length octets ≡ 19
 nineteen (a ∷ b ∷ c ∷ d ∷ e ∷ f ∷ g ∷ h ∷ i ∷ j ∷ k ∷ l ∷ m ∷ n ∷ o ∷ p ∷ q ∷ r ∷ s ∷ []) same = refl
 nineteen octets same = absurd (omega arith)
 
-eight : (octets : List ℕ) → length octets ≡ 8 → octets ≡ take 4 octets ++ take 4 (drop 4 octets)
-eight (a ∷ b ∷ c ∷ d ∷ e ∷ f ∷ g ∷ h ∷ []) same = refl
-eight octets same = absurd (omega arith)
-
-four : (octets : List ℕ) → length octets ≡ 4 → octets ≡ take 4 octets
-four (a ∷ b ∷ c ∷ d ∷ []) same = refl
-four octets same = absurd (omega arith)
-
 begin-read : (content : List ℕ) (command : Command) → IsOctets content → begin_in content ≡ Some command → Writes (record_of 1 content) command
 begin-read content command octets h =
-    let w = if-some (length content == 19) (begin_by content (call_in (take 7 (drop 4 content)))) command h in
+    let w = if_some (length content == 19) (begin_by content (call_in (take 7 (drop 4 content)))) command h in
     let whole : length content ≡ 19 = eqb-true _ _ w.0 in
-    let v = map-some (λ (caller : CallSign). begin (le32 content 0) caller (le32 content 11) (le32 content 15)) (call_in (take 7 (drop 4 content))) command w.1 in
+    let v = map_some (λ (caller : CallSign). begin (le32 content 0) caller (le32 content 11) (le32 content 15)) (call_in (take 7 (drop 4 content))) command w.1 in
     let call = (law (take 7 (drop 4 content)) v.0).0 v.1 in
     let first : le32_octets (le32 content 0) ≡ take 4 content = number_front content octets (omega arith) in
     let third : le32_octets (le32 content 11) ≡ take 4 (drop 11 content) = number_at content 11 octets (omega arith) in
@@ -105,11 +37,11 @@ begin-read content command octets h =
     ∙ ap (λ (t : List ℕ). ((le32_octets (le32 content 0) ++ call_octets v.0) ++ t) ++ take 4 (drop 15 content)) (sym third)
     ∙ ap (λ (t : List ℕ). ((le32_octets (le32 content 0) ++ call_octets v.0) ++ le32_octets (le32 content 11)) ++ t) (sym fourth) in
     subst (λ (c : Command). Writes (record_of 1 content) c) (sym v.2)
-    ((le32-below content 0 octets, call.0, le32-below content 11 octets, le32-below content 15 octets), ap (record_of 1) parts)
+    ((le32_below content 0 octets, call.0, le32_below content 11 octets, le32_below content 15 octets), ap (record_of 1) parts)
 
 grow-read : (content : List ℕ) (command : Command) → IsOctets content → grow_in content ≡ Some command → Writes (record_of 2 content) command
 grow-read content command octets h =
-    let w = if-some (nat_lt 4 (length content) && nat_le (length content) 516) (Some (grow (le32 content 0) (drop 4 content))) command h in
+    let w = if_some (nat_lt 4 (length content) && nat_le (length content) 516) (Some (grow (le32 content 0) (drop 4 content))) command h in
     let t = and_parts _ _ w.0 in
     let some : 4 < length content = ltb-true _ _ t.0 in
     let most : length content ≤ 516 = leb-true _ _ t.1 in
@@ -117,31 +49,31 @@ grow-read content command octets h =
     let left = length-drop 4 content in
     let front : le32_octets (le32 content 0) ≡ take 4 content = number_front content octets (omega arith) in
     subst (λ (c : Command). Writes (record_of 2 content) c) (sym is) (
-      (le32-below content 0 octets, IsOctets-drop content 4 octets, omega (arith, left), omega (arith, left)),
+      (le32_below content 0 octets, octets_drop content 4 octets, omega (arith, left), omega (arith, left)),
       ap (record_of 2) (sym (take-append-drop 4 content) ∙ ap (λ (t : List ℕ). t ++ drop 4 content) (sym front)),
     )
 
 seal-read : (content : List ℕ) (command : Command) → IsOctets content → seal_in content ≡ Some command → Writes (record_of 3 content) command
 seal-read content command octets h =
-    let w = if-some (length content == 8) (Some (seal (le32 content 0) (le32 content 4))) command h in
+    let w = if_some (length content == 8) (Some (seal (le32 content 0) (le32 content 4))) command h in
     let whole : length content ≡ 8 = eqb-true _ _ w.0 in
     let is : command ≡ seal (le32 content 0) (le32 content 4) = let e = w.1 in cc in
     let front : le32_octets (le32 content 0) ≡ take 4 content = number_front content octets (omega arith) in
     let back : le32_octets (le32 content 4) ≡ take 4 (drop 4 content) = number_at content 4 octets (omega arith) in
     subst (λ (c : Command). Writes (record_of 3 content) c) (sym is) (
-      (le32-below content 0 octets, le32-below content 4 octets),
+      (le32_below content 0 octets, le32_below content 4 octets),
       ap (record_of 3)
           (eight content whole ∙ ap (λ (t : List ℕ). t ++ take 4 (drop 4 content)) (sym front) ∙ ap (λ (t : List ℕ). le32_octets (le32 content 0) ++ t) (sym back)),
     )
 
 drop-read : (content : List ℕ) (command : Command) → IsOctets content → drop_in content ≡ Some command → Writes (record_of 4 content) command
 drop-read content command octets h =
-    let w = if-some (length content == 4) (Some (drop_entry (le32 content 0))) command h in
+    let w = if_some (length content == 4) (Some (drop_entry (le32 content 0))) command h in
     let whole : length content ≡ 4 = eqb-true _ _ w.0 in
     let is : command ≡ drop_entry (le32 content 0) = let e = w.1 in cc in
     let front : le32_octets (le32 content 0) ≡ take 4 content = number_front content octets (omega arith) in
     subst (λ (c : Command). Writes (record_of 4 content) c) (sym is)
-    (le32-below content 0 octets, ap (record_of 4) (four content whole ∙ sym front))
+    (le32_below content 0 octets, ap (record_of 4) (four content whole ∙ sym front))
 
 -- the record, whose kind is known
 of_kind : (entry : Record) (kind : ℕ) (command : Command) → entry.kind ≡ kind → Writes (record_of kind entry.content) command → Writes entry command
@@ -231,30 +163,23 @@ records entry command is = (read-writes entry command is, λ w. ap command_of w.
 
 -- ---- the record of a command is a record
 
-joined : (xs ys : List ℕ) → IsOctets xs → IsOctets ys → IsOctets (xs ++ ys)
-joined xs ys h g = All-append IsOctet xs ys h g
-
-IsOctets-call : (call : CallSign) → IsCall call → IsOctets (call_octets call)
-IsOctets-call call is =
-    joined call.chars (call.ssid ∷ []) (IsOctets-chars call is) (All-cons IsOctet call.ssid [] (omega (arith, is.in_range)) (All-nil IsOctet))
-
 pub IsRecord-written : (command : Command) → IsWritable command → IsRecord (record_of_command command)
 IsRecord-written (begin number caller file_length moment) is =
     let p = begin_parts number caller.ssid file_length moment caller.chars (length-IsSpelled caller.chars is.1.spelled) is.0 is.2 is.3 in
     record {
       kind = omega arith;
       octets =
-          joined ((le32_octets number ++ call_octets caller) ++ le32_octets file_length) (le32_octets moment)
-          (joined (le32_octets number ++ call_octets caller) (le32_octets file_length)
-          (joined (le32_octets number) (call_octets caller) (IsOctets-le32 number) (IsOctets-call caller is.1)) (IsOctets-le32 file_length))
-          (IsOctets-le32 moment);
+          octets_joined ((le32_octets number ++ call_octets caller) ++ le32_octets file_length) (le32_octets moment)
+          (octets_joined (le32_octets number ++ call_octets caller) (le32_octets file_length)
+          (octets_joined (le32_octets number) (call_octets caller) (octets_le32 number) (octets_call caller is.1)) (octets_le32 file_length))
+          (octets_le32 moment);
       most = omega (arith, p.len);
     }
 IsRecord-written (grow number octets) is =
-    record { kind = omega arith; octets = joined (le32_octets number) octets (IsOctets-le32 number) is.1; most = omega (arith, is.3) }
+    record { kind = omega arith; octets = octets_joined (le32_octets number) octets (octets_le32 number) is.1; most = omega (arith, is.3) }
 IsRecord-written (seal number moment) is =
-    record { kind = omega arith; octets = joined (le32_octets number) (le32_octets moment) (IsOctets-le32 number) (IsOctets-le32 moment); most = omega arith }
-IsRecord-written (drop_entry number) is = record { kind = omega arith; octets = IsOctets-le32 number; most = omega arith }
+    record { kind = omega arith; octets = octets_joined (le32_octets number) (le32_octets moment) (octets_le32 number) (octets_le32 moment); most = omega arith }
+IsRecord-written (drop_entry number) is = record { kind = omega arith; octets = octets_le32 number; most = omega arith }
 
 -- ---- the kinds
 

@@ -13,5 +13,6 @@ pub mod Laws
 pub mod Limits
 pub mod Records
 pub mod Store
+pub mod StoreLaws
 pub use Rattle.pfh_items.specs.Faults
 pub use Rattle.pfh_items.specs.Stamp

@@ -5,8 +5,11 @@ use Rattle.px_base.specs.CallSign.{CallSign, IsCall}
 use Rattle.px_base.specs.Numbers.{le32, le32_octets}
 use Rattle.px_base.specs.Octets.{IsOctets}
 use Rattle.px_base.specs.CallOctets.{call_octets, call_in}
-use Rattle.file_journal.specs.Form.{Form}
+use Rattle.file_journal.specs.Form.{Form, record_calls}
 use Rattle.file_journal.specs.Records.{Record, record_of}
+use Rattle.file_journal.specs.Steps.{Steps, growing_steps}
+use Rattle.file_journal.specs.Walk.{stands_for}
+use Rattle.file_journal.specs.declared.layout.Layout.TheVariants as layout
 use Rattle.file_entries.specs.Command.{Command, IsAllowed, begin, grow, seal, drop_entry, after, is_allowed}
 use Rattle.file_entries.specs.Store.{Store, empty_store}
 
@@ -87,14 +90,19 @@ store_step store entry = option_and_then (store_after store) (command_of entry)
 abbrev pub store_magic : List ℕ
 store_magic = 80 ∷ 88 ∷ 83 ∷ 84 ∷ 79 ∷ 82 ∷ 69 ∷ 48 ∷ []
 
+-- what their records make of a store
+abbrev pub store_steps : Steps Store
+store_steps = growing_steps empty_store (λ store. store.blocks) store_step
+
 -- the stores that a journal of these commands keeps
 abbrev pub store_form : Form Store Command
 store_form =
     record {
       magic = store_magic;
-      fresh = empty_store;
+      layout = layout.Growing;
       number = λ store. store.blocks;
-      step = store_step;
+      standing = λ blocks octets. stands_for empty_store store_step store_magic layout.Growing blocks octets;
       allowed = IsAllowed;
       after = after;
+      calls = λ command. record_calls;
     }

@@ -2,21 +2,28 @@
 
 use crate::command::Command;
 use crate::entries::Entries;
-use file_journal::Ledger;
-use px_base::OutOfMemory;
+use disk_model::Disk;
+use file_journal::{ApplyFault, Journal, Layout, Ledger};
 use std::alloc::Global;
 
 impl Ledger for Entries {
     ghost use Rattle.file_entries.specs.Command.{Command as StoreCommand};
     ghost use Rattle.file_entries.specs.Files.{NothingOut, store_of};
-    ghost use Rattle.file_entries.specs.Records.{store_form};
+    ghost use Rattle.file_entries.specs.Records.{store_form, store_steps};
     ghost use Rattle.file_entries.specs.Store.{Store};
+    ghost use Rattle.file_entries.specs.StoreLaws.{store_seen};
 
     ghost State = { Store };
+
+    ghost Seen = { Store };
 
     ghost Command = { StoreCommand };
 
     ghost form = { store_form };
+
+    ghost steps = { store_steps };
+
+    ghost seen = { λ held store. store };
 
     ghost state = { λ entries. store_of entries.files };
 
@@ -26,14 +33,26 @@ impl Ledger for Entries {
         *b"PXSTORE0"
     }
 
+    fn layout() -> Layout {
+        Layout::Growing
+    }
+
     fn fresh(alloc: Global, blocks: u32) -> Entries {
         Entries::new(alloc, blocks)
     }
 
-    fn apply(&mut self, kind: u8, content: &[u8]) -> Result<bool, OutOfMemory> {
-        match Command::read(kind, content) {
-            Some(command) => self.apply_command(command),
-            None => Ok(false),
-        }
+    fn apply<D: Disk>(
+        &mut self,
+        _journal: &Journal,
+        _disk: &mut D,
+        kind: u8,
+        content: &[u8],
+    ) -> Result<bool, ApplyFault> {
+        let Some(command) = Command::read(kind, content) else {
+            return Ok(false);
+        };
+        Ok(self.apply_command(command)?)
     }
+
+    ghost is_seen = { store_seen };
 }
