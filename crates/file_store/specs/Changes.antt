@@ -2,6 +2,8 @@
 use Rattle.std.specs.Prelude.{◌≡◌, ℕ, ◌≤◌, List, Option, None, IsTrue, ⊤}
 use Rattle.file_entries.specs.Command.{Command, MayBegin, after, begin, drop_entry, is_allowed, seal}
 use Rattle.file_entries.specs.Files.{Becomes, EntriesState, Files, Waits, grow_waiting, rest_of, rest_without, store_of}
+use Rattle.file_entries.specs.Store.{Store}
+use Rattle.file_journal.specs.Steps.{Turn}
 use Rattle.file_store.specs.declared.change.EntriesChange.{EntriesChange}
 use Rattle.file_store.specs.declared.change.EntriesChange.TheVariants as change
 
@@ -11,6 +13,16 @@ command_by (change.Begin caller file_length moment) files = begin files.next cal
 command_by (change.Hold number count) files = grow_waiting files number count
 command_by (change.Seal number moment) files = seal number moment
 command_by (change.Drop number) files = drop_entry number
+
+-- the same as a change of a kept state, with nothing in a block
+abbrev pub turn_by : EntriesChange → Files → Turn Store Command
+turn_by change files =
+    record {
+      command = command_by change files;
+      next = after (store_of files) (command_by change files);
+      puts = None;
+      lets = λ held. ⊤;
+    }
 
 -- the number of the file that it changes
 abbrev pub number_by : EntriesChange → Files → ℕ

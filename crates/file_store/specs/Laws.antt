@@ -7,6 +7,7 @@ use Rattle.disk_model.specs.declared.disk.Disk.{Ghosts}
 use Rattle.file_journal.specs.Calls.{images_now}
 use Rattle.file_journal.specs.Journal.{journal_of, store}
 use Rattle.file_journal.specs.Records.{whole}
+use Rattle.file_journal.specs.declared.layout.Layout.TheVariants as layout
 use Rattle.file_entries.specs.Command.{AreAllowed, Command, after_all}
 use Rattle.file_entries.specs.Info.{is_complete}
 use Rattle.file_entries.specs.Records.{IsWritable, record_of_command, store_magic}
@@ -20,7 +21,7 @@ use Rattle.file_store.specs.Upload.{Upload, entry_for}
 pub record IsStoreAfter (octets : List ℕ) (files : Store) (commands : List Command) : Type 0 where
   pub number : Option ℕ
   pub is_number : (number ≡ None) ⊎ (number ≡ Some files.blocks)
-  pub records : journal_of store_magic octets ≡ store number (whole (map record_of_command commands))
+  pub records : journal_of store_magic layout.Growing octets ≡ store number (whole (map record_of_command commands))
   pub writable : AllByRecursion IsWritable commands
   pub allowed : AreAllowed (empty_store files.blocks) commands
   pub after : files ≡ after_all (empty_store files.blocks) commands

@@ -28,3 +28,4 @@ pub use Rattle.file_journal.specs.Records as JournalRecords
 pub use Rattle.file_journal.specs.Recovery as JournalRecovery
 pub use Rattle.file_journal.specs.Walk
 pub use Rattle.file_journal.specs.declared.faults.StoreFault
+pub use Rattle.file_journal.specs.declared.layout.Layout

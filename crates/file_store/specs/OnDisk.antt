@@ -2,8 +2,9 @@
 use Rattle.std.specs.Prelude.{◌≡◌, ℕ, List, None}
 use Rattle.disk_model.specs.declared.disk.Disk.{Ghosts}
 use Rattle.file_journal.specs.Commands as kept_commands
+use Rattle.file_journal.specs.Commands.{done_at}
 use Rattle.file_journal.specs.Kept as kept
-use Rattle.file_journal.specs.Kept.{KeptOn, by_fours, kept_on}
+use Rattle.file_journal.specs.Kept.{KeptOn, kept_on}
 use Rattle.file_entries.specs.Command.{Command}
 use Rattle.file_entries.specs.Files.{KeepsRests}
 use Rattle.file_entries.specs.Records.{store_form}
@@ -22,19 +23,19 @@ MakesBetween low high store commands image = kept_commands.MakesBetween store_fo
 abbrev pub MakesFirst : Store → List Command → List ℕ → Type 0
 MakesFirst store commands image = kept_commands.MakesFirst store_form store commands image
 
--- Each command takes four calls of the disk. Since the first so many commands are done, one at least, no crash leaves
--- fewer of them. The first of them began at the moment `start`.
+-- Each command takes the calls of the disk that the form of a store says. Since the first so many commands are done, one
+-- at least, no crash leaves fewer of them. The first of them began at the moment `start`.
 abbrev pub StayDone : {D : Type 0} → Ghosts D → ℕ → ℕ → Store → List Command → D → Type 0
 StayDone g start done store commands disk_now =
-    kept_commands.StayDone g store_form (by_fours start) done store commands disk_now
+    kept_commands.StayDone g store_form (done_at store_form start commands) done store commands disk_now
 
 -- the store, the journal of its commands, and the disk on which that stands
 abbrev pub kept_at : {D : Type 0} → StoreState → D → KeptOn D Store
 kept_at self disk = kept_on (store_in self) self.journal disk
 
--- A call of a store that hasn't failed did these commands, four calls of the disk each, or the disk failed in one of them.
--- A crash since the call began leaves the store after the first of them, for some number of them, and no fewer than were
--- done when it came. Without commands the disk is untouched.
+-- A call of a store that hasn't failed did these commands, each in the calls of the disk that the form of a store says,
+-- or the disk failed in one of them. A crash since the call began leaves the store after the first of them, for some
+-- number of them, and no fewer than were done when it came. Without commands the disk is untouched.
 abbrev pub Does :
     {D : Type 0} → Ghosts D → Type 0 → StoreState → StoreState → D → D → List Command → Type 0
 Does g failed old new disk disk_now commands =

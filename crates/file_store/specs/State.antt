@@ -8,6 +8,7 @@ use Rattle.file_journal.specs.Form as form
 use Rattle.file_journal.specs.Kept.{IsKept, kept_on}
 use Rattle.file_journal.specs.Position.{Position}
 use Rattle.file_journal.specs.Walk.{Stands}
+use Rattle.file_journal.specs.declared.layout.Layout.TheVariants as layout
 
 -- the entries with the uploads that are out, and the journal of their commands
 pub record StoreState : Type 0 where
@@ -50,7 +51,8 @@ pub record IsReady {D : Type 0} (g : Ghosts D) (self : StoreState) (disk : D) : 
   pub healthy : self.journal.failed ≡ false
   pub stands_on : StandsOn g self disk
 
--- The journal has the store's magic, and was read to its end.
+-- The journal has the store's magic and no blocks, and was read to its end.
 pub record IsRead (journal : Position) : Type 0 where
   pub magic_is : journal.magic ≡ store_magic
+  pub layout_is : journal.layout ≡ layout.Growing
   pub ended : journal.ended ≡ true

@@ -5,12 +5,13 @@ ghost use Rattle.file_journal.specs.Form.{same_form};
 ghost use Rattle.file_entries.specs.Command.{Command as StoreCommand, grow};
 ghost use Rattle.file_entries.specs.Commands.{command_value};
 ghost use Rattle.file_entries.specs.Files.{store_of};
-ghost use Rattle.file_entries.specs.Records.{IsWritable, store_form};
+ghost use Rattle.file_entries.specs.Records.{IsWritable, store_form, store_steps};
 ghost use Rattle.file_entries.specs.Store.{Store};
-ghost use Rattle.file_store.specs.Changes.{MakesOf, MayMake, command_by};
+ghost use Rattle.file_entries.specs.StoreLaws.{store_seen};
+ghost use Rattle.file_store.specs.Changes.{MakesOf, MayMake, command_by, turn_by};
 
 use file_entries::{Command, Entries};
-use file_journal::{Change, RecordContent};
+use file_journal::{BlockPut, Change, RecordContent};
 use px_base::Call;
 
 /// A change of the entries, which is one command.
@@ -78,17 +79,27 @@ fn grow_of(number: u32, octets: &[u8]) -> Command<'_>
 impl Change<Entries> for EntriesChange {
     ghost State = { Store };
 
+    ghost Seen = { Store };
+
     ghost Command = { StoreCommand };
 
     ghost form = { store_form };
 
+    ghost steps = { store_steps };
+
+    ghost seen = { λ held store. store };
+
     ghost state = { λ entries. store_of entries.files };
 
-    ghost command = { λ change entries. command_by change entries.files };
+    ghost turn = { λ change entries. turn_by change entries.files };
 
     ghost may = { MayMake };
 
     ghost makes = { λ change old new. MakesOf change old.files new.files };
+
+    fn block<'a>(&'a self, _entries: &'a Entries) -> Option<BlockPut<'a>> {
+        None
+    }
 
     fn write(&self, entries: &Entries, content: &mut RecordContent) -> u8 {
         self.command(entries).write(content)
@@ -107,5 +118,9 @@ impl Change<Entries> for EntriesChange {
         }
     }
 
-    ghost of_ledger = { same_form store_form (λ entries. store_of entries.files) };
+    ghost is_seen = { store_seen };
+
+    ghost lets_same = { λ change entries one other same lets. lets };
+
+    ghost of_ledger = { same_form store_form (λ held entries. store_of entries.files) };
 }

@@ -7,8 +7,9 @@ ghost use Rattle.std.specs.Option.{option_map};
 ghost use Rattle.px_base.specs.CallSign.{CallSign};
 ghost use Rattle.disk_model.specs.Disk.{FillsRoom};
 ghost use Rattle.file_entries.specs.Faults.{fault_code};
-ghost use Rattle.file_journal.specs.Calls.{Becomes, Leaves, Reads, Runs, TakesStep};
-ghost use Rattle.file_journal.specs.Journal.{after_recovery};
+ghost use Rattle.file_journal.specs.Calls.{Leaves, Reads, Runs, TakesStep};
+ghost use Rattle.file_journal.specs.Journal.{IsAfterRecovery};
+ghost use Rattle.file_journal.specs.declared.layout.Layout.TheVariants as Layout;
 ghost use Rattle.file_entries.specs.Command.{begin, drop_entry, fault_at, grow, grows, is_allowed, last_grow, seal, unfilled_block};
 ghost use Rattle.file_entries.specs.Files.{ChangesRest, IsOut, KeepsRests, octets_or_none};
 ghost use Rattle.file_entries.specs.Headers.{IsHeaderOf, IsWholeHeader};
@@ -82,7 +83,7 @@ impl FileStore {
 
         // It changes no octet of a formatted store, and makes a formatted one of any other.
         ensures octets { OnOk result
-            (TakesStep D.Disk disk.old disk.new (Becomes (after_recovery store_magic limits.blocks))) }
+            (TakesStep D.Disk disk.old disk.new (IsAfterRecovery store_magic Layout.Growing limits.blocks)) }
 
         // But for a fault of the disk and want of memory, each refusal comes exactly where the content stands for it.
         ensures refuses { RefusesRecovery limits.blocks (D.content disk.old) result }

@@ -2,4 +2,4 @@ use Rattle.file_store.proofs.TokenLemmas.{entry-each}
 use Rattle.file_store.proofs.laws.complete_law.Goals as goal
 
 pub returns : goal.returns
-returns g c number entry found whole = entry-each g.D.Disk c.args.store.now c.args.disk.now c.read_law.ensures.magic_is c.requires.healthy c.requires.stands_on number entry found
+returns g c number entry found whole = entry-each g.D.Disk c.args.store.now c.args.disk.now c.requires.healthy c.requires.stands_on number entry found

@@ -2,4 +2,4 @@ use Rattle.file_store.proofs.TokenLemmas.{holds-each}
 use Rattle.file_store.proofs.laws.token_law.Goals as goal
 
 pub returns : goal.returns
-returns g c = holds-each g.D.Disk c.args.store.now c.args.disk.now c.read_law.ensures.magic_is c.requires.ready.healthy c.requires.ready.stands_on c.args.up.now c.requires.holds
+returns g c = holds-each g.D.Disk c.args.store.now c.args.disk.now c.requires.ready.healthy c.requires.ready.stands_on c.args.up.now c.requires.holds

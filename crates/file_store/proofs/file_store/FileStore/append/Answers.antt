@@ -1,9 +1,7 @@
 use Rattle.std.proofs.Common.{◌≡◌, ℕ, ◌/◌, ◌++◌, true, false, List, length, Some, refl, sym, ◌∙◌, ap, subst, arith, rules}
 use Rattle.std.specs.Option.{option_map}
-use Rattle.file_journal.specs.Position.{Position}
 use Rattle.file_entries.specs.Command.{Command, grows, unfilled_block, whole_grows}
 use Rattle.file_entries.specs.Files.{octets_or_none}
-use Rattle.file_entries.specs.Records.{store_magic}
 use Rattle.file_store.specs.OnDisk.{Does}
 use Rattle.file_store.specs.State.{StoreState, rest_in, store_in}
 use Rattle.file_store.specs.Upload.{Holds, Upload, appended, appending, with_bytes}
@@ -84,5 +82,4 @@ returns-in-Ok-clause-every_image g c =
     let bytes = c.args.bytes.now in
     let does : Does D (false ≡ true) self new c.args.disk.now c.hold_blocks.new.disk (appending self up bytes) = search rules in
     let made = does.done (λ e. cc e) in
-    let magic : new.journal.magic ≡ store_magic = ap (λ (p : Position). p.magic) does.journal ∙ sym (ap (λ (s : StoreState). s.journal.magic) c.self.view_is) ∙ c.self.invariant.magic_is in
-    holds-each D new c.hold_blocks.new.disk magic made.1 does.stands_on c.moved_on.result (returns-in-Ok-clause-holds g c)
+    holds-each D new c.hold_blocks.new.disk made.1 does.stands_on c.moved_on.result (returns-in-Ok-clause-holds g c)

@@ -1,11 +1,9 @@
 use Rattle.std.proofs.Common.{◌≡◌, ℕ, true, false, [], ◌∷◌, IsErr, Some, is_some, refl, sym, ◌∙◌, ap, subst, arith, rules}
 use Rattle.px_base.specs.CallSign.{CallSign}
-use Rattle.file_journal.specs.Position.{Position}
 use Rattle.file_entries.specs.Command.{Command, after, begin}
 use Rattle.file_entries.specs.Files.{Files, KeepsRests, rest_of, store_of}
 use Rattle.file_entries.specs.IsStore.{IsStore}
 use Rattle.file_entries.specs.Kept.{KeepsComplete}
-use Rattle.file_entries.specs.Records.{store_magic}
 use Rattle.file_entries.specs.Store.{Store, entry_of}
 use Rattle.file_entries.proofs.Offered.{begin-KeepsComplete, find_past}
 use Rattle.file_store.specs.OnDisk.{Does}
@@ -64,8 +62,7 @@ returns-clause-every_image g c =
     let new : StoreState = state_from c.take_out.new.self.files c.put_change.new.kept.journal in
     let does = returns-clause-does g c refl in
     let made = does.done (λ e. cc e) in
-    let magic : new.journal.magic ≡ store_magic = ap (λ (p : Position). p.magic) does.journal ∙ sym (ap (λ (s : StoreState). s.journal.magic) c.self.view_is) ∙ c.self.invariant.magic_is in
-    holds-each D new c.put_change.new.disk magic made.1 does.stands_on c.new.result (returns-clause-holds g c).0
+    holds-each D new c.put_change.new.disk made.1 does.stands_on c.new.result (returns-clause-holds g c).0
 
 pub returns-clause-fresh : goal.returns-clause-fresh
 returns-clause-fresh g c =

@@ -1,7 +1,5 @@
-use Rattle.std.proofs.Common.{◌≡◌, true, false, None, sym, ◌∙◌, ap, arith, rules}
-use Rattle.file_journal.specs.Position.{Position}
+use Rattle.std.proofs.Common.{◌≡◌, true, false, None, arith, rules}
 use Rattle.file_entries.specs.Faults.{fault_code}
-use Rattle.file_entries.specs.Records.{store_magic}
 use Rattle.file_store.specs.OnDisk.{Does}
 use Rattle.file_store.specs.State.{StoreState, store_in}
 use Rattle.file_store.specs.Upload.{kept_file, octets_come, sealing}
@@ -34,8 +32,7 @@ returns-in-Ok-None-clause-every_image g c =
     let does : Does D (false ≡ true) self new c.args.disk.now c.end_file.new.disk (sealing self up moment) = search rules in
     let good : fault_code (octets_come self up) ≡ None = search rules in
     let made = does.done (λ e. cc e) in
-    let magic : new.journal.magic ≡ store_magic = ap (λ (p : Position). p.magic) does.journal ∙ sym (ap (λ (s : StoreState). s.journal.magic) c.self.view_is) ∙ c.self.invariant.magic_is in
-    kept-each D new c.end_file.new.disk magic made.1 does.stands_on up c.requires.holds.begun moment (kept_file self up moment)
+    kept-each D new c.end_file.new.disk made.1 does.stands_on up c.requires.holds.begun moment (kept_file self up moment)
     (sealed-entry self up moment c.requires.holds (omega (arith, c.missing.ensures.missing, c.if-missing-gt0.false)) (store_in new) made.0 good)
 
 pub returns-in-Ok-None-clause-keeps : goal.returns-in-Ok-None-clause-keeps
