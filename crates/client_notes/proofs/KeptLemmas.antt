@@ -1,7 +1,5 @@
 -- The notes as a state that is kept.
-use Rattle.std.proofs.Common.{◌≡◌, ◌↔◌, inl, inr, ⊎_elim, ℕ, zero, suc, ◌+◌, ◌<◌, ◌≤◌, Bool, List, [], ◌∷◌, Option, None, Some, Result, Ok, Err, IsErr, IsErrOf, OnErr, OnOk, refl, sym, ◌∙◌, ap, subst, arith}
-use Rattle.std.specs.Prelude.{IsTrue, if◌then◌else◌}
-use Rattle.std.specs.Option.{option_and_then}
+use Rattle.std.proofs.Common.{◌≡◌, ◌↔◌, inl, inr, ⊎_elim, ℕ, zero, suc, ◌+◌, ◌<◌, ◌≤◌, List, [], ◌∷◌, Result, Ok, Err, IsErr, IsErrOf, OnErr, OnOk, refl, sym, ◌∙◌, ap, subst, arith}
 use Rattle.disk_model.specs.declared.disk.Disk.{Ghosts}
 use Rattle.file_journal.specs.Commands.{MakesBetween, after_first}
 use Rattle.file_journal.specs.Kept as kept
@@ -10,30 +8,22 @@ use Rattle.file_journal.specs.Position.{Position}
 use Rattle.file_journal.specs.Recovery.{IsFailedSync, IsSyncedFirst}
 use Rattle.file_journal.specs.declared.faults.StoreFault.{StoreFault}
 use Rattle.file_journal.specs.declared.faults.StoreFault.TheVariants as fault
-use Rattle.file_journal.specs.Records.{Record}
 use Rattle.file_journal.specs.declared.faults.JournalFault.{JournalFault}
 use Rattle.file_journal.specs.declared.faults.JournalFault.TheVariants as journal_fault
-use Rattle.file_journal.proofs.Offered.{does_same, images_here, runs_same, told_weaker, weaker}
+use Rattle.file_journal.proofs.Offered.{does_same, runs_same, told_weaker, weaker}
 use Rattle.client_notes.specs.Answers.{Noting}
-use Rattle.client_notes.specs.Command.{NotesCommand, after, is_allowed}
+use Rattle.client_notes.specs.Command.{NotesCommand}
 use Rattle.client_notes.specs.Notes.{Lists}
 use Rattle.client_notes.specs.Noting.{lists_of, without}
 use Rattle.client_notes.specs.OnDisk.{Answers, Does, EachImage, IsBeforeOrAfter}
-use Rattle.client_notes.specs.Records.{IsWritable, command_of, notes_after, notes_form, notes_magic, notes_step, record_of_command}
+use Rattle.client_notes.specs.Records.{notes_form}
 use Rattle.client_notes.specs.Recovery.{AnswersRecovery, IsRecovered, Recovers, StandsAlike}
-use Rattle.client_notes.specs.State.{IsReady, NotesState, StandsFor}
+use Rattle.client_notes.specs.State.{IsReady, NotesState, StandsFor, StandsOn}
 use Rattle.client_notes.specs.declared.noted_lists.Coming.{Coming}
 use Rattle.client_notes.specs.declared.noted_lists.Coming.TheVariants as coming
 use Rattle.client_notes.specs.declared.noted_lists.NotedLists.{NotedLists}
 use Rattle.client_notes.specs.declared.refusals.NotesRefusal.TheVariants as refusal
-use Rattle.client_notes.proofs.RecordLemmas.{read-written}
-
--- a command whose condition holds is what its record does
-pub step-command : (lists : Lists) (command : NotesCommand) (entry : Record) → entry ≡ record_of_command command → IsWritable command → IsTrue (is_allowed lists command)
-    → notes_step lists entry ≡ Some (after lists command)
-step-command lists command entry same writable ok =
-    ap (λ (o : Option NotesCommand). option_and_then (notes_after lists) o) (ap command_of same ∙ read-written command writable)
-    ∙ ap (λ (b : Bool). if b then Some (after lists command) else None) ok
+use Rattle.client_notes.proofs.PutLemmas.{IsPut, images-here, stands-notes}
 
 -- some number of one command
 before-or-after : (low high : ℕ) (lists : Lists) (command : NotesCommand) (image : List ℕ) → high ≤ 1 → MakesBetween notes_form low high lists (command ∷ []) image → IsBeforeOrAfter lists command image
@@ -44,10 +34,10 @@ before-or-after low high lists command image most (suc (suc more), least, few, s
 module _ {D : Type 0} (g : Ghosts D) where
   module _ (old new : NotesState) (disk disk_now : D) (command : NotesCommand) where
     -- one command, said as the notes say it
-    pub does-of : (P : Type 0) → new.journal.magic ≡ notes_magic → kept.Does g notes_form P (command ∷ []) (kept_on old.lists old.journal disk) (kept_on new.lists new.journal disk_now)
+    pub does-of : (P : Type 0) → StandsOn g new disk_now → kept.Does g notes_form P (command ∷ []) (kept_on old.lists old.journal disk) (kept_on new.lists new.journal disk_now)
         → Does g P old new disk disk_now command
-    does-of P magic does = record {
-      stands_on = does.stands_on;
+    does-of P stands does = record {
+      stands_on = stands;
       healthy = does.healthy;
       allowed = does.allowed.0;
       since = told_weaker (g.content disk) _ _ (λ before told left.
@@ -58,7 +48,7 @@ module _ {D : Type 0} (g : Ghosts D) where
             lists = all.0;
             healthy = all.1;
             images = subst (λ (l : Lists). EachImage g disk_now (λ image. StandsFor image l)) all.0
-                (images_here notes_form g (kept_on new.lists new.journal disk_now) (record { magic_is = magic; keeps = does.stands_on }) all.1);
+                (images-here g new.journal disk_now new.lists all.1 stands);
             calls = told_weaker (g.content disk) _ _ (λ before told is. omega (arith, is)) (does.calls fine);
           };
       cut = λ failed.
@@ -79,32 +69,32 @@ module _ {D : Type 0} (g : Ghosts D) where
 
     -- what a call answers by a put that failed exactly where it does
     answers-of : {T U E : Type 0} (came : Result U E) (result : Result T JournalFault) → (IsErr came → IsErr result) → (IsErr result → IsErr came) → ¬ IsErrOf result journal_fault.Failed
-        → kept.AnswersPut g notes_form command (kept_on old.lists old.journal disk) (kept_on new.lists new.journal disk_now) came → Answers g old new disk disk_now command result
+        → IsPut g command (kept_on old.lists old.journal disk) (kept_on new.lists new.journal disk_now) came → Answers g old new disk disk_now command result
     answers-of came result there back fine put = record {
       failed = (λ was. absurd (fine was), λ before. absurd (cc (sym put.does.healthy ∙ before)));
       untouched = λ was. absurd (fine was);
-      does = λ _. does-of (IsErr result) put.stands_at.magic_is (does_same g notes_form _ _ (command ∷ []) _ _ there back put.does);
-      stands_on = put.stands_at.keeps;
+      does = λ _. does-of (IsErr result) (stands-notes g new.journal new.lists disk_now put.stands_at) (does_same g notes_form _ _ (command ∷ []) _ _ there back put.does);
+      stands_on = stands-notes g new.journal new.lists disk_now put.stands_at;
     }
 
-    pub noting-done : {T U E : Type 0} (x : T) (y : U) → kept.AnswersPut {T = T} {E = E} g notes_form command (kept_on old.lists old.journal disk) (kept_on new.lists new.journal disk_now) (Ok x)
+    pub noting-done : {T U E : Type 0} (x : T) (y : U) → IsPut {T = T} {E = E} g command (kept_on old.lists old.journal disk) (kept_on new.lists new.journal disk_now) (Ok x)
         → Noting {T = U} g old new disk disk_now command (Ok y)
     noting-done x y put = record {
       refused = tt;
       can = λ was. cc (sym put.does.healthy ∙ was);
       untouched = inl refl;
-      does = λ reaches. does-of _ put.stands_at.magic_is (does_same g notes_form _ _ (command ∷ []) _ _ (λ is. is) (λ is. is) put.does);
-      stands_on = put.stands_at.keeps;
+      does = λ reaches. does-of _ (stands-notes g new.journal new.lists disk_now put.stands_at) (does_same g notes_form _ _ (command ∷ []) _ _ (λ is. is) (λ is. is) put.does);
+      stands_on = stands-notes g new.journal new.lists disk_now put.stands_at;
     }
 
-    pub noting-cut : {T U E : Type 0} (e : E) → kept.AnswersPut {T = T} g notes_form command (kept_on old.lists old.journal disk) (kept_on new.lists new.journal disk_now) (Err e)
+    pub noting-cut : {T U E : Type 0} (e : E) → IsPut {T = T} g command (kept_on old.lists old.journal disk) (kept_on new.lists new.journal disk_now) (Err e)
         → Noting {T = U} g old new disk disk_now command (Err refusal.Disk)
     noting-cut e put = record {
       refused = λ was. cc (sym put.does.healthy ∙ was);
       can = tt;
       untouched = inl refl;
-      does = λ reaches. does-of _ put.stands_at.magic_is (does_same g notes_form _ _ (command ∷ []) _ _ (λ is. refl) (λ is. refl) put.does);
-      stands_on = put.stands_at.keeps;
+      does = λ reaches. does-of _ (stands-notes g new.journal new.lists disk_now put.stands_at) (does_same g notes_form _ _ (command ∷ []) _ _ (λ is. refl) (λ is. refl) put.does);
+      stands_on = stands-notes g new.journal new.lists disk_now put.stands_at;
     }
 
 -- nothing is coming once a change was made, or where nothing was
@@ -119,37 +109,37 @@ all-noted noted nothing = ap (λ (k : Coming). without k noted.lists) nothing
 module _ {D T U E : Type 0} (g : Ghosts D) (before after : NotedLists) (journal journal_now : Position) (disk disk_now : D) (command : NotesCommand) (came : Result U E) (result : Result T JournalFault) where
   -- a command that takes no memory
   pub put-answers : (IsErr came → IsErr result) → (IsErr result → IsErr came) → ¬ IsErrOf result journal_fault.Failed → before.coming ≡ coming.Nothing → OnOk came (after.coming ≡ coming.Nothing) → OnErr came (after ≡ before)
-      → kept.AnswersPut g notes_form command (kept_on (lists_of before) journal disk) (kept_on (lists_of after) journal_now disk_now) came
+      → IsPut g command (kept_on (lists_of before) journal disk) (kept_on (lists_of after) journal_now disk_now) came
       → Answers g (record { lists = before.lists; journal = journal }) (record { lists = after.lists; journal = journal_now }) disk disk_now command result
   put-answers there back fine nothing made same put =
       answers-of g (record { lists = before.lists; journal = journal }) (record { lists = after.lists; journal = journal_now }) disk disk_now command came result there back fine
-      (subst (λ (l : Lists). kept.AnswersPut g notes_form command (kept_on before.lists journal disk) (kept_on l journal_now disk_now) came)
+      (subst (λ (l : Lists). IsPut g command (kept_on before.lists journal disk) (kept_on l journal_now disk_now) came)
       (all-noted after (nothing-comes came before after made same nothing))
-      (subst (λ (l : Lists). kept.AnswersPut g notes_form command (kept_on l journal disk) (kept_on (lists_of after) journal_now disk_now) came) (all-noted before nothing) put))
+      (subst (λ (l : Lists). IsPut g command (kept_on l journal disk) (kept_on (lists_of after) journal_now disk_now) came) (all-noted before nothing) put))
 
 -- a command whose octets or task were brought first
 module _ {D T U E : Type 0} (g : Ghosts D) (before brought after : NotedLists) (journal journal_now : Position) (disk disk_now : D) (command : NotesCommand) (noted : lists_of brought ≡ before.lists) where
   pub brought-done : (x : T) (y : U) → after.coming ≡ coming.Nothing
-      → kept.AnswersPut {T = T} {E = E} g notes_form command (kept_on (lists_of brought) journal disk) (kept_on (lists_of after) journal_now disk_now) (Ok x)
+      → IsPut {T = T} {E = E} g command (kept_on (lists_of brought) journal disk) (kept_on (lists_of after) journal_now disk_now) (Ok x)
       → Noting {T = U} g (record { lists = before.lists; journal = journal }) (record { lists = after.lists; journal = journal_now }) disk disk_now command (Ok y)
   brought-done x y made put =
       noting-done g (record { lists = before.lists; journal = journal }) (record { lists = after.lists; journal = journal_now }) disk disk_now command x y
-      (subst (λ (l : Lists). kept.AnswersPut {T = T} {E = E} g notes_form command (kept_on before.lists journal disk) (kept_on l journal_now disk_now) (Ok x)) (all-noted after made)
-      (subst (λ (l : Lists). kept.AnswersPut {T = T} {E = E} g notes_form command (kept_on l journal disk) (kept_on (lists_of after) journal_now disk_now) (Ok x)) noted put))
+      (subst (λ (l : Lists). IsPut {T = T} {E = E} g command (kept_on before.lists journal disk) (kept_on l journal_now disk_now) (Ok x)) (all-noted after made)
+      (subst (λ (l : Lists). IsPut {T = T} {E = E} g command (kept_on l journal disk) (kept_on (lists_of after) journal_now disk_now) (Ok x)) noted put))
 
   pub brought-cut : (e : E) (taken : NotedLists) → taken.lists ≡ lists_of after
-      → kept.AnswersPut {T = T} g notes_form command (kept_on (lists_of brought) journal disk) (kept_on (lists_of after) journal_now disk_now) (Err e)
+      → IsPut {T = T} g command (kept_on (lists_of brought) journal disk) (kept_on (lists_of after) journal_now disk_now) (Err e)
       → Noting {T = U} g (record { lists = before.lists; journal = journal }) (record { lists = taken.lists; journal = journal_now }) disk disk_now command (Err refusal.Disk)
   brought-cut e taken back put =
       noting-cut g (record { lists = before.lists; journal = journal }) (record { lists = taken.lists; journal = journal_now }) disk disk_now command e
-      (subst (λ (l : Lists). kept.AnswersPut {T = T} g notes_form command (kept_on before.lists journal disk) (kept_on l journal_now disk_now) (Err e)) (sym back)
-      (subst (λ (l : Lists). kept.AnswersPut {T = T} g notes_form command (kept_on l journal disk) (kept_on (lists_of after) journal_now disk_now) (Err e)) noted put))
+      (subst (λ (l : Lists). IsPut {T = T} g command (kept_on before.lists journal disk) (kept_on l journal_now disk_now) (Err e)) (sym back)
+      (subst (λ (l : Lists). IsPut {T = T} g command (kept_on l journal disk) (kept_on (lists_of after) journal_now disk_now) (Err e)) noted put))
 
 -- ---- a recovery
 
 -- what a recovery gave is ready
 pub recovered-ready : {D : Type 0} (g : Ghosts D) (disk disk_now : D) (self : NotesState) → IsRecovered g disk disk_now self → IsReady g self disk_now
-recovered-ready g disk disk_now self is = record { healthy = is.healthy; stands_on = is.stands_at.keeps }
+recovered-ready g disk disk_now self is = record { healthy = is.healthy; stands_on = is.keeps }
 
 -- and what it answers is what it did to the disk
 pub recovers-as : {D T : Type 0} (g : Ghosts D) (disk disk_now : D) (self : NotesState) (x : T) → IsRecovered g disk disk_now self → AnswersRecovery {T = T} g (Ok x) disk disk_now → Recovers g disk disk_now self

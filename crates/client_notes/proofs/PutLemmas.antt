@@ -1,29 +1,41 @@
--- What octets stand for as notes, whatever block number they are read with.
-use Rattle.std.proofs.Common.{◌≡◌, ℕ, false, List, IfSome, refl, ◌∙◌}
+-- What notes hold of their disk, and what stands there for them.
+use Rattle.std.proofs.Common.{◌≡◌, ℕ, false, List, [], ◌∷◌, Result, IsErr, IfSome, IsTrue, refl, arith}
 use Rattle.disk_model.specs.declared.disk.Disk.{Ghosts}
 use Rattle.file_journal.specs.Calls.{images_now}
-use Rattle.file_journal.specs.Form.{TellsItsNumber}
-use Rattle.file_journal.specs.Journal.{Standing, journal_of}
-use Rattle.file_journal.specs.Journal as journal
-use Rattle.file_journal.specs.Kept.{kept_on}
+use Rattle.file_journal.specs.Kept.{Does, IsKept, KeptOn, StandsAt, kept_on}
 use Rattle.file_journal.specs.Position.{Position}
-use Rattle.file_journal.specs.Walk.{KeepsState, stands_of}
-use Rattle.file_journal.proofs.Offered.{images_here}
-use Rattle.client_notes.specs.Records.{notes_form, notes_magic, notes_step}
+use Rattle.file_journal.specs.Records.{Record}
+use Rattle.file_journal.specs.Steps.{WritesTurn}
+use Rattle.file_journal.proofs.Offered.{held_kept, images_here, written_step}
+use Rattle.client_notes.specs.Command.{NotesCommand, is_allowed}
 use Rattle.client_notes.specs.Notes.{Lists}
-use Rattle.client_notes.specs.State.{StandsFor, fresh_notes}
-
--- it doesn't depend on the block number
-same-number : (blocks other : ℕ) (standing : Standing) → stands_of fresh_notes notes_step blocks standing ≡ stands_of fresh_notes notes_step other standing
-same-number blocks other (journal.no_store found) = refl
-same-number blocks other journal.bad_number = refl
-same-number blocks other (journal.store number reading) = refl
-
--- so octets that stand for notes, with whatever number, stand for them
-pub own-number : TellsItsNumber notes_form
-own-number blocks octets lists is = same-number 1 blocks (journal_of notes_magic octets) ∙ is
+use Rattle.client_notes.specs.NotesLaws.{notes_number, notes_seen}
+use Rattle.client_notes.specs.Noting.{turn_of}
+use Rattle.client_notes.specs.Records.{IsWritable, notes_form, notes_steps, record_of_command}
+use Rattle.client_notes.specs.State.{StandsFor, StandsOn}
+use Rattle.client_notes.proofs.StandingLemmas.{notes_written}
 
 -- each image of a disk on which the journal stands for notes
-pub images-here : {D : Type 0} (g : Ghosts D) (position : Position) (disk : D) (lists : Lists) → position.magic ≡ notes_magic → position.failed ≡ false → KeepsState fresh_notes notes_step g position lists disk
+pub images-here : {D : Type 0} (g : Ghosts D) (position : Position) (disk : D) (lists : Lists) → position.failed ≡ false → IsKept g notes_form (kept_on lists position disk)
     → IfSome (g.content disk) (λ _. (image : List ℕ) → images_now g disk image → StandsFor image lists)
-images-here g position disk lists magic healthy keeps = images_here notes_form g (kept_on lists position disk) (record { magic_is = magic; keeps = keeps }) healthy
+images-here g position disk lists healthy keeps = images_here notes_form g notes_number (kept_on lists position disk) keeps healthy
+
+-- what a journal of notes holds are notes that stand on the disk
+pub stands-notes : {D : Type 0} (g : Ghosts D) (journal : Position) (lists : Lists) (disk : D) → StandsAt g notes_form notes_steps journal lists disk → StandsOn g (record { lists = lists; journal = journal }) disk
+stands-notes g journal lists disk at = held_kept g notes_steps (λ held now. now) notes_form notes_seen journal lists disk at
+
+-- What was put: one command, or the disk failed in it.
+pub record IsPut {D T E : Type 0} (g : Ghosts D) (command : NotesCommand) (old new : KeptOn D Lists) (result : Result T E) : Type 0 where
+  pub stands_at : StandsAt g notes_form notes_steps new.journal new.now new.disk
+  pub does : Does g notes_form (IsErr result) (command ∷ []) old new
+
+-- the record of a command that the notes allow makes its change of them
+pub writes-turn : (lists : Lists) (command : NotesCommand) (entry : Record) → entry ≡ record_of_command command → IsWritable command → IsTrue (is_allowed lists command)
+    → WritesTurn notes_form notes_steps (λ held now. now) lists (turn_of lists command) entry
+writes-turn lists command entry same writable allowed = record {
+  allowed = λ held lets. allowed;
+  step = λ held lets put. written_step notes_form notes_written lists command entry same writable allowed;
+  sees = λ held lets put. refl;
+  number = refl;
+  calls = omega arith;
+}

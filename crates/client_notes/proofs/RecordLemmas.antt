@@ -1,104 +1,18 @@
 -- Lemmas on the records of commands.
-use Rattle.std.proofs.Common.{◌≡◌, ℕ, zero, suc, ◌+◌, ◌-◌, ◌*◌, ◌/◌, ◌%◌, ◌^◌, ◌<◌, ◌≤◌, ◌==◌, Bool, true, false, ◌&&◌, nat_le, nat_lt, List, [], ◌∷◌, ◌++◌, length, take, drop, Option, None, Some, refl, sym, ap, ◌∙◌, subst, arith, inl, inr, lit<, add-zero, append_assoc, length-append, length-drop, take-append-drop}
-use Rattle.std.specs.Prelude.{◌↔◌, if◌then◌else◌, replicate, slice_index}
-use Rattle.std.specs.Option.{option_map}
-use Rattle.std.proofs.lemmas.Bool.{cases_lt}
-use Rattle.std.proofs.lemmas.Bool.Decides.{nat_tests, eqb_tells}
-use Rattle.std.proofs.lemmas.List.{get_or-drop, get_or_append_left, get_or_past, length-take-le, drop-append-le, drop-drop, drop_all, take-append-le, take_all}
-use Rattle.std.proofs.lemmas.List.Elements.{All-append, All-cons, All-drop, All-from_recursion, All-nil, All-replicate, All-take}
-use Rattle.px_base.specs.CallSign.{CallSign, IsCall, is_call_char}
+use Rattle.std.proofs.Common.{◌≡◌, ℕ, ◌+◌, ◌^◌, ◌<◌, ◌≤◌, ◌==◌, Bool, true, ◌&&◌, nat_le, nat_lt, List, [], ◌∷◌, ◌++◌, length, take, drop, Option, None, Some, refl, sym, ap, ◌∙◌, subst, arith, inl, inr, add-zero, append_assoc, length-append, length-drop, take-append-drop}
+use Rattle.std.specs.Prelude.{◌↔◌, if◌then◌else◌, slice_index}
+use Rattle.std.proofs.lemmas.Bool.{and_parts, eq-eqb, eqb-true, le-leb, leb-true, lt-ltb, ltb-true, ne_eqb}
+use Rattle.std.proofs.lemmas.Bool.Decides.{eqb_tells}
+use Rattle.std.proofs.lemmas.List.{get_or-drop, get_or_append_left, length-take-le, drop-append-le, drop-drop, drop_all, take-append-le, take_all}
+use Rattle.px_base.specs.CallSign.{CallSign}
 use Rattle.px_base.specs.Numbers.{le32, le32_octets}
 use Rattle.px_base.specs.Octets.{IsOctets}
 use Rattle.px_base.specs.CallOctets.{call_in, call_octets, call_of}
 use Rattle.px_base.proofs.Spelled.{law, length-IsSpelled}
 use Rattle.file_journal.specs.Records.{IsRecord, Record, record_of}
+use Rattle.file_journal.proofs.Offered.{eight, four, if_some, le32_below, map_some, number_at, number_front, octet_at, octets_call, octets_drop, octets_joined, octets_le32, octets_one, octets_part}
 use Rattle.client_notes.specs.Command.{NotesCommand, acked, forgot, got, numbered, refused, start}
 use Rattle.client_notes.specs.Records.{IsWritable, Writes, acked_in, command_of, forgot_by, forgot_in, got_by, got_in, is_start_len, numbered_in, record_of_command, refused_in, start_by, start_content, start_in}
-
--- octets without a bound are octets
-pub octets-slice : (octets : List ℕ) → ((i : ℕ) → slice_index octets i < 256) → IsOctets octets
-octets-slice [] h k d below = absurd (omega arith)
-octets-slice (x ∷ xs) h zero d below = h 0
-octets-slice (x ∷ xs) h (suc k) d below = octets-slice xs (λ i. h (suc i)) k d (omega arith)
-
-abbrev IsOctet : ℕ → Type 0
-IsOctet n = n < 256
-
--- a part of octets is octets
-pub IsOctets-part : (octets : List ℕ) (i n : ℕ) → IsOctets octets → IsOctets (take n (drop i octets))
-IsOctets-part octets i n h = All-take IsOctet n (drop i octets) (All-drop IsOctet i octets h)
-
-IsOctets-drop : (octets : List ℕ) (i : ℕ) → IsOctets octets → IsOctets (drop i octets)
-IsOctets-drop octets i h = All-drop IsOctet i octets h
-
--- the octet at any place, 0 past the end
-octet_at : (octets : List ℕ) → IsOctets octets → (i : ℕ) → slice_index octets i < 256
-octet_at octets h i =
-    elim (cases_lt i (length octets)) [
-      | inl below ↦ h i 0 below
-      | inr past ↦ rw (get_or_past octets i 0 past) (lit< tt)
-    ]
-
-le32-below : (octets : List ℕ) (at : ℕ) → IsOctets octets → le32 octets at < 2 ^ 32
-le32-below octets at h = let octet = octet_at octets h in omega (arith, octet at, octet (at + 1), octet (at + 2), octet (at + 3))
-
-four_octets : (a b c d : ℕ) → a < 256 → b < 256 → c < 256 → d < 256
-    → le32_octets (a + 256 * b + 65536 * c + 16777216 * d) ≡ a ∷ b ∷ c ∷ d ∷ []
-four_octets a b c d ha hb hc hd =
-    let n : ℕ = a + 256 * b + 65536 * c + 16777216 * d in
-    let first : n % 256 ≡ a = omega arith in
-    let second : n / 256 % 256 ≡ b = omega arith in
-    let third : n / 65536 % 256 ≡ c = omega arith in
-    let fourth : n / 16777216 % 256 ≡ d = omega arith in
-    rw (first, second, third, fourth) refl
-
--- the octets of a number that stands at the front are the first four
-number_front : (octets : List ℕ) → IsOctets octets → 4 ≤ length octets → le32_octets (le32 octets 0) ≡ take 4 octets
-number_front (a ∷ b ∷ c ∷ d ∷ rest) h some =
-    let octet = octet_at (a ∷ b ∷ c ∷ d ∷ rest) h in
-    four_octets a b c d (octet 0) (octet 1) (octet 2) (octet 3)
-number_front octets h some = absurd (omega arith)
-
-le32-drop : (octets : List ℕ) (at : ℕ) → le32 (drop at octets) 0 ≡ le32 octets at
-le32-drop octets at = simp (get_or-drop, add-zero)
-
--- and of one that stands further on
-number_at : (octets : List ℕ) (at : ℕ) → IsOctets octets → at + 4 ≤ length octets → le32_octets (le32 octets at) ≡ take 4 (drop at octets)
-number_at octets at h some =
-    ap le32_octets (sym (le32-drop octets at))
-    ∙ number_front (drop at octets) (IsOctets-drop octets at h) (let left = length-drop at octets in omega (arith, left))
-
--- ---- tests
-
-if-some : (b : Bool) (o : Option NotesCommand) (command : NotesCommand) → (if b then o else None) ≡ Some command → (b ≡ true) × (o ≡ Some command)
-if-some true o command h = (refl, h)
-if-some false o command h = absurd (cc)
-
-map-some : (f : CallSign → NotesCommand) (o : Option CallSign) (command : NotesCommand) → option_map f o ≡ Some command → (call : CallSign) × (o ≡ Some call) × (command ≡ f call)
-map-some f None command h = absurd (cc)
-map-some f (Some call) command h = (call, refl, cc)
-
-is-from_test : (n m : ℕ) → (n == m) ≡ true → n ≡ m
-is-from_test n m h = grind (arith, nat_tests)
-
-test-from_is : (n m : ℕ) → n ≡ m → (n == m) ≡ true
-test-from_is n m h = grind (arith, nat_tests)
-
-both : (a b : Bool) → (a && b) ≡ true → (a ≡ true) × (b ≡ true)
-both true b h = (refl, h)
-both false b h = absurd (cc)
-
-lt-from_test : (m n : ℕ) → nat_lt m n ≡ true → m < n
-lt-from_test m n h = grind (arith, nat_tests)
-
-le-from_test : (m n : ℕ) → nat_le m n ≡ true → m ≤ n
-le-from_test m n h = grind (arith, nat_tests)
-
-test-from_lt : (m n : ℕ) → m < n → nat_lt m n ≡ true
-test-from_lt m n h = grind (arith, nat_tests)
-
-test-from_le : (m n : ℕ) → m ≤ n → nat_le m n ≡ true
-test-from_le m n h = grind (arith, nat_tests)
 
 -- a part within the octets has its length
 pub length-part : (octets : List ℕ) (i n : ℕ) → i + n ≤ length octets → length (take n (drop i octets)) ≡ n
@@ -140,9 +54,9 @@ pub record StartLengths (content : List ℕ) : Type 0 where
 
 pub start_lengths : (content : List ℕ) → is_start_len content ≡ true → StartLengths content
 start_lengths content h =
-    let w = both (nat_lt 55 (length content) && nat_le (slice_index content 54) 64) (length content == 55 + slice_index content 54) h in
-    let v = both (nat_lt 55 (length content)) (nat_le (slice_index content 54) 64) w.0 in
-    record { some = lt-from_test _ _ v.0; most = le-from_test _ _ v.1; whole = is-from_test _ _ w.1 }
+    let w = and_parts (nat_lt 55 (length content) && nat_le (slice_index content 54) 64) (length content == 55 + slice_index content 54) h in
+    let v = and_parts (nat_lt 55 (length content)) (nat_le (slice_index content 54) 64) w.0 in
+    record { some = ltb-true _ _ v.0; most = leb-true _ _ v.1; whole = eqb-true _ _ w.1 }
 
 start-parts : (content : List ℕ) (server caller : CallSign) → IsOctets content → StartLengths content → take 7 (drop 4 content) ≡ call_octets server → take 7 (drop 11 content) ≡ call_octets caller
     → content ≡ start_content (le32 content 0) server caller (drop 55 content) (le32 content 18) (take 32 (drop 22 content))
@@ -167,7 +81,7 @@ start-parts content server caller octets is one other =
 
 start-read : (content : List ℕ) (command : NotesCommand) → IsOctets content → start_in content ≡ Some command → Writes (record_of 1 content) command
 start-read content command octets h =
-    let w = if-some (is_start_len content) (start_by content (call_in (take 7 (drop 4 content))) (call_in (take 7 (drop 11 content)))) command h in
+    let w = if_some (is_start_len content) (start_by content (call_in (take 7 (drop 4 content))) (call_in (take 7 (drop 11 content)))) command h in
     let is = start_lengths content w.0 in
     let v = both-calls content (call_in (take 7 (drop 4 content))) (call_in (take 7 (drop 11 content))) command w.1 in
     let one = (law (take 7 (drop 4 content)) v.0).0 v.2 in
@@ -176,23 +90,15 @@ start-read content command octets h =
     let digest : length (take 32 (drop 22 content)) ≡ 32 = length-part content 22 32 (omega (arith, is.some)) in
     subst (λ (c : NotesCommand). Writes (record_of 1 content) c) (sym v.4) (
       (
-        le32-below content 0 octets,
+        le32_below content 0 octets,
         one.0,
         other.0,
-        (IsOctets-drop content 55 octets, omega (arith, left, is.some), omega (arith, left, is.whole, is.most)),
-        le32-below content 18 octets,
-        (IsOctets-part content 22 32 octets, omega (arith, digest), omega (arith, digest)),
+        (octets_drop content 55 octets, omega (arith, left, is.some), omega (arith, left, is.whole, is.most)),
+        le32_below content 18 octets,
+        (octets_part content 22 32 octets, omega (arith, digest), omega (arith, digest)),
       ),
       ap (record_of 1) (start-parts content v.0 v.1 octets is one.1 other.1),
     )
-
-eight : (octets : List ℕ) → length octets ≡ 8 → octets ≡ take 4 octets ++ take 4 (drop 4 octets)
-eight (a ∷ b ∷ c ∷ d ∷ e ∷ f ∷ g ∷ h ∷ []) same = refl
-eight octets same = absurd (omega arith)
-
-four : (octets : List ℕ) → length octets ≡ 4 → octets ≡ take 4 octets
-four (a ∷ b ∷ c ∷ d ∷ []) same = refl
-four octets same = absurd (omega arith)
 
 five : (octets : List ℕ) → length octets ≡ 5 → octets ≡ take 4 octets ++ slice_index octets 4 ∷ []
 five (a ∷ b ∷ c ∷ d ∷ e ∷ []) same = refl
@@ -204,64 +110,64 @@ eleven octets same = absurd (omega arith)
 
 numbered-read : (content : List ℕ) (command : NotesCommand) → IsOctets content → numbered_in content ≡ Some command → Writes (record_of 2 content) command
 numbered-read content command octets h =
-    let w = if-some (length content == 8) (Some (numbered (le32 content 0) (le32 content 4))) command h in
-    let whole : length content ≡ 8 = is-from_test _ _ w.0 in
+    let w = if_some (length content == 8) (Some (numbered (le32 content 0) (le32 content 4))) command h in
+    let whole : length content ≡ 8 = eqb-true _ _ w.0 in
     let is : command ≡ numbered (le32 content 0) (le32 content 4) = let e = w.1 in cc in
     let front : le32_octets (le32 content 0) ≡ take 4 content = number_front content octets (omega arith) in
     let back : le32_octets (le32 content 4) ≡ take 4 (drop 4 content) = number_at content 4 octets (omega arith) in
     subst (λ (c : NotesCommand). Writes (record_of 2 content) c) (sym is) (
-      (le32-below content 0 octets, le32-below content 4 octets),
+      (le32_below content 0 octets, le32_below content 4 octets),
       ap (record_of 2)
           (eight content whole ∙ ap (λ (t : List ℕ). t ++ take 4 (drop 4 content)) (sym front) ∙ ap (λ (t : List ℕ). le32_octets (le32 content 0) ++ t) (sym back)),
     )
 
 acked-read : (content : List ℕ) (command : NotesCommand) → IsOctets content → acked_in content ≡ Some command → Writes (record_of 3 content) command
 acked-read content command octets h =
-    let w = if-some (length content == 4) (Some (acked (le32 content 0))) command h in
-    let whole : length content ≡ 4 = is-from_test _ _ w.0 in
+    let w = if_some (length content == 4) (Some (acked (le32 content 0))) command h in
+    let whole : length content ≡ 4 = eqb-true _ _ w.0 in
     let is : command ≡ acked (le32 content 0) = let e = w.1 in cc in
     let front : le32_octets (le32 content 0) ≡ take 4 content = number_front content octets (omega arith) in
     subst (λ (c : NotesCommand). Writes (record_of 3 content) c) (sym is)
-    (le32-below content 0 octets, ap (record_of 3) (four content whole ∙ sym front))
+    (le32_below content 0 octets, ap (record_of 3) (four content whole ∙ sym front))
 
 refused-read : (content : List ℕ) (command : NotesCommand) → IsOctets content → refused_in content ≡ Some command → Writes (record_of 4 content) command
 refused-read content command octets h =
-    let w = if-some (length content == 5) (Some (refused (le32 content 0) (slice_index content 4))) command h in
-    let whole : length content ≡ 5 = is-from_test _ _ w.0 in
+    let w = if_some (length content == 5) (Some (refused (le32 content 0) (slice_index content 4))) command h in
+    let whole : length content ≡ 5 = eqb-true _ _ w.0 in
     let is : command ≡ refused (le32 content 0) (slice_index content 4) = let e = w.1 in cc in
     let front : le32_octets (le32 content 0) ≡ take 4 content = number_front content octets (omega arith) in
     subst (λ (c : NotesCommand). Writes (record_of 4 content) c) (sym is) (
-      (le32-below content 0 octets, octet_at content octets 4),
+      (le32_below content 0 octets, octet_at content octets 4),
       ap (record_of 4) (five content whole ∙ ap (λ (t : List ℕ). t ++ slice_index content 4 ∷ []) (sym front)),
     )
 
 got-read : (content : List ℕ) (command : NotesCommand) → IsOctets content → got_in content ≡ Some command → Writes (record_of 5 content) command
 got-read content command octets h =
-    let w = if-some (nat_lt 11 (length content) && nat_le (length content) 523) (got_by content (call_in (take 7 content))) command h in
-    let t = both _ _ w.0 in
-    let some : 11 < length content = lt-from_test _ _ t.0 in
-    let most : length content ≤ 523 = le-from_test _ _ t.1 in
-    let v = map-some (λ (server : CallSign). got server (le32 content 7) (drop 11 content)) (call_in (take 7 content)) command w.1 in
+    let w = if_some (nat_lt 11 (length content) && nat_le (length content) 523) (got_by content (call_in (take 7 content))) command h in
+    let t = and_parts _ _ w.0 in
+    let some : 11 < length content = ltb-true _ _ t.0 in
+    let most : length content ≤ 523 = leb-true _ _ t.1 in
+    let v = map_some (λ (server : CallSign). got server (le32 content 7) (drop 11 content)) (call_in (take 7 content)) command w.1 in
     let call = (law (take 7 content) v.0).0 v.1 in
     let left = length-drop 11 content in
     let number : take 4 (drop 7 content) ≡ le32_octets (le32 content 7) = sym (number_at content 7 octets (omega arith)) in
     let a : content ≡ take 7 content ++ drop 7 content = sym (take-append-drop 7 content) in
     let b = cut content (take 7 content) 7 4 a in
     subst (λ (c : NotesCommand). Writes (record_of 5 content) c) (sym v.2) (
-      (call.0, le32-below content 7 octets, (IsOctets-drop content 11 octets, omega (arith, left), omega (arith, left))),
+      (call.0, le32_below content 7 octets, (octets_drop content 11 octets, omega (arith, left), omega (arith, left))),
       ap (record_of 5)
           (b ∙ ap (λ (t : List ℕ). (t ++ take 4 (drop 7 content)) ++ drop 11 content) call.1 ∙ ap (λ (t : List ℕ). (call_octets v.0 ++ t) ++ drop 11 content) number),
     )
 
 forgot-read : (content : List ℕ) (command : NotesCommand) → IsOctets content → forgot_in content ≡ Some command → Writes (record_of 6 content) command
 forgot-read content command octets h =
-    let w = if-some (length content == 11) (forgot_by content (call_in (take 7 content))) command h in
-    let whole : length content ≡ 11 = is-from_test _ _ w.0 in
-    let v = map-some (λ (server : CallSign). forgot server (le32 content 7)) (call_in (take 7 content)) command w.1 in
+    let w = if_some (length content == 11) (forgot_by content (call_in (take 7 content))) command h in
+    let whole : length content ≡ 11 = eqb-true _ _ w.0 in
+    let v = map_some (λ (server : CallSign). forgot server (le32 content 7)) (call_in (take 7 content)) command w.1 in
     let call = (law (take 7 content) v.0).0 v.1 in
     let number : take 4 (drop 7 content) ≡ le32_octets (le32 content 7) = sym (number_at content 7 octets (omega arith)) in
     subst (λ (c : NotesCommand). Writes (record_of 6 content) c) (sym v.2) (
-      (call.0, le32-below content 7 octets),
+      (call.0, le32_below content 7 octets),
       ap (record_of 6) (eleven content whole ∙ ap (λ (t : List ℕ). t ++ take 4 (drop 7 content)) call.1 ∙ ap (λ (t : List ℕ). call_octets v.0 ++ t) number),
     )
 
@@ -355,9 +261,9 @@ start_parts task server_ssid caller_ssid file_length server_chars caller_chars n
 
 start-tests : (content : List ℕ) → 55 < length content → slice_index content 54 ≤ 64 → length content ≡ 55 + slice_index content 54 → is_start_len content ≡ true
 start-tests content some most whole =
-    ap (λ (b : Bool). (b && nat_le (slice_index content 54) 64) && (length content == 55 + slice_index content 54)) (test-from_lt 55 (length content) some)
-    ∙ ap (λ (b : Bool). b && (length content == 55 + slice_index content 54)) (test-from_le (slice_index content 54) 64 most)
-    ∙ test-from_is (length content) (55 + slice_index content 54) whole
+    ap (λ (b : Bool). (b && nat_le (slice_index content 54) 64) && (length content == 55 + slice_index content 54)) (lt-ltb 55 (length content) some)
+    ∙ ap (λ (b : Bool). b && (length content == 55 + slice_index content 54)) (le-leb (slice_index content 54) 64 most)
+    ∙ eq-eqb (length content) (55 + slice_index content 54) whole
 
 start-by : (content name digest : List ℕ) (task file_length : ℕ) (server caller : CallSign) (a b : Option CallSign) → a ≡ Some server → b ≡ Some caller → le32 content 0 ≡ task → le32 content 18 ≡ file_length
     → drop 55 content ≡ name → take 32 (drop 22 content) ≡ digest → start_by content a b ≡ Some (start task server caller name file_length digest)
@@ -413,8 +319,8 @@ got-written server number octets is = by (call_octets server ++ le32_octets numb
   where
     by : (content : List ℕ) → GotParts server.ssid number server.chars octets content → got_in content ≡ Some (got server number octets)
     by content p =
-        let some : nat_lt 11 (length content) ≡ true = test-from_lt _ _ (omega (arith, p.len, is.2.1)) in
-        let most : nat_le (length content) 523 ≡ true = test-from_le _ _ (omega (arith, p.len, is.2.2)) in
+        let some : nat_lt 11 (length content) ≡ true = lt-ltb _ _ (omega (arith, p.len, is.2.1)) in
+        let most : nat_le (length content) 523 ≡ true = le-leb _ _ (omega (arith, p.len, is.2.2)) in
         ap (λ (b : Bool). if (b && nat_le (length content) 523) then got_by content (call_in (take 7 content)) else None) some
         ∙ ap (λ (b : Bool). if b then got_by content (call_in (take 7 content)) else None) most
         ∙ ap (got_by content) ((law (take 7 content) server).1 (is.0, p.call))
@@ -430,7 +336,7 @@ forgot-written server number is = by (call_octets server ++ le32_octets number) 
   where
     by : (content : List ℕ) → GotParts server.ssid number server.chars [] content → forgot_in content ≡ Some (forgot server number)
     by content p =
-        ap (λ (b : Bool). if b then forgot_by content (call_in (take 7 content)) else None) (test-from_is (length content) 11 p.len)
+        ap (λ (b : Bool). if b then forgot_by content (call_in (take 7 content)) else None) (eq-eqb (length content) 11 p.len)
         ∙ ap (forgot_by content) ((law (take 7 content) server).1 (is.0, p.call))
         ∙ ap (λ (n : ℕ). Some (forgot server n)) p.number_is
 
@@ -448,61 +354,39 @@ records entry command is = (read-writes entry command is, λ w. ap command_of w.
 
 -- ---- the record of a command is a record
 
-joined : (xs ys : List ℕ) → IsOctets xs → IsOctets ys → IsOctets (xs ++ ys)
-joined xs ys h g = All-append IsOctet xs ys h g
-
-octets-le32 : (n : ℕ) → IsOctets (le32_octets n)
-octets-le32 n = All-from_recursion IsOctet (le32_octets n) (omega arith, (omega arith, (omega arith, (omega arith, tt))))
-
-char-octet : (c : ℕ) → is_call_char c ≡ true → c < 256
-char-octet c h = grind (arith, nat_tests)
-
-octets-chars : (call : CallSign) → IsCall call → IsOctets call.chars
-octets-chars call h =
-    let base : List ℕ = h.spelled.0 in
-    let base_octets : IsOctets base = λ k d below. char-octet _ (h.spelled.1.2 k d below) in
-    subst IsOctets (sym h.spelled.2)
-    (All-append IsOctet base (replicate (6 - length base) 32) base_octets (All-replicate IsOctet (6 - length base) 32 (lit< tt)))
-
-octets-call : (call : CallSign) → IsCall call → IsOctets (call_octets call)
-octets-call call is = joined call.chars (call.ssid ∷ []) (octets-chars call is) (All-cons IsOctet call.ssid [] (omega (arith, is.in_range)) (All-nil IsOctet))
-
-octets-one : (octet : ℕ) → octet < 256 → IsOctets (octet ∷ [])
-octets-one octet below = All-cons IsOctet octet [] below (All-nil IsOctet)
-
 pub IsRecord-written : (command : NotesCommand) → IsWritable command → IsRecord (record_of_command command)
 IsRecord-written (start task server caller name file_length digest) is =
     let p = start_parts task server.ssid caller.ssid file_length server.chars caller.chars name digest (length-IsSpelled server.chars is.1.spelled) (length-IsSpelled caller.chars is.2.spelled) (omega (arith, is.5)) is.0 is.4 in
     record {
       kind = omega arith;
       octets =
-          joined (((((le32_octets task ++ call_octets server) ++ call_octets caller) ++ le32_octets file_length) ++ digest) ++ (length name ∷ [])) name
-          (joined ((((le32_octets task ++ call_octets server) ++ call_octets caller) ++ le32_octets file_length) ++ digest) (length name ∷ [])
-          (joined (((le32_octets task ++ call_octets server) ++ call_octets caller) ++ le32_octets file_length) digest
-          (joined ((le32_octets task ++ call_octets server) ++ call_octets caller) (le32_octets file_length)
-          (joined (le32_octets task ++ call_octets server) (call_octets caller)
-          (joined (le32_octets task) (call_octets server) (octets-le32 task) (octets-call server is.1)) (octets-call caller is.2))
-          (octets-le32 file_length)) is.5.0)
-          (octets-one (length name) (omega (arith, is.3.2)))) is.3.0;
+          octets_joined (((((le32_octets task ++ call_octets server) ++ call_octets caller) ++ le32_octets file_length) ++ digest) ++ (length name ∷ [])) name
+          (octets_joined ((((le32_octets task ++ call_octets server) ++ call_octets caller) ++ le32_octets file_length) ++ digest) (length name ∷ [])
+          (octets_joined (((le32_octets task ++ call_octets server) ++ call_octets caller) ++ le32_octets file_length) digest
+          (octets_joined ((le32_octets task ++ call_octets server) ++ call_octets caller) (le32_octets file_length)
+          (octets_joined (le32_octets task ++ call_octets server) (call_octets caller)
+          (octets_joined (le32_octets task) (call_octets server) (octets_le32 task) (octets_call server is.1)) (octets_call caller is.2))
+          (octets_le32 file_length)) is.5.0)
+          (octets_one (length name) (omega (arith, is.3.2)))) is.3.0;
       most = omega (arith, p.len, is.3.2);
     }
 IsRecord-written (numbered task number) is =
-    record { kind = omega arith; octets = joined (le32_octets task) (le32_octets number) (octets-le32 task) (octets-le32 number); most = omega arith }
-IsRecord-written (acked task) is = record { kind = omega arith; octets = octets-le32 task; most = omega arith }
+    record { kind = omega arith; octets = octets_joined (le32_octets task) (le32_octets number) (octets_le32 task) (octets_le32 number); most = omega arith }
+IsRecord-written (acked task) is = record { kind = omega arith; octets = octets_le32 task; most = omega arith }
 IsRecord-written (refused task code) is =
-    record { kind = omega arith; octets = joined (le32_octets task) (code ∷ []) (octets-le32 task) (octets-one code is.1); most = omega arith }
+    record { kind = omega arith; octets = octets_joined (le32_octets task) (code ∷ []) (octets_le32 task) (octets_one code is.1); most = omega arith }
 IsRecord-written (got server number octets) is =
     let p = got_parts server.ssid number server.chars octets (length-IsSpelled server.chars is.0.spelled) is.1 in
     record {
       kind = omega arith;
-      octets = joined (call_octets server ++ le32_octets number) octets (joined (call_octets server) (le32_octets number) (octets-call server is.0) (octets-le32 number)) is.2.0;
+      octets = octets_joined (call_octets server ++ le32_octets number) octets (octets_joined (call_octets server) (le32_octets number) (octets_call server is.0) (octets_le32 number)) is.2.0;
       most = omega (arith, p.len, is.2.2);
     }
 IsRecord-written (forgot server number) is =
     let p = forgot_parts server.ssid number server.chars (length-IsSpelled server.chars is.0.spelled) is.1 in
     record {
       kind = omega arith;
-      octets = joined (call_octets server) (le32_octets number) (octets-call server is.0) (octets-le32 number);
+      octets = octets_joined (call_octets server) (le32_octets number) (octets_call server is.0) (octets_le32 number);
       most = omega (arith, p.len);
     }
 
@@ -532,12 +416,9 @@ pub of_kind_6 : (kind : ℕ) (content : List ℕ) → kind ≡ 6 → forgot_in c
 unfolding command_of
 of_kind_6 kind content is = sym (ap (λ (k : ℕ). command_of (record_of k content)) is)
 
-other_kind : (kind n : ℕ) → (kind ≡ n → ⊥) → (kind == n) ≡ false
-other_kind kind n h = grind (arith, nat_tests)
-
 pub of_other_kind : (kind : ℕ) (content : List ℕ) → (kind ≡ 1 → ⊥) → (kind ≡ 2 → ⊥) → (kind ≡ 3 → ⊥) → (kind ≡ 4 → ⊥) → (kind ≡ 5 → ⊥) → (kind ≡ 6 → ⊥) → None ≡ command_of (record_of kind content)
 unfolding command_of
-of_other_kind kind content a b c d e f = rw (other_kind kind 1 a, other_kind kind 2 b, other_kind kind 3 c, other_kind kind 4 d, other_kind kind 5 e, other_kind kind 6 f) refl
+of_other_kind kind content a b c d e f = rw (ne_eqb kind 1 a, ne_eqb kind 2 b, ne_eqb kind 3 c, ne_eqb kind 4 d, ne_eqb kind 5 e, ne_eqb kind 6 f) refl
 
 -- a Start that is read by the code
 pub start-in : (content name : List ℕ) (task file_length : ℕ) (server caller : CallSign) → true ≡ is_start_len content → Some server ≡ call_in (take 7 (drop 4 content)) → Some caller ≡ call_in (take 7 (drop 11 content))

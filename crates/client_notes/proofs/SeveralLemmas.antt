@@ -1,11 +1,10 @@
 -- What several commands of a call do to the disk of the notes, one list of them after another.
-use Rattle.std.proofs.Common.{◌≡◌, inl, inr, ℕ, ◌+◌, ◌*◌, List, [], ◌∷◌, ◌++◌, length, refl, ◌∙◌, ap, subst, arith, length-append}
+use Rattle.std.proofs.Common.{◌≡◌, inl, inr, ℕ, ◌+◌, List, [], ◌∷◌, ◌++◌, length, refl, ◌∙◌, ap, subst, arith, length-append, take}
 use Rattle.std.specs.Prelude.{IsTrue}
 use Rattle.disk_model.specs.declared.disk.Disk.{Ghosts}
 use Rattle.file_journal.specs.Calls.{images_now}
-use Rattle.file_journal.specs.Commands.{StayDone}
-use Rattle.file_journal.specs.Kept.{by_fours}
-use Rattle.file_journal.proofs.Offered.{after_all_append, allowed_append, at_told, does_longer, does_none, does_same, does_then, first_then, if_told, makes_first, makes_within, told_before, told_weaker, weaker}
+use Rattle.file_journal.specs.Commands.{StayDone, done_at}
+use Rattle.file_journal.proofs.Offered.{after_all_append, allowed_append, at_told, does_longer, does_none, does_same, does_then, first_then, if_told, makes_first, makes_within, told_before, told_weaker, weaker, allowed_first, allowed_split}
 use Rattle.client_notes.specs.Command.{NotesCommand, after, is_allowed}
 use Rattle.client_notes.specs.Laws.{AreAllowed, after_all}
 use Rattle.client_notes.specs.Notes.{Lists}
@@ -27,6 +26,14 @@ after_all-append = after_all_append after
 pub AreAllowed-append : (a b : List NotesCommand) (lists : Lists) → AreAllowed lists a → AreAllowed (after_all lists a) b → AreAllowed lists (a ++ b)
 AreAllowed-append = allowed_append after (λ (lists : Lists) (command : NotesCommand). IsTrue (is_allowed lists command))
 
+pub AreAllowed-split : (a b : List NotesCommand) (lists : Lists) → AreAllowed lists (a ++ b)
+    → AreAllowed lists a × AreAllowed (after_all lists a) b
+AreAllowed-split = allowed_split after (λ (lists : Lists) (command : NotesCommand). IsTrue (is_allowed lists command))
+
+pub AreAllowed-first : (count : ℕ) (commands : List NotesCommand) (lists : Lists) → AreAllowed lists commands
+    → AreAllowed lists (take count commands)
+AreAllowed-first = allowed_first after (λ (lists : Lists) (command : NotesCommand). IsTrue (is_allowed lists command))
+
 -- ---- the first of some commands
 
 -- the first of two lists of commands, past the first list
@@ -47,9 +54,10 @@ module _ {D : Type 0} (g : Ghosts D) where
 
   -- since the one command is done
   pub stay-one : (lists : Lists) (command : NotesCommand) (disk disk_now : D) → g.moment disk_now ≡ g.moment disk + 4
-      → ((image : List ℕ) → images_now g disk_now image → StandsFor image (after lists command)) → StayDone g notes_form (by_fours (g.moment disk)) 1 lists (command ∷ []) disk_now
+      → ((image : List ℕ) → images_now g disk_now image → StandsFor image (after lists command)) → StayDone g notes_form (done_at notes_form (g.moment disk) (command ∷ [])) 1 lists (command ∷ []) disk_now
   stay-one lists command disk disk_now at each count some most image left =
-      let now : g.moment disk + 4 * count ≡ g.moment disk_now = omega (arith, at) in
+      let first : count ≡ 1 = omega (arith, some, most) in
+      let now : done_at notes_form (g.moment disk) (command ∷ []) count ≡ g.moment disk_now = ap (done_at notes_form (g.moment disk) (command ∷ [])) first ∙ omega (arith, at) in
       (1, omega arith, omega arith, each image (subst (λ (t : ℕ). g.images_since disk_now t image) now left))
 
   -- ---- one command

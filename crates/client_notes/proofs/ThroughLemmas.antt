@@ -7,9 +7,9 @@ use Rattle.file_journal.specs.Kept.{alone}
 use Rattle.file_journal.specs.Through.{CountsWrites, StandsThrough}
 use Rattle.file_journal.proofs.Offered.{alike_on, stops_on}
 use Rattle.file_journal.proofs.Offered as kept
-use Rattle.client_notes.proofs.PutLemmas.{own-number}
 use Rattle.client_notes.proofs.SeveralLemmas.{Several-then}
 use Rattle.client_notes.specs.Command.{NotesCommand}
+use Rattle.client_notes.specs.NotesLaws.{notes_number}
 use Rattle.client_notes.specs.Records.{notes_form}
 use Rattle.client_notes.specs.Recovery.{Recovers}
 use Rattle.client_notes.specs.Several.{CutsOff, DoesSeveral, notes_on}
@@ -31,8 +31,8 @@ module _ {D : Type 0} (g : Ghosts D) (on : (first second third : D) → g.lasts 
       let all : DoesSeveral g failed start new mid now (done ++ cut) = Several-then g on ⊥ failed start cuts.notes_then new mid cuts.disk_then now done cut (λ never. never) cuts.first cuts.second in
       let same = r.runs.faults.same (λ never. never) in
       let puts = all.does.puts in
-      let stands = kept.stands_through g notes_form own-number 1 failed old (notes_on start mid) (notes_on cuts.notes_then cuts.disk_then) (notes_on new now) done cut r.runs.told r.recovered.content r.since_start
-      r.since_sync r.recovered.stands_at.magic_is (alone g failed) (alone g ⊥) (alone g failed) all.does cuts.first.does cuts.second.does cuts.first.does.puts.told in
+      let stands = kept.stands_through g notes_form notes_number 1 failed old (notes_on start mid) (notes_on cuts.notes_then cuts.disk_then) (notes_on new now) done cut r.runs.told r.recovered.content r.since_start
+      r.since_sync (alone g failed) (alone g ⊥) (alone g failed) all.does cuts.first.does cuts.second.does cuts.first.does.puts.told in
       record {
         stands = stands.0;
         ready = stands.1;

@@ -8,6 +8,7 @@ use Rattle.disk_model.specs.declared.disk.Disk.{Ghosts}
 use Rattle.file_journal.specs.Commands as kept
 use Rattle.file_journal.specs.Journal.{journal_of, store}
 use Rattle.file_journal.specs.Records.{IsRecord, Record, whole}
+use Rattle.file_journal.specs.declared.layout.Layout.TheVariants as layout
 use Rattle.client_notes.specs.Answers.{noted_at}
 use Rattle.client_notes.specs.Command.{NotesCommand, after, forgot, got, is_allowed}
 use Rattle.client_notes.specs.Notes.{Lists, got_of, no_notes}
@@ -35,7 +36,7 @@ AreAllowed lists commands = kept.AreAllowed (λ now command. IsTrue (is_allowed 
 -- before it allow, from no notes on; and these are the notes after them.
 pub record IsNotesAfter (octets : List ℕ) (lists : Lists) (commands : List NotesCommand) : Type 0 where
   pub number : Option ℕ
-  pub records : journal_of notes_magic octets ≡ store number (whole (map record_of_command commands))
+  pub records : journal_of notes_magic layout.Growing octets ≡ store number (whole (map record_of_command commands))
   pub writable : AllByRecursion IsWritable commands
   pub allowed : AreAllowed no_notes commands
   pub after : lists ≡ after_all no_notes commands

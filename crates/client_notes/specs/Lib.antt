@@ -5,6 +5,7 @@ pub mod Commands
 pub mod Laws
 pub mod Limits
 pub mod Notes
+pub mod NotesLaws
 pub mod Noting
 pub mod OnDisk
 pub mod Records

@@ -1,7 +1,8 @@
 -- The lists of the notes, with what is being noted: it is in memory before its record is on the disk.
-use Rattle.std.specs.Prelude.{◌≡◌, ◌-◌, take, Bool, true, false, ⊤}
+use Rattle.std.specs.Prelude.{◌≡◌, ◌-◌, take, Bool, true, false, None, ⊤}
+use Rattle.file_journal.specs.Steps.{Turn}
 use Rattle.client_notes.specs.Applied.{IsPlaceOf, taken_back}
-use Rattle.client_notes.specs.Command.{NotesCommand, acked, forgot, got, numbered, refused, start}
+use Rattle.client_notes.specs.Command.{NotesCommand, acked, after, forgot, got, numbered, refused, start}
 use Rattle.client_notes.specs.Notes.{Lists, task_count}
 use Rattle.client_notes.specs.declared.noted_lists.Coming.{Coming}
 use Rattle.client_notes.specs.declared.noted_lists.Coming.TheVariants as coming
@@ -28,6 +29,10 @@ pub record IsBrought (old new : NotedLists) (now : Lists) : Type 0 where
   pub noted : lists_of new ≡ old.lists
   pub lists : new.lists ≡ now
   pub stands : StandsIn new.coming new.lists
+
+-- what one command does to the lists that are noted
+abbrev pub turn_of : Lists → NotesCommand → Turn Lists NotesCommand
+turn_of lists command = record { command = command; next = after lists command; puts = None; lets = λ held. ⊤ }
 
 -- whether a command takes no memory
 abbrev pub takes_none : NotesCommand → Bool

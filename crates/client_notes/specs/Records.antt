@@ -5,8 +5,11 @@ use Rattle.px_base.specs.CallSign.{CallSign, IsCall}
 use Rattle.px_base.specs.Numbers.{le32, le32_octets}
 use Rattle.px_base.specs.Octets.{IsOctets}
 use Rattle.px_base.specs.CallOctets.{call_in, call_octets}
-use Rattle.file_journal.specs.Form.{Form}
+use Rattle.file_journal.specs.Form.{Form, record_calls}
+use Rattle.file_journal.specs.declared.layout.Layout.TheVariants as layout
 use Rattle.file_journal.specs.Records.{Record, record_of}
+use Rattle.file_journal.specs.Steps.{Steps, growing_steps}
+use Rattle.file_journal.specs.Walk.{stands_for}
 use Rattle.client_notes.specs.Command.{NotesCommand, acked, after, forgot, got, is_allowed, numbered, refused, start}
 use Rattle.client_notes.specs.Notes.{Lists, no_notes}
 
@@ -122,14 +125,23 @@ notes_step lists entry = option_and_then (notes_after lists) (command_of entry)
 abbrev pub notes_magic : List ℕ
 notes_magic = 80 ∷ 88 ∷ 78 ∷ 79 ∷ 84 ∷ 69 ∷ 83 ∷ 49 ∷ []
 
+-- the notes before the first record, whatever the block number is
+abbrev pub fresh_notes : ℕ → Lists
+fresh_notes blocks = no_notes
+
+-- what records make of notes
+abbrev pub notes_steps : Steps Lists
+notes_steps = growing_steps fresh_notes (λ lists. 1) notes_step
+
 -- the notes that a journal of these commands keeps, whatever its block number is
 abbrev pub notes_form : Form Lists NotesCommand
 notes_form =
     record {
       magic = notes_magic;
-      fresh = λ blocks. no_notes;
+      layout = layout.Growing;
       number = λ lists. 1;
-      step = notes_step;
+      standing = λ blocks octets. stands_for fresh_notes notes_step notes_magic layout.Growing blocks octets;
       allowed = λ lists command. IsTrue (is_allowed lists command);
       after = after;
+      calls = λ command. record_calls;
     }

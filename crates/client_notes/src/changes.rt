@@ -5,13 +5,14 @@ ghost use Rattle.file_journal.specs.Form.{same_form};
 ghost use Rattle.client_notes.specs.Command.{NotesCommand, after, is_allowed};
 ghost use Rattle.client_notes.specs.Commands.{command_value};
 ghost use Rattle.client_notes.specs.Notes.{Lists};
-ghost use Rattle.client_notes.specs.Noting.{lists_of, takes_none};
-ghost use Rattle.client_notes.specs.Records.{IsWritable, notes_form};
+ghost use Rattle.client_notes.specs.NotesLaws.{notes_seen};
+ghost use Rattle.client_notes.specs.Noting.{lists_of, takes_none, turn_of};
+ghost use Rattle.client_notes.specs.Records.{IsWritable, notes_form, notes_steps};
 ghost use Rattle.client_notes.specs.declared.noted_lists.Coming.TheVariants as coming;
 
 use crate::command::Command;
 use crate::noted_lists::{Coming, NotedLists};
-use file_journal::{Change, RecordContent};
+use file_journal::{BlockPut, Change, RecordContent};
 
 /// A command that takes memory, and what it makes stands in the lists already.
 #[derive(Drop)]
@@ -28,19 +29,29 @@ pub(crate) struct Direct<'a> {
 impl<'a> Change<NotedLists> for Brought<'a> {
     ghost State = { Lists };
 
+    ghost Seen = { Lists };
+
     ghost Command = { NotesCommand };
 
     ghost form = { notes_form };
 
+    ghost steps = { notes_steps };
+
+    ghost seen = { λ held now. now };
+
     ghost state = { lists_of };
 
-    ghost command = { λ change noted. command_value change.command };
+    ghost turn = { λ change noted. turn_of (lists_of noted) (command_value change.command) };
 
     ghost may = { λ change noted. (noted.lists ≡ after (lists_of noted) (command_value change.command))
         × IsTrue (is_allowed (lists_of noted) (command_value change.command))
         × IsWritable (command_value change.command) };
 
     ghost makes = { λ change old new. new.coming ≡ coming.Nothing };
+
+    fn block<'b>(&'b self, _noted: &'b NotedLists) -> Option<BlockPut<'b>> {
+        None
+    }
 
     fn write(&self, _noted: &NotedLists, content: &mut RecordContent) -> u8 {
         self.command.write(content)
@@ -50,19 +61,29 @@ impl<'a> Change<NotedLists> for Brought<'a> {
         noted.coming = Coming::Nothing;
     }
 
-    ghost of_ledger = { same_form notes_form lists_of };
+    ghost is_seen = { notes_seen };
+
+    ghost lets_same = { λ change noted one other same is. is };
+
+    ghost of_ledger = { same_form notes_form (λ held noted. lists_of noted) };
 }
 
 impl<'a> Change<NotedLists> for Direct<'a> {
     ghost State = { Lists };
 
+    ghost Seen = { Lists };
+
     ghost Command = { NotesCommand };
 
     ghost form = { notes_form };
 
+    ghost steps = { notes_steps };
+
+    ghost seen = { λ held now. now };
+
     ghost state = { lists_of };
 
-    ghost command = { λ change noted. command_value change.command };
+    ghost turn = { λ change noted. turn_of (lists_of noted) (command_value change.command) };
 
     ghost may = { λ change noted. (noted.coming ≡ coming.Nothing)
         × IsTrue (is_allowed noted.lists (command_value change.command))
@@ -70,6 +91,10 @@ impl<'a> Change<NotedLists> for Direct<'a> {
         × (takes_none (command_value change.command) ≡ true) };
 
     ghost makes = { λ change old new. new.coming ≡ coming.Nothing };
+
+    fn block<'b>(&'b self, _noted: &'b NotedLists) -> Option<BlockPut<'b>> {
+        None
+    }
 
     fn write(&self, _noted: &NotedLists, content: &mut RecordContent) -> u8 {
         self.command.write(content)
@@ -85,5 +110,9 @@ impl<'a> Change<NotedLists> for Direct<'a> {
         }
     }
 
-    ghost of_ledger = { same_form notes_form lists_of };
+    ghost is_seen = { notes_seen };
+
+    ghost lets_same = { λ change noted one other same is. is };
+
+    ghost of_ledger = { same_form notes_form (λ held noted. lists_of noted) };
 }

@@ -10,7 +10,8 @@ ghost use Rattle.client_notes.specs.declared.noted_lists.Coming.TheVariants as c
 use crate::command::Command;
 use crate::lists::{Behind, Lists};
 use crate::task::StoredTask;
-use file_journal::Ledger;
+use disk_model::Disk;
+use file_journal::{ApplyFault, Journal, Layout, Ledger};
 use px_base::{Call, OutOfMemory};
 use std::alloc::Global;
 
@@ -95,13 +96,20 @@ impl NotedLists {
 impl Ledger for NotedLists {
     ghost use Rattle.client_notes.specs.Command.{NotesCommand};
     ghost use Rattle.client_notes.specs.Notes.{Lists as NotesLists};
-    ghost use Rattle.client_notes.specs.Records.{notes_form};
+    ghost use Rattle.client_notes.specs.NotesLaws.{notes_seen};
+    ghost use Rattle.client_notes.specs.Records.{notes_form, notes_steps};
 
     ghost State = { NotesLists };
+
+    ghost Seen = { NotesLists };
 
     ghost Command = { NotesCommand };
 
     ghost form = { notes_form };
+
+    ghost steps = { notes_steps };
+
+    ghost seen = { λ held now. now };
 
     ghost state = { lists_of };
 
@@ -111,14 +119,26 @@ impl Ledger for NotedLists {
         *b"PXNOTES1"
     }
 
+    fn layout() -> Layout {
+        Layout::Growing
+    }
+
     fn fresh(alloc: Global, _blocks: u32) -> NotedLists {
         NotedLists::new(alloc)
     }
 
-    fn apply(&mut self, kind: u8, content: &[u8]) -> Result<bool, OutOfMemory> {
+    fn apply<D: Disk>(
+        &mut self,
+        _journal: &Journal,
+        _disk: &mut D,
+        kind: u8,
+        content: &[u8],
+    ) -> Result<bool, ApplyFault> {
         match Command::read(kind, content) {
-            Some(command) => self.lists.apply_command(&command),
+            Some(command) => Ok(self.lists.apply_command(&command)?),
             None => Ok(false),
         }
     }
+
+    ghost is_seen = { notes_seen };
 }

@@ -3,4 +3,4 @@ use Rattle.client_notes.proofs.laws.images_law.Goals as goal
 
 pub returns : goal.returns
 returns g c =
-    images-here g.D.Disk c.args.notes.now.journal c.args.disk.now c.args.notes.now.lists c.read_law.ensures.magic_is c.requires.healthy c.requires.stands_on
+    images-here g.D.Disk c.args.notes.now.journal c.args.disk.now c.args.notes.now.lists c.requires.healthy c.requires.stands_on

@@ -1,18 +1,20 @@
-use Rattle.std.proofs.Common.{◌-◌, length, arith}
+use Rattle.std.proofs.Common.{◌-◌, ◌<◌, length, arith}
 use Rattle.std.proofs.lemmas.Grind.{common_steps}
-use Rattle.client_notes.proofs.RecordLemmas.{IsOctets-part, length-part, octets-slice}
+use Rattle.std.proofs.lemmas.List.Elements.{All-from_get_or}
+use Rattle.file_journal.proofs.Offered.{octets_part}
+use Rattle.client_notes.proofs.RecordLemmas.{length-part}
 use Rattle.client_notes.proofs.reading.read_got.Goals as goal
 
 pub returns : goal.returns
 returns c =
     let content = c.args.content.now in
-    let octets = octets-slice content (λ i. omega (arith, c.type_inv.content i)) in
+    let octets = All-from_get_or (λ octet. octet < 256) content 0 (λ i lt. omega (arith, c.type_inv.content i)) in
     let whole = length-part content 11 (length content - 11) (omega arith) in
     record {
       command = grind (arith, common_steps);
       writable = (
         c.in_ok-server.ensures.valid,
         omega arith,
-        (IsOctets-part content 11 (length content - 11) octets, omega (arith, whole), omega (arith, whole)),
+        (octets_part content 11 (length content - 11) octets, omega (arith, whole), omega (arith, whole)),
       );
     }

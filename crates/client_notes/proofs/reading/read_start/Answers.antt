@@ -1,12 +1,14 @@
-use Rattle.std.proofs.Common.{◌-◌, length, drop, sym, arith, length-drop}
+use Rattle.std.proofs.Common.{◌-◌, ◌<◌, length, drop, sym, arith, length-drop}
 use Rattle.std.proofs.lemmas.List.{take_all}
-use Rattle.client_notes.proofs.RecordLemmas.{IsOctets-part, length-part, octets-slice, start-in, start_lengths}
+use Rattle.std.proofs.lemmas.List.Elements.{All-from_get_or}
+use Rattle.file_journal.proofs.Offered.{octets_part}
+use Rattle.client_notes.proofs.RecordLemmas.{length-part, start-in, start_lengths}
 use Rattle.client_notes.proofs.reading.read_start.Goals as goal
 
 pub returns : goal.returns
 returns c =
     let content = c.args.content.now in
-    let octets = octets-slice content (λ i. omega (arith, c.type_inv.content i)) in
+    let octets = All-from_get_or (λ octet. octet < 256) content 0 (λ i lt. omega (arith, c.type_inv.content i)) in
     let is = start_lengths content (sym c.if-not-is_start_len.ensures) in
     let name = length-part content 55 (length content - 55) (omega (arith, is.some)) in
     let digest = length-part content 22 32 (omega (arith, is.some)) in
@@ -18,8 +20,8 @@ returns c =
         omega arith,
         c.in_ok-server.ensures.valid,
         c.in_ok-caller.ensures.valid,
-        (IsOctets-part content 55 (length content - 55) octets, omega (arith, name, is.some), omega (arith, name, is.whole, is.most)),
+        (octets_part content 55 (length content - 55) octets, omega (arith, name, is.some), omega (arith, name, is.whole, is.most)),
         omega arith,
-        (IsOctets-part content 22 32 octets, omega (arith, digest), omega (arith, digest)),
+        (octets_part content 22 32 octets, omega (arith, digest), omega (arith, digest)),
       );
     }

@@ -1,4 +1,6 @@
-use Rattle.std.proofs.Common.{Err, Ok, subst}
+use Rattle.std.proofs.Common.{Err, Ok, subst, inl, refl}
+use Rattle.std.specs.Prelude.{⊤}
+use Rattle.disk_model.specs.declared.disk.DiskFault.{DiskFault}
 use Rattle.client_notes.specs.Answers.{Noting}
 use Rattle.client_notes.specs.Command.{got}
 use Rattle.client_notes.specs.State.{NotesState}
@@ -11,13 +13,13 @@ returns-in-Ok g c =
     let new : NotesState = record { lists = c.put.new.self.ledger.lists; journal = c.put.new.self.journal } in
     let command = got c.args.server c.args.number c.args.bytes.now in
     subst (λ (s : NotesState). Noting g.D.Disk s new c.args.disk.now c.put.new.disk command (Ok (tt {0}))) c.self.view_is
-    (brought-done g.D.Disk c.self.inside.kept.ledger c.bring_got.new.self c.put.new.self.ledger c.self.inside.kept.journal c.put.new.self.journal c.args.disk.now c.put.new.disk command
-    c.in_ok-bring_got.ensures.ok.noted c.in-Ok.field-0 (tt {0}) c.in-Ok.ensures.makes c.in-Ok.ensures.answers)
+    (brought-done {E = DiskFault} g.D.Disk c.self.inside.kept.ledger c.bring_got.new.self c.put.new.self.ledger c.self.inside.kept.journal c.put.new.self.journal c.args.disk.now c.put.new.disk command
+    c.in_ok-bring_got.ensures.ok.noted c.in-Ok.field-0 (tt {0}) c.in-Ok.ensures.makes (record { stands_at = c.in-Ok.ensures.stands_at; does = c.in-Ok.ensures.does (inl refl) }))
 
 pub returns-in-Err : goal.returns-in-Err
 returns-in-Err g c =
     let new : NotesState = record { lists = c.take_back.new.self.lists; journal = c.put.new.self.journal } in
     let command = got c.args.server c.args.number c.args.bytes.now in
     subst (λ (s : NotesState). Noting g.D.Disk s new c.args.disk.now c.put.new.disk command (Err refusal.Disk)) c.self.view_is
-    (brought-cut g.D.Disk c.self.inside.kept.ledger c.bring_got.new.self c.put.new.self.ledger c.self.inside.kept.journal c.put.new.self.journal c.args.disk.now c.put.new.disk command
-    c.in_ok-bring_got.ensures.ok.noted c.in-Err.field-0 c.take_back.new.self c.take_back.ensures.lists c.in-Err.ensures.answers)
+    (brought-cut {T = ⊤} g.D.Disk c.self.inside.kept.ledger c.bring_got.new.self c.put.new.self.ledger c.self.inside.kept.journal c.put.new.self.journal c.args.disk.now c.put.new.disk command
+    c.in_ok-bring_got.ensures.ok.noted c.in-Err.field-0 c.take_back.new.self c.take_back.ensures.lists (record { stands_at = c.in-Err.ensures.stands_at; does = c.in-Err.ensures.does (inl refl) }))
