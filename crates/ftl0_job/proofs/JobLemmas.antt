@@ -1,8 +1,9 @@
 -- A job takes a packet as what it does takes it.
 use Rattle.std.proofs.Common.{◌≡◌, ℕ, List, [], refl, sym, ap, subst}
-use Rattle.std.specs.Prelude.{⊤, true, false, is_some, Option, None, Some, Ok, Err}
+use Rattle.std.specs.Prelude.{⊤, true, false, is_some, take, Option, None, Some, Result, Ok, Err}
 use Rattle.disk_model.specs.declared.disk.Disk.{Ghosts}
 use Rattle.ftl0_packets.specs.Layout.{Item, PacketValue}
+use Rattle.client_notes.specs.Command.{NotesCommand}
 use Rattle.client_notes.specs.Laws.{after_all}
 use Rattle.client_notes.specs.Notes.{Lists}
 use Rattle.client_notes.specs.Several.{DoesSeveral}
@@ -14,7 +15,7 @@ use Rattle.ftl0_job.specs.declared.work.Work.{Work}
 use Rattle.ftl0_job.specs.declared.work.Work.TheVariants as work
 use Rattle.ftl0_job.specs.Directory.{Directory, directory_row}
 use Rattle.ftl0_job.specs.JobState.{GoBy, GoWith}
-use Rattle.ftl0_job.specs.Noting.{HasNoted}
+use Rattle.ftl0_job.specs.Noting.{HasNoted, IsBefore}
 use Rattle.ftl0_job.specs.Row.{Row}
 use Rattle.ftl0_job.specs.Table.{JobState, item_row, job_row, row_of}
 use Rattle.ftl0_job.specs.Taking.{Gives, StopsAt, TakesPacket, TakesRow, with_notes}
@@ -31,6 +32,24 @@ module _ {D : Type 0} (g : Ghosts D) where
     answers = (ap work.Directory gives.0, gives.1, gives.2);
     noted = none-by g notes disk (directory_row before packet).commands (directory-silent before packet) ready lasts;
   }
+
+  -- nor has one for which there is no memory
+  pub takes-no-list : (before now : Directory) (packet : PacketValue) (notes : NotesState) (disk : D) (replies : List ℕ) (result : Result (Option Ending) Halt) → IsReady g notes disk
+      → g.lasts disk disk → now ≡ before → replies ≡ [] → result ≡ Err stop.OutOfMemory
+      → TakesRow g (row_of work.Directory (directory_row before packet)) (with_notes (work.Directory before) notes disk) (with_notes (work.Directory now) notes disk) replies result
+  takes-no-list before now packet notes disk replies result ready lasts same none is =
+      let commands = (directory_row before packet).commands in
+      let silent = directory-silent before packet in
+      subst (λ (r : Result (Option Ending) Halt).
+      TakesRow g (row_of work.Directory (directory_row before packet)) (with_notes (work.Directory before) notes disk) (with_notes (work.Directory now) notes disk) replies r) (sym is)
+      (record {
+        answers = (ap work.Directory same, none);
+        noted = (
+          0,
+          subst (λ (cs : List NotesCommand). IsBefore 0 cs) (sym silent) refl,
+          none-by g notes disk (take 0 commands) (ap (take 0) silent) ready lasts,
+        );
+      })
 
   -- a packet after the outcome
   pub takes-ended : (item : Item) (job : JobState) (ending : Ending) (notes : NotesState) (disk : D) (replies : List ℕ) → job.ending ≡ Some ending → replies ≡ [] → IsReady g notes disk

@@ -23,7 +23,7 @@ use Rattle.client_notes.specs.Notes.{Lists, Task, got_of, is_of_file, last_task,
 use Rattle.client_notes.specs.OnDisk.{Does, Untouched}
 use Rattle.client_notes.specs.State.{NotesState, StandsFor}
 use Rattle.disk_model.specs.declared.disk.Disk.{Ghosts}
-use Rattle.client_notes.proofs.Offered.{acked-stays, both-left, task-after}
+use Rattle.client_notes.proofs.Offered.{AreAllowed-first, acked-stays, both-left, task-after}
 use Rattle.ftl0_job.specs.declared.ending.Ending.{Ending}
 use Rattle.ftl0_job.specs.declared.ending.Outcome.TheVariants as outcome
 use Rattle.ftl0_job.specs.declared.phases.DownloadPhase.{DownloadPhase}
@@ -181,18 +181,14 @@ acked-in lists at number row has is commands = record {
       (subst (λ (cs : List NotesCommand). StandsFor image (after_all lists (take makes.0 cs))) all makes.3);
 }
   where
-    allowed-take : (count : ℕ) (commands : List NotesCommand) (lists : Lists) → AreAllowed lists commands → AreAllowed lists (take count commands)
-    allowed-take zero commands lists allowed = tt
-    allowed-take (suc count) [] lists allowed = tt
-    allowed-take (suc count) (command ∷ commands) lists allowed = (allowed.0, allowed-take count commands (after lists command) allowed.1)
-
     stands-by : (others : List NotesCommand) (image : List ℕ) → AreAllowed lists (acked at.task ∷ others) → (count : ℕ) → 1 ≤ count
         → StandsFor image (after_all lists (take count (acked at.task ∷ others))) → IsAckedIn at.task number image
     stands-by others image allowed zero some stands = absurd (omega (arith, some))
     stands-by others image allowed (suc count) some stands = (
       after_all (after lists (acked at.task)) (take count others),
       stands,
-      acked-stays (after lists (acked at.task)) (take count others) at.task number (allowed-take count others (after lists (acked at.task)) allowed.1) (acked-now lists at number has is),
+      acked-stays (after lists (acked at.task)) (take count others) at.task number
+          (AreAllowed-first count others (after lists (acked at.task)) allowed.1) (acked-now lists at number has is),
     )
 
 -- a row that comes to this acknowledges

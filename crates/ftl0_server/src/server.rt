@@ -6,8 +6,9 @@ ghost use Rattle.ax25_frames.specs.Values.{value_of};
 ghost use Rattle.ax25_link.specs.Window.{IsGoodK, window_of};
 ghost use Rattle.file_store.specs.IsStore.{IsStore};
 ghost use Rattle.file_store.specs.Records.{store_magic};
-ghost use Rattle.file_store.specs.Calls.{Becomes, Leaves, Runs, TakesStep};
-ghost use Rattle.file_store.specs.Journal.{after_recovery};
+ghost use Rattle.file_store.specs.Calls.{Leaves, Runs, TakesStep};
+ghost use Rattle.file_store.specs.Journal.{IsAfterRecovery};
+ghost use Rattle.file_store.specs.Layout.TheVariants as Layout;
 ghost use Rattle.file_store.specs.Recovery.{IsRecovered, LeavesAlikeSinceSync, RefusesRecovery, StandsAlike};
 ghost use Rattle.file_store.specs.State.{IsRead, IsReady, store_in};
 ghost use Rattle.ftl0_session.specs.SessionState.{caller_of};
@@ -101,7 +102,7 @@ impl Server {
         ensures since_start { Leaves D.Disk disk.old disk.new (StandsAlike limits.blocks) }
         ensures since_sync { LeavesAlikeSinceSync D.Disk limits.blocks result disk.old disk.new }
         ensures octets { OnOk result
-            (TakesStep D.Disk disk.old disk.new (Becomes (after_recovery store_magic limits.blocks))) }
+            (TakesStep D.Disk disk.old disk.new (IsAfterRecovery store_magic Layout.Growing limits.blocks)) }
     {
         let store = FileStore::recover(alloc, disk, limits)?;
         state_law(&store);

@@ -3,12 +3,12 @@ use Rattle.std.proofs.Common.{◌≡◌, ℕ, ◌+◌, ◌-◌, List, [], ◌∷
 use Rattle.std.proofs.Common.{append_assoc, append-nil, length-append}
 use Rattle.std.specs.Prelude.{Option, None, Some, Ok, Err}
 use Rattle.ftl0_packets.specs.Layout.{Item, PacketValue}
-use Rattle.client_notes.specs.Command.{NotesCommand, acked, after}
+use Rattle.client_notes.specs.Command.{NotesCommand, acked}
 use Rattle.client_notes.specs.Laws.{AreAllowed, after_all}
 use Rattle.client_notes.specs.Notes.{Lists}
 use Rattle.client_notes.specs.Several.{after_first}
 use Rattle.client_notes.specs.State.{StandsFor}
-use Rattle.client_notes.proofs.Offered.{after_first-then}
+use Rattle.client_notes.proofs.Offered.{AreAllowed-split, after_first-then}
 use Rattle.ftl0_job.specs.declared.ending.Ending.{Ending}
 use Rattle.ftl0_job.specs.declared.ending.Outcome.TheVariants as outcome
 use Rattle.ftl0_job.specs.declared.work.Work.TheVariants as work
@@ -39,10 +39,6 @@ task-row at packet = upload-rows (λ row. row.state.task ≡ at.task) at rows pa
 
 -- ---- commands behind others
 
-allowed-behind : (a b : List NotesCommand) (lists : Lists) → AreAllowed lists (a ++ b) → AreAllowed (after_all lists a) b
-allowed-behind [] b lists allowed = allowed
-allowed-behind (command ∷ commands) b lists allowed = allowed-behind commands b (after lists command) allowed.1
-
 acks-behind : (lists : Lists) (commands noted : List NotesCommand) (task number : ℕ) → AcknowledgesIn (after_all lists commands) task number noted → AcknowledgesIn lists task number (commands ++ noted)
 acks-behind lists commands noted task number h = record {
   before = commands ++ h.before;
@@ -53,7 +49,10 @@ acks-behind lists commands noted task number h = record {
       let count : ℕ = makes.0 - length commands in
       let is : makes.0 ≡ length commands + count = omega (arith, sum, some, makes.1) in
       let stands : StandsFor image (after_first makes.0 lists (commands ++ (noted ++ others))) = subst (λ (cs : List NotesCommand). StandsFor image (after_first makes.0 lists cs)) all makes.3 in
-      h.stands others (length noted) count image (allowed-behind commands (noted ++ others) lists (subst (λ (cs : List NotesCommand). AreAllowed lists cs) all allowed)) (omega arith) (
+      let allowed_all : AreAllowed lists (commands ++ (noted ++ others)) =
+      subst (λ (cs : List NotesCommand). AreAllowed lists cs) all allowed in
+      let behind = (AreAllowed-split commands (noted ++ others) lists allowed_all).1 in
+      h.stands others (length noted) count image behind (omega arith) (
         count,
         omega (arith, sum, some, makes.1),
         omega arith,

@@ -1,17 +1,12 @@
 -- What was acknowledged stands.
 use Rattle.std.proofs.Common.{◌≡◌, ℕ, ◌+◌, ◌-◌, ◌≤◌, List, [], ◌∷◌, ◌++◌, length, refl, ◌∙◌, ap, subst, arith, length-append, None, Some}
-use Rattle.file_store.specs.Command.{AreAllowed, Command, after, after_all, last_grow, seal}
+use Rattle.file_store.specs.Command.{AreAllowed, Command, after_all, last_grow, seal}
 use Rattle.file_store.specs.Store.{Store, entry_of}
 use Rattle.file_store.specs.OnDisk.{after_first}
-use Rattle.file_store.proofs.Offered.{after_first-then, stays}
+use Rattle.file_store.proofs.Offered.{AreAllowed-split, after_first-then, stays}
 use Rattle.ftl0_session.specs.Uploads.Laws.{AcknowledgedStandsLaw, kept}
 use Rattle.ftl0_session.specs.Uploads.Session.{Row, whole_row}
 use Rattle.ftl0_session.proofs.uploads.Uploads.{end-row, sealed_entry, upto-is}
-
--- the condition of the later ones
-allowed_back : (a b : List Command) (store : Store) → AreAllowed store (a ++ b) → AreAllowed (after_all store a) b
-allowed_back [] b store h = h
-allowed_back (command ∷ a) b store h = allowed_back a b (after store command) h.1
 
 -- at least so many commands are all of the first ones and some of the others
 past : (a b c : List Command) (start : Store) (count : ℕ) → length a + length b ≤ count
@@ -34,7 +29,9 @@ acknowledged_stands caller start store commands moment number entry held rest is
           let store_at : Store = after_all (after_all start commands) row.commands in
           let found : entry_of store_at number ≡ Some (kept entry (held ++ rest) moment) =
           subst (λ (s : Store). entry_of (after_all s row.commands) number ≡ Some (kept entry (held ++ rest) moment)) is (sealed_entry store number moment held rest entry here) in
-          let left : AreAllowed store_at others = allowed_back row.commands others (after_all start commands) (allowed_back commands (row.commands ++ others) start allowed) in
+          let behind = (AreAllowed-split commands (row.commands ++ others) start allowed).1 in
+          let left : AreAllowed store_at others =
+          (AreAllowed-split row.commands others (after_all start commands) behind).1 in
           let at = past commands row.commands others start makes.0 (omega (arith, no_less, makes.1)) in (
             after_first makes.0 start (commands ++ (row.commands ++ others)),
             makes.3,
