@@ -27,7 +27,7 @@ use Rattle.file_store.specs.Command.{AreAllowed, Command, after, after_all, begi
 use Rattle.file_store.specs.Command.{whole_grows}
 use Rattle.file_store.specs.Info.{is_complete}
 use Rattle.file_store.specs.Store.{Entry, Store, entry_of, new_entry, octets_at, octets_of}
-use Rattle.file_store.proofs.Offered.{after_all-append, find-push, find_past, grows-after, has_number}
+use Rattle.file_store.proofs.Offered.{AreAllowed-split, after_all-append, find-push, find_past, grows-after, has_number}
 use Rattle.ftl0_session.specs.Downloads.Sending as due
 use Rattle.ftl0_session.specs.Downloads.Table as download
 use Rattle.ftl0_session.specs.Downloads.Table.{DownloadRow}
@@ -183,13 +183,6 @@ queued-own caller store failures progress own =
 
 -- ---- behind a frame
 
--- of commands behind others the first are allowed, and behind them the others
-allowed-split : (first others : List Command) (store : Store) → AreAllowed store (first ++ others)
-    → AreAllowed store first × AreAllowed (after_all store first) others
-allowed-split [] others store allowed = (tt, allowed)
-allowed-split (one ∷ first) others store allowed =
-    let each = allowed-split first others (after store one) allowed.1 in ((allowed.0, each.0), each.1)
-
 -- what commands of a caller, each of them allowed, make of a store that keeps its rules keeps them
 row-rules : (caller : CallSign) (store : Store) (commands : List Command) → IsStore store → IsCall caller
     → AreOf caller store commands → AreAllowed store commands → IsStore (after_all store commands)
@@ -226,8 +219,8 @@ module _ (caller : CallSign) (moment : ℕ) (call : IsCall caller) (failures : L
       (sym (after_all-append row.commands later.done session.store))
       (taking-own next (after_push end (texts row.replies)) items (suc part)
       (row-rules caller session.store row.commands is call commands
-      (allowed-split row.commands later.done session.store allowed).0) behind
-      (allowed-split row.commands later.done session.store allowed).1))
+      (AreAllowed-split row.commands later.done session.store allowed).0) behind
+      (AreAllowed-split row.commands later.done session.store allowed).1))
       (λ few allowed. behind))
 
 module _ (moment : ℕ) (store : Store) (lists : List CallerList) (c : Connected) (failures : List Failure)

@@ -1,6 +1,6 @@
 -- The files that a session or a server acknowledges stand.
 use Rattle.std.proofs.lemmas.Grind.{common_steps}
-use Rattle.std.proofs.Common.{◌≡◌, ◌⊎◌, inl, inr, ⊎_elim, ℕ, zero, suc, ◌+◌, ◌*◌, ◌≤◌, ◌||◌, List, [], ◌∷◌, ◌++◌, length, Bool, true, false, Option, None, Some, refl, sym, ap, subst, ◌∙◌, append_assoc, append-nil, length-append, true≢false, arith}
+use Rattle.std.proofs.Common.{◌≡◌, ◌⊎◌, inl, inr, ⊎_elim, ℕ, zero, suc, ◌+◌, ◌≤◌, ◌||◌, List, [], ◌∷◌, ◌++◌, length, Bool, true, false, Option, None, Some, refl, sym, ap, subst, ◌∙◌, append_assoc, append-nil, length-append, true≢false, arith}
 use Rattle.std.specs.Prelude.{slice_index, Ok, Err, IfSome, IsErrOf, Result, if◌then◌else◌}
 use Rattle.px_base.specs.CallSign.{CallSign}
 use Rattle.px_base.specs.Octets.{IsFront}
@@ -8,12 +8,14 @@ use Rattle.disk_model.specs.declared.disk.Disk.{Ghosts}
 use Rattle.ftl0_packets.specs.Items.{kind_of_item, texts}
 use Rattle.ftl0_packets.specs.Layout.{Item, PacketValue, data_end, data_part, dir_long_cmd, dir_short_cmd, download_cmd, select_cmd, ul_ack_resp, upload_cmd}
 use Rattle.pfh_items.specs.Faults.{fault_code}
+use Rattle.file_journal.specs.Commands.{calls_of, done_at}
 use Rattle.file_journal.specs.Through.{StandsThrough}
-use Rattle.file_store.specs.Command.{AreAllowed, Command, after, after_all, last_grow, seal}
+use Rattle.file_journal.proofs.Offered.{at_all, at_first, at_some}
+use Rattle.file_store.specs.Command.{AreAllowed, Command, after_all, last_grow, seal}
 use Rattle.file_store.specs.OnDisk.{MakesBetween, StayDone}
 use Rattle.file_store.specs.Records.{store_form}
 use Rattle.file_store.specs.Store.{Entry, Holding, Store, complete, entry_of, octets_at, partial}
-use Rattle.file_store.proofs.Offered.{after_all-append, at_told, if_told}
+use Rattle.file_store.proofs.Offered.{AreAllowed-split, after_all-append, at_told, if_told}
 use Rattle.ftl0_session.specs.Answering.{SendsSome}
 use Rattle.ftl0_session.specs.Downloads.Table as download
 use Rattle.ftl0_session.specs.Downloads.Table.{DownloadRow, DownloadState, Due, ready}
@@ -209,24 +211,21 @@ whole store number moment rest others (Some entry) is good allowed =
     let holds = under_way store number moment rest others entry entry.holding is refl allowed in
     (entry, holds.0, record { under_way = (is, holds.1); all = grind (arith, common_steps); good = grind (arith, common_steps) })
 
--- the commands behind the first are allowed behind them
-allowed_then : (first others : List Command) (start : Store) → AreAllowed start (first ++ others) → AreAllowed (after_all start first) others
-allowed_then [] others start allowed = allowed
-allowed_then (one ∷ first) others start allowed = allowed_then first others (after start one) allowed.1
-
 module _ {D : Type 0} (g : Ghosts D) (law : AcknowledgedStandsLaw) (failed : Type 0) (whether : failed ⊎ ¬ failed) (start : Store) (done cut : List Command) (disk disk_n : D)
     (stands : StandsThrough g store_form failed start done cut disk disk_n) where
   -- the commands that were done stay so, and were done by the end
-  stay_done : (octets : List ℕ) → g.content disk ≡ Some octets → failed ⊎ ¬ failed → StayDone g stands.ready (length done) start (done ++ cut) disk_n × (stands.ready + 4 * length done ≤ g.moment disk_n)
+  stay_done : (octets : List ℕ) → g.content disk ≡ Some octets → failed ⊎ ¬ failed
+      → StayDone g stands.ready (length done) start (done ++ cut) disk_n × (done_at store_form stands.ready (done ++ cut) (length done) ≤ g.moment disk_n)
   stay_done octets told (inl stopped) =
       let end = stands.interrupted stopped in
       let stay = at_told _ octets told end.stay in
       let calls = at_told _ octets told end.calls in
-      let least = end.no_less in (λ count some most. stay count some (omega arith), omega arith)
+      let least = end.no_less in (λ count some most. stay count some (omega arith), omega (arith, calls, at_some store_form stands.ready (length done) end.count (done ++ cut) least))
   stay_done octets told (inr fine) =
       let stay = at_told _ octets told (stands.stay fine) in
       let calls = at_told _ octets told (stands.calls fine) in
-      let both = length-append done cut in (λ count some most. stay count some (omega arith), omega arith)
+      let both = length-append done cut in
+      (λ count some most. stay count some (omega arith), omega (arith, calls, at_some store_form stands.ready (length done) (length (done ++ cut)) (done ++ cut) (omega (arith, both))))
 
   pub acknowledged : (file : FileEnd) → file.store ≡ after_all start file.before → IsAllGood file.store file.number file.rest → (others : List Command)
       → done ≡ file.before ++ ((row_of_end file).commands ++ others) → AcknowledgedSince g file start stands.ready disk disk_n
@@ -236,24 +235,31 @@ module _ {D : Type 0} (g : Ghosts D) (law : AcknowledgedStandsLaw) (failed : Typ
       let all : done ++ cut ≡ before ++ (commands ++ (others ++ cut)) =
       ap (λ (cs : List Command). cs ++ cut) parts ∙ append_assoc before (commands ++ others) cut ∙ ap (λ (cs : List Command). before ++ cs) (append_assoc commands others cut) in
       let allowed : AreAllowed start (before ++ (commands ++ (others ++ cut))) = subst (λ (cs : List Command). AreAllowed start cs) all stands.allowed in
-      let there : AreAllowed file.store (commands ++ (others ++ cut)) = subst (λ (s : Store). AreAllowed s (commands ++ (others ++ cut))) (sym behind) (allowed_then before (commands ++ (others ++ cut)) start allowed) in
+      let there : AreAllowed file.store (commands ++ (others ++ cut)) =
+      subst (λ (s : Store). AreAllowed s (commands ++ (others ++ cut))) (sym behind)
+      (AreAllowed-split before (commands ++ (others ++ cut)) start allowed).1 in
       let is = whole file.store file.number file.moment file.rest (others ++ cut) (entry_of file.store file.number) refl good
       (subst (λ (cs : List Command). AreAllowed file.store (cs ++ (others ++ cut))) (end-commands file good) there) in
       let ack = law file.caller start file.store file.lists file.fails before file.moment file.number is.0 is.1 file.rest behind is.2 in
       let count : ℕ = length before + length commands in
       let some : 1 ≤ count = omega (arith, ack.some) in
       let most : count ≤ length done = omega (arith, ap length parts, length-append before (commands ++ others), length-append commands others) in
+      let moment : done_at store_form stands.ready (done ++ cut) count ≡ stands.ready + calls_of store_form (before ++ commands) =
+      ap (λ (cs : List Command). done_at store_form stands.ready cs count) (all ∙ sym (append_assoc before commands (others ++ cut)))
+      ∙ ap (done_at store_form stands.ready ((before ++ commands) ++ (others ++ cut))) (sym (length-append before commands))
+      ∙ at_first store_form stands.ready (length (before ++ commands)) (before ++ commands) (others ++ cut) (omega arith)
+      ∙ at_all store_form stands.ready (before ++ commands) in
       record {
         behind = behind;
         entry = is.0;
         held = is.1;
         whole = is.2;
         replies = ack.replies;
-        since = stands.ready + 4 * count;
+        since = stands.ready + calls_of store_form (before ++ commands);
         since_is = refl;
-        in_run = if_told (g.content disk) _ (λ octets told. let by_end = (stay_done octets told whether).1 in omega arith);
+        in_run = if_told (g.content disk) _ (λ octets told. omega (arith, moment, (stay_done octets told whether).1, at_some store_form stands.ready count (length done) (done ++ cut) most));
         stands = if_told (g.content disk) _ (λ octets told image left. ack.stands (others ++ cut) count (length (done ++ cut)) image allowed (omega arith)
-            (subst (λ (cs : List Command). MakesBetween count (length (done ++ cut)) start cs image) all ((stay_done octets told whether).0 count some most image left)));
+            (subst (λ (cs : List Command). MakesBetween count (length (done ++ cut)) start cs image) all ((stay_done octets told whether).0 count some most image (subst (λ (t : ℕ). g.images_since disk_n t image) (sym moment) left))));
       }
 
 -- ---- a session

@@ -5,7 +5,7 @@ use Rattle.std.proofs.Common.{◌≡◌, inl, inr, ℕ, List, ◌++◌, refl, �
 use Rattle.disk_model.specs.AtDisk.{AtDisk, at}
 use Rattle.disk_model.specs.declared.disk.Disk.{Ghosts}
 use Rattle.file_journal.specs.Through.{StandsThrough}
-use Rattle.file_store.specs.Calls.{Runs, Becomes, Leaves, TakesStep}
+use Rattle.file_store.specs.Calls.{Runs, Leaves, TakesStep}
 use Rattle.file_store.specs.Command.{Command}
 use Rattle.file_store.specs.Records.{store_form, store_magic}
 use Rattle.file_store.specs.Store.{Store}
@@ -32,7 +32,8 @@ use Rattle.node.specs.Stops.{stop_of_fault}
 use Rattle.server_node.specs.Stops.{HasAirCause, served_by, RefusesSession}
 use Rattle.std.proofs.lemmas.Result.{err_from_is_err_and}
 use Rattle.file_store.specs.IsStore.{IsStore}
-use Rattle.file_store.specs.Journal.{after_recovery}
+use Rattle.file_store.specs.Journal.{IsAfterRecovery}
+use Rattle.file_store.specs.Layout.TheVariants as layout
 use Rattle.file_store.specs.StoreFault.{StoreFault}
 use Rattle.node.specs.declared.stop.NodeStop.TheVariants as stop
 use Rattle.file_store.specs.StoreFault.TheVariants as fault
@@ -120,10 +121,9 @@ module _ {A C D T : Type 0} (seen : Seen D A C) (blocks : ℕ) (given : Option �
 -- The recovery gave this, with this store on the disk.
 pub record Recovers {D T : Type 0} (g : Ghosts D) (blocks : ℕ) (old mid : D) (value : T) (start : StoreState) : Type 0 where
   pub recovered : IsRecovered g blocks old mid start
-  pub magic_is : start.journal.magic ≡ store_magic
   pub rules : IsStore (store_in start)
   pub runs : Runs g (IsErrOf {T = T} (Ok value) fault.Disk) old mid
-  pub octets : TakesStep g old mid (Becomes (after_recovery store_magic blocks))
+  pub octets : TakesStep g old mid (IsAfterRecovery store_magic layout.Growing blocks)
   pub since_start : Leaves g old mid (StandsAlike blocks)
   pub since_sync : LeavesAlikeSinceSync {T = T} g blocks (Ok value) old mid
 
@@ -210,7 +210,7 @@ module _ {A C D T : Type 0} (seen : Seen D A C) (on : (first second third : D) �
 
   standing : (stands : StandsThrough g store_form Failed (store_in start) run.all.done run.cut old.disk new.disk) × (stands.ready ≡ g.moment mid)
   standing = stands-through g on Failed blocks old.disk mid new.disk start store run.all.done run.cut run.all.missed h.runs.told h.recovered.content h.since_start
-      (told_weaker (g.content old.disk) _ _ (λ octets told left. grind (arith, common_steps, left, fine)) h.since_sync) h.magic_is did.cuts
+      (told_weaker (g.content old.disk) _ _ (λ octets told left. grind (arith, common_steps, left, fine)) h.since_sync) did.cuts
 
   puts : PutsAmongReads g Failed old.disk new.disk
   puts = runs_among g on _ Failed old.disk mid new.disk fine h.runs (cuts-among-puts g on Failed run.all.missed (at start mid) (at store new.disk) run.all.done run.cut did.cuts)

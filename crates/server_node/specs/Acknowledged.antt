@@ -1,5 +1,5 @@
 -- The files that a session or a server acknowledges in a run, and from which moment of its disk on each of them stands.
-use Rattle.std.specs.Prelude.{◌≡◌, ◌⊎◌, ℕ, ◌+◌, ◌*◌, ◌≤◌, List, [], ◌∷◌, ◌++◌, length, slice_get, slice_index, Bool}
+use Rattle.std.specs.Prelude.{◌≡◌, ◌⊎◌, ℕ, ◌+◌, ◌≤◌, List, [], ◌∷◌, ◌++◌, length, slice_get, slice_index, Bool}
 use Rattle.std.specs.Prelude.{false, None, Some, IfSome, Result, Ok}
 use Rattle.px_base.specs.CallSign.{CallSign}
 use Rattle.px_base.specs.Octets.{IsFront}
@@ -11,7 +11,9 @@ use Rattle.ax25_link.specs.declared.state.Heard.TheVariants.{Bytes}
 use Rattle.ftl0_packets.specs.Items.{texts}
 use Rattle.ftl0_packets.specs.Layout.{Item, PacketValue, data_end, ul_ack_resp}
 use Rattle.ftl0_packets.specs.Reading.{packets_of}
+use Rattle.file_journal.specs.Commands.{calls_of}
 use Rattle.file_store.specs.Command.{Command, after_all}
+use Rattle.file_store.specs.Records.{store_form}
 use Rattle.file_store.specs.Store.{Entry, Store}
 use Rattle.ftl0_session.specs.Lists.Lists.{CallerList}
 use Rattle.ftl0_session.specs.Run.{Event, RunsOver, session_over}
@@ -55,7 +57,8 @@ row_of_end file =
 
 -- All octets of the file came, over the store to which the commands before lead, and its row replies UL_ACK_RESP. Since
 -- the last call of the disk for the row's commands, which is in this run, the file's entry is complete with the octets
--- that came, stamped, in each image that a crash leaves. Each command takes four calls since the recovery was done.
+-- that came, stamped, in each image that a crash leaves. Each command takes the calls of the disk that the form of a
+-- store says, since the recovery was done.
 pub record AcknowledgedSince {D : Type 0} (g : Ghosts D) (file : FileEnd) (start : Store) (ready : ℕ)
     (disk disk_now : D) : Type 0 where
   pub behind : file.store ≡ after_all start file.before
@@ -64,7 +67,7 @@ pub record AcknowledgedSince {D : Type 0} (g : Ghosts D) (file : FileEnd) (start
   pub whole : IsWhole file.store file.number entry held file.rest
   pub replies : (row_of_end file).replies ≡ ul_ack_resp ∷ []
   pub since : ℕ
-  pub since_is : since ≡ ready + 4 * (length file.before + length (row_of_end file).commands)
+  pub since_is : since ≡ ready + calls_of store_form (file.before ++ (row_of_end file).commands)
   pub in_run : IfSome (g.content disk) (λ _. since ≤ g.moment disk_now)
   pub stands :
       IfSome (g.content disk) (λ _. LeavesSince since (g.images_since disk_now)

@@ -8,10 +8,11 @@ use Rattle.px_base.specs.Polling.{EndsWith, HearsAll, IsOpen}
 use Rattle.px_base.specs.declared.air.Turn.{Turn}
 use Rattle.px_base.specs.declared.air.Turn.TheVariants as turn
 use Rattle.file_journal.specs.Through.{StandsThrough}
-use Rattle.file_store.specs.Calls.{Becomes, ChangesReads, Runs, TakesStep}
+use Rattle.file_store.specs.Calls.{ChangesReads, Runs, TakesStep}
 use Rattle.file_store.specs.Command.{Command}
 use Rattle.file_store.specs.IsStore.{IsStore}
-use Rattle.file_store.specs.Journal.{after_recovery}
+use Rattle.file_store.specs.Journal.{IsAfterRecovery}
+use Rattle.file_store.specs.Layout.TheVariants as layout
 use Rattle.file_store.specs.Records.{store_form, store_magic}
 use Rattle.file_store.specs.State.{standing_of}
 use Rattle.file_store.specs.Store.{Store}
@@ -68,7 +69,7 @@ pub record IsServed {A C D : Type 0} (seen : Seen D A C) (blocks : ℕ) (given :
   pub rules : IsStore start
   pub stood : IfSome (seen.disk.content old.disk) (λ octets. standing_of blocks octets ≡ state start)
   pub recovered : D
-  pub octets : TakesStep seen.disk old.disk recovered (Becomes (after_recovery store_magic blocks))
+  pub octets : TakesStep seen.disk old.disk recovered (IsAfterRecovery store_magic layout.Growing blocks)
   pub run : Run
   pub turns_heard : HearsAll (seen.air.heard old.air) (seen.air.heard new.air) run.turns
   pub moments_given : MomentsOf given (seen.given old.clock) (seen.given new.clock) run.moments

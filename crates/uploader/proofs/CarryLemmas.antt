@@ -301,7 +301,7 @@ module _ {A C D : Type 0} (see : Seen D A C) (on : (first second third : D) → 
 
   -- and each image stands for them
   pub images-at-end : ¬ Failed → EachImage see.disk new.disk (λ image. StandsFor image h.end.notes.lists)
-  images-at-end fine = images-here see.disk h.end.notes.journal new.disk h.end.notes.lists (ap (λ (p : Position). p.magic) all.does.journal ∙ h.ready.recovers.recovered.stands_at.magic_is) (all.does.done fine).1 all.does.stands_on
+  images-at-end fine = images-here see.disk h.end.notes.journal new.disk h.end.notes.lists (all.does.done fine).1 all.does.stands_on
 
   unfoldable pub carries : Carries see old new (asked_of terms start first job) result
   carries = record {

@@ -283,7 +283,7 @@ module _ {A C D : Type 0} (see : Seen D A C) (lasts : (disk : D) → see.disk.la
       let answer = begun-kept s.made.notes s.ready.recovers.recovered.healthy _ (begun.Already sent.number) (λ task e. cc e) s.starts.answers in
       let last = acked-last s.made.notes.lists (length file) sent.number (sum_of file).digest (last_task s.made.notes.lists terms.server terms.me name) answer in
       let images = subst (λ (d : D). EachImage see.disk d (λ image. StandsFor image s.made.notes.lists)) (sym untouched.same_disk)
-      (images-here see.disk s.made.notes.journal s.mid s.made.notes.lists s.ready.recovers.recovered.stands_at.magic_is s.ready.recovers.recovered.healthy s.ready.recovers.recovered.stands_at.keeps) in
+      (images-here see.disk s.made.notes.journal s.mid s.made.notes.lists s.ready.recovers.recovered.healthy s.ready.recovers.recovered.keeps) in
       unstarted given s (Ok sent) [] tt tt (none-cut see.disk lasts terms name file old.disk now given s _ (λ e. cc e) refl)
       (subst (λ a. EndsAtStart s.made.notes.lists (first_command terms s.made.notes.lists name (sum_of file)) (sum_of file) a (Ok sent) []) (sym answer) (refl, refl))
       (last.0, last.1, acked-in see.disk now s.made.notes.lists last.0 sent.number images last.2)

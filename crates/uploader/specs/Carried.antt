@@ -3,8 +3,9 @@ use Rattle.std.specs.Prelude.{◌≡◌, ℕ, List, [], ◌++◌, IfSome, Result
 use Rattle.disk_model.specs.declared.disk.Disk.{Ghosts}
 use Rattle.node.specs.Lent.{Lent, Seen}
 use Rattle.node.specs.declared.stop.NodeStop.TheVariants as node
-use Rattle.file_journal.specs.Calls.{Becomes, TakesStep}
-use Rattle.file_journal.specs.Journal.{after_recovery}
+use Rattle.file_journal.specs.Calls.{TakesStep}
+use Rattle.file_journal.specs.Journal.{IsAfterRecovery}
+use Rattle.file_journal.specs.declared.layout.Layout.TheVariants as layout
 use Rattle.file_journal.specs.Through.{CountsWrites, StandsThrough}
 use Rattle.client_notes.specs.Command.{NotesCommand}
 use Rattle.client_notes.specs.Laws.{after_all}
@@ -35,7 +36,7 @@ pub record IsUnrecovered {A C D : Type 0} (g : Ghosts D) (old new : Lent D A C) 
 -- any other content was made formatted ones.
 pub record RecoversTo {D : Type 0} (g : Ghosts D) (disk disk_now : D) (start : Lists) : Type 0 where
   pub stood : IfSome (g.content disk) (λ before. StandsFor before start)
-  pub octets : TakesStep g disk disk_now (Becomes (after_recovery notes_magic 1))
+  pub octets : TakesStep g disk disk_now (IsAfterRecovery notes_magic layout.Growing 1)
 
 -- a client of these terms over these notes, of which nothing was asked
 abbrev pub client_from : ClientTerms → Lists → Client

@@ -54,6 +54,6 @@ returns g c =
     c.take_turns-ended.result c.take_turns-ended.ensures.turns g.met.D.Disk.lasts_same g.met.D.Disk.lasts_on c.args.disk.now c.args.clock.now
     c.moment_of-first.ensures.moment in
     let serves = served all g.met.D.Disk.lasts_on terms.limits.blocks terms.moment (Ran terms) old now mid store store new.party.store terms.polls c.answer_of.result
-    (record { recovered = h.recovered; magic_is = c.state_law.ensures.read.magic_is; rules = c.state_law.ensures.rules; runs = h.runs; octets = h.octets; since_start = h.since_start; since_sync = h.since_sync })
+    (record { recovered = h.recovered; rules = c.state_law.ensures.rules; runs = h.runs; octets = h.octets; since_start = h.since_start; since_sync = h.since_sync })
     (subst (λ (r : Result Served NodeStop). Did all terms.moment (Ran terms r) old now mid store new.party.store terms.polls r) (sym c.answer_of.ensures) did) in
     record { refuses = serves.refuses; ends = serves.ends; clock = λ given. c.take_turns-ended.ensures.clock given ∙ c.moment_of-first.ensures.clock given; counts = serves.counts; runs = serves.runs }
