@@ -6,6 +6,7 @@ use Rattle.file_journal.specs.Calls.{ChangesReads, IsQuietNow, images_now}
 use Rattle.file_journal.specs.Walk.{state}
 use Rattle.file_journal.proofs.Offered.{alike_on, alike_same, at_told, images_here, joined, reads, reads_now, told_weaker}
 use Rattle.file_entries.specs.Records.{store_form}
+use Rattle.file_entries.specs.StoreLaws.{store_number}
 use Rattle.file_store.specs.OnDisk.{kept_at}
 use Rattle.file_store.specs.Recovery.{IsRecovered}
 use Rattle.file_store.specs.State.{IsRead, IsReady, StandsFor, StoreState, standing_of, store_in}
@@ -75,8 +76,7 @@ module _ {D : Type 0} (g : Ghosts D) where
       let here =
       at_told (λ (octets : List ℕ). (image : List ℕ) → images_now g now image → StandsFor image (store_in store))
       some.0 some.1
-      (images_here store_form g (kept_at store now)
-      (record { magic_is = read.magic_is; keeps = ready.stands_on }) ready.healthy)
+      (images_here store_form g store_number (kept_at store now) ready.stands_on ready.healthy)
       in
       let each : (image : List ℕ) → images_now g now image → StandsFor image world.server.store =
       λ image left. subst (λ (it : Store). StandsFor image it) same (here image left)

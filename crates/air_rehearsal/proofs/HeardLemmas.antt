@@ -118,7 +118,7 @@ module _ {D : Type 0} (g : Ghosts D) (it : Client) (frame : FrameValue) (old new
   heard_cut on (Err halt.OutOfMemory) by failed calls passed = absurd (cc failed)
   heard_cut on (Err halt.Disk) by failed calls passed =
       let front = client-stopped g on it frame old new disk disk_now is.lists by in
-      let makes = cut_makes g notes_form front.0 front.1 (notes.notes_on old.notes disk)
+      let makes = cut_makes g notes_form (λ _. refl) front.0 front.1 (notes.notes_on old.notes disk)
       (notes.notes_on new.notes disk_now) calls (front.3.does.cut tt) passed in
       subst
       (λ (l : Lists). IfSome (g.content disk) (λ _. EachImage g disk_now

@@ -278,7 +278,7 @@ module _ {B : Type 0} (g : Ghosts B) (cuts : Cuts B)
           reads = cut.second.puts.reads ∙ same;
           no_fewer = λ below image now.
               let fails = failed-so then.disk all.puts.lasts same_writes (cut.second.puts.faults.rose tt) in
-              let makes = cut_makes g store_form (begun_in happened) begins.0 (kept_at old.store armed)
+              let makes = cut_makes g store_form (λ _. refl) (begun_in happened) begins.0 (kept_at old.store armed)
               (kept_at new.store lost) left_calls (all.cut tt) fails.passed in
               let first = told-content (g.content armed) told in
               let last = told-content (g.content lost) (all.puts.told.1 told) in

@@ -4,9 +4,10 @@ use Rattle.std.proofs.Common.{subst}
 use Rattle.disk_model.specs.Disk.{IsTold}
 use Rattle.disk_model.specs.declared.disk.Disk.{Ghosts}
 use Rattle.file_journal.specs.Calls.{EachImage, images_now}
-use Rattle.file_journal.specs.Walk.{stands_for, state}
+use Rattle.file_journal.proofs.Offered.{images_here}
 use Rattle.file_entries.specs.Records.{store_form}
-use Rattle.file_store.proofs.Offered.{own-number}
+use Rattle.file_entries.specs.StoreLaws.{store_number}
+use Rattle.file_store.specs.OnDisk.{kept_at}
 use Rattle.file_store.specs.State.{IsRead, IsReady, StandsFor as StandsForStore, StoreState, store_in}
 use Rattle.file_store.specs.Store.{Store}
 use Rattle.client_notes.specs.Notes.{Lists}
@@ -31,22 +32,19 @@ module _ {D : Type 0} (g : Ghosts D) where
       → IsTold (g.content disk) → store_in self ≡ world.server.store → StandsNow g the_server world disk
   store_stands self disk world ready read told store_is =
       let content = told_content (g.content disk) told in
-      let own : (image : List ℕ)
-      → stands_for store_form.fresh store_form.step self.journal.magic self.journal.blocks image ≡ state (store_in self)
-      → StandsForStore image world.server.store = λ image stands.
-      subst (λ (s : Store). StandsForStore image s) store_is
-      (own-number self.journal.blocks image (store_in self)
-      (subst
-      (λ (m : List ℕ).
-      stands_for store_form.fresh store_form.step m self.journal.blocks image ≡ state (store_in self))
-      read.magic_is stands)) in
+      let here : (image : List ℕ) → StandsForStore image (store_in self) → StandsForStore image world.server.store =
+      λ image stands. subst (λ (s : Store). StandsForStore image s) store_is stands in
       record {
         content = content.0;
         is_content = content.1;
         stands =
-            own content.0 (some_has (g.content disk) content.0 _ content.1 (ready.stands_on.content ready.healthy));
+            here content.0
+            (store_number self.journal.blocks content.0 (store_in self)
+            (some_has (g.content disk) content.0 _ content.1 (ready.stands_on.content ready.healthy)));
         images = λ image since.
-            own image (some_has (g.content disk) content.0 _ content.1 (ready.stands_on.images ready.healthy) image since);
+            here image
+            (some_has (g.content disk) content.0 _ content.1
+            (images_here store_form g store_number (kept_at self disk) ready.stands_on ready.healthy) image since);
       }
 
   -- Notes that each image stands for, on a disk that tells its content, which is one.

@@ -134,8 +134,8 @@ module _ {D : Type 0} (g : Ghosts D) (whole : ClientPart) (old new : NotesState)
     fails = λ is. does.puts.faults.rose (fails is);
     cut = λ is calls passed.
         let several = Several-one g failed old new disk disk_now command does in
-        let makes = cut_makes g notes_form (command ∷ []) [] (notes.notes_on old disk) (notes.notes_on new disk_now) calls
-        (several.does.cut (fails is)) passed in
+        let makes = cut_makes g notes_form (λ _. refl) (command ∷ []) [] (notes.notes_on old disk)
+        (notes.notes_on new disk_now) calls (several.does.cut (fails is)) passed in
         subst
         (λ (commands : List NotesCommand). IfSome (g.content disk) (λ _. EachImage g disk_now
         (notes.MakesBetween (least_done Failed calls (length commands)) (length commands) whole.party.client.lists

@@ -3,7 +3,7 @@ use Rattle.std.specs.Prelude.{◌≡◌, ℕ, List, length, min, Some}
 use Rattle.disk_model.specs.Cuts.{Arming, Failed, Passes, Unarmed}
 use Rattle.disk_model.specs.declared.disk.Disk.{Ghosts}
 use Rattle.file_journal.specs.Calls.{images_now}
-use Rattle.file_journal.specs.Kept.{done_within}
+use Rattle.file_journal.specs.Commands.{done_within}
 use Rattle.node.specs.Events.{NodeEvent}
 use Rattle.file_store.specs.OnDisk as store
 use Rattle.file_store.specs.Recovery as store_recovery
