@@ -1,10 +1,12 @@
 //! Rows of a journal. A row has, parted by `|`, a disk's octets, the numbers of its calls that fail, and how many
-//! calls of `write_at` and `sync` pass. The journal of a store of 8 blocks is recovered and read to its end, and a
-//! record of the kind 4 with the content 01000000 is put there.
+//! calls of `write_at` and `sync` pass, and behind that `blocks`, where the octets of blocks stand before the records.
+//! The journal of a store of 8 blocks, or of 1 with its octets, is recovered and read to its end; where there are blocks,
+//! `block` is written in block 0, and seven octets are read there from place 1 on; and a record of the kind 4 with the
+//! content 01000000 is put.
 //!
-//! Printed are how it ended: `Done`; `Refused` and why; or `Failed`, why the record wasn't put, and what a further
-//! put answers. Behind ` | read ` stand the kind and the content of each record that was read, and behind ` | ` the
-//! disk's octets.
+//! Printed are how it ended: `Done`; `Refused` and why; `Failed`, why the octets or the record weren't put, and what a
+//! further put answers; or `Unread`. Behind ` | read ` stand the kind and the content of each record that was read, and
+//! the octets of the block, and behind ` | ` the disk's octets.
 
 mod labelled;
 mod put;
@@ -13,6 +15,7 @@ use crate::journal::labelled::Labelled;
 use crate::journal::put::{Seen, put_under_label};
 use anyhow::{Context, Result, ensure};
 use disk_model::{CutDisk, FuseDisk, MemoryDisk};
+use file_journal::Layout;
 use px_base::FileBytes;
 use row_words::{Player, read_numbers, read_octets};
 use std::alloc::Global;
@@ -23,12 +26,21 @@ pub struct JournalRows;
 
 impl Player for JournalRows {
     fn play(&mut self, alloc: Global, row: &str) -> Result<String> {
+        let (row, layout) = layout_of(row);
         let mut labelled = disk_of(alloc, row)?;
         let mut seen = Seen::new();
-        let ended = put_under_label(&mut labelled, &mut seen);
+        let ended = put_under_label(&mut labelled, layout, &mut seen);
         let seen = hex::encode(alloc, seen.as_slice())?;
         let octets = octets_of(alloc, labelled)?;
         Ok(format!(in alloc; "{ended:?} | read {seen} | {octets}")?)
+    }
+}
+
+/// A row without its last word, where that is `blocks`, and the layout of its store.
+fn layout_of(row: &str) -> (&str, Layout) {
+    match row.strip_suffix(" blocks") {
+        Some(row) => (row, Layout::Blocks),
+        None => (row, Layout::Growing),
     }
 }
 

@@ -1,15 +1,27 @@
-//! A journal that is read to its end, and a record that is put there.
+//! A journal that is read to its end, and what is put there: a record, and before it octets in a block, where there
+//! are blocks.
 
-ghost use Rattle.std.specs.Prelude.{◌≡◌, true, IfOk};
+ghost use Rattle.std.specs.Prelude.{◌≡◌, ◌≤◌, false, true, IfOk};
 ghost use Rattle.file_journal.specs.Position.{StandsOn};
+ghost use Rattle.file_journal.specs.declared.layout.Layout.TheVariants as Layout;
 
 use crate::journal::labelled::Labelled;
 use arrayvec::ArrayVec;
 use disk_model::{Disk, FuseDisk};
-use file_journal::{Journal, JournalFault, RecoverFault};
+use file_journal::{Journal, JournalFault, Layout, RecoverFault};
 
 /// The first octets of a store.
 const MAGIC: [u8; 8] = *b"PXSTORE0";
+
+/// The block number of a new store: 8, or 1 where there are blocks, whose octets are printed.
+fn blocks_of(layout: Layout) -> u32
+    ensures { (1 ≤ result) × (result ≤ 65536) }
+{
+    match layout {
+        Layout::Growing => 8,
+        Layout::Blocks => 1,
+    }
+}
 
 /// The kind and the content of each record, one after another.
 pub type Seen = ArrayVec<u8, 700>;
@@ -19,19 +31,27 @@ pub type Seen = ArrayVec<u8, 700>;
 pub enum Ended {
     /// The journal wasn't recovered, or not read to its end.
     Refused(RecoverFault),
-    /// The record wasn't put, and then neither was a further one.
+    /// The octets or the record weren't put, and then neither was a further record.
     Failed(JournalFault, Result<(), JournalFault>),
+    /// The octets stand in the block, and weren't read there.
+    Unread,
     /// The record stands.
     Done,
 }
 
 /// Recovers the journal and reads it to its end, or up to its damage, and puts what it sees behind `seen`.
-fn read_to_end<D: Disk>(disk: &mut D, seen: &mut Seen) -> Result<Journal, RecoverFault>
+fn read_to_end<D: Disk>(
+    disk: &mut D,
+    layout: Layout,
+    seen: &mut Seen,
+) -> Result<Journal, RecoverFault>
     ensures stands_on { IfOk result (λ journal. StandsOn D.Disk journal disk.new) }
     ensures ended { IfOk result (λ journal. journal.ended ≡ true) }
+    ensures layout { IfOk result (λ journal. journal.layout ≡ layout) }
+    ensures healthy { IfOk result (λ journal. journal.failed ≡ false) }
     ensures lasts { D.lasts disk.old disk.new }
 {
-    let mut journal = Journal::recover(disk, MAGIC, 8)?;
+    let mut journal = Journal::recover(disk, MAGIC, blocks_of(layout), layout)?;
     let mut room = ArrayVec::new();
     while let Some(kind) = journal.next(disk, &mut room)? {
         let _room_for_kind = seen.try_push(kind);
@@ -40,14 +60,47 @@ fn read_to_end<D: Disk>(disk: &mut D, seen: &mut Seen) -> Result<Journal, Recove
     Ok(journal)
 }
 
-/// Makes a store on the disk, or recovers it, and puts a record.
-fn put_one<D: Disk>(disk: &mut D, seen: &mut Seen) -> Ended
+/// Makes a store of this layout on the disk, or recovers it, and puts a record, and octets in block 0 before it, where
+/// there are blocks.
+fn put_one<D: Disk>(disk: &mut D, layout: Layout, seen: &mut Seen) -> Ended
     ensures { D.lasts disk.old disk.new }
 {
-    let mut journal = match read_to_end(disk, seen) {
+    let mut journal = match read_to_end(disk, layout, seen) {
         Ok(journal) => journal,
         Err(refusal) => return Ended::Refused(refusal),
     };
+    match layout {
+        Layout::Growing => put_record(disk, &mut journal),
+        Layout::Blocks => put_in_block(disk, &mut journal, seen),
+    }
+}
+
+/// Puts octets in block 0, puts seven octets of it from place 1 on behind `seen`, and puts a record.
+fn put_in_block<D: Disk>(disk: &mut D, journal: &mut Journal, seen: &mut Seen) -> Ended
+    requires stands_on { StandsOn D.Disk journal.old disk.old }
+    requires ended { journal.old.ended ≡ true }
+    requires layout { journal.old.layout ≡ Layout.Blocks }
+    requires healthy { journal.old.failed ≡ false }
+    ensures { D.lasts disk.old disk.new }
+{
+    let _one_at_least = journal.blocks();
+    if let Err(fault) = journal.write_block(disk, 0, b"block") {
+        return Ended::Failed(fault, journal.append(disk, 4, &[]));
+    }
+    let mut front = [0; 7];
+    if journal.read_block(disk, 0, 1, &mut front).is_err() {
+        return Ended::Unread;
+    }
+    let _room_for_front = seen.try_extend_from_slice(&front);
+    put_record(disk, journal)
+}
+
+/// Puts a record.
+fn put_record<D: Disk>(disk: &mut D, journal: &mut Journal) -> Ended
+    requires stands_on { StandsOn D.Disk journal.old disk.old }
+    requires ended { journal.old.ended ≡ true }
+    ensures { D.lasts disk.old disk.new }
+{
     match journal.append(disk, 4, &[1, 0, 0, 0]) {
         Ok(()) => Ended::Done,
         Err(fault) => Ended::Failed(fault, journal.append(disk, 4, &[])),
@@ -55,8 +108,8 @@ fn put_one<D: Disk>(disk: &mut D, seen: &mut Seen) -> Ended
 }
 
 /// The same on a labelled disk; its label lasts.
-pub fn put_under_label(disk: &mut Labelled<FuseDisk>, seen: &mut Seen) -> Ended
+pub fn put_under_label(disk: &mut Labelled<FuseDisk>, layout: Layout, seen: &mut Seen) -> Ended
     ensures { disk.new.label ≡ disk.old.label }
 {
-    put_one(disk, seen)
+    put_one(disk, layout, seen)
 }
