@@ -1,8 +1,8 @@
 //! Rows of a journal. A row has, parted by `|`, a disk's octets, the numbers of its calls that fail, and how many
 //! calls of `write_at` and `sync` pass, and behind that `blocks`, where the octets of blocks stand before the records.
-//! The journal of a store of 8 blocks, or of 1 with its octets, is recovered and read to its end; where there are blocks,
-//! `block` is written in block 0, and seven octets are read there from place 1 on; and a record of the kind 4 with the
-//! content 01000000 is put.
+//! The journal of a store of 8 blocks, or of 1 with its octets, is recovered and read to its end; where there are
+//! blocks, `block` is written in block 0, and seven octets are read there from place 1 on; and a record of the kind 4
+//! with the content 01000000 is put.
 //!
 //! Printed are how it ended: `Done`; `Refused` and why; `Failed`, why the octets or the record weren't put, and what a
 //! further put answers; or `Unread`. Behind ` | read ` stand the kind and the content of each record that was read, and

@@ -69,30 +69,12 @@ fn put_one<D: Disk>(disk: &mut D, layout: Layout, seen: &mut Seen) -> Ended
         Ok(journal) => journal,
         Err(refusal) => return Ended::Refused(refusal),
     };
-    match layout {
-        Layout::Growing => put_record(disk, &mut journal),
-        Layout::Blocks => put_in_block(disk, &mut journal, seen),
+    if let Layout::Blocks = layout {
+        if let Some(ended) = put_in_block(disk, &mut journal, seen) {
+            return ended;
+        }
     }
-}
-
-/// Puts octets in block 0, puts seven octets of it from place 1 on behind `seen`, and puts a record.
-fn put_in_block<D: Disk>(disk: &mut D, journal: &mut Journal, seen: &mut Seen) -> Ended
-    requires stands_on { StandsOn D.Disk journal.old disk.old }
-    requires ended { journal.old.ended ≡ true }
-    requires layout { journal.old.layout ≡ Layout.Blocks }
-    requires healthy { journal.old.failed ≡ false }
-    ensures { D.lasts disk.old disk.new }
-{
-    let _one_at_least = journal.blocks();
-    if let Err(fault) = journal.write_block(disk, 0, b"block") {
-        return Ended::Failed(fault, journal.append(disk, 4, &[]));
-    }
-    let mut front = [0; 7];
-    if journal.read_block(disk, 0, 1, &mut front).is_err() {
-        return Ended::Unread;
-    }
-    let _room_for_front = seen.try_extend_from_slice(&front);
-    put_record(disk, journal)
+    put_record(disk, &mut journal)
 }
 
 /// Puts a record.
@@ -105,6 +87,28 @@ fn put_record<D: Disk>(disk: &mut D, journal: &mut Journal) -> Ended
         Ok(()) => Ended::Done,
         Err(fault) => Ended::Failed(fault, journal.append(disk, 4, &[])),
     }
+}
+
+/// Puts octets in block 0, and seven octets of it from place 1 on behind `seen`; how that ended, where it failed.
+fn put_in_block<D: Disk>(disk: &mut D, journal: &mut Journal, seen: &mut Seen) -> Option<Ended>
+    requires stands_on { StandsOn D.Disk journal.old disk.old }
+    requires ended { journal.old.ended ≡ true }
+    requires layout { journal.old.layout ≡ Layout.Blocks }
+    requires healthy { journal.old.failed ≡ false }
+    ensures stands_on { StandsOn D.Disk journal.new disk.new }
+    ensures ended { journal.new.ended ≡ true }
+    ensures lasts { D.lasts disk.old disk.new }
+{
+    let _one_at_least = journal.blocks();
+    if let Err(fault) = journal.write_block(disk, 0, b"block") {
+        return Some(Ended::Failed(fault, journal.append(disk, 4, &[])));
+    }
+    let mut front = [0; 7];
+    if journal.read_block(disk, 0, 1, &mut front).is_err() {
+        return Some(Ended::Unread);
+    }
+    let _room_for_front = seen.try_extend_from_slice(&front);
+    None
 }
 
 /// The same on a labelled disk; its label lasts.
