@@ -105,5 +105,5 @@ module _ {D : Type 0} (g : Ghosts D) where
     pub among_then : ((first second third : D) → g.lasts first second → g.lasts second third → g.lasts first third) → (P Q : Type 0) (missed other : ℕ) (a b : List C) (old mid new : KeptOn D S) → ¬ P
         → DoesAmongReads g form P missed a old mid → DoesAmongReads g form Q other b mid new → DoesAmongReads g form Q (missed + other) (a ++ b) old new
     among_then on P Q missed other a b old mid new fine first second =
-        turn_then g form (among_reads g P missed) (among_reads g Q other) (among_reads g Q (missed + other)) P Q a b old mid new fine first.puts.told first second
+        turn_then g form (among_reads g P missed) (among_reads g Q other) (among_reads g Q (missed + other)) P Q a b old mid new fine first.puts.told second.puts.told first second
         (changes_on g old.disk mid.disk new.disk) (puts_among_then on P Q old.disk mid.disk new.disk fine first.puts second.puts) (some_then _ _ _ missed other first.reads second.reads)

@@ -1,12 +1,12 @@
 -- What lists of commands make, one after another, and what images stand for while they are done.
-use Rattle.std.proofs.Common.{◌≡◌, ◌⊎◌, inl, inr, ⊎_elim, ℕ, ◌+◌, ◌-◌, ◌*◌, ◌<◌, ◌≤◌, nat_le, true, false, List, [], ◌∷◌, ◌++◌, length, take, drop, refl, sym, ◌∙◌, ap, subst, arith, length-append, zero, suc}
+use Rattle.std.proofs.Common.{◌≡◌, ◌⊎◌, inl, inr, ⊎_elim, ℕ, ◌+◌, ◌-◌, ◌<◌, ◌≤◌, nat_le, true, false, List, [], ◌∷◌, ◌++◌, length, take, drop, refl, sym, ◌∙◌, ap, subst, arith, length-append, zero, suc}
 use Rattle.std.proofs.lemmas.Bool.Decides.{leb_tells}
 use Rattle.std.proofs.lemmas.List.{take-append-drop, take-append-le, take-take, take_all}
 use Rattle.std.proofs.Math.Seq.{take-append-add}
 use Rattle.disk_model.specs.Moments.{LeavesOnly}
 use Rattle.disk_model.specs.declared.disk.Disk.{Ghosts}
 use Rattle.file_journal.specs.Commands.{AreAllowed, MakesBetween, MakesFirst, StayDone, after_all, after_first, calls_of, done_at}
-use Rattle.file_journal.specs.Form.{Form, StandsFor, record_calls}
+use Rattle.file_journal.specs.Form.{Form, StandsFor}
 
 -- a list of no length
 pub nothing : {C : Type 0} (commands : List C) → length commands ≡ 0 → commands ≡ []
@@ -62,9 +62,6 @@ module _ {S C : Type 0} (form : Form S C) where
       omega (arith, parts, calls_append (take count commands) (drop count commands))
 
   -- commands of one record each
-  pub calls_records : ((command : C) → form.calls command ≡ record_calls) → (commands : List C) → calls_of form commands ≡ record_calls * length commands
-  calls_records each [] = omega arith
-  calls_records each (command ∷ commands) = omega (arith, each command, calls_records each commands)
 
   -- ---- and when they are done
 

@@ -1,42 +1,52 @@
 -- What the commands of a call do to a state that is kept, one list of them after another.
-use Rattle.std.proofs.Common.{◌≡◌, ℕ, ◌+◌, ◌*◌, ◌<◌, ◌≤◌, min, false, List, [], ◌++◌, length, take, Some, IfSome, refl, sym, ◌∙◌, ap, ap₂, subst, arith, length-append}
-use Rattle.std.proofs.lemmas.List.{length-take-le}
-use Rattle.std.proofs.lemmas.Nat.{div-add-mod'}
+use Rattle.std.proofs.Common.{◌≡◌, ℕ, zero, suc, ◌+◌, ◌-◌, ◌<◌, ◌≤◌, Bool, true, false, nat_le, List, [], ◌∷◌, ◌++◌, length, take, Some, IfSome, refl, sym, ◌∙◌, ap, ap₂, subst, arith, length-append}
+use Rattle.std.proofs.lemmas.Bool.{leb-true}
 use Rattle.disk_model.specs.declared.disk.Disk.{Ghosts}
 use Rattle.file_journal.specs.Calls.{EachImage, Leaves, TellsAlike}
-use Rattle.file_journal.specs.Commands.{AreAllowed, MakesBetween, MakesFirst, StayDone, after_all, after_first, done_at, done_within}
-use Rattle.file_journal.specs.Form.{Form, record_calls}
+use Rattle.file_journal.specs.Commands.{AreAllowed, MakesBetween, MakesFirst, StayDone, after_all, after_first, calls_of, done_at, done_within}
+use Rattle.file_journal.specs.Form.{Form}
 use Rattle.file_journal.specs.Kept.{Course, Does, DoesInTurn, IsCut, IsKept, KeptOn, alone, kept_on}
 use Rattle.file_journal.specs.Position.{Position}
+use Rattle.file_journal.specs.Steps.{Knows}
 use Rattle.file_journal.proofs.CallLemmas.{puts_none, puts_on, puts_same}
-use Rattle.file_journal.proofs.CommandLemmas.{after_all_append, allowed_append, at_all, at_first, at_later, at_then, calls_records, first_append, first_then, makes_first, makes_later, makes_longer, makes_second, makes_within, nothing, stay_longer, stay_none, stay_then}
+use Rattle.file_journal.proofs.CommandLemmas.{after_all_append, allowed_append, at_all, at_first, at_later, at_then, first_append, first_then, makes_first, makes_later, makes_longer, makes_second, makes_within, nothing, stay_longer, stay_none, stay_then}
 use Rattle.file_journal.proofs.MomentLemmas.{joined, started, weaker}
-use Rattle.file_journal.proofs.ToldLemmas.{at_told, if_told, told_before, told_weaker}
+use Rattle.file_journal.proofs.ToldLemmas.{alike_on, at_told, if_told, knew, known_told, knows_on, told_before, told_weaker}
 
 -- the same state and the same journal, on the same disk
 pub same_on : {D S : Type 0} (now other : S) (journal else_journal : Position) (disk : D) → now ≡ other → journal ≡ else_journal → kept_on now journal disk ≡ kept_on other else_journal disk
 same_on {S = S} now other journal else_journal disk state same = ap₂ (λ (s : S) (j : Position). kept_on s j disk) state same
 
--- a call failed behind so many that passed, in the command behind so many that are done: these calls carry out no more
-within_done : (start now calls count : ℕ) → start + calls < now → now ≤ start + record_calls * (count + 1) → done_within calls ≤ count
-within_done start now calls count passed soon = let parts = div-add-mod' calls 4 in omega (arith, passed, soon, parts)
-
 module _ {D S C : Type 0} (g : Ghosts D) (form : Form S C) where
-  -- the moment by which one command more than so many would be done, where each is one record
-  soon_done : ((command : C) → form.calls command ≡ record_calls) → (start count : ℕ) (commands : List C) → count < length commands → done_at form start commands (count + 1) ≡ start + record_calls * (count + 1)
-  soon_done each start count commands fewer = omega (arith, calls_records form each (take (count + 1) commands), length-take-le (count + 1) commands (omega (arith, fewer)))
+  -- where so many calls are too few for the first of some commands and one more, they carry out no more than those
+  within_done : (commands : List C) (count calls : ℕ) → calls < calls_of form (take (suc count) commands) → done_within form commands calls ≤ count
+  within_done [] count calls few = omega arith
+  within_done (command ∷ commands) zero calls few = by (nat_le (form.calls command) calls) refl
+    where
+      by : (b : Bool) → nat_le (form.calls command) calls ≡ b → done_within form (command ∷ commands) calls ≤ 0
+      by true is = absurd (let le = leb-true (form.calls command) calls is in omega (arith, few, le))
+      by false is = rw is (omega arith)
+  within_done (command ∷ commands) (suc count) calls few = by (nat_le (form.calls command) calls) refl (λ fewer. within_done commands count (calls - form.calls command) fewer)
+    where
+      by : (b : Bool) → nat_le (form.calls command) calls ≡ b → (calls - form.calls command < calls_of form (take (suc count) commands) → done_within form commands (calls - form.calls command) ≤ count)
+          → done_within form (command ∷ commands) calls ≤ suc count
+      by true is then = rw is (
+          let le = leb-true (form.calls command) calls is in
+          let rest = then (omega (arith, few, le)) in omega (arith, rest))
+      by false is then = rw is (omega arith)
 
-  -- Where each command is one record, and a call failed behind so many that passed, no fewer of the commands stand than
-  -- those carry out; more commands may come behind them.
-  pub cut_makes : ((command : C) → form.calls command ≡ record_calls) → (a b : List C) (old new : KeptOn D S) (calls : ℕ) → IsCut g form (done_at form (g.moment old.disk) a) a old new → g.moment old.disk + calls < g.moment new.disk
-      → IfSome (g.content old.disk) (λ _. EachImage g new.disk (MakesBetween form (min (length (a ++ b)) (done_within calls)) (length (a ++ b)) old.now (a ++ b)))
-  cut_makes each a b old new calls some passed =
+  -- Where a call failed behind so many that passed, no fewer of the commands stand than those carry out; more commands may
+  -- come behind them.
+  pub cut_makes : (a b : List C) (old new : KeptOn D S) (calls : ℕ) → IsCut g form (done_at form (g.moment old.disk) a) a old new → g.moment old.disk + calls < g.moment new.disk
+      → IfSome (g.content old.disk) (λ _. EachImage g new.disk (MakesBetween form (done_within form (a ++ b) calls) (length (a ++ b)) old.now (a ++ b)))
+  cut_makes a b old new calls some passed =
       let sum : length (a ++ b) ≡ length a + length b = length-append a b in
       told_weaker (g.content old.disk) _ _ (λ before told soon.
-      let done : done_within calls ≤ some.count =
-      within_done (g.moment old.disk) (g.moment new.disk) calls some.count passed (omega (arith, soon, soon_done each (g.moment old.disk) some.count a some.fewer)) in
+      let done : done_within form (a ++ b) calls ≤ some.count =
+      let one : calls_of form (take (some.count + 1) (a ++ b)) ≡ calls_of form (take (suc some.count) (a ++ b)) = ap (λ (n : ℕ). calls_of form (take n (a ++ b))) (let same : some.count + 1 ≡ suc some.count = omega arith in same) in
+      within_done (a ++ b) some.count calls (omega (arith, one, soon, passed, at_first form (g.moment old.disk) (some.count + 1) a b (omega (arith, some.fewer)))) in
       told_weaker (g.content new.disk) _ _ (λ now here stands image left.
-      makes_within form some.count (some.count + 1) (min (length (a ++ b)) (done_within calls)) (length (a ++ b)) old.now (a ++ b) image (omega (arith, done)) (omega (arith, sum, some.fewer))
+      makes_within form some.count (some.count + 1) (done_within form (a ++ b) calls) (length (a ++ b)) old.now (a ++ b) image done (omega (arith, sum, some.fewer))
       (makes_first form some.count (some.count + 1) old.now a b image (omega (arith, some.fewer)) (stands image left))) some.images) some.at_most
 
   -- what comes to the same, by calls that are said otherwise
@@ -66,7 +76,7 @@ module _ {D S C : Type 0} (g : Ghosts D) (form : Form S C) where
   turn_none course P now journal old new fine stands healthy since same idle puts reads = record {
     healthy = healthy;
     stands_on = stands;
-    allowed = tt;
+    allowed = λ known. tt;
     since = since;
     stay = λ still. if_told (g.content old) _ (λ before told. stay_none form g (done_at form (g.moment old) []) now [] new);
     calls = λ still. if_told (g.content old) _ (λ before told. omega (arith, same));
@@ -74,13 +84,13 @@ module _ {D S C : Type 0} (g : Ghosts D) (form : Form S C) where
     none = λ is. idle;
     puts = puts;
     reads = reads;
-    done = λ still. (refl, healthy);
+    done = λ still. (λ known. refl, healthy);
     cut = λ failed. absurd (fine failed);
     journal = refl;
   }
 
   -- further commands behind those in one of which the disk failed
-  pub turn_longer : (course : Course D) (P : Type 0) (a b : List C) (old new : KeptOn D S) → P → AreAllowed form.allowed form.after old.now (a ++ b) → DoesInTurn g form course P a old new
+  pub turn_longer : (course : Course D) (P : Type 0) (a b : List C) (old new : KeptOn D S) → P → (Knows form (g.content old.disk) → AreAllowed form.allowed form.after old.now (a ++ b)) → DoesInTurn g form course P a old new
       → DoesInTurn g form course P (a ++ b) old new
   turn_longer course P a b old new failed allowed does =
       let sum : length (a ++ b) ≡ length a + length b = length-append a b in
@@ -102,7 +112,7 @@ module _ {D S C : Type 0} (g : Ghosts D) (form : Form S C) where
         cut = λ again. record {
           count = some.count;
           fewer = omega (arith, sum, few);
-          state = some.state ∙ sym (first_append form some.count a b old.now (omega (arith, few)));
+          state = λ known. some.state known ∙ sym (first_append form some.count a b old.now (omega (arith, few)));
           failed = some.failed;
           images = told_weaker (g.content new.disk) _ _ (λ now told each image here.
               makes_first form some.count (some.count + 1) old.now a b image (omega (arith, few)) (each image here)) some.images;
@@ -114,13 +124,13 @@ module _ {D S C : Type 0} (g : Ghosts D) (form : Form S C) where
       }
 
   -- One list of commands, and then another.
-  module _ (one other both : Course D) (P Q : Type 0) (a b : List C) (old mid new : KeptOn D S) (fine : ¬ P) (alike : TellsAlike (g.content old.disk) (g.content mid.disk))
+  module _ (one other both : Course D) (P Q : Type 0) (a b : List C) (old mid new : KeptOn D S) (fine : ¬ P) (alike : TellsAlike (g.content old.disk) (g.content mid.disk)) (later : TellsAlike (g.content mid.disk) (g.content new.disk))
       (first : DoesInTurn g form one P a old mid) (second : DoesInTurn g form other Q b mid new) where
     sum : length (a ++ b) ≡ length a + length b
     sum = length-append a b
 
-    at : mid.now ≡ after_all form.after old.now a
-    at = (first.done fine).0
+    at : Knows form (g.content old.disk) → mid.now ≡ after_all form.after old.now a
+    at known = (first.done fine).0 known
 
     middle : (before : List ℕ) → g.content old.disk ≡ Some before → (octets : List ℕ) × (g.content mid.disk ≡ Some octets)
     middle before told = told_before (g.content mid.disk) (g.content old.disk) before (alike.1, alike.0) told
@@ -133,23 +143,23 @@ module _ {D S C : Type 0} (g : Ghosts D) (form : Form S C) where
         joined g.moment g.images_since old.disk mid.disk new.disk (MakesFirst form old.now (a ++ b))
         (weaker g.moment g.images_since old.disk mid.disk (MakesFirst form old.now a) (MakesFirst form old.now (a ++ b)) (λ image here. makes_longer form old.now a b image here)
         (at_told (λ (_ : List ℕ). _) before told first.since))
-        (weaker g.moment g.images_since mid.disk new.disk (MakesFirst form mid.now b) (MakesFirst form old.now (a ++ b)) (λ image here. makes_later form old.now mid.now a b image at here)
+        (weaker g.moment g.images_since mid.disk new.disk (MakesFirst form mid.now b) (MakesFirst form old.now (a ++ b)) (λ image here. makes_later form old.now mid.now a b image (at (known_told form before told)) here)
         (at_told (λ (_ : List ℕ). _) (middle before told).0 (middle before told).1 second.since)))
 
     stay_both : (done : ℕ) → IfSome (g.content mid.disk) (λ _. StayDone g form (done_at form (g.moment mid.disk) b) done mid.now b new.disk)
         → IfSome (g.content old.disk) (λ _. StayDone g form (done_at form (g.moment old.disk) (a ++ b)) (length a + done) old.now (a ++ b) new.disk)
     stay_both done stay = if_told (g.content old.disk) _ (λ before told.
-        stay_then form g (g.moment old.disk) done old.now mid.now a b mid.disk new.disk at (then before told) (at_told (λ (_ : List ℕ). _) before told (first.stay fine))
+        stay_then form g (g.moment old.disk) done old.now mid.now a b mid.disk new.disk (at (known_told form before told)) (then before told) (at_told (λ (_ : List ℕ). _) before told (first.stay fine))
         (at_told (λ (_ : List ℕ). _) (middle before told).0 (middle before told).1 second.since) (at_told (λ (_ : List ℕ). _) (middle before told).0 (middle before told).1 stay))
 
     cut_both : IsCut g form (done_at form (g.moment mid.disk) b) b mid new → IsCut g form (done_at form (g.moment old.disk) (a ++ b)) (a ++ b) old new
     cut_both some = record {
       count = length a + some.count;
       fewer = omega (arith, sum, some.fewer);
-      state = some.state ∙ ap (λ (s : S). after_first form some.count s b) at ∙ sym (first_then form some.count a b old.now);
+      state = λ known. some.state (knows_on form _ _ alike known) ∙ ap (λ (s : S). after_first form some.count s b) (at known) ∙ sym (first_then form some.count a b old.now);
       failed = some.failed;
       images = told_weaker (g.content new.disk) _ _ (λ now told each image here.
-          makes_second form some.count (some.count + 1) (length a + some.count) (length a + some.count + 1) old.now mid.now a b image at (omega arith) (omega arith) (each image here)) some.images;
+          makes_second form some.count (some.count + 1) (length a + some.count) (length a + some.count + 1) old.now mid.now a b image (at (knew form _ _ (alike_on _ _ _ alike later) (known_told form now told))) (omega arith) (omega arith) (each image here)) some.images;
       stay = stay_both some.count some.stay;
       calls = if_told (g.content old.disk) _ (λ before told.
           let later : done_at form (g.moment mid.disk) b some.count ≤ g.moment new.disk = at_told (λ (_ : List ℕ). _) (middle before told).0 (middle before told).1 some.calls in
@@ -171,7 +181,8 @@ module _ {D S C : Type 0} (g : Ghosts D) (form : Form S C) where
     turn_then idle puts reads = record {
       healthy = first.healthy;
       stands_on = second.stands_on;
-      allowed = allowed_append form.after form.allowed a b old.now first.allowed (subst (λ (s : S). AreAllowed form.allowed form.after s b) at second.allowed);
+      allowed = λ known. allowed_append form.after form.allowed a b old.now (first.allowed known)
+          (subst (λ (s : S). AreAllowed form.allowed form.after s b) (at known) (second.allowed (knows_on form _ _ alike known)));
       since = since_both;
       stay = λ still. subst (λ (n : ℕ). IfSome (g.content old.disk) (λ _. StayDone g form (done_at form (g.moment old.disk) (a ++ b)) n old.now (a ++ b) new.disk)) (sym sum) (stay_both (length b) (second.stay still));
       calls = λ still. if_told (g.content old.disk) _ (λ before told.
@@ -185,7 +196,7 @@ module _ {D S C : Type 0} (g : Ghosts D) (form : Form S C) where
       reads = reads;
       done = λ still.
           let all = second.done still in
-          (all.0 ∙ ap (λ (s : S). after_all form.after s b) at ∙ sym (after_all_append form.after a b old.now), all.1);
+          (λ known. all.0 (knows_on form _ _ alike known) ∙ ap (λ (s : S). after_all form.after s b) (at known) ∙ sym (after_all_append form.after a b old.now), all.1);
       cut = λ failed. cut_both (second.cut failed);
       journal = second.journal ∙ ap (λ (j : Position). let moved : Position = record j { place = new.journal.place; failed = new.journal.failed } in moved) first.journal;
     }
@@ -202,10 +213,10 @@ module _ {D S C : Type 0} (g : Ghosts D) (form : Form S C) where
   pub does_same : (P Q : Type 0) (commands : List C) (old new : KeptOn D S) → (P → Q) → (Q → P) → Does g form P commands old new → Does g form Q commands old new
   does_same P Q commands old new there back does = turn_course (alone g P) (alone g Q) P Q commands old new there back (λ i. i) (puts_same g old.disk new.disk P Q there back) (λ r. r) does
 
-  pub does_longer : (P : Type 0) (a b : List C) (old new : KeptOn D S) → P → AreAllowed form.allowed form.after old.now (a ++ b) → Does g form P a old new → Does g form P (a ++ b) old new
+  pub does_longer : (P : Type 0) (a b : List C) (old new : KeptOn D S) → P → (Knows form (g.content old.disk) → AreAllowed form.allowed form.after old.now (a ++ b)) → Does g form P a old new → Does g form P (a ++ b) old new
   does_longer P a b old new = turn_longer (alone g P) P a b old new
 
   pub does_then : ((first second third : D) → g.lasts first second → g.lasts second third → g.lasts first third) → (P Q : Type 0) (a b : List C) (old mid new : KeptOn D S) → ¬ P
       → Does g form P a old mid → Does g form Q b mid new → Does g form Q (a ++ b) old new
   does_then on P Q a b old mid new fine first second =
-      turn_then (alone g P) (alone g Q) (alone g Q) P Q a b old mid new fine first.puts.told first second (λ i j. j ∙ i) (puts_on g on old.disk mid.disk new.disk P Q fine first.puts second.puts) tt
+      turn_then (alone g P) (alone g Q) (alone g Q) P Q a b old mid new fine first.puts.told second.puts.told first second (λ i j. j ∙ i) (puts_on g on old.disk mid.disk new.disk P Q fine first.puts second.puts) tt

@@ -5,7 +5,7 @@ use Rattle.disk_model.specs.Moments.{LeavesOnly}
 use Rattle.disk_model.specs.declared.disk.Disk.{Ghosts}
 use Rattle.file_journal.specs.Appending.{Appends, IsAppending, IsTornFrom, LeavesAppending}
 use Rattle.file_journal.specs.Blocks.{IsWritingBlock, WritesBlock}
-use Rattle.file_journal.specs.Calls.{IsQuietNow, Leaves, TakesStep, TellsAlike, images_now}
+use Rattle.file_journal.specs.Calls.{IsQuietNow, Leaves, Reads, TakesStep, TellsAlike, images_now}
 use Rattle.file_journal.specs.Form.{Form, StandsFor, standing_of}
 use Rattle.file_journal.specs.Journal.{Standing, with_last}
 use Rattle.file_journal.specs.Kept.{IsKept, StandsAt, kept_on}
@@ -19,9 +19,10 @@ use Rattle.file_journal.specs.declared.layout.Layout.{Layout}
 use Rattle.file_journal.specs.declared.layout.Layout.TheVariants as layout
 use Rattle.file_journal.proofs.AppendLemmas.{ends_from, ends_there}
 use Rattle.file_journal.proofs.BlockOctetLemmas.{torn_behind, torn_other}
+use Rattle.file_journal.proofs.CallLemmas.{reads_now}
 use Rattle.file_journal.proofs.MomentLemmas.{weaker}
 use Rattle.file_journal.proofs.PositionLemmas.{among_records}
-use Rattle.file_journal.proofs.StepsLemmas.{seen_standing, store_same}
+use Rattle.file_journal.proofs.StepsLemmas.{reached_there, seen_standing, store_same}
 use Rattle.file_journal.proofs.ToldLemmas.{at_told, content_now, if_told, told_before, told_weaker}
 use Rattle.file_journal.proofs.WalkLemmas.{one_step}
 
@@ -40,6 +41,25 @@ some_told (Some x) told = (x, refl)
 -- a disk that is quiet leaves its content alone
 quiet_image : {D : Type 0} (g : Ghosts D) (disk : D) (before : List ℕ) → g.content disk ≡ Some before → IsQuietNow g disk → (image : List ℕ) → images_now g disk image → image ≡ before
 quiet_image g disk before told quiet image left = at_told (Only (images_now g disk)) before told quiet image left
+
+-- Reads leave a state where it stands.
+pub read_stands : {D S V C : Type 0} (g : Ghosts D) (steps : Steps S) (form : Form V C) (old new : D) (position : Position) (now : S) {P : Type 0} → Reads g P old new → StandsAt g form steps position now old
+    → StandsOn g position new → StandsAt g form steps position now new
+read_stands g steps form old new position now run at stands = record {
+  magic_is = at.magic_is;
+  layout_is = at.layout_is;
+  holds = record {
+    keeps = record {
+      stands_on = stands;
+      ended = at.holds.keeps.ended;
+      content = λ fine. subst (λ (o : Option (List ℕ)). IfSome o (StandsAs steps position now)) (sym run.only.same_content) (at.holds.keeps.content fine);
+      quiet = λ fine. if_told (g.content new) _ (λ octets told image left.
+          at_told (Only (images_now g old)) octets (sym run.only.same_content ∙ told) (at.holds.keeps.quiet fine) image (reads_now g old new run.only image left));
+    };
+    reached = at.holds.reached;
+    number = at.holds.number;
+  };
+}
 
 module _ {D S V C : Type 0} (g : Ghosts D) (steps : Steps S) (seen : Blocks → S → V) (form : Form V C) (law : IsSeenBy steps seen form) where
   -- the step that a record makes of a state, where the content is told
@@ -61,7 +81,8 @@ module _ {D S V C : Type 0} (g : Ghosts D) (steps : Steps S) (seen : Blocks → 
         store_same steps seen form law (block_in before) (block_in image) position.layout position.blocks (store_in position image) now same is in
         seen_standing steps seen form law position.blocks image now
         (subst (λ (l : Layout). walked steps form.magic l position.blocks image ≡ state now) layout_is (subst (λ (m : List ℕ). walked steps m position.layout position.blocks image ≡ state now) magic_is there))
-        ∙ ap (λ (v : V). state v) (law.same_seen (block_in before) (block_in image) now same)
+        ∙ ap (λ (v : V). state v)
+        (law.same_seen (block_in before) (block_in image) now (reached_there steps seen form law (block_in before) position.layout position.blocks (store_in position image) now is) same)
 
     pub image_stands_for : (image : List ℕ) → stands_of steps.fresh (steps.step (block_in before)) position.layout position.blocks (store_in position image) ≡ state now
         → HoldSame (steps.uses now) (block_in before) (block_in image) → StandsFor form (seen (block_in before) now) image
@@ -79,27 +100,29 @@ module _ {D S V C : Type 0} (g : Ghosts D) (steps : Steps S) (seen : Blocks → 
   }
 
   -- it is failed
-  pub failed_holds : (position : Position) (now : S) (disk : D) → position.failed ≡ true → StandsOn g position disk → (position.layout ≡ layout.Blocks → position.blocks ≡ steps.number now) → Holds g steps position now disk
-  failed_holds position now disk failed stands number = record {
+  pub failed_holds : (position : Position) (now : S) (disk : D) → steps.is_state now → position.failed ≡ true → StandsOn g position disk → (position.layout ≡ layout.Blocks → position.blocks ≡ steps.number now) → Holds g steps position now disk
+  failed_holds position now disk reached failed stands number = record {
     keeps = record {
       stands_on = stands;
       ended = λ fine. absurd (cc (sym failed ∙ fine));
       content = λ fine. absurd (cc (sym failed ∙ fine));
       quiet = λ fine. absurd (cc (sym failed ∙ fine));
     };
+    reached = reached;
     number = number;
   }
 
   -- it is what the content of a quiet disk stands for
-  pub quiet_holds : (position : Position) (now : S) (disk : D) → StandsOn g position disk → position.ended ≡ true → IfSome (g.content disk) (StandsAs steps position now) → IsQuietNow g disk
+  pub quiet_holds : (position : Position) (now : S) (disk : D) → steps.is_state now → StandsOn g position disk → position.ended ≡ true → IfSome (g.content disk) (StandsAs steps position now) → IsQuietNow g disk
       → (position.layout ≡ layout.Blocks → position.blocks ≡ steps.number now) → Holds g steps position now disk
-  quiet_holds position now disk stands ended content quiet number = record {
+  quiet_holds position now disk reached stands ended content quiet number = record {
     keeps = record {
       stands_on = stands;
       ended = λ fine. ended;
       content = λ fine. content;
       quiet = λ fine. quiet;
     };
+    reached = reached;
     number = number;
   }
 
@@ -141,12 +164,12 @@ module _ {D S V C : Type 0} (g : Ghosts D) (steps : Steps S) (seen : Blocks → 
         omega (arith, place.0, gate, number, below)
 
     -- so does one that is used
-    used_there : (before : List ℕ) → g.content old ≡ Some before → (other : S) → steps.number other ≡ steps.number now → (block : ℕ) → steps.uses other block → block_place block + 512 ≤ position.place
-    used_there before told other same block uses = by form.layout refl
+    used_there : (before : List ℕ) → g.content old ≡ Some before → (other : S) → steps.is_state other → steps.number other ≡ steps.number now → (block : ℕ) → steps.uses other block → block_place block + 512 ≤ position.place
+    used_there before told other reached same block uses = by form.layout refl
       where
         by : (l : Layout) → form.layout ≡ l → block_place block + 512 ≤ position.place
         by layout.Growing is = absurd (law.growing is other block uses)
-        by layout.Blocks is = block_there before told is block (let within = law.within other block uses in omega (arith, within, same))
+        by layout.Blocks is = block_there before told is block (let within = law.within other block reached uses in omega (arith, within, same))
 
     -- what is left now was left before, or since
     left_since : (P : List ℕ → List ℕ → Type 0) → Leaves g old new P → (before : List ℕ) → g.content old ≡ Some before → (image : List ℕ) → images_now g new image → (image ≡ before) ⊎ P before image
@@ -165,18 +188,18 @@ module _ {D S V C : Type 0} (g : Ghosts D) (steps : Steps S) (seen : Blocks → 
 
     -- ---- a record that is put
 
-    module _ (after : Position) (entry : Record) (next : S) (number : steps.number next ≡ steps.number now) (since : LeavesAppending g position entry old new) where
+    module _ (after : Position) (entry : Record) (next : S) (reached : steps.is_state next) (number : steps.number next ≡ steps.number now) (since : LeavesAppending g position entry old new) where
       -- what a crash in it leaves holds the same in each block that is used
-      record_same : (other : S) → steps.number other ≡ steps.number now → (before image : List ℕ) → g.content old ≡ Some before → IsTornFrom (g.images old) position.place (5 + length entry.content) image
+      record_same : (other : S) → steps.is_state other → steps.number other ≡ steps.number now → (before image : List ℕ) → g.content old ≡ Some before → IsTornFrom (g.images old) position.place (5 + length entry.content) image
           → HoldSame (steps.uses other) (block_in before) (block_in image)
-      record_same other same before image told torn block uses =
+      record_same other is_state same before image told torn block uses =
           let place = place_there before told in
-          torn_behind position.place (5 + length entry.content) block before image (used_there before told other same block uses) (omega (arith, place.1))
+          torn_behind position.place (5 + length entry.content) block before image (used_there before told other is_state same block uses) (omega (arith, place.1))
           (torn_there position.place (5 + length entry.content) before image told torn)
 
-      pub put_same : (other : S) → steps.number other ≡ steps.number now → HoldSame (steps.uses other) (blocks_on (g.content old)) (blocks_on (g.content new))
-      put_same other same = same_on (steps.uses other) (g.content old) (g.content new) alike (λ before octets told told_new block uses.
-          ⊎_elim (λ was. ap (λ (l : List ℕ). block_in l block) was) (λ is. record_same other same before octets told is.beside block uses) (content_since _ since before octets told told_new))
+      pub put_same : (other : S) → steps.is_state other → steps.number other ≡ steps.number now → HoldSame (steps.uses other) (blocks_on (g.content old)) (blocks_on (g.content new))
+      put_same other is_state same = same_on (steps.uses other) (g.content old) (g.content new) alike (λ before octets told told_new block uses.
+          ⊎_elim (λ was. ap (λ (l : List ℕ). block_in l block) was) (λ is. record_same other is_state same before octets told is.beside block uses) (content_since _ since before octets told told_new))
 
       module _ (steps_on : (before : List ℕ) → g.content old ≡ Some before → steps.step (block_in before) now entry ≡ Some next) where
         -- with one record more the store comes to the next state
@@ -193,8 +216,8 @@ module _ {D S V C : Type 0} (g : Ghosts D) (steps : Steps S) (seen : Blocks → 
               subst (λ (held : Option (List ℕ)). LeavesOnly g.moment g.images_since old new (StandsForEither form (seen (blocks_on held) now) (seen (blocks_on held) next))) (sym told)
               (weaker g.moment g.images_since old new _ _ (λ image is.
               ⊎_elim (λ same. inl (image_stands_for position at.magic_is at.layout_is before now image
-              (ap (stands_of steps.fresh (steps.step (block_in before)) position.layout position.blocks) same ∙ stood before told) (record_same now refl before image told is.beside)))
-              (λ more. inr (image_stands_for position at.magic_is at.layout_is before next image (next_there before told (store_in position image) more) (record_same next number before image told is.beside)))
+              (ap (stands_of steps.fresh (steps.step (block_in before)) position.layout position.blocks) same ∙ stood before told) (record_same now at.holds.reached refl before image told is.beside)))
+              (λ more. inr (image_stands_for position at.magic_is at.layout_is before next image (next_there before told (store_in position image) more) (record_same next reached number before image told is.beside)))
               is.store)
               (at_told (λ (octets : List ℕ). LeavesOnly g.moment g.images_since old new (IsAppending position entry (g.images old) octets)) before told since)));
           done = λ still. if_told (g.content new) _ (λ octets told_new image left.
@@ -202,7 +225,7 @@ module _ {D S V C : Type 0} (g : Ghosts D) (steps : Steps S) (seen : Blocks → 
               subst (λ (held : Option (List ℕ)). StandsFor form (seen (blocks_on held) next) image) (sym was.1)
               (subst (StandsFor form (seen (block_in was.0) next)) (sym (quiet_image g new octets told_new (done still).1 image left))
               (image_stands_for position at.magic_is at.layout_is was.0 next octets (next_there was.0 was.1 (store_in position octets) was.2.store)
-              (λ block uses. ⊎_elim (λ same. ap (λ (l : List ℕ). block_in l block) same) (λ is. record_same next number was.0 octets was.1 is.beside block uses)
+              (λ block uses. ⊎_elim (λ same. ap (λ (l : List ℕ). block_in l block) same) (λ is. record_same next reached number was.0 octets was.1 is.beside block uses)
               (content_since _ since was.0 octets was.1 told_new)))));
         }
 
@@ -214,11 +237,11 @@ module _ {D S V C : Type 0} (g : Ghosts D) (steps : Steps S) (seen : Blocks → 
             record {
               magic_is = ap (λ (p : Position). p.magic) moved ∙ at.magic_is;
               layout_is = layout_is ∙ at.layout_is;
-              holds = quiet_holds after next new stands (ap (λ (p : Position). p.ended) moved ∙ ended_there)
+              holds = quiet_holds after next new reached stands (ap (λ (p : Position). p.ended) moved ∙ ended_there)
                   (if_told (g.content new) _ (λ octets told_new.
                   let was = content_now _ _ (Appends position entry) octets alike ok told_new in
                   let same : HoldSame (steps.uses next) (block_in was.0) (block_in octets) =
-                  λ block uses. ⊎_elim (λ same. ap (λ (l : List ℕ). block_in l block) same) (λ is. record_same next number was.0 octets was.1 is.beside block uses) (content_since _ since was.0 octets was.1 told_new) in
+                  λ block uses. ⊎_elim (λ same. ap (λ (l : List ℕ). block_in l block) same) (λ is. record_same next reached number was.0 octets was.1 is.beside block uses) (content_since _ since was.0 octets was.1 told_new) in
                   ap (λ (p : Position). walked steps p.magic p.layout p.blocks octets) moved
                   ∙ store_same steps seen form law (block_in was.0) (block_in octets) position.layout position.blocks (store_in position octets) next same
                   (next_there was.0 was.1 (store_in position octets) was.2.store)))
@@ -233,7 +256,7 @@ module _ {D S V C : Type 0} (g : Ghosts D) (steps : Steps S) (seen : Blocks → 
         record {
           magic_is = ap (λ (p : Position). p.magic) moved ∙ at.magic_is;
           layout_is = layout_is ∙ at.layout_is;
-          holds = failed_holds after now new failed stands (λ is. blocks_is ∙ at.holds.number (sym layout_is ∙ is));
+          holds = failed_holds after now new at.holds.reached failed stands (λ is. blocks_is ∙ at.holds.number (sym layout_is ∙ is));
         }
 
     -- ---- octets that are put in a block
@@ -272,7 +295,7 @@ module _ {D S V C : Type 0} (g : Ghosts D) (steps : Steps S) (seen : Blocks → 
           record {
             magic_is = ap (λ (p : Position). p.magic) moved ∙ at.magic_is;
             layout_is = layout_is ∙ at.layout_is;
-            holds = quiet_holds after now new stands (ap (λ (p : Position). p.ended) moved ∙ ended_there)
+            holds = quiet_holds after now new at.holds.reached stands (ap (λ (p : Position). p.ended) moved ∙ ended_there)
                 (if_told (g.content new) _ (λ octets told_new.
                 let was = content_now _ _ (WritesBlock position put.number put.octets) octets alike ok told_new in
                 ⊎_elim
@@ -306,6 +329,7 @@ module _ {D S C : Type 0} (g : Ghosts D) (fresh : ℕ → S) (number : S → ℕ
             ∙ ap (λ (l : Layout). stands_for fresh step form.magic l journal.blocks octets) same_layout ∙ sym (standing journal.blocks octets) ∙ is) (keeps.content fine);
         quiet = keeps.quiet;
       };
+      reached = tt;
       number = λ is. absurd (cc (sym layout_is ∙ sym same_layout ∙ is));
     };
   }

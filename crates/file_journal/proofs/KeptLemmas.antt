@@ -7,10 +7,11 @@ use Rattle.file_journal.specs.Commands.{MakesBetween, MakesFirst, StayDone, done
 use Rattle.file_journal.specs.Form.{Form, StandsFor, TellsItsNumber}
 use Rattle.file_journal.specs.Kept.{Does, IsCut, IsKept, KeptOn, kept_on}
 use Rattle.file_journal.specs.Position.{Position}
+use Rattle.file_journal.specs.Steps.{Knows}
 use Rattle.file_journal.specs.Walk.{state}
 use Rattle.file_journal.proofs.CommandLemmas.{makes_one, stay_none}
 use Rattle.file_journal.proofs.MomentLemmas.{weaker}
-use Rattle.file_journal.proofs.ToldLemmas.{at_told, if_told, told_before, told_weaker}
+use Rattle.file_journal.proofs.ToldLemmas.{at_told, if_told, knew, known_told, told_before, told_weaker}
 
 module _ {S C : Type 0} (form : Form S C) where
   module _ {D : Type 0} (g : Ghosts D) where
@@ -22,18 +23,19 @@ module _ {S C : Type 0} (form : Form S C) where
 
     -- ---- one command
 
-    module _ (old new : D) (now next : S) (journal after : Position) (command : C) (healthy : journal.failed ≡ false) (allowed : form.allowed now command) (next_is : next ≡ form.after now command)
+    module _ (old new : D) (now next : S) (journal after : Position) (command : C) (healthy : journal.failed ≡ false) (allowed : Knows form (g.content old) → form.allowed now command)
+        (next_is : Knows form (g.content old) → next ≡ form.after now command)
         (moved : after ≡ record journal { place = after.place; failed = after.failed }) (told : TellsAlike (g.content old) (g.content new))
         (since : Leaves g old new (λ _ image. StandsFor form now image ⊎ StandsFor form next image)) (at_most : g.moment new ≤ g.moment old + form.calls command) where
       abbrev time : ℕ → ℕ
       time = done_at form (g.moment old) (command ∷ [])
 
-      one : (image : List ℕ) → StandsFor form now image ⊎ StandsFor form next image → MakesBetween form 0 1 now (command ∷ []) image
-      one image (inl was) = makes_one form now command image (inl was)
-      one image (inr is) = makes_one form now command image (inr (subst (λ (s : S). StandsFor form s image) next_is is))
+      one : Knows form (g.content old) → (image : List ℕ) → StandsFor form now image ⊎ StandsFor form next image → MakesBetween form 0 1 now (command ∷ []) image
+      one known image (inl was) = makes_one form now command image (inl was)
+      one known image (inr is) = makes_one form now command image (inr (subst (λ (s : S). StandsFor form s image) (next_is known) is))
 
       leaves : Leaves g old new (λ _. MakesFirst form now (command ∷ []))
-      leaves = told_weaker (g.content old) _ _ (λ before told_old left. weaker g.moment g.images_since old new _ (MakesFirst form now (command ∷ [])) one left) since
+      leaves = told_weaker (g.content old) _ _ (λ before told_old left. weaker g.moment g.images_since old new _ (MakesFirst form now (command ∷ [])) (one (known_told form before told_old)) left) since
 
       -- what is done, by what comes of it where the disk failed and where it didn't
       does_put : (P : Type 0) (state_now : S) → IsKept g form (kept_on state_now after new) → Puts g P old new
@@ -42,7 +44,7 @@ module _ {S C : Type 0} (form : Form S C) where
       does_put P state_now keeps puts done cut = record {
         healthy = healthy;
         stands_on = keeps;
-        allowed = (allowed, tt);
+        allowed = λ known. (allowed known, tt);
         since = leaves;
         stay = λ still. (done still).1;
         calls = λ still. told_weaker (g.content old) _ _ (λ before told_old is. omega (arith, is)) (done still).0;
@@ -50,7 +52,7 @@ module _ {S C : Type 0} (form : Form S C) where
         none = λ empty. absurd (cc empty);
         puts = puts;
         reads = tt;
-        done = λ still. ((done still).2 ∙ next_is, (done still).3);
+        done = λ still. (λ known. (done still).2 ∙ next_is known, (done still).3);
         cut = cut;
         journal = moved;
       }
@@ -67,7 +69,7 @@ module _ {S C : Type 0} (form : Form S C) where
                 let first : count ≡ 1 = omega (arith, some, most) in
                 let end : time count ≡ g.moment new = ap time first ∙ omega (arith, done) in
                 let each = at_told (λ (_ : List ℕ). (image : List ℕ) → images_now g new image → StandsFor form next image) there.0 there.1 here in
-                (1, omega (arith, most), omega arith, subst (λ (s : S). StandsFor form s image) next_is (each image (subst (λ (t : ℕ). g.images_since new t image) end left)))),
+                (1, omega (arith, most), omega arith, subst (λ (s : S). StandsFor form s image) (next_is (known_told form before told_old)) (each image (subst (λ (t : ℕ). g.images_since new t image) end left)))),
             refl,
             fine,
           ))
@@ -79,9 +81,9 @@ module _ {S C : Type 0} (form : Form S C) where
       put_cut P bad puts failed keeps here = does_put P now keeps puts (λ still. absurd (still bad)) (λ again. record {
         count = 0;
         fewer = omega arith;
-        state = refl;
+        state = λ known. refl;
         failed = failed;
-        images = told_weaker (g.content new) _ _ (λ octets told_new each image left. one image (each image left)) here;
+        images = told_weaker (g.content new) _ _ (λ octets told_new each image left. one (knew form _ _ told (known_told form octets told_new)) image (each image left)) here;
         stay = if_told (g.content old) _ (λ before told_old. stay_none form g time now (command ∷ []) new);
         calls = told_weaker (g.content old) _ _ (λ before told_old left. omega (arith, left.later)) since;
         at_most = if_told (g.content old) _ (λ before told_old. omega (arith, at_most));

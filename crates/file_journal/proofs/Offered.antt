@@ -8,9 +8,9 @@ pub use Rattle.file_journal.proofs.KeptLemmas.{images_here}
 pub use Rattle.file_journal.proofs.MomentLemmas.{joined, reads, started, weaker}
 pub use Rattle.file_journal.proofs.RestoringLemmas.{runs_same}
 pub use Rattle.file_journal.proofs.StandingLemmas.{IsAfter, Written, after_stands, stands_after, stepped, steps, written_step}
-pub use Rattle.file_journal.proofs.HoldLemmas.{held_kept, kept_stands}
-pub use Rattle.file_journal.proofs.StepsLemmas.{growing_seen, own_always, own_told, see_same}
+pub use Rattle.file_journal.proofs.HoldLemmas.{held_kept, kept_stands, read_stands}
+pub use Rattle.file_journal.proofs.StepsLemmas.{growing_seen, own_always, own_told, see_same, seen_own_number}
 pub use Rattle.file_journal.proofs.ThroughLemmas.{runs_among, runs_missed, stands_through}
-pub use Rattle.file_journal.proofs.ToldLemmas.{alike_on, alike_same, at_told, if_told, told_before, told_weaker}
+pub use Rattle.file_journal.proofs.ToldLemmas.{alike_on, alike_same, at_told, if_told, knew, known_told, knows_on, told_before, told_weaker}
 pub use Rattle.file_journal.proofs.WalkLawLemmas.{own_number}
 pub use Rattle.file_journal.proofs.WalkLemmas.{one_step}

@@ -1,5 +1,5 @@
 -- What a change does that puts something in a block, and its record behind that.
-use Rattle.std.proofs.Common.{◌≡◌, inl, inr, ⊎_elim, ℕ, ◌+◌, ◌≤◌, false, List, [], ◌∷◌, Option, IfSome, refl, sym, ◌∙◌, ap, subst, arith}
+use Rattle.std.proofs.Common.{◌≡◌, inl, ⊎_elim, ℕ, ◌+◌, ◌≤◌, false, List, [], ◌∷◌, Option, IfSome, refl, sym, ◌∙◌, ap, subst, arith}
 use Rattle.disk_model.specs.declared.disk.Disk.{Ghosts}
 use Rattle.file_journal.specs.Calls.{EachImage, Leaves, Puts, TellsAlike, images_now}
 use Rattle.file_journal.specs.Form.{Form, StandsFor, record_calls}
@@ -25,16 +25,11 @@ each_since g earlier old new P alike each leaves = if_told (g.content new) _ (λ
     ⊎_elim (λ before. at_told (λ (_ : List ℕ). (i : List ℕ) → images_now g old i → P i) was.0 was.1 each image before) (λ is. is)
     (made.each (g.moment old) image (omega arith) (earlier new (g.moment old) (g.moment new) image made.later left)))
 
--- what was known is known
-pub knows_on : {S C : Type 0} (form : Form S C) (before now : Option (List ℕ)) → TellsAlike before now → Knows form before → Knows form now
-knows_on form before now alike (inl growing) = inl growing
-knows_on form before now alike (inr told) = inr (alike.1 told)
-
 module _ {D S V C : Type 0} (g : Ghosts D) (steps : Steps S) (seen : Blocks → S → V) (form : Form V C) (law : IsSeenBy steps seen form)
     (earlier : (disk : D) (t u : ℕ) (image : List ℕ) → t ≤ u → g.images_since disk u image → g.images_since disk t image)
     (on : (a b c : D) → g.lasts a b → g.lasts b c → g.lasts a c)
     (old mid : D) (before between : Position) (now : S) (turn : Turn S C) (entry : Record) (writes : WritesTurn form steps seen now turn entry)
-    (at : StandsAt g form steps before now old) (healthy : before.failed ≡ false) (known : Knows form (g.content old)) (lets : turn.lets (blocks_on (g.content old)))
+    (at : StandsAt g form steps before now old) (healthy : before.failed ≡ false) (lets : Knows form (g.content old) → turn.lets (blocks_on (g.content old)))
     (P : Type 0) (same : HoldSame (steps.uses now) (blocks_on (g.content old)) (blocks_on (g.content mid))) (since : Leaves g old mid (λ octets. StandsFor form (seen (block_in octets) now)))
     (goes : GoesOn g P before between old mid) where
   abbrev here : V
@@ -42,10 +37,10 @@ module _ {D S V C : Type 0} (g : Ghosts D) (steps : Steps S) (seen : Blocks → 
 
   -- what it is seen as stays
   stays : seen (blocks_on (g.content mid)) now ≡ here
-  stays = law.same_seen (blocks_on (g.content old)) (blocks_on (g.content mid)) now same
+  stays = law.same_seen (blocks_on (g.content old)) (blocks_on (g.content mid)) now at.holds.reached same
 
-  allowed : form.allowed here turn.command
-  allowed = writes.allowed (blocks_on (g.content old)) lets
+  allowed : Knows form (g.content old) → form.allowed here turn.command
+  allowed known = writes.allowed (blocks_on (g.content old)) (lets known)
 
   first : Leaves g old mid (λ _. StandsFor form here)
   first = told_weaker (g.content old) _ _ (λ octets told left.
@@ -61,21 +56,21 @@ module _ {D S V C : Type 0} (g : Ghosts D) (steps : Steps S) (seen : Blocks → 
       let keeps : IsKept g form (kept_on here between mid) = subst (λ (v : V). IsKept g form (kept_on v between mid)) stays (held_kept g steps seen form law between now mid stands) in
       does_same g form P Q (turn.command ∷ []) (kept_on here before old) (kept_on (seen (blocks_on (g.content mid)) s) between mid) (λ _. failed) (λ _. bad)
       (subst (λ (v : V). Does g form P (turn.command ∷ []) (kept_on here before old) (kept_on v between mid)) (sym (ap (seen (blocks_on (g.content mid))) is ∙ stays))
-      (put_cut form g old mid here (form.after here turn.command) before between turn.command healthy allowed refl goes.journal goes.puts.told
+      (put_cut form g old mid here (form.after here turn.command) before between turn.command healthy allowed (λ known. refl) goes.journal goes.puts.told
       (told_weaker (g.content old) _ _ (λ octets told left. weaker g.moment g.images_since old mid _ _ (λ image is. inl is) left) first)
       (omega (arith, most, writes.calls)) P bad goes.puts (goes.fails bad) keeps
       (told_weaker (g.content mid) _ _ (λ octets told each image left. inl (each image left)) (each_since g earlier old mid (StandsFor form here) goes.puts.told there_before first))))
 
   -- The block is written, and the record put behind that.
   module _ (new : D) (after : Position) (fine : ¬ P) (first_calls : IfSome (g.content old) (λ _. g.moment mid ≡ g.moment old + block_calls turn.puts) × (g.moment mid ≤ g.moment old + block_calls turn.puts))
-      (lets_mid : turn.lets (blocks_on (g.content mid))) (there : HasPut turn.puts (blocks_on (g.content mid)))
+      (lets_mid : Knows form (g.content old) → turn.lets (blocks_on (g.content mid))) (there : Knows form (g.content old) → HasPut turn.puts (blocks_on (g.content mid)))
       (Q : Type 0) (turns : TurnsInto g form (seen (blocks_on (g.content mid)) now) (seen (blocks_on (g.content mid)) turn.next) Q mid new)
       (goes_on : GoesOn g Q between after mid new) (most : g.moment new ≤ g.moment mid + record_calls) where
     abbrev next : V
     next = seen (blocks_on (g.content mid)) turn.next
 
-    next_is : next ≡ form.after here turn.command
-    next_is = writes.sees (blocks_on (g.content mid)) lets_mid there ∙ ap (λ (v : V). form.after v turn.command) stays
+    next_is : Knows form (g.content old) → next ≡ form.after here turn.command
+    next_is known = writes.sees (blocks_on (g.content mid)) (lets_mid known) (there known) ∙ ap (λ (v : V). form.after v turn.command) stays
 
     told : TellsAlike (g.content old) (g.content new)
     told = (λ t. goes.puts.told.0 (goes_on.puts.told.0 t), λ t. goes_on.puts.told.1 (goes.puts.told.1 t))
@@ -96,7 +91,7 @@ module _ {D S V C : Type 0} (g : Ghosts D) (steps : Steps S) (seen : Blocks → 
     pub turn_done : ¬ Q → (s : S) → s ≡ turn.next → StandsAt g form steps after s new → HoldSame (steps.uses s) (blocks_on (g.content mid)) (blocks_on (g.content new)) → IfSome (g.content mid) (λ _. g.moment new ≡ g.moment mid + record_calls)
         → Does g form Q (turn.command ∷ []) (kept_on here before old) (kept_on (seen (blocks_on (g.content new)) s) after new)
     turn_done good s is stands same_new calls =
-        let last : seen (blocks_on (g.content new)) s ≡ next = law.same_seen (blocks_on (g.content mid)) (blocks_on (g.content new)) s same_new ∙ ap (seen (blocks_on (g.content mid))) is in
+        let last : seen (blocks_on (g.content new)) s ≡ next = law.same_seen (blocks_on (g.content mid)) (blocks_on (g.content new)) s stands.holds.reached same_new ∙ ap (seen (blocks_on (g.content mid))) is in
         subst (λ (v : V). Does g form Q (turn.command ∷ []) (kept_on here before old) (kept_on v after new)) (sym last)
         (put_done form g old new here next before after turn.command healthy allowed next_is moved told either (omega (arith, most, first_calls.1, writes.calls)) Q good all_puts
         (if_told (g.content old) _ (λ octets told_old.
@@ -109,7 +104,7 @@ module _ {D S V C : Type 0} (g : Ghosts D) (steps : Steps S) (seen : Blocks → 
     pub turn_cut : Q → (s : S) → s ≡ now → StandsAt g form steps after s new → HoldSame (steps.uses s) (blocks_on (g.content mid)) (blocks_on (g.content new))
         → Does g form Q (turn.command ∷ []) (kept_on here before old) (kept_on (seen (blocks_on (g.content new)) s) after new)
     turn_cut bad s is stands same_new =
-        let last : seen (blocks_on (g.content new)) s ≡ here = law.same_seen (blocks_on (g.content mid)) (blocks_on (g.content new)) s same_new ∙ ap (seen (blocks_on (g.content mid))) is ∙ stays in
+        let last : seen (blocks_on (g.content new)) s ≡ here = law.same_seen (blocks_on (g.content mid)) (blocks_on (g.content new)) s stands.holds.reached same_new ∙ ap (seen (blocks_on (g.content mid))) is ∙ stays in
         subst (λ (v : V). Does g form Q (turn.command ∷ []) (kept_on here before old) (kept_on v after new)) (sym last)
         (put_cut form g old new here next before after turn.command healthy allowed next_is moved told either (omega (arith, most, first_calls.1, writes.calls)) Q bad all_puts
         (goes_on.fails bad) (subst (λ (v : V). IsKept g form (kept_on v after new)) last (held_kept g steps seen form law after s new stands))

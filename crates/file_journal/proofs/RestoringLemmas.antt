@@ -270,7 +270,7 @@ module _ {D S V C : Type 0} (g : Ghosts D) (steps : Steps S) (seen : Blocks → 
 
     -- a state was read
     module _ (position : Position) (now : S) (all : IfSome (g.content mid) (λ octets. walk_left (steps.step (block_in octets)) first start octets ≡ state now)) (stands : StandsOn g position new)
-        (same : position ≡ record first { place = position.place; ended = position.ended }) (ended : position.ended ≡ true) (number : steps.number now ≡ steps.number start) where
+        (same : position ≡ record first { place = position.place; ended = position.ended }) (ended : position.ended ≡ true) (number : steps.number now ≡ steps.number start) (reached : steps.is_state now) where
       quiet_now : IsQuietNow g new
       quiet_now = if_told (g.content new) _ (λ octets told image here. at_told (Only (images_now g mid)) octets (sym run.only.same_content ∙ told) recovered.quiet image (reads_now g mid new run.only image here))
 
@@ -278,7 +278,7 @@ module _ {D S V C : Type 0} (g : Ghosts D) (steps : Steps S) (seen : Blocks → 
       restored_at = record {
         magic_is = ap (λ (p : Position). p.magic) same ∙ recovered.magic_is;
         layout_is = ap (λ (p : Position). p.layout) same ∙ recovered.layout_is;
-        holds = quiet_holds g steps seen form law position now new stands ended
+        holds = quiet_holds g steps seen form law position now new reached stands ended
             (if_told (g.content new) _ (λ octets told_new.
             let told_mid : g.content mid ≡ Some octets = sym run.only.same_content ∙ told_new in
             let was = content_now (g.content old) (g.content mid) (Recovers form.magic form.layout blocks first) octets runs.told recovered.content told_mid in

@@ -24,24 +24,40 @@ module _ {S V C : Type 0} (steps : Steps S) (seen : Blocks → S → V) (form : 
   seen_standing blocks octets now is = law.standing blocks octets ∙ ap (see (seen (block_in octets))) is
 
   -- what decided on a state decided on those that come of it
-  decided_all : (held : Blocks) (entries : List Record) (before after : S) → Takes (steps.step held) before entries after → (block : ℕ) → steps.decides before block → steps.decides after block
-  decided_all held [] before after takes block is = subst (λ (s : S). steps.decides s block) (sym takes) is
-  decided_all held (entry ∷ entries) before after takes block is =
-      decided_all held entries takes.0 after takes.2 block (law.decided_on held before takes.0 entry takes.1 block is)
+  decided_all : (held : Blocks) (entries : List Record) (before after : S) → steps.is_state before → Takes (steps.step held) before entries after → (block : ℕ) → steps.decides before block
+      → steps.decides after block
+  decided_all held [] before after reached takes block is = subst (λ (s : S). steps.decides s block) (sym takes) is
+  decided_all held (entry ∷ entries) before after reached takes block is =
+      decided_all held entries takes.0 after (law.step_state held before takes.0 entry reached takes.1) takes.2 block (law.decided_on held before takes.0 entry reached takes.1 block is)
 
-  takes_same : (one other : Blocks) (entries : List Record) (before after : S) → HoldSame (steps.decides after) one other → Takes (steps.step one) before entries after → Takes (steps.step other) before entries after
-  takes_same one other [] before after same takes = takes
-  takes_same one other (entry ∷ entries) before after same takes = (
-    takes.0,
-    law.same_step one other before takes.0 entry takes.1 (λ block is. same block (decided_all one entries takes.0 after takes.2 block is)),
-    takes_same one other entries takes.0 after same takes.2,
-  )
+  -- records make states
+  takes_state : (held : Blocks) (entries : List Record) (before after : S) → steps.is_state before → Takes (steps.step held) before entries after → steps.is_state after
+  takes_state held [] before after reached takes = subst steps.is_state (sym takes) reached
+  takes_state held (entry ∷ entries) before after reached takes = takes_state held entries takes.0 after (law.step_state held before takes.0 entry reached takes.1) takes.2
 
-  walk_same : (one other : Blocks) (before now : S) (place : ℕ) (reading : Reading) → HoldSame (steps.decides now) one other → walk (steps.step one) before place reading ≡ state now
+  -- so what a store comes to is a state that they make
+  pub reached_there : (held : Blocks) (layout : Layout) (blocks : ℕ) (store : Standing) (now : S) → stands_of steps.fresh (steps.step held) layout blocks store ≡ state now → steps.is_state now
+  reached_there held layout blocks (journal.no_store found) now is = absurd (cc is)
+  reached_there held layout blocks journal.bad_number now is = absurd (cc is)
+  reached_there held layout blocks (journal.store number reading) now is =
+      let came = (one_walk (steps.step held) (steps.fresh (number_or blocks number)) (first_gate layout (number_or blocks number)) reading (state now)).1 (sym is) in
+      takes_state held came.0 (steps.fresh (number_or blocks number)) now (law.fresh_state (number_or blocks number)) came.2
+
+  takes_same : (one other : Blocks) (entries : List Record) (before after : S) → steps.is_state before → HoldSame (steps.decides after) one other → Takes (steps.step one) before entries after
+      → Takes (steps.step other) before entries after
+  takes_same one other [] before after reached same takes = takes
+  takes_same one other (entry ∷ entries) before after reached same takes =
+      let then = law.step_state one before takes.0 entry reached takes.1 in (
+        takes.0,
+        law.same_step one other before takes.0 entry reached takes.1 (λ block is. same block (decided_all one entries takes.0 after then takes.2 block is)),
+        takes_same one other entries takes.0 after then same takes.2,
+      )
+
+  walk_same : (one other : Blocks) (before now : S) (place : ℕ) (reading : Reading) → steps.is_state before → HoldSame (steps.decides now) one other → walk (steps.step one) before place reading ≡ state now
       → walk (steps.step other) before place reading ≡ state now
-  walk_same one other before now place reading same is =
+  walk_same one other before now place reading reached same is =
       let came = (one_walk (steps.step one) before place reading (state now)).1 (sym is) in
-      sym ((one_walk (steps.step other) before place reading (state now)).0 (came.0, came.1, takes_same one other came.0 before now same came.2))
+      sym ((one_walk (steps.step other) before place reading (state now)).0 (came.0, came.1, takes_same one other came.0 before now reached same came.2))
 
   -- so a store stands for a state whatever the other blocks hold
   pub store_same : (one other : Blocks) (layout : Layout) (blocks : ℕ) (store : Standing) (now : S) → HoldSame (steps.uses now) one other
@@ -49,11 +65,12 @@ module _ {S V C : Type 0} (steps : Steps S) (seen : Blocks → S → V) (form : 
   store_same one other layout blocks (journal.no_store found) now same is = absurd (cc is)
   store_same one other layout blocks journal.bad_number now same is = absurd (cc is)
   store_same one other layout blocks (journal.store number reading) now same is =
-      walk_same one other (steps.fresh (number_or blocks number)) now _ reading (λ block decides. same block (law.decided now block decides)) is
+      walk_same one other (steps.fresh (number_or blocks number)) now _ reading (law.fresh_state (number_or blocks number))
+      (λ block decides. same block (law.decided now block (reached_there one layout blocks (journal.store number reading) now is) decides)) is
 
   -- a store without records stands for the same, whatever the blocks hold
   pub fresh_same : (one other : Blocks) (blocks : ℕ) → seen other (steps.fresh blocks) ≡ seen one (steps.fresh blocks)
-  fresh_same one other blocks = law.same_seen one other (steps.fresh blocks) (λ block uses. absurd (law.fresh_none blocks block uses))
+  fresh_same one other blocks = law.same_seen one other (steps.fresh blocks) (law.fresh_state blocks) (λ block uses. absurd (law.fresh_none blocks block uses))
 
 -- Whatever number octets were read with as what a state is seen as, they stand for that, where a state has the number of
 -- its store.
@@ -86,15 +103,17 @@ module _ {S C : Type 0} (fresh : ℕ → S) (number : S → ℕ) (step : S → R
   growing_seen own same_number = record {
     standing = λ blocks octets. standing blocks octets ∙ sym (see_same (stands_for fresh step form.magic form.layout blocks octets));
     own_number = own;
+    fresh_state = λ blocks. tt;
+    step_state = λ held before after entry reached is. tt;
     fresh_number = λ is blocks. absurd (cc (sym layout_is ∙ is));
     same_number = λ held before after entry is. same_number before after entry is;
     fresh_none = λ blocks block uses. uses;
     growing = λ is now block uses. uses;
-    within = λ now block uses. absurd uses;
-    decided = λ now block uses. uses;
-    decided_on = λ held before after entry is block uses. uses;
-    same_step = λ one other before after entry is same. is;
-    same_seen = λ one other now same. refl;
+    within = λ now block reached uses. absurd uses;
+    decided = λ now block reached uses. uses;
+    decided_on = λ held before after entry reached is block uses. uses;
+    same_step = λ one other before after entry reached is same. is;
+    same_seen = λ one other now reached same. refl;
   }
 
   -- A fresh state that is the same whatever the number, or one that tells it: octets stand for the same by the number of

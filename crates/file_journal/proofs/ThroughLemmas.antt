@@ -2,7 +2,7 @@
 use Rattle.std.proofs.Common.{◌≡◌, ⊎_elim, ℕ, ◌+◌, List, ◌++◌, Some, IfSome, refl, ◌∙◌, subst, arith}
 use Rattle.disk_model.specs.declared.disk.Disk.{Ghosts}
 use Rattle.file_journal.specs.AmongReads.{CountsSome, PutsAmongReads}
-use Rattle.file_journal.specs.Calls.{EachImage, Leaves, Runs, TellsAlike}
+use Rattle.file_journal.specs.Calls.{Leaves, Runs, TellsAlike}
 use Rattle.file_journal.specs.Commands.{MakesFirst}
 use Rattle.file_journal.specs.Form.{Form, StandsFor, TellsItsNumber, standing_of}
 use Rattle.file_journal.specs.Kept.{Course, DoesInTurn, KeptOn}
@@ -15,7 +15,7 @@ use Rattle.file_journal.proofs.CommandLemmas.{makes_none}
 use Rattle.file_journal.proofs.DoesLemmas.{cut_least}
 use Rattle.file_journal.proofs.KeptLemmas.{images_here}
 use Rattle.file_journal.proofs.MomentLemmas.{joined, weaker}
-use Rattle.file_journal.proofs.ToldLemmas.{at_told, if_told, told_before, told_weaker}
+use Rattle.file_journal.proofs.ToldLemmas.{alike_on, at_told, if_told, knew, known_told, knows_on, told_before, told_weaker}
 
 -- A recovery that gave a state, and then commands, of which the disk may have cut off the last: all of them together, and
 -- the two parts.
@@ -24,7 +24,7 @@ module _ {D S C : Type 0} (g : Ghosts D) (form : Form S C) (own : TellsItsNumber
     (since_start : Leaves g disk start.disk (StandsAlike form blocks)) (since_sync : IfSome (g.content disk) (λ before. IsSyncedFirst g disk start.disk (StandsAlike form blocks before)))
     (course first_course second_course : Course D) (all : DoesInTurn g form course failed (done ++ cut) start new)
     (first : DoesInTurn g form first_course ⊥ done start between) (second : DoesInTurn g form second_course failed cut between new)
-    (between_alike : TellsAlike (g.content start.disk) (g.content between.disk)) where
+    (between_alike : TellsAlike (g.content start.disk) (g.content between.disk)) (later_alike : TellsAlike (g.content between.disk) (g.content new.disk)) where
   -- what stands for the same as the content stands for the state before the first command
   none_yet : (before image : List ℕ) → g.content disk ≡ Some before → StandsAlike form blocks before image → MakesFirst form start.now (done ++ cut) image
   none_yet before image told same =
@@ -40,7 +40,7 @@ module _ {D S C : Type 0} (g : Ghosts D) (form : Form S C) (own : TellsItsNumber
   pub stands_through : (stands : StandsThrough g form failed start.now done cut disk new.disk) × (stands.ready ≡ g.moment start.disk)
   stands_through = (
     record {
-      allowed = all.allowed;
+      allowed = λ known. all.allowed (knows_on form _ _ alike known);
       since_sync = if_told (g.content disk) _ (λ before told.
           let there = later_told before told in
           let synced = at_told (λ (octets : List ℕ). IsSyncedFirst g disk start.disk (StandsAlike form blocks octets)) before told since_sync in
@@ -64,10 +64,11 @@ module _ {D S C : Type 0} (g : Ghosts D) (form : Form S C) (own : TellsItsNumber
       calls = λ fine. since_told _ (all.calls fine);
       all_done = λ fine.
           let made = all.done fine in
-          subst (λ (s : S). EachImage g new.disk (StandsFor form s)) made.0
+          told_weaker (g.content new.disk) _ _ (λ octets told each image left.
+          subst (λ (s : S). StandsFor form s image) (made.0 (knew form _ _ (alike_on _ _ _ between_alike later_alike) (known_told form octets told))) (each image left))
           (images_here form g own new all.stands_on made.1);
       interrupted = λ stopped.
-          let both = cut_least g form first_course second_course course ⊥ failed done cut start between new (λ never. never) between_alike first second (second.cut stopped) in
+          let both = cut_least g form first_course second_course course ⊥ failed done cut start between new (λ never. never) between_alike later_alike first second (second.cut stopped) in
           record {
             count = both.0.count;
             no_less = both.1;

@@ -1,7 +1,9 @@
 -- What holds where content is told.
-use Rattle.std.proofs.Common.{◌≡◌, ℕ, List, Option, None, Some, IfSome, is_some, Result, Ok, IfOk, refl, sym, ◌∙◌, ap, subst, true, true≢false}
+use Rattle.std.proofs.Common.{◌≡◌, inl, inr, ℕ, List, Option, None, Some, IfSome, is_some, Result, Ok, IfOk, refl, sym, ◌∙◌, ap, subst, true, true≢false}
 use Rattle.disk_model.specs.Disk.{HasContent}
 use Rattle.file_journal.specs.Calls.{TellsAlike}
+use Rattle.file_journal.specs.Form.{Form}
+use Rattle.file_journal.specs.Steps.{Knows}
 
 -- to show a fact of what is told, and to use one
 pub if_told : {A : Type 0} (o : Option A) (P : A → Type 0) → ((x : A) → o ≡ Some x → P x) → IfSome o P
@@ -41,3 +43,16 @@ alike_same before now same = (λ told. subst (λ (o : Option (List ℕ)). is_som
 
 pub alike_on : (before mid now : Option (List ℕ)) → TellsAlike before mid → TellsAlike mid now → TellsAlike before now
 alike_on before mid now first second = (λ told. first.0 (second.0 told), λ told. second.1 (first.1 told))
+
+-- ---- what is seen is known
+
+pub known_told : {S C : Type 0} (form : Form S C) {content : Option (List ℕ)} (octets : List ℕ) → content ≡ Some octets → Knows form content
+known_told form octets told = inr (ap is_some told)
+
+-- what was known is known, and the other way round
+pub knows_on : {S C : Type 0} (form : Form S C) (before now : Option (List ℕ)) → TellsAlike before now → Knows form before → Knows form now
+knows_on form before now alike (inl growing) = inl growing
+knows_on form before now alike (inr told) = inr (alike.1 told)
+
+pub knew : {S C : Type 0} (form : Form S C) (before now : Option (List ℕ)) → TellsAlike before now → Knows form now → Knows form before
+knew form before now alike known = knows_on form now before (alike.1, alike.0) known

@@ -1,8 +1,8 @@
 -- What commands make of a state, one after another, and what images stand for while they are done.
-use Rattle.std.specs.Prelude.{ℕ, ◌+◌, ◌/◌, ◌≤◌, List, [], ◌∷◌, length, take, ⊤}
+use Rattle.std.specs.Prelude.{ℕ, ◌+◌, ◌-◌, ◌≤◌, List, [], ◌∷◌, length, take, nat_le, if◌then◌else◌, ⊤}
 use Rattle.disk_model.specs.Moments.{LeavesSince}
 use Rattle.disk_model.specs.declared.disk.Disk.{Ghosts}
-use Rattle.file_journal.specs.Form.{Form, StandsFor, record_calls}
+use Rattle.file_journal.specs.Form.{Form, StandsFor}
 
 -- the state after these commands, by the one after each
 abbrev pub after_all : {S C : Type 0} → (S → C → S) → S → List C → S
@@ -28,9 +28,11 @@ calls_of form (command ∷ commands) = form.calls command + calls_of form comman
 abbrev pub done_at : {S C : Type 0} → Form S C → ℕ → List C → ℕ → ℕ
 done_at form start commands count = start + calls_of form (take count commands)
 
--- how many commands of one record each so many calls of the disk carry out
-abbrev pub done_within : ℕ → ℕ
-done_within calls = calls / record_calls
+-- how many of these commands so many calls of the disk carry out, one behind another
+abbrev pub done_within : {S C : Type 0} → Form S C → List C → ℕ → ℕ
+done_within form [] calls = 0
+done_within form (command ∷ commands) calls =
+    if nat_le (form.calls command) calls then 1 + done_within form commands (calls - form.calls command) else 0
 
 -- The image stands for the state after the first of these commands, for some number of them from one number to another.
 abbrev pub MakesBetween : {S C : Type 0} → Form S C → ℕ → ℕ → S → List C → List ℕ → Type 0

@@ -7,7 +7,7 @@ use Rattle.file_journal.specs.Commands.{AreAllowed, MakesBetween, MakesFirst, St
 use Rattle.file_journal.specs.Form.{Form}
 use Rattle.file_journal.specs.Layout.{Blocks, blocks_on}
 use Rattle.file_journal.specs.Position.{Position}
-use Rattle.file_journal.specs.Steps.{Holds, Steps}
+use Rattle.file_journal.specs.Steps.{Holds, Knows, Steps}
 use Rattle.file_journal.specs.Walk.{KeepsStanding, state}
 use Rattle.file_journal.specs.declared.kept.Kept.{Kept}
 
@@ -46,14 +46,14 @@ pub record MayTurn {D S V C : Type 0} (g : Ghosts D) (form : Form V C) (steps : 
   pub healthy : journal.failed ≡ false
   pub may : allowed
 
--- The disk failed in one of the commands: the state is the one after those before it. Each image has these, and that
--- one or not; and those before it stay. They were done in time, and the one in which it failed would have been: the
+-- The disk failed in one of the commands: the state, where it is known, is the one after those before it. Each image has
+-- these, and that one or not; and those before it stay. They were done in time, and the one in which it failed would have been: the
 -- first so many at the moment that `time` has of that number. The journal has failed.
 pub record IsCut {D S C : Type 0} (g : Ghosts D) (form : Form S C) (time : ℕ → ℕ) (commands : List C)
     (old new : KeptOn D S) : Type 0 where
   pub count : ℕ
   pub fewer : count < length commands
-  pub state : new.now ≡ after_first form count old.now commands
+  pub state : Knows form (g.content old.disk) → new.now ≡ after_first form count old.now commands
   pub failed : new.journal.failed ≡ true
   pub images : EachImage g new.disk (MakesBetween form count (count + 1) old.now commands)
   pub stay : IfSome (g.content old.disk) (λ _. StayDone g form time count old.now commands new.disk)
@@ -67,7 +67,8 @@ pub record Course (D : Type 0) : Type 1 where
   pub puts : D → D → Type 0
   pub reads : D → D → Type 0
 
--- A state whose journal hadn't failed did these commands, or the disk failed in one of them. A crash since the start
+-- A state whose journal hadn't failed did these commands, or the disk failed in one of them; what the state is is known
+-- where it stands in no block, or where the disk tells. A crash since the start
 -- leaves the state after the first of them, for some number of them, and no fewer than were done when it came: the
 -- first so many are done at the moment that `time` has of that number. The journal keeps the state; but for its place,
 -- and whether it failed, it is as it was.
@@ -75,7 +76,7 @@ pub record DoesBy {D S C : Type 0} (g : Ghosts D) (form : Form S C) (course : Co
     (time : ℕ → ℕ) (commands : List C) (old new : KeptOn D S) : Type 0 where
   pub healthy : old.journal.failed ≡ false
   pub stands_on : IsKept g form new
-  pub allowed : AreAllowed form.allowed form.after old.now commands
+  pub allowed : Knows form (g.content old.disk) → AreAllowed form.allowed form.after old.now commands
   pub since : Leaves g old.disk new.disk (λ _. MakesFirst form old.now commands)
   pub stay :
       ¬ failed
@@ -85,7 +86,10 @@ pub record DoesBy {D S C : Type 0} (g : Ghosts D) (form : Form S C) (course : Co
   pub none : commands ≡ [] → course.idle old.disk new.disk
   pub puts : course.puts old.disk new.disk
   pub reads : course.reads old.disk new.disk
-  pub done : ¬ failed → (new.now ≡ after_all form.after old.now commands) × (new.journal.failed ≡ false)
+  pub done :
+      ¬ failed
+      → (Knows form (g.content old.disk) → new.now ≡ after_all form.after old.now commands)
+      × (new.journal.failed ≡ false)
   pub cut : failed → IsCut g form time commands old new
   pub journal : new.journal ≡ record old.journal { place = new.journal.place; failed = new.journal.failed }
 

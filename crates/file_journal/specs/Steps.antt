@@ -1,5 +1,5 @@
 -- The states that records make of a journal's store, and in which blocks of the disk their octets stand.
-use Rattle.std.specs.Prelude.{◌≡◌, ◌⊎◌, ℕ, ◌+◌, ◌<◌, ◌≤◌, List, length, take, Option, None, Some, IfSome}
+use Rattle.std.specs.Prelude.{◌≡◌, ◌⊎◌, ℕ, ◌+◌, ◌<◌, ◌≤◌, List, length, take, Option, None, Some, IfSome, ⊤}
 use Rattle.disk_model.specs.Disk.{IsTold}
 use Rattle.disk_model.specs.declared.disk.Disk.{Ghosts}
 use Rattle.file_journal.specs.Form.{Form, TellsItsNumber, record_calls}
@@ -12,12 +12,13 @@ use Rattle.file_journal.specs.declared.layout.Layout.{Layout}
 use Rattle.file_journal.specs.declared.layout.Layout.TheVariants as layout
 
 -- The states that records make: the one before the first record, by the block number, and that number; and the one
--- after a record, where the state before it, with what the blocks hold, allows that record. A state uses some blocks.
--- What some of them hold decided that it was reached.
+-- after a record, where the state before it, with what the blocks hold, allows that record; and what holds of each state
+-- that records make. A state uses some blocks. What some of them hold decided that it was reached.
 pub record Steps (S : Type 0) : Type 1 where
   pub fresh : ℕ → S
   pub number : S → ℕ
   pub step : Blocks → S → Record → Option S
+  pub is_state : S → Type 0
   pub uses : S → ℕ → Type 0
   pub decides : S → ℕ → Type 0
 
@@ -28,6 +29,7 @@ growing_steps fresh number step =
       fresh = fresh;
       number = number;
       step = λ held. step;
+      is_state = λ now. ⊤;
       uses = λ now block. ⊥;
       decides = λ now block. ⊥;
     }
@@ -49,26 +51,36 @@ pub record IsSeenBy {S V C : Type 0} (steps : Steps S) (seen : Blocks → S → 
       → form.standing blocks octets
       ≡ see (seen (block_in octets)) (walked steps form.magic form.layout blocks octets)
   pub own_number : TellsItsNumber form
+  pub fresh_state : (blocks : ℕ) → steps.is_state (steps.fresh blocks)
+  pub step_state :
+      (held : Blocks) (before after : S) (entry : Record) → steps.is_state before
+      → steps.step held before entry ≡ Some after → steps.is_state after
   pub fresh_number : form.layout ≡ layout.Blocks → (blocks : ℕ) → steps.number (steps.fresh blocks) ≡ blocks
   pub same_number :
       (held : Blocks) (before after : S) (entry : Record) → steps.step held before entry ≡ Some after
       → steps.number after ≡ steps.number before
   pub fresh_none : (blocks block : ℕ) → ¬ steps.uses (steps.fresh blocks) block
   pub growing : form.layout ≡ layout.Growing → (now : S) (block : ℕ) → ¬ steps.uses now block
-  pub within : (now : S) (block : ℕ) → steps.uses now block → block < steps.number now
-  pub decided : (now : S) (block : ℕ) → steps.decides now block → steps.uses now block
+  pub within : (now : S) (block : ℕ) → steps.is_state now → steps.uses now block → block < steps.number now
+  pub decided : (now : S) (block : ℕ) → steps.is_state now → steps.decides now block → steps.uses now block
   pub decided_on :
-      (held : Blocks) (before after : S) (entry : Record) → steps.step held before entry ≡ Some after
+      (held : Blocks) (before after : S) (entry : Record) → steps.is_state before
+      → steps.step held before entry ≡ Some after
       → (block : ℕ) → steps.decides before block → steps.decides after block
   pub same_step :
-      (one other : Blocks) (before after : S) (entry : Record) → steps.step one before entry ≡ Some after
-      → HoldSame (steps.decides after) one other → steps.step other before entry ≡ Some after
-  pub same_seen : (one other : Blocks) (now : S) → HoldSame (steps.uses now) one other → seen other now ≡ seen one now
+      (one other : Blocks) (before after : S) (entry : Record) → steps.is_state before
+      → steps.step one before entry ≡ Some after → HoldSame (steps.decides after) one other
+      → steps.step other before entry ≡ Some after
+  pub same_seen :
+      (one other : Blocks) (now : S) → steps.is_state now → HoldSame (steps.uses now) one other
+      → seen other now ≡ seen one now
 
--- The journal keeps the state on its disk; where there are blocks, as many as the state says.
+-- The journal keeps the state on its disk, which is one that records make; where there are blocks, as many as the state
+-- says.
 pub record Holds {D S : Type 0} (g : Ghosts D) (steps : Steps S) (position : Position) (now : S) (disk : D)
     : Type 0 where
   pub keeps : KeepsStanding g position (StandsAs steps position now) disk
+  pub reached : steps.is_state now
   pub number : position.layout ≡ layout.Blocks → position.blocks ≡ steps.number now
 
 -- what a state is seen as is known without the disk, or the disk tells
@@ -120,5 +132,6 @@ pub record WritesTurn {S V C : Type 0} (form : Form V C) (steps : Steps S) (seen
   pub sees :
       (held : Blocks) → turn.lets held → HasPut turn.puts held
       → seen held turn.next ≡ form.after (seen held now) turn.command
+  pub reaches : steps.is_state turn.next
   pub number : steps.number turn.next ≡ steps.number now
   pub calls : form.calls turn.command ≡ block_calls turn.puts + record_calls

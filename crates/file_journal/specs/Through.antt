@@ -9,6 +9,7 @@ use Rattle.file_journal.specs.Calls.{CountsFault, EachImage, Leaves}
 use Rattle.file_journal.specs.Commands.{AreAllowed, MakesBetween, MakesFirst, StayDone, after_all, done_at}
 use Rattle.file_journal.specs.Form.{Form, StandsFor}
 use Rattle.file_journal.specs.Recovery.{IsSyncedFirst}
+use Rattle.file_journal.specs.Steps.{Knows}
 
 -- No read of the disk failed behind the recovery: the count of failed reads is as it was before. That of failed writes
 -- and syncs rose where the disk failed in a command, and nowhere else.
@@ -39,7 +40,7 @@ pub record IsInterrupted {D S C : Type 0} (g : Ghosts D) (form : Form S C) (star
 -- stands for the state after all of them, but where the disk failed.
 pub record StandsThrough {D S C : Type 0} (g : Ghosts D) (form : Form S C) (failed : Type 0) (start : S)
     (done cut : List C) (disk disk_now : D) : Type 0 where
-  pub allowed : AreAllowed form.allowed form.after start (done ++ cut)
+  pub allowed : Knows form (g.content disk) → AreAllowed form.allowed form.after start (done ++ cut)
   pub since_sync : IfSome (g.content disk) (λ _. IsSyncedFirst g disk disk_now (MakesFirst form start (done ++ cut)))
   pub since_start : Leaves g disk disk_now (λ _. MakesFirst form start (done ++ cut))
   pub ready : ℕ

@@ -6,6 +6,7 @@ ghost use Rattle.file_journal.specs.declared.faults.ApplyFault.TheVariants.{Disk
 ghost use Rattle.file_journal.specs.declared.faults.JournalFault.TheVariants.{Disk as append_disk};
 ghost use Rattle.file_journal.specs.declared.faults.RecoverFault.TheVariants.{Disk};
 ghost use Rattle.file_journal.specs.declared.faults.ReadFault.TheVariants.{Disk as ReadDisk};
+ghost use Rattle.file_journal.specs.declared.faults.StoreFault.TheVariants.{OutOfMemory as StoreNoMemory};
 
 use disk_model::DiskFault;
 use px_base::OutOfMemory;
@@ -127,6 +128,14 @@ pub enum StoreFault {
     /// There was no memory for what a record makes of the state.
     #[error("out of memory")]
     OutOfMemory,
+}
+
+impl From<OutOfMemory> for StoreFault {
+    ghost from_gives = { λ _ fault. fault ≡ StoreNoMemory };
+
+    fn from(_refused: OutOfMemory) -> StoreFault {
+        StoreFault::OutOfMemory
+    }
 }
 
 impl From<RecoverFault> for StoreFault {

@@ -1,11 +1,13 @@
 //! A state that is kept in a journal.
 
-ghost use Rattle.std.specs.Prelude.{◌≡◌, ◌+◌, ◌∷◌, [], false, IfOk, IfSome, IsErr, OnErr, OnOk};
+ghost use Rattle.std.specs.Prelude.{◌≡◌, ◌+◌, ◌<◌, ◌≤◌, ◌∷◌, [], length, false, IfOk, IfSome, IsErr, OnErr, OnOk};
 ghost use Rattle.file_journal.specs.Appending.{TakesCalls};
-ghost use Rattle.file_journal.specs.Calls.{Leaves};
+ghost use Rattle.disk_model.specs.Disk.{FillsRoom};
+ghost use Rattle.file_journal.specs.Calls.{Leaves, Reads};
 ghost use Rattle.file_journal.specs.Form.{StandsFor, record_calls};
 ghost use Rattle.file_journal.specs.Header.{AreBlocks};
 ghost use Rattle.file_journal.specs.Kept.{Does, MayTurn, StandsAt, kept_at};
+ghost use Rattle.file_journal.specs.declared.layout.Layout.TheVariants as Layout;
 ghost use Rattle.file_journal.specs.Layout.{HoldSame, block_in, blocks_on};
 ghost use Rattle.file_journal.specs.Putting.{GoesOn, TurnsInto};
 ghost use Rattle.file_journal.specs.Records.{record_of};
@@ -45,7 +47,7 @@ impl<L: Ledger> Kept<L> {
         ensures answers { AnswersRecovery D.Disk L.form blocks result disk.old disk.new }
     {
         let mut journal = Journal::recover(disk, L::magic(), blocks, L::layout())?;
-        let mut ledger = L::fresh(alloc, journal.blocks());
+        let mut ledger = L::fresh(alloc, journal.blocks())?;
         journal.read_into(disk, &mut ledger)?;
         Ok(Kept {
             ledger,
@@ -68,12 +70,10 @@ impl<L: Ledger> Kept<L> {
         requires lets { Knows C.form (D.content disk.old)
             → (C.turn change.now self.old.ledger).lets (blocks_on (D.content disk.old)) }
         ensures stands_at { StandsAt D.Disk C.form C.steps self.new.journal (C.state self.new.ledger) disk.new }
-
-        // What it does is known where what is seen doesn't stand on the disk, or the disk tells.
-        ensures does { Knows C.form (D.content disk.old)
-            → Does D.Disk C.form (IsErr result) ((C.turn change.now self.old.ledger).command ∷ [])
+        ensures does { Does D.Disk C.form (IsErr result) ((C.turn change.now self.old.ledger).command ∷ [])
             (kept_at D.Disk C.seen C.state self.old disk.old) (kept_at D.Disk C.seen C.state self.new disk.new) }
         ensures goes { GoesOn D.Disk (IsErr result) self.old.journal self.new.journal disk.old disk.new }
+        ensures state { OnOk result (C.state self.new.ledger ≡ (C.turn change.now self.old.ledger).next) }
         ensures makes { OnOk result (C.makes change.now self.old.ledger self.new.ledger) }
         ensures err { OnErr result (self.new.ledger ≡ self.old.ledger) }
     {
@@ -134,7 +134,7 @@ impl<L: Ledger> Kept<L> {
         ensures stands_at { StandsAt D.Disk C.form C.steps self.new.journal (C.state self.new.ledger) disk.new }
         ensures same { HoldSame (C.steps.uses (C.state self.new.ledger))
             (blocks_on (D.content disk.old)) (blocks_on (D.content disk.new)) }
-        ensures turns { Knows C.form (D.content disk.old) → TurnsInto D.Disk C.form
+        ensures turns { TurnsInto D.Disk C.form
             (C.seen (blocks_on (D.content disk.old)) (C.state self.old.ledger))
             (C.seen (blocks_on (D.content disk.old)) (C.turn change.now self.old.ledger).next)
             (IsErr result) disk.old disk.new }
@@ -153,6 +153,28 @@ impl<L: Ledger> Kept<L> {
             }
             Err(fault) => Err(fault),
         }
+    }
+
+    /// Reads the octets of a block of the disk, from octet `at` of it on, into the room. No put failed before. It reads
+    /// once, and changes no octet. Takes no memory.
+    pub fn read_block<D: Disk>(
+        &self,
+        disk: &mut D,
+        block: u32,
+        at: u16,
+        room: &mut [u8],
+    ) -> Result<(), DiskFault>
+        requires stands_at { StandsAt D.Disk L.form L.steps self.now.journal (L.state self.now.ledger) disk.old }
+        requires healthy { self.now.journal.failed ≡ false }
+        requires layout { L.form.layout ≡ Layout.Blocks }
+        requires block { block < L.steps.number (L.state self.now.ledger) }
+        requires within { at + length room.old ≤ 512 }
+        ensures stands_at { StandsAt D.Disk L.form L.steps self.now.journal (L.state self.now.ledger) disk.new }
+        ensures room { OnOk result (IfSome (D.content disk.old) (λ octets.
+            FillsRoom (block_in octets block) at (length room.old) room.new)) }
+        ensures reads { Reads D.Disk (IsErr result) disk.old disk.new }
+    {
+        self.journal.read_block(disk, block, at, room)
     }
 
     /// Whether a put failed: then the state is to be recovered anew. Takes no memory.

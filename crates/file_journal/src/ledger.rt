@@ -1,19 +1,20 @@
 //! What the records of a journal are applied to.
 
-ghost use Rattle.std.specs.Prelude.{◌≡◌, ◌+◌, ◌^◌, ◌<◌, ◌≤◌, ℕ, List, length, true, false, Option, None, Some, IfSome, IsErrOf, OnErr, OnOk};
+ghost use Rattle.std.specs.Prelude.{◌≡◌, ◌+◌, ◌^◌, ◌<◌, ◌≤◌, ℕ, List, length, true, false, Option, None, Some, IfSome, IfOk, IsErrOf, OnErr, OnOk};
 ghost use Rattle.file_journal.specs.Calls.{Reads};
 ghost use Rattle.file_journal.specs.Form.{Form};
 ghost use Rattle.file_journal.specs.Header.{AreBlocks};
 ghost use Rattle.file_journal.specs.Ledger.{AnswersAll, AppliesNext, AppliesSome};
-ghost use Rattle.file_journal.specs.Layout.{Blocks, block_in};
+ghost use Rattle.file_journal.specs.Layout.{Blocks, block_in, blocks_on};
 ghost use Rattle.file_journal.specs.Next.{HasLength};
 ghost use Rattle.file_journal.specs.Position.{StandsOn};
 ghost use Rattle.file_journal.specs.Records.{Record, record_of};
-ghost use Rattle.file_journal.specs.Steps.{IsSeenBy, Steps};
+ghost use Rattle.file_journal.specs.Steps.{IsSeenBy, Knows, Steps};
 
 use crate::record::RecordRoom;
 use crate::{ApplyFault, Journal, Layout, ReadFault, RecoverFault};
 use disk_model::Disk;
+use px_base::OutOfMemory;
 use std::alloc::Global;
 
 /// What the records of a journal are applied to, in order: it holds the state that they make, and in memory maybe more.
@@ -50,11 +51,11 @@ pub trait Ledger: Drop {
     fn layout() -> Layout
         ensures { result ≡ form.layout };
 
-    /// The ledger of a store of so many blocks, 1 to 65,536, before the first record. Takes no memory yet.
-    fn fresh(alloc: Global, blocks: u32) -> Self
+    /// The ledger of a store of so many blocks, 1 to 65,536, before the first record. May take memory.
+    fn fresh(alloc: Global, blocks: u32) -> Result<Self, OutOfMemory>
         requires blocks { AreBlocks blocks }
-        ensures state { state result ≡ steps.fresh blocks }
-        ensures by_records { by_records result };
+        ensures state { IfOk result (λ ledger. state ledger ≡ steps.fresh blocks) }
+        ensures by_records { IfOk result by_records };
 
     /// Applies a record that was read, and answers whether the state allows it; one that it doesn't allow changes
     /// nothing. The content has at most 600 octets. It may read blocks of the disk, by the journal. Takes memory.
@@ -74,10 +75,11 @@ pub trait Ledger: Drop {
         requires healthy { journal.now.failed ≡ false }
         requires layout { journal.now.layout ≡ form.layout }
         requires number { form.layout ≡ Layout.Blocks → journal.now.blocks ≡ steps.number (state self.old) }
-        ensures allowed { result ≡ Ok true → IfSome (D.content disk.old) (λ octets.
-            steps.step (block_in octets) (state self.old) (record_of kind content.now) ≡ Some (state self.new)) }
-        ensures refused { result ≡ Ok false → IfSome (D.content disk.old) (λ octets.
-            steps.step (block_in octets) (state self.old) (record_of kind content.now) ≡ None) }
+        ensures allowed { result ≡ Ok true → Knows form (D.content disk.old)
+            → steps.step (blocks_on (D.content disk.old)) (state self.old) (record_of kind content.now)
+            ≡ Some (state self.new) }
+        ensures refused { result ≡ Ok false → Knows form (D.content disk.old)
+            → steps.step (blocks_on (D.content disk.old)) (state self.old) (record_of kind content.now) ≡ None }
         ensures same { result ≡ Ok false → self.new ≡ self.old }
         ensures untouched { IsErrOf result ApplyFault.Disk → self.new ≡ self.old }
         ensures number { OnOk result (steps.number (state self.new) ≡ steps.number (state self.old)) }
@@ -86,6 +88,9 @@ pub trait Ledger: Drop {
 
     /// What is seen is what octets stand for.
     ghost is_seen: { IsSeenBy steps seen form };
+
+    /// A ledger that records alone made holds a state that they make.
+    ghost reached: { (ledger : Self) → by_records ledger → steps.is_state (state ledger) };
 }
 
 /// The fault of a reading, which answers no `NotAStore`.

@@ -1,5 +1,9 @@
-use Rattle.std.proofs.Common.{Err, Ok, refl, ◌∙◌, ap}
+use Rattle.std.specs.Bool.{⊤}
+use Rattle.std.proofs.Common.{Result, Err, Ok, refl, ◌∙◌, ap}
 use Rattle.std.proofs.lemmas.Result.{err_from_is_err_and}
+use Rattle.file_journal.specs.declared.faults.ReadFault.{ReadFault}
+use Rattle.file_journal.specs.declared.faults.ReadFault.TheVariants as read
+use Rattle.file_journal.proofs.CallLemmas.{reads_none}
 use Rattle.file_journal.proofs.RestoringLemmas.{answers_read, answers_refused, restored, restored_at}
 use Rattle.file_journal.proofs.ToldLemmas.{told_weaker}
 use Rattle.file_journal.proofs.kept.Kept.recover.Goals as goal
@@ -12,13 +16,23 @@ returns-in_err-journal-clause-answers g c =
     answers_refused g.D.Disk ledger.steps ledger.seen ledger.form g.met.L.Ledger.is_seen c.args.blocks c.args.disk.now c.recover.new.disk c.in_err-journal.field-0.0 _ (p.1 ∙ ap Err p.2)
     made.refuses made.untouched made.runs made.since_start made.since_sync
 
+pub returns-in_err-ledger-clause-answers : goal.returns-in_err-ledger-clause-answers
+returns-in_err-ledger-clause-answers g c =
+    let p = err_from_is_err_and c.from_residual-in_err-ledger.result c.from_residual-in_err-ledger.ensures.1 in
+    let made = rw c.magic.ensures at (rw c.layout.ensures at c.in_ok-journal.ensures) in
+    let ledger = g.L.Ledger in
+    let reading : Result ⊤ ReadFault = Err read.OutOfMemory in
+    answers_read g.D.Disk ledger.steps ledger.seen ledger.form g.met.L.Ledger.is_seen c.args.blocks g.met.D.Disk.lasts_on g.met.D.Disk.lasts_same c.args.disk.now c.recover.new.disk c.recover.new.disk c.in_ok-journal.journal
+    (ledger.steps.fresh c.in_ok-journal.journal.blocks) (ledger.steps.fresh c.in_ok-journal.journal.blocks) reading _ (p.1 ∙ ap Err p.2) refl
+    made.recovered made.refuses made.runs made.since_start made.since_sync (λ healthy memory. absurd (memory refl)) (reads_none g.D.Disk c.recover.new.disk _ (λ was. cc was) (g.met.D.Disk.lasts_same c.recover.new.disk))
+
 pub returns-in_err-read_into-clause-answers : goal.returns-in_err-read_into-clause-answers
 returns-in_err-read_into-clause-answers g c =
     let p = err_from_is_err_and c.from_residual-in_err-read_into.result c.from_residual-in_err-read_into.ensures.1 in
     let made = rw c.magic.ensures at (rw c.layout.ensures at c.in_ok-journal.ensures) in
     let ledger = g.L.Ledger in
     answers_read g.D.Disk ledger.steps ledger.seen ledger.form g.met.L.Ledger.is_seen c.args.blocks g.met.D.Disk.lasts_on g.met.D.Disk.lasts_same c.args.disk.now c.recover.new.disk c.read_into.new.disk c.in_ok-journal.journal _ _
-    (Err c.in_err-read_into.field-0.0) _ (p.1 ∙ ap Err p.2) (c.fresh-ledger.ensures.state ∙ ap ledger.steps.fresh c.blocks-2.ensures.value)
+    (Err c.in_err-read_into.field-0.0) _ (p.1 ∙ ap Err p.2) (c.in_ok-ledger.ensures.state ∙ ap ledger.steps.fresh c.blocks-2.ensures.value)
     made.recovered made.refuses made.runs made.since_start made.since_sync c.in_err-read_into.ensures.all c.in_err-read_into.ensures.reads
 
 pub returns-clause-answers : goal.returns-clause-answers
@@ -26,7 +40,7 @@ returns-clause-answers g c =
     let made = rw c.magic.ensures at (rw c.layout.ensures at c.in_ok-journal.ensures) in
     let ledger = g.L.Ledger in
     answers_read g.D.Disk ledger.steps ledger.seen ledger.form g.met.L.Ledger.is_seen c.args.blocks g.met.D.Disk.lasts_on g.met.D.Disk.lasts_same c.args.disk.now c.recover.new.disk c.read_into.new.disk c.in_ok-journal.journal _ _
-    (Ok c.in_ok-read_into.field-0) _ (_, refl) (c.fresh-ledger.ensures.state ∙ ap ledger.steps.fresh c.blocks-2.ensures.value)
+    (Ok c.in_ok-read_into.field-0) _ (_, refl) (c.in_ok-ledger.ensures.state ∙ ap ledger.steps.fresh c.blocks-2.ensures.value)
     made.recovered made.refuses made.runs made.since_start made.since_sync c.in_ok-read_into.ensures.all c.in_ok-read_into.ensures.reads
 
 pub returns-clause-restored : goal.returns-clause-restored
@@ -35,8 +49,8 @@ returns-clause-restored g c =
     let ledger = g.L.Ledger in
     let all = c.in_ok-read_into.ensures in
     restored g.D.Disk ledger.steps ledger.seen ledger.form g.met.L.Ledger.is_seen c.args.blocks c.args.disk.now c.recover.new.disk c.read_into.new.disk c.in_ok-journal.journal _ made.recovered (λ failed. cc failed) made.runs
-    (c.fresh-ledger.ensures.state ∙ ap ledger.steps.fresh c.blocks-2.ensures.value) all.reads _ _ (told_weaker (g.D.Disk.content c.recover.new.disk) _ _ (λ octets told applies. applies.ok) (all.all (λ failed. cc failed) (λ failed. cc failed)))
-    all.stands_on all.journal all.ended all.number
+    (c.in_ok-ledger.ensures.state ∙ ap ledger.steps.fresh c.blocks-2.ensures.value) all.reads _ _ (told_weaker (g.D.Disk.content c.recover.new.disk) _ _ (λ octets told applies. applies.ok) (all.all (λ failed. cc failed) (λ failed. cc failed)))
+    all.stands_on all.journal all.ended all.number (g.met.L.Ledger.reached _ all.by_records)
 
 pub returns-clause-stands_at : goal.returns-clause-stands_at
 returns-clause-stands_at g c =
@@ -44,5 +58,5 @@ returns-clause-stands_at g c =
     let ledger = g.L.Ledger in
     let all = c.in_ok-read_into.ensures in
     restored_at g.D.Disk ledger.steps ledger.seen ledger.form g.met.L.Ledger.is_seen c.args.blocks c.args.disk.now c.recover.new.disk c.read_into.new.disk c.in_ok-journal.journal _ made.recovered (λ failed. cc failed) made.runs
-    (c.fresh-ledger.ensures.state ∙ ap ledger.steps.fresh c.blocks-2.ensures.value) all.reads _ _ (told_weaker (g.D.Disk.content c.recover.new.disk) _ _ (λ octets told applies. applies.ok) (all.all (λ failed. cc failed) (λ failed. cc failed)))
-    all.stands_on all.journal all.ended all.number
+    (c.in_ok-ledger.ensures.state ∙ ap ledger.steps.fresh c.blocks-2.ensures.value) all.reads _ _ (told_weaker (g.D.Disk.content c.recover.new.disk) _ _ (λ octets told applies. applies.ok) (all.all (λ failed. cc failed) (λ failed. cc failed)))
+    all.stands_on all.journal all.ended all.number (g.met.L.Ledger.reached _ all.by_records)
