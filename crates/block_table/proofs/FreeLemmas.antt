@@ -132,3 +132,15 @@ finds-lowest {p = p} kept spare ahead found =
       };
       lower = all-taken kept ahead found.2;
     }
+
+-- the table is kept where the next search begins at the block that was found
+pub kept_lowest : {p : Parts} → IsKept p → (ahead : ℕ) → IsFirstFree (drop p.lowest p.taken) ahead
+    → IsKept (record p { lowest = p.lowest + ahead })
+kept_lowest {p = p} kept ahead found = record {
+  runs = kept.runs;
+  line = kept.line;
+  numbers_length = kept.numbers_length;
+  taken_length = kept.taken_length;
+  marked = kept.marked;
+  lower = all-taken kept ahead found.2;
+}

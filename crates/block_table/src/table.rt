@@ -17,7 +17,7 @@ pub struct BlockTable {
     numbers: Vec<u16>,
     /// Of each block, whether a run has it.
     taken: Vec<bool>,
-    /// Each block below this one is taken.
+    /// The hint, from which a free block is looked for: each block below this one is taken.
     lowest: u32,
     runs: Vec<RunMark>,
     /// How many blocks the runs may have together: so many places of the list of numbers are theirs.
@@ -67,14 +67,14 @@ impl BlockTable {
         })
     }
 
-    /// Makes room in memory for one more run, or changes nothing. Takes memory.
-    pub fn reserve(&mut self) -> Result<(), OutOfMemory>
+    /// Makes room in memory for so many more runs, or changes nothing. Takes memory.
+    pub fn reserve(&mut self, runs: usize) -> Result<(), OutOfMemory>
         ensures runs { self.new.runs ≡ self.old.runs }
         ensures limit { self.new.limit ≡ self.old.limit }
-        ensures ok { OnOk result (1 ≤ self.new.spare) }
+        ensures ok { OnOk result (runs ≤ self.new.spare) }
         ensures err { OnErr result (self.new ≡ self.old) }
     {
-        self.runs.reserve(1)?;
+        self.runs.reserve(runs)?;
         Ok(())
     }
 
@@ -111,15 +111,19 @@ impl BlockTable {
         }
     }
 
-    /// The lowest block that no run has. There is one, since a run may have one more. Takes no memory. The work is at
-    /// most a look at the mark of each block.
-    pub fn lowest_free(&self) -> u32
-        requires { (run : ℕ) × HasRoom self.now run }
-        ensures { IsLowestFree self.now result }
+    /// The lowest block that no run has. There is one, since a run may have one more. Takes no memory. The search
+    /// begins at the hint `lowest` and moves it up to the block that it found, so asking twice doesn't look twice. The
+    /// work is at most one look at the mark of each block from the hint on; the search never looks at those below it
+    /// again until one of them is freed.
+    pub fn lowest_free(&mut self) -> u32
+        requires { (run : ℕ) × HasRoom self.old run }
+        ensures free { IsLowestFree self.old result }
+        ensures same { self.new ≡ self.old }
     {
         let from = self.lowest as usize;
         let ahead = first_free(&self.taken[from..]).unwrap();
-        (from + ahead) as u32
+        self.lowest = (from + ahead) as u32;
+        self.lowest
     }
 
     /// A run, which has room for it, has this block behind its others; no run had it. Takes no memory. The work is the

@@ -3,9 +3,9 @@ use Rattle.std.specs.Prelude.{IfNone}
 use Rattle.std.proofs.lemmas.List.{take_rest}
 use Rattle.block_table.specs.Kept.{AllMarked, IsFirstFree}
 use Rattle.block_table.specs.Table.{HasRoom, IsLowestFree, Table}
-use Rattle.block_table.proofs.FreeLemmas.{finds-lowest, finds-some, lowest-inside}
+use Rattle.block_table.proofs.FreeLemmas.{finds-lowest, finds-some, kept_lowest, lowest-inside}
 use Rattle.block_table.proofs.table.BlockTable.lowest_free.Goals as goal
-use Rattle.block_table.proofs.table.BlockTable.lowest_free.Goals.{After-first_free}
+use Rattle.block_table.proofs.table.BlockTable.lowest_free.Goals.{After-first_free, After-unwrap-ahead}
 
 -- the marks that are searched
 searched : (c : After-first_free)
@@ -30,10 +30,18 @@ unwrap-ahead-requires c =
     finds-some c.self.invariant _ c.requires.0 room c.first_free.result
     (subst (λ (ts : List Bool). IfNone c.first_free.result (AllMarked ts)) (searched at) c.first_free.ensures.none)
 
-pub returns : goal.returns
-returns c =
-    let found = rw c.unwrap-ahead.ensures at c.first_free.ensures.some in
-    let at = searched (goal.at.returns c).After-first_free in
+-- what is found in them
+found : (c : After-unwrap-ahead)
+    → IsFirstFree (drop c.self.inside.lowest c.self.inside.taken.items) c.unwrap-ahead.result
+found c =
+    subst (λ (ts : List Bool). IsFirstFree ts c.unwrap-ahead.result) (searched c.before)
+    (rw c.unwrap-ahead.ensures at c.first_free.ensures.some)
+
+pub invariant_of-self : goal.invariant_of-self
+invariant_of-self c =
+    kept_lowest c.self.invariant c.unwrap-ahead.result (found (goal.at.invariant_of-self c).After-unwrap-ahead)
+
+pub returns-clause-free : goal.returns-clause-free
+returns-clause-free c =
     subst (λ (t : Table). IsLowestFree t (c.self.inside.lowest + c.unwrap-ahead.result)) c.self.view_is
-    (finds-lowest c.self.invariant _ c.unwrap-ahead.result
-    (subst (λ (ts : List Bool). IsFirstFree ts c.unwrap-ahead.result) at found))
+    (finds-lowest c.self.invariant _ c.unwrap-ahead.result (found (goal.at.returns-clause-free c).After-unwrap-ahead))
