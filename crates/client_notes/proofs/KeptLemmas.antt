@@ -39,22 +39,22 @@ module _ {D : Type 0} (g : Ghosts D) where
     does-of P stands does = record {
       stands_on = stands;
       healthy = does.healthy;
-      allowed = does.allowed.0;
+      allowed = (does.allowed (inl refl)).0;
       since = told_weaker (g.content disk) _ _ (λ before told left.
           weaker g.moment g.images_since disk disk_now _ (IsBeforeOrAfter old.lists command) (λ image here. before-or-after 0 1 old.lists command image (omega arith) here) left) does.since;
       done = λ fine.
           let all = does.done fine in
           record {
-            lists = all.0;
+            lists = all.0 (inl refl);
             healthy = all.1;
-            images = subst (λ (l : Lists). EachImage g disk_now (λ image. StandsFor image l)) all.0
+            images = subst (λ (l : Lists). EachImage g disk_now (λ image. StandsFor image l)) (all.0 (inl refl))
                 (images-here g new.journal disk_now new.lists all.1 stands);
             calls = told_weaker (g.content disk) _ _ (λ before told is. omega (arith, is)) (does.calls fine);
           };
       cut = λ failed.
           let some = does.cut failed in
           record {
-            lists = none-done some.count some.fewer some.state;
+            lists = none-done some.count some.fewer (some.state (inl refl));
             failed = some.failed;
             images = told_weaker (g.content disk_now) _ _ (λ now told each image here. before-or-after some.count (some.count + 1) old.lists command image (omega (arith, some.fewer)) (each image here)) some.images;
           };

@@ -36,6 +36,7 @@ writes-turn lists command entry same writable allowed = record {
   allowed = λ held lets. allowed;
   step = λ held lets put. written_step notes_form notes_written lists command entry same writable allowed;
   sees = λ held lets put. refl;
+  reaches = tt;
   number = refl;
   calls = omega arith;
 }

@@ -67,7 +67,7 @@ module _ {D : Type 0} (g : Ghosts D) where
     does = record {
       healthy = does.healthy;
       stands_on = does.stands_on;
-      allowed = (does.allowed, tt);
+      allowed = λ known. (does.allowed, tt);
       since = told_weaker (g.content disk) _ _ (λ before told left.
           weaker g.moment g.images_since disk disk_now _ (MakesFirst old.lists (command ∷ [])) (λ image here. makes-one old.lists command image here) left) does.since;
       stay = λ fine. if_told (g.content disk) _ (λ before told.
@@ -79,13 +79,13 @@ module _ {D : Type 0} (g : Ghosts D) where
       none = λ is. absurd (cc is);
       puts = does.puts;
       reads = tt;
-      done = λ fine. let made = does.done fine in (made.lists, made.healthy);
+      done = λ fine. let made = does.done fine in (λ known. made.lists, made.healthy);
       cut = λ failed.
           let some = does.cut failed in
           record {
             count = 0;
             fewer = omega arith;
-            state = some.lists;
+            state = λ known. some.lists;
             failed = some.failed;
             images = told_weaker (g.content disk_now) _ _ (λ now told each image here. makes-one old.lists command image (each image here)) some.images;
             stay = if_told (g.content disk) _ (λ before told count some most image left. absurd (omega (arith, some, most)));
@@ -118,7 +118,7 @@ module _ {D : Type 0} (g : Ghosts D) where
   Several-longer P old new disk disk_now a b failed allowed it =
       let few = (it.does.cut failed).fewer in
       record {
-        does = does_longer g notes_form P a b (notes_on old disk) (notes_on new disk_now) failed allowed it.does;
+        does = does_longer g notes_form P a b (notes_on old disk) (notes_on new disk_now) failed (λ known. allowed) it.does;
         same = λ is. let empty : length (a ++ b) ≡ 0 = ap length is in absurd (omega (arith, length-append a b, few, empty));
       }
 

@@ -123,8 +123,8 @@ impl Ledger for NotedLists {
         Layout::Growing
     }
 
-    fn fresh(alloc: Global, _blocks: u32) -> NotedLists {
-        NotedLists::new(alloc)
+    fn fresh(alloc: Global, _blocks: u32) -> Result<NotedLists, OutOfMemory> {
+        Ok(NotedLists::new(alloc))
     }
 
     fn apply<D: Disk>(
@@ -141,4 +141,6 @@ impl Ledger for NotedLists {
     }
 
     ghost is_seen = { notes_seen };
+
+    ghost reached = { λ noted nothing. tt };
 }

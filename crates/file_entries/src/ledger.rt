@@ -4,6 +4,7 @@ use crate::command::Command;
 use crate::entries::Entries;
 use disk_model::Disk;
 use file_journal::{ApplyFault, Journal, Layout, Ledger};
+use px_base::OutOfMemory;
 use std::alloc::Global;
 
 impl Ledger for Entries {
@@ -37,8 +38,8 @@ impl Ledger for Entries {
         Layout::Growing
     }
 
-    fn fresh(alloc: Global, blocks: u32) -> Entries {
-        Entries::new(alloc, blocks)
+    fn fresh(alloc: Global, blocks: u32) -> Result<Entries, OutOfMemory> {
+        Ok(Entries::new(alloc, blocks))
     }
 
     fn apply<D: Disk>(
@@ -55,4 +56,6 @@ impl Ledger for Entries {
     }
 
     ghost is_seen = { store_seen };
+
+    ghost reached = { λ entries out. tt };
 }

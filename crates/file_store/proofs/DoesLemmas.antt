@@ -1,5 +1,5 @@
 -- What a store's commands do to its disk: what file_journal proves of a state that is kept, at the store's form.
-use Rattle.std.proofs.Common.{◌≡◌, ℕ, ◌+◌, ◌≤◌, Bool, true, false, List, [], ◌++◌, length, refl, sym, ◌∙◌, subst}
+use Rattle.std.proofs.Common.{◌≡◌, inl, ℕ, ◌+◌, ◌≤◌, Bool, true, false, List, [], ◌++◌, length, refl, sym, ◌∙◌, subst}
 use Rattle.std.proofs.Math.Nat.{add-zero}
 use Rattle.disk_model.specs.AtDisk.{AtDisk}
 use Rattle.disk_model.specs.declared.disk.Disk.{Ghosts}
@@ -51,13 +51,13 @@ module _ {D : Type 0} (g : Ghosts D) where
 
   pub Does-longer : (P : Type 0) (old new : StoreState) (disk disk_now : D) (a b : List Command) → P → AreAllowed (store_in old) (a ++ b) → Does g P old new disk disk_now a
       → Does g P old new disk disk_now (a ++ b)
-  Does-longer P old new disk disk_now a b = does_longer g store_form P a b (kept_at old disk) (kept_at new disk_now)
+  Does-longer P old new disk disk_now a b failed allowed = does_longer g store_form P a b (kept_at old disk) (kept_at new disk_now) failed (λ known. allowed)
 
   -- whether the disk failed or not, the first of the commands were done
   pub Does-first : (b : Bool) (old new : StoreState) (disk disk_now : D) (commands : List Command) → Does g (b ≡ true) old new disk disk_now commands
       → (count : ℕ) × (store_in new ≡ after_first count (store_in old) commands)
-  Does-first true old new disk disk_now commands does = let some = does.cut refl in (some.count, some.state)
-  Does-first false old new disk disk_now commands does = (length commands, (does.done (λ e. cc e)).0 ∙ sym (after_first-all commands (store_in old)))
+  Does-first true old new disk disk_now commands does = let some = does.cut refl in (some.count, some.state (inl refl))
+  Does-first false old new disk disk_now commands does = (length commands, (does.done (λ e. cc e)).0 (inl refl) ∙ sym (after_first-all commands (store_in old)))
 
   -- ---- among reads
 
@@ -88,7 +88,7 @@ module _ {D : Type 0} (g : Ghosts D) where
 
   pub among-store : (missed : ℕ) (old new : StoreState) (disk disk_now : D) (commands : List Command) → DoesAmongReads g ⊥ missed old new disk disk_now commands
       → store_in new ≡ after_all (store_in old) commands
-  among-store missed old new disk disk_now commands does = (does.done (λ never. never)).0
+  among-store missed old new disk disk_now commands does = (does.done (λ never. never)).0 (inl refl)
 
   -- ---- one part, and then another
 

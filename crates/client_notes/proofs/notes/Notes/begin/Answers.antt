@@ -19,7 +19,7 @@ returns-in-Ok-clause-noting g c =
     subst (λ (command : NotesCommand). Noting g.D.Disk c.args.self.now new c.args.disk.now c.put.new.disk command (Ok task)) same
     (subst (λ (s : NotesState). Noting g.D.Disk s new c.args.disk.now c.put.new.disk named (Ok task)) c.self.view_is
     (brought-done {E = DiskFault} g.D.Disk c.self.inside.kept.ledger c.bring_task.new.self c.put.new.self.ledger c.self.inside.kept.journal c.put.new.self.journal c.args.disk.now c.put.new.disk named
-    c.in_ok-bring_task.ensures.ok.noted c.in-Ok.field-0 task c.in-Ok.ensures.makes (record { stands_at = c.in-Ok.ensures.stands_at; does = c.in-Ok.ensures.does (inl refl) })))
+    c.in_ok-bring_task.ensures.ok.noted c.in-Ok.field-0 task c.in-Ok.ensures.makes (record { stands_at = c.in-Ok.ensures.stands_at; does = c.in-Ok.ensures.does })))
 
 pub returns-in-Err-clause-noting : goal.returns-in-Err-clause-noting
 returns-in-Err-clause-noting g c =
@@ -31,4 +31,4 @@ returns-in-Err-clause-noting g c =
     subst (λ (command : NotesCommand). Noting {T = ℕ} g.D.Disk c.args.self.now new c.args.disk.now c.put.new.disk command (Err refusal.Disk)) same
     (subst (λ (s : NotesState). Noting {T = ℕ} g.D.Disk s new c.args.disk.now c.put.new.disk named (Err refusal.Disk)) c.self.view_is
     (brought-cut {T = ⊤} g.D.Disk c.self.inside.kept.ledger c.bring_task.new.self c.put.new.self.ledger c.self.inside.kept.journal c.put.new.self.journal c.args.disk.now c.put.new.disk named
-    c.in_ok-bring_task.ensures.ok.noted c.in-Err.field-0 c.take_back.new.self c.take_back.ensures.lists (record { stands_at = c.in-Err.ensures.stands_at; does = c.in-Err.ensures.does (inl refl) })))
+    c.in_ok-bring_task.ensures.ok.noted c.in-Err.field-0 c.take_back.new.self c.take_back.ensures.lists (record { stands_at = c.in-Err.ensures.stands_at; does = c.in-Err.ensures.does })))

@@ -20,6 +20,7 @@ returns c =
             written_step store_form store_written (store_of files) (command_by c.args.self.now files) (record_of c.write.result c.write.new.content) (c.write.ensures ∙ ap record_of_command value)
             (subst (λ (command : Command). IsWritable command) value c.command.ensures.writable) c.requires.may.allowed;
         sees = λ held lets put. refl;
+        reaches = tt;
         number = after_blocks (store_of files) (command_by c.args.self.now files);
         calls = refl;
       };
