@@ -101,4 +101,4 @@ module _ {D : Type 0} (g : Ghosts D) (on : (first second third : D) → g.lasts 
   pub stands-through : (stands : StandsThrough g store_form failed (store_in start) done cut old now) × (stands.ready ≡ g.moment mid)
   stands-through =
       stands_through g store_form store_number blocks failed old (kept_at start mid) (kept_at cuts.then_is.it cuts.then_is.disk) (kept_at new now) done cut alike stood since_start since_sync
-      (among_reads g failed missed) (among_reads g ⊥ missed) (alone g failed) (cuts-among-all g on failed missed (at start mid) (at new now) done cut cuts) cuts.first cuts.second cuts.first.puts.told
+      (among_reads g failed missed) (among_reads g ⊥ missed) (alone g failed) (cuts-among-all g on failed missed (at start mid) (at new now) done cut cuts) cuts.first cuts.second cuts.first.puts.told cuts.second.puts.told

@@ -1,4 +1,4 @@
-use Rattle.std.proofs.Common.{◌≡◌, ℕ, ◌/◌, ◌++◌, true, false, List, length, Some, refl, sym, ◌∙◌, ap, subst, arith, rules}
+use Rattle.std.proofs.Common.{inl, ◌≡◌, ℕ, ◌/◌, ◌++◌, true, false, List, length, Some, refl, sym, ◌∙◌, ap, subst, arith, rules}
 use Rattle.std.specs.Option.{option_map}
 use Rattle.file_entries.specs.Command.{Command, grows, unfilled_block, whole_grows}
 use Rattle.file_entries.specs.Files.{octets_or_none}
@@ -29,7 +29,7 @@ returns-in-Ok-clause-holds g c =
     let rest : rest_in new up.number ≡ Some (unfilled_block (with_bytes self up bytes)) = search rules in
     let next : c.moved_on.result ≡ appended self up bytes = search rules in
     subst (λ (u : Upload). Holds new u) (sym next)
-    (appended-holds self new up bytes c.requires.holds (omega (arith, c.missing.ensures.missing, c.if-bytes-missing.false)) (does.done (λ e. cc e)).0 rest)
+    (appended-holds self new up bytes c.requires.holds (omega (arith, c.missing.ensures.missing, c.if-bytes-missing.false)) ((does.done (λ e. cc e)).0 (inl refl)) rest)
 
 pub returns-in-Ok-clause-keeps : goal.returns-in-Ok-clause-keeps
 returns-in-Ok-clause-keeps g c =

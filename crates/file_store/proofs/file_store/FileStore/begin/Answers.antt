@@ -1,4 +1,4 @@
-use Rattle.std.proofs.Common.{◌≡◌, ℕ, true, false, [], ◌∷◌, IsErr, Some, is_some, refl, sym, ◌∙◌, ap, subst, arith, rules}
+use Rattle.std.proofs.Common.{inl, ◌≡◌, ℕ, true, false, [], ◌∷◌, IsErr, Some, is_some, refl, sym, ◌∙◌, ap, subst, arith, rules}
 use Rattle.px_base.specs.CallSign.{CallSign}
 use Rattle.file_entries.specs.Command.{Command, after, begin}
 use Rattle.file_entries.specs.Files.{Files, KeepsRests, rest_of, store_of}
@@ -78,10 +78,10 @@ returns-clause-uploads g c =
     let new : StoreState = state_from c.take_out.new.self.files c.put_change.new.kept.journal in
     let kept : IsStore (store_in self) = subst (λ (s : StoreState). IsStore (store_in s)) c.self.view_is c.begin_bar.ensures.rules in
     let rests : KeepsRests self.files new.files (store_in self).next = search rules in
-    begun-uploads self new c.args.caller c.args.length c.args.moment kept ((returns-clause-does g c refl).done (λ e. cc e)).0 rests
+    begun-uploads self new c.args.caller c.args.length c.args.moment kept (((returns-clause-does g c refl).done (λ e. cc e)).0 (inl refl)) rests
 
 pub returns-clause-kept : goal.returns-clause-kept
 returns-clause-kept g c =
     let self = c.args.self.now in
-    subst (λ (s : Store). KeepsComplete (store_in self) s) (sym ((returns-clause-does g c refl).done (λ e. cc e)).0)
+    subst (λ (s : Store). KeepsComplete (store_in self) s) (sym (((returns-clause-does g c refl).done (λ e. cc e)).0 (inl refl)))
     (begin-KeepsComplete (store_in self) self.files.next c.args.caller c.args.length c.args.moment)

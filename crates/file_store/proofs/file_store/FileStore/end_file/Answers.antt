@@ -1,4 +1,4 @@
-use Rattle.std.proofs.Common.{◌≡◌, ℕ, true, false, [], ◌∷◌, ◌++◌, Option, IsErr, IfOk, refl, ◌∙◌, ap, subst, rules}
+use Rattle.std.proofs.Common.{inl, ◌≡◌, ℕ, true, false, [], ◌∷◌, ◌++◌, Option, IsErr, IfOk, refl, ◌∙◌, ap, subst, rules}
 use Rattle.file_entries.specs.Faults.{fault_code}
 use Rattle.file_entries.specs.Command.{fault_at, last_grow}
 use Rattle.file_entries.specs.Files.{octets_or_none}
@@ -22,7 +22,7 @@ returns-in_err-hold_rest-clause-ends g c =
 pub seal_or_drop-requires-clause-held : goal.seal_or_drop-requires-clause-held
 seal_or_drop-requires-clause-held g c =
     let mid : StoreState = record { files = c.park.new.self.files; journal = c.self.inside.kept.journal } in
-    held-whole c.args.self.now c.args.number c.requires.whole mid (c.park.ensures.store ∙ ap store_in c.self.view_is ∙ (c.in_ok-hold_rest.ensures.does.does.done (λ e. cc e)).0)
+    held-whole c.args.self.now c.args.number c.requires.whole mid (c.park.ensures.store ∙ ap store_in c.self.view_is ∙ ((c.in_ok-hold_rest.ensures.does.does.done (λ e. cc e)).0 (inl refl)))
 
 pub returns-clause-ends : goal.returns-clause-ends
 returns-clause-ends g c =
@@ -33,7 +33,7 @@ returns-clause-ends g c =
     let store : store_in mid ≡ store_in c.hold_rest.new.self = c.park.ensures.store ∙ ap store_in c.self.view_is in
     let does = c.in_ok-hold_rest.ensures.does.does in
     let first = last_grow number (octets_or_none (rest_in self number)) in
-    let fault = whole-fault self number c.requires.whole (store_in mid) (store ∙ (does.done (λ e. cc e)).0) in
+    let fault = whole-fault self number c.requires.whole (store_in mid) (store ∙ ((does.done (λ e. cc e)).0 (inl refl))) in
     let all = subst (λ (o : Option ℕ). Does D (IsErr c.seal_or_drop.result) self c.seal_or_drop.new.self c.args.disk.now c.seal_or_drop.new.disk (first ++ ending number c.args.moment o ∷ [])) fault
     (Does-then D g.met.D.Disk.lasts_on (false ≡ true) (IsErr c.seal_or_drop.result) self mid c.seal_or_drop.new.self c.args.disk.now c.hold_rest.new.disk c.seal_or_drop.new.disk first (ending number c.args.moment (fault_at (store_in mid) number) ∷ [])
     (λ e. cc e) (Does-moved D (false ≡ true) self c.hold_rest.new.self self mid c.args.disk.now c.hold_rest.new.disk first refl refl store (ap (λ (s : StoreState). s.journal) c.self.view_is) does) c.seal_or_drop.ensures.ends.does_to.does) in
@@ -43,5 +43,5 @@ pub returns-clause-fault : goal.returns-clause-fault
 returns-clause-fault g c =
     let mid : StoreState = record { files = c.park.new.self.files; journal = c.self.inside.kept.journal } in
     let store : store_in mid ≡ store_in c.hold_rest.new.self = c.park.ensures.store ∙ ap store_in c.self.view_is in
-    let fault = whole-fault c.args.self.now c.args.number c.requires.whole (store_in mid) (store ∙ (c.in_ok-hold_rest.ensures.does.does.done (λ e. cc e)).0) in
+    let fault = whole-fault c.args.self.now c.args.number c.requires.whole (store_in mid) (store ∙ ((c.in_ok-hold_rest.ensures.does.does.done (λ e. cc e)).0 (inl refl))) in
     subst (λ (o : Option ℕ). IfOk c.seal_or_drop.result (λ found. found ≡ o)) fault c.seal_or_drop.ensures.fault

@@ -1,4 +1,4 @@
-use Rattle.std.proofs.Common.{◌≡◌, true, false, [], ◌∷◌, take, IsErr, refl, ◌∙◌, rules}
+use Rattle.std.proofs.Common.{inl, ◌≡◌, true, false, [], ◌∷◌, take, IsErr, refl, ◌∙◌, rules}
 use Rattle.file_entries.specs.Command.{grow}
 use Rattle.file_entries.specs.Files.{octets_or_none}
 use Rattle.file_store.specs.State.{rest_in}
@@ -30,7 +30,7 @@ loop-block-preserved g c =
     let step = Does-same D (false ≡ true) ⊥ mid c.hold.new.self c.loop-block.disk c.hold.new.disk (grow number (take 512 (octets_or_none (rest_in mid number))) ∷ []) (λ is. cc is) (λ never. absurd never) does in
     record {
       does = hold-more D g.met.D.Disk.lasts_on ⊥ self mid c.hold.new.self c.args.disk.now c.loop-block.disk c.hold.new.disk number c.loop-block.block c.requires.fits inv.rest inv.does step;
-      fits = fits-held mid c.hold.new.self number 512 inv.fits (block-there self mid number c.loop-block.block c.args.blocks c.requires.fits c.loop-block-test.true c.requires.there inv.rest) (does.done (λ e. cc e)).0 c.in_ok-hold.ensures.rest;
+      fits = fits-held mid c.hold.new.self number 512 inv.fits (block-there self mid number c.loop-block.block c.args.blocks c.requires.fits c.loop-block-test.true c.requires.there inv.rest) ((does.done (λ e. cc e)).0 (inl refl)) c.in_ok-hold.ensures.rest;
       rest = rest-later self mid c.hold.new.self number c.loop-block.block c.requires.fits inv.rest c.in_ok-hold.ensures.rest;
       rests = λ other ne. c.in_ok-hold.ensures.does.rests other ne ∙ inv.rests other ne;
     }

@@ -1,4 +1,4 @@
-use Rattle.std.proofs.Common.{◌≡◌, true, false, None, arith, rules}
+use Rattle.std.proofs.Common.{inl, refl, ◌≡◌, true, false, None, arith, rules}
 use Rattle.file_entries.specs.Faults.{fault_code}
 use Rattle.file_store.specs.OnDisk.{Does}
 use Rattle.file_store.specs.State.{StoreState, store_in}
@@ -20,7 +20,7 @@ returns-in-Ok-None-clause-complete g c =
     let moment = c.args.moment in
     let does : Does D (false ≡ true) self c.end_file.new.self c.args.disk.now c.end_file.new.disk (sealing self up moment) = search rules in
     let good : fault_code (octets_come self up) ≡ None = search rules in
-    sealed-holding self up moment c.requires.holds (omega (arith, c.missing.ensures.missing, c.if-missing-gt0.false)) (store_in c.end_file.new.self) (does.done (λ e. cc e)).0 good
+    sealed-holding self up moment c.requires.holds (omega (arith, c.missing.ensures.missing, c.if-missing-gt0.false)) (store_in c.end_file.new.self) ((does.done (λ e. cc e)).0 (inl refl)) good
 
 pub returns-in-Ok-None-clause-every_image : goal.returns-in-Ok-None-clause-every_image
 returns-in-Ok-None-clause-every_image g c =
@@ -33,7 +33,7 @@ returns-in-Ok-None-clause-every_image g c =
     let good : fault_code (octets_come self up) ≡ None = search rules in
     let made = does.done (λ e. cc e) in
     kept-each D new c.end_file.new.disk made.1 does.stands_on up c.requires.holds.begun moment (kept_file self up moment)
-    (sealed-entry self up moment c.requires.holds (omega (arith, c.missing.ensures.missing, c.if-missing-gt0.false)) (store_in new) made.0 good)
+    (sealed-entry self up moment c.requires.holds (omega (arith, c.missing.ensures.missing, c.if-missing-gt0.false)) (store_in new) (made.0 (inl refl)) good)
 
 pub returns-in-Ok-None-clause-keeps : goal.returns-in-Ok-None-clause-keeps
 returns-in-Ok-None-clause-keeps g c =
