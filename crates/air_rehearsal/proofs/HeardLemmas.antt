@@ -1,5 +1,5 @@
 -- What a client hears of what the server sent, and what that makes of it.
-use Rattle.std.proofs.Common.{◌≡◌, ◌==◌, ◌&&◌, ℕ, zero, suc, List, [], ◌∷◌, length, refl, sym, ap, ◌∙◌, subst}
+use Rattle.std.proofs.Common.{inl, ◌≡◌, ◌==◌, ◌&&◌, ℕ, zero, suc, List, [], ◌∷◌, length, refl, sym, ap, ◌∙◌, subst}
 use Rattle.std.proofs.Common.{Option, Some, Result, Ok, Err, true, Bool, arith}
 use Rattle.std.proofs.lemmas.List.{append-nil}
 use Rattle.std.specs.Prelude.{◌+◌, ◌<◌, slice_get, IfSome, IsErrOf, OnOk, ⊤}
@@ -97,7 +97,7 @@ module _ {D : Type 0} (g : Ghosts D) (it : Client) (frame : FrameValue) (old new
       → OnOk result (EachImage g disk_now (notes.MakesBetween (length noted) (length noted) it.lists noted))
   heard_all (Err why) by stands = tt
   heard_all (Ok done) by stands =
-      let all : new.notes.lists ≡ after_all old.notes.lists noted = (by.1.does.done (λ never. never)).0 in
+      let all : new.notes.lists ≡ after_all old.notes.lists noted = ((by.1.does.done (λ never. never)).0 (inl refl)) in
       let first : notes.after_first (length noted) it.lists noted ≡ new.notes.lists =
       first_all notes_form noted it.lists ∙ ap (λ (l : Lists). after_all l noted) (sym is.lists) ∙ sym all in
       told_weaker (g.content disk_now) _ _
@@ -113,19 +113,19 @@ module _ {D : Type 0} (g : Ghosts D) (it : Client) (frame : FrameValue) (old new
       → (result : Result ⊤ Halt) → HearsBy g it frame old new disk disk_now result → IsErrOf result halt.Disk
       → (calls : ℕ) → g.moment disk + calls < g.moment disk_now
       → IfSome (g.content disk) (λ _. EachImage g disk_now
-      (notes.MakesBetween (least_done Failed calls (length noted)) (length noted) it.lists noted))
+      (notes.MakesBetween (least_done notes_form Failed calls noted) (length noted) it.lists noted))
   heard_cut on (Ok done) by failed calls passed = absurd (cc failed)
   heard_cut on (Err halt.OutOfMemory) by failed calls passed = absurd (cc failed)
   heard_cut on (Err halt.Disk) by failed calls passed =
       let front = client-stopped g on it frame old new disk disk_now is.lists by in
-      let makes = cut_makes g notes_form (λ _. refl) front.0 front.1 (notes.notes_on old.notes disk)
+      let makes = cut_makes g notes_form front.0 front.1 (notes.notes_on old.notes disk)
       (notes.notes_on new.notes disk_now) calls (front.3.does.cut tt) passed in
       subst
       (λ (l : Lists). IfSome (g.content disk) (λ _. EachImage g disk_now
-      (notes.MakesBetween (least_done Failed calls (length noted)) (length noted) l noted))) is.lists
+      (notes.MakesBetween (least_done notes_form Failed calls noted) (length noted) l noted))) is.lists
       (subst
       (λ (commands : List NotesCommand). IfSome (g.content disk) (λ _. EachImage g disk_now
-      (notes.MakesBetween (least_done Failed calls (length commands)) (length commands) old.notes.lists commands)))
+      (notes.MakesBetween (least_done notes_form Failed calls commands) (length commands) old.notes.lists commands)))
       (sym front.2) makes)
 
 module _ (self : StoredParty) (seat : Seat) (at_seat : IsSeat self seat) (place : ℕ) (whole : ClientPart)

@@ -13,6 +13,7 @@ use Rattle.file_entries.specs.Command.{Command}
 use Rattle.file_journal.specs.Calls.{Leaves, images_now}
 use Rattle.file_journal.specs.Walk.{state}
 use Rattle.file_journal.proofs.Offered.{at_told, if_told}
+use Rattle.file_store.specs.Records.{store_form}
 use Rattle.file_store.specs.OnDisk.{MakesBetween, MakesFirst, after_first}
 use Rattle.file_store.specs.State.{StandsFor, standing_of, store_in}
 use Rattle.file_store.specs.Store.{Store}
@@ -28,7 +29,7 @@ use Rattle.air_rehearsal.specs.Chain.{CarriesOut, StepBy}
 use Rattle.air_rehearsal.specs.ServerCalls.{IsCutSo, IsTaken}
 use Rattle.air_rehearsal.specs.ServerEvents.{AwaitsServer, ServesEvent, Serving, TellsFailure, server_stage, serving}
 use Rattle.air_rehearsal.specs.ServerEvents.{waiting_of}
-use Rattle.air_rehearsal.specs.Standing.{Makes, StandsNow, least_done}
+use Rattle.air_rehearsal.specs.Standing.{Makes, StandsNow, least_done, least_of}
 use Rattle.air_rehearsal.specs.Stations.{acts, the_server}
 use Rattle.air_rehearsal.specs.Worlds.{IsSteady, PlayParties, PlaysWorld, asked_from}
 use Rattle.air_rehearsal.specs.declared.cuts.Cut.{Cut}
@@ -82,7 +83,7 @@ module _ {B : Type 0} (g : Ghosts B) (cuts : Cuts B)
     blocks-then : then.server.store.blocks ≡ store_blocks
     blocks-then =
         ap (λ (s : Store). s.blocks) store-then
-        ∙ ap (λ (s : Store). s.blocks) (whole.does.done (λ never. never)).0
+        ∙ ap (λ (s : Store). s.blocks) ((whole.does.done (λ never. never)).0 (inl refl))
         ∙ commands-blocks (server_commands world taken.coming) (store_in old.server.store)
         ∙ ap (λ (s : Store). s.blocks) same-store ∙ awaits.plays.blocks
 
@@ -264,11 +265,11 @@ module _ {B : Type 0} (g : Ghosts B) (cuts : Cuts B)
 
     no-fewer :
         g.write_faults mid.disk < 18446744073709551615
-        → IfSome (g.content gone.left) (Makes (least_done (cuts.arming mid.disk) (cut.call - 1)) the_server world event)
+        → IfSome (g.content gone.left) (Makes (least_of (cuts.arming mid.disk) (cut.call - 1)) the_server world event)
     no-fewer below =
         let commands = server_commands world taken.coming in
         if_told (g.content gone.left)
-        (Makes (least_done (cuts.arming mid.disk) (cut.call - 1)) the_server world event) (λ image is.
+        (Makes (least_of (cuts.arming mid.disk) (cut.call - 1)) the_server world event) (λ image is.
         let there = at_told (λ (c : List ℕ). g.images mid.disk c) image is gone.strikes.loses.left in
         let makes = went.no_fewer below image
         (counts_now mid.disk (g.moment mid.disk) image (omega arith) there) in
@@ -278,7 +279,7 @@ module _ {B : Type 0} (g : Ghosts B) (cuts : Cuts B)
           takes = taken.takes;
           stands =
               subst
-              (λ (s : Store). MakesBetween (least_done (cuts.arming mid.disk) (cut.call - 1) (length commands))
+              (λ (s : Store). MakesBetween (least_done store_form (cuts.arming mid.disk) (cut.call - 1) commands)
               (length commands) s commands image) awaits.plays.server.store makes;
         })
 

@@ -75,7 +75,7 @@ module _ {B : Type 0} (g : Ghosts B) where
       let only = does.none refl in
       let then = (only.same_past (g.moment disk_now) image).0 now in
       let was = subst (λ (t : ℕ). g.images_since disk t image) only.same_moment then in
-      subst (λ (s : Store). StandsFor image s) (sym (does.done (λ never. never)).0) (before image was)
+      subst (λ (s : Store). StandsFor image s) (sym ((does.done (λ never. never)).0 (inl refl))) (before image was)
   all-images missed old new disk disk_now (command ∷ commands) does told before image now =
       let all = command ∷ commands in
       let is = told-content (g.content disk) told in
@@ -83,7 +83,7 @@ module _ {B : Type 0} (g : Ghosts B) where
       let calls = at_told (λ (_ : List ℕ). _) is.0 is.1 (does.calls (λ never. never)) in
       let made = stay (length all) (omega arith) (omega arith) image
       (subst (λ (t : ℕ). g.images_since disk_now t image) calls now) in
-      subst (λ (s : Store). StandsFor image s) (sym (does.done (λ never. never)).0)
+      subst (λ (s : Store). StandsFor image s) (sym ((does.done (λ never. never)).0 (inl refl)))
       (all-made (length all) (store_in old) all image refl made)
 
   -- the commands before are the first of these
@@ -183,7 +183,7 @@ module _ {B : Type 0} (g : Ghosts B) (cuts : Cuts B)
     pub reads : g.read_faults lost ≡ g.read_faults armed
     pub no_fewer :
         g.write_faults lost < 18446744073709551615 → (image : List ℕ) → images_now g lost image
-        → MakesBetween (least_done (cuts.arming lost) calls (length commands)) (length commands) store commands image
+        → MakesBetween (least_done store_form (cuts.arming lost) calls commands) (length commands) store commands image
 
   module _ (on : (first second third : B) → g.lasts first second → g.lasts second third → g.lasts first third)
       (misses : MissesLaw) (front : FrontOfEventLaw) (it : Server) (coming : NodeEvent) (old new : ServerState)
@@ -221,7 +221,7 @@ module _ {B : Type 0} (g : Ghosts B) (cuts : Cuts B)
           no_fewer = λ below image now.
               let commands : List Command = (event []).done in
               let all : StandsFor image (after_all (store_in old.store) commands) =
-              subst (λ (s : Store). StandsFor image s) (does_now.done (λ never. never)).0
+              subst (λ (s : Store). StandsFor image s) ((does_now.done (λ never. never)).0 (inl refl))
               (all-images g missed old.store new.store armed lost commands does_now told stands image now) in
               let few = least_most (cuts.arming lost) left_calls (length commands) in (
                 length commands,
@@ -278,25 +278,25 @@ module _ {B : Type 0} (g : Ghosts B) (cuts : Cuts B)
           reads = cut.second.puts.reads ∙ same;
           no_fewer = λ below image now.
               let fails = failed-so then.disk all.puts.lasts same_writes (cut.second.puts.faults.rose tt) in
-              let makes = cut_makes g store_form (λ _. refl) (begun_in happened) begins.0 (kept_at old.store armed)
+              let makes = cut_makes g store_form (begun_in happened) begins.0 (kept_at old.store armed)
               (kept_at new.store lost) left_calls (all.cut tt) fails.passed in
               let first = told-content (g.content armed) told in
               let last = told-content (g.content lost) (all.puts.told.1 told) in
               let each = at_told
               (λ (_ : List ℕ). EachImage g lost (MakesBetween
-              (least_done Failed left_calls (length (begun_in happened ++ begins.0)))
+              (least_done store_form Failed left_calls (begun_in happened ++ begins.0))
               (length (begun_in happened ++ begins.0)) (store_in old.store) (begun_in happened ++ begins.0))) first.0
               first.1 makes in
               let here = at_told
               (λ (_ : List ℕ). (image : List ℕ) → images_now g lost image → MakesBetween
-              (least_done Failed left_calls (length (begun_in happened ++ begins.0)))
+              (least_done store_form Failed left_calls (begun_in happened ++ begins.0))
               (length (begun_in happened ++ begins.0)) (store_in old.store) (begun_in happened ++ begins.0) image) last.0
               last.1 each image now in
               subst
-              (λ (a : Arming). MakesBetween (least_done a left_calls (length (event []).done)) (length (event []).done)
+              (λ (a : Arming). MakesBetween (least_done store_form a left_calls (event []).done) (length (event []).done)
               (store_in old.store) (event []).done image) (sym fails.failed)
               (subst
-              (λ (all : List Command). MakesBetween (least_done Failed left_calls (length all)) (length all)
+              (λ (all : List Command). MakesBetween (least_done store_form Failed left_calls all) (length all)
               (store_in old.store) all image) (sym commands) here);
         }
 

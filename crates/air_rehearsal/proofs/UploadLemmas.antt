@@ -134,15 +134,15 @@ module _ {D : Type 0} (g : Ghosts D) (whole : ClientPart) (old new : NotesState)
     fails = λ is. does.puts.faults.rose (fails is);
     cut = λ is calls passed.
         let several = Several-one g failed old new disk disk_now command does in
-        let makes = cut_makes g notes_form (λ _. refl) (command ∷ []) [] (notes.notes_on old disk)
+        let makes = cut_makes g notes_form (command ∷ []) [] (notes.notes_on old disk)
         (notes.notes_on new disk_now) calls (several.does.cut (fails is)) passed in
         subst
         (λ (commands : List NotesCommand). IfSome (g.content disk) (λ _. EachImage g disk_now
-        (notes.MakesBetween (least_done Failed calls (length commands)) (length commands) whole.party.client.lists
+        (notes.MakesBetween (least_done notes_form Failed calls commands) (length commands) whole.party.client.lists
         commands))) (sym commands_is)
         (subst
         (λ (l : Lists). IfSome (g.content disk) (λ _. EachImage g disk_now
-        (notes.MakesBetween (least_done Failed calls 1) 1 l (command ∷ [])))) lists_is makes);
+        (notes.MakesBetween (least_done notes_form Failed calls (command ∷ [])) 1 l (command ∷ [])))) lists_is makes);
     done = by came fine;
   }
     where

@@ -1,13 +1,18 @@
 -- What the disk of a station stands for: the server's disk for its store, a client's for its notes.
-use Rattle.std.specs.Prelude.{◌≡◌, ℕ, List, length, min, Some}
+use Rattle.std.specs.Prelude.{◌≡◌, ℕ, List, length, Some}
 use Rattle.disk_model.specs.Cuts.{Arming, Failed, Passes, Unarmed}
 use Rattle.disk_model.specs.declared.disk.Disk.{Ghosts}
 use Rattle.file_journal.specs.Calls.{images_now}
 use Rattle.file_journal.specs.Commands.{done_within}
+use Rattle.file_journal.specs.Form.{Form}
 use Rattle.node.specs.Events.{NodeEvent}
+use Rattle.file_store.specs.Command.{Command}
 use Rattle.file_store.specs.OnDisk as store
+use Rattle.file_store.specs.Records.{store_form}
 use Rattle.file_store.specs.Recovery as store_recovery
 use Rattle.file_store.specs.State as store_state
+use Rattle.client_notes.specs.Command.{NotesCommand}
+use Rattle.client_notes.specs.Records.{notes_form}
 use Rattle.client_notes.specs.Recovery as notes_recovery
 use Rattle.client_notes.specs.Several as notes
 use Rattle.client_notes.specs.State as notes_state
@@ -25,37 +30,47 @@ StandsFor (client_at c) world image =
     (party : Party) × PartyAt world c party × notes_state.StandsFor image party.client.lists
 
 -- The octets stand for the server's store after the first of the event's commands, for some number of them: at least as
--- many as `least` says by how many there are.
-pub record StoreMakes (least : ℕ → ℕ) (old : World) (event : Event) (image : List ℕ) : Type 0 where
+-- many as `least` says of them.
+pub record StoreMakes (least : List Command → ℕ) (old : World) (event : Event) (image : List ℕ) : Type 0 where
   pub coming : NodeEvent
   pub delivered : World
   pub takes : ServerTakes old event coming delivered
   pub stands :
-      store.MakesBetween (least (length (server_commands old coming))) (length (server_commands old coming))
+      store.MakesBetween (least (server_commands old coming)) (length (server_commands old coming))
       old.server.store (server_commands old coming) image
 
 -- the same of the notes of the client at this place
-pub record NotesMake (least : ℕ → ℕ) (c : ℕ) (old : World) (event : Event) (image : List ℕ) : Type 0 where
+pub record NotesMake (least : List NotesCommand → ℕ) (c : ℕ) (old : World) (event : Event) (image : List ℕ) : Type 0 where
   pub part : ClientPart
   pub takes : ClientTakes old event c part
   pub stands :
-      notes.MakesBetween (least (length (client_commands part))) (length (client_commands part))
+      notes.MakesBetween (least (client_commands part)) (length (client_commands part))
       part.party.client.lists (client_commands part) image
 
-abbrev pub Makes : (ℕ → ℕ) → Station → World → Event → List ℕ → Type 0
-Makes least the_server old event image = StoreMakes least old event image
-Makes least (client_at c) old event image = NotesMake least c old event image
+-- how many of some commands stand at the least, of a store and of notes
+pub record Least : Type 0 where
+  pub of_store : List Command → ℕ
+  pub of_notes : List NotesCommand → ℕ
+
+abbrev pub Makes : Least → Station → World → Event → List ℕ → Type 0
+Makes least the_server old event image = StoreMakes least.of_store old event image
+Makes least (client_at c) old event image = NotesMake least.of_notes c old event image
 
 -- after the first of the commands that the event has in this world, for whatever number of them
 abbrev pub StandsDuring : Station → World → Event → List ℕ → Type 0
-StandsDuring = Makes (λ count. 0)
+StandsDuring = Makes (record { of_store = λ commands. 0; of_notes = λ commands. 0 })
 
--- How many of so many commands stand at the least, where so many calls were to pass and the disk is armed so then: all
+-- How many of these commands stand at the least, where so many calls were to pass and the disk is armed so then: all
 -- of them where no call failed by the arming, else as many as those calls carry out.
-abbrev pub least_done : Arming → ℕ → ℕ → ℕ
-least_done Unarmed calls count = count
-least_done (Passes left) calls count = count
-least_done Failed calls count = min count (done_within calls)
+abbrev pub least_done : {S C : Type 0} → Form S C → Arming → ℕ → List C → ℕ
+least_done form Unarmed calls commands = length commands
+least_done form (Passes left) calls commands = length commands
+least_done form Failed calls commands = done_within form commands calls
+
+-- the same of the commands of a store, and of those of notes
+abbrev pub least_of : Arming → ℕ → Least
+least_of arming calls =
+    record { of_store = least_done store_form arming calls; of_notes = least_done notes_form arming calls }
 
 -- The octets stand for what those before stand for, and differ from them only as a recovery may leave them: 18 octets
 -- or more are left as they are.

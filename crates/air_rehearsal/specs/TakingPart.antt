@@ -5,6 +5,7 @@ use Rattle.disk_model.specs.declared.disk.Disk.{Ghosts}
 use Rattle.file_journal.specs.Calls.{Leaves, TellsAlike}
 use Rattle.client_notes.specs.Command.{NotesCommand}
 use Rattle.client_notes.specs.Notes.{Task, task_of}
+use Rattle.client_notes.specs.Records.{notes_form}
 use Rattle.client_notes.specs.Several as notes
 use Rattle.client_notes.specs.State.{StandsFor}
 use Rattle.ftl0_client.specs.Client.{ticks}
@@ -89,15 +90,15 @@ pub record PartyIsCut (part : ClientPart) (next : Party) : Type 0 where
   pub next_is : next ≡ party_cut part count
 
 -- The octets stand for the notes after the first of the part's commands, for some number of them: at least as many as
--- `least` says by how many there are.
-abbrev pub HasDone : (ℕ → ℕ) → ClientPart → List ℕ → Type 0
+-- `least` says of them.
+abbrev pub HasDone : (List NotesCommand → ℕ) → ClientPart → List ℕ → Type 0
 HasDone least part image =
-    notes.MakesBetween (least (length (client_commands part))) (length (client_commands part)) part.party.client.lists
+    notes.MakesBetween (least (client_commands part)) (length (client_commands part)) part.party.client.lists
     (client_commands part) image
 
 -- after all of them
 abbrev pub HasAll : ClientPart → List ℕ → Type 0
-HasAll = HasDone (λ count. count)
+HasAll = HasDone (λ commands. length commands)
 
 module _ {B : Type 0} (g : Ghosts B) where
   -- The part is carried out on the disk, which knows of no cut: since it began a crash leaves the notes after the first
@@ -122,7 +123,7 @@ module _ {B : Type 0} (g : Ghosts B) (cuts : Cuts B) where
     pub stands : IfSome (g.content left) (λ image. StandsFor image next.client.lists)
     pub no_fewer :
         g.write_faults lost < 18446744073709551615
-        → IfSome (g.content left) (HasDone (least_done (cuts.arming lost) (call - 1)) part)
+        → IfSome (g.content left) (HasDone (least_done notes_form (cuts.arming lost) (call - 1)) part)
     pub again : (c : ℕ) → StartsAgain g (client_at c) left disk_now
 
   -- by the cut that waits for the client, if one does

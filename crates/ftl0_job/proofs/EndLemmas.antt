@@ -1,5 +1,5 @@
 -- The end of a file that is fetched: its rest is noted, and the whole checked.
-use Rattle.std.proofs.Common.{◌≡◌, ℕ, ◌+◌, ◌<◌, ◌≤◌, List, [], ◌∷◌, ◌++◌, length, take, refl, sym, ap, ◌∙◌, subst, arith, length-append}
+use Rattle.std.proofs.Common.{inl, ◌≡◌, ℕ, ◌+◌, ◌<◌, ◌≤◌, List, [], ◌∷◌, ◌++◌, length, take, refl, sym, ap, ◌∙◌, subst, arith, length-append}
 use Rattle.std.specs.Prelude.{⊤, Option, None, Some, Ok, Err}
 use Rattle.std.proofs.Math.Seq.{take-append-add}
 use Rattle.std.proofs.lemmas.List.{append-nil, take-append-le}
@@ -94,7 +94,7 @@ module _ {D : Type 0} (g : Ghosts D) (on : (first second third : D) → g.lasts 
       whole-is : (o : Option ℕ) → o ≡ fault_code (got_of mid.lists at.server at.number) → data_end_row (got_of old.lists at.server at.number) at ≡ whole_row at o
       whole-is o is =
           let octets : got_of mid.lists at.server at.number ≡ got_of old.lists at.server at.number ++ at.rest =
-          ap (λ (l : Lists). got_of l at.server at.number) (first.does.done (λ never. never)).0 ∙ last-after at.server at.number at.rest old.lists in
+          ap (λ (l : Lists). got_of l at.server at.number) ((first.does.done (λ never. never)).0 (inl refl)) ∙ last-after at.server at.number at.rest old.lists in
           ap (whole_row at) (sym (is ∙ ap fault_code octets))
 
       -- it has no fault

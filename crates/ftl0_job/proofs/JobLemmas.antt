@@ -1,5 +1,5 @@
 -- A job takes a packet as what it does takes it.
-use Rattle.std.proofs.Common.{◌≡◌, ℕ, List, [], refl, sym, ap, subst}
+use Rattle.std.proofs.Common.{inl, ◌≡◌, ℕ, List, [], refl, sym, ap, subst}
 use Rattle.std.specs.Prelude.{⊤, true, false, is_some, take, Option, None, Some, Result, Ok, Err}
 use Rattle.disk_model.specs.declared.disk.Disk.{Ghosts}
 use Rattle.ftl0_packets.specs.Layout.{Item, PacketValue}
@@ -95,7 +95,7 @@ module _ {D : Type 0} (g : Ghosts D) where
         → GoBy ending notes_now.lists doing
     goes-on ending goes takes =
         let gives = takes.answers in
-        let lists : notes_now.lists ≡ after_all notes.lists (item_row notes.lists job.work item).commands = (takes.noted.does.done (λ never. never)).0 in
+        let lists : notes_now.lists ≡ after_all notes.lists (item_row notes.lists job.work item).commands = ((takes.noted.does.done (λ never. never)).0 (inl refl)) in
         subst (λ (l : Lists). GoBy ending l doing) (sym lists)
         (subst (λ (w : Work). GoBy ending (after_all notes.lists (item_row notes.lists job.work item).commands) w) (sym gives.0)
         (subst (λ (e : Option Ending). GoBy e (after_all notes.lists (item_row notes.lists job.work item).commands) (item_row notes.lists job.work item).state) (sym gives.2)

@@ -234,7 +234,7 @@ module _ {D : Type 0} (g : Ghosts D) (law : AcknowledgedStandsLaw) (failed : Typ
       let commands : List Command = (row_of_end file).commands in
       let all : done ++ cut ≡ before ++ (commands ++ (others ++ cut)) =
       ap (λ (cs : List Command). cs ++ cut) parts ∙ append_assoc before (commands ++ others) cut ∙ ap (λ (cs : List Command). before ++ cs) (append_assoc commands others cut) in
-      let allowed : AreAllowed start (before ++ (commands ++ (others ++ cut))) = subst (λ (cs : List Command). AreAllowed start cs) all stands.allowed in
+      let allowed : AreAllowed start (before ++ (commands ++ (others ++ cut))) = subst (λ (cs : List Command). AreAllowed start cs) all (stands.allowed (inl refl)) in
       let there : AreAllowed file.store (commands ++ (others ++ cut)) =
       subst (λ (s : Store). AreAllowed s (commands ++ (others ++ cut))) (sym behind)
       (AreAllowed-split before (commands ++ (others ++ cut)) start allowed).1 in

@@ -1,7 +1,7 @@
 -- What carrying out a job comes to, and what its outcomes are to the command that asked for it.
 use Rattle.std.specs.Prelude.{⊤, MatchResult}
 use Rattle.std.proofs.lemmas.Grind.{common_steps}
-use Rattle.std.proofs.Common.{◌≡◌, ℕ, Bool, true, false, List, [], ◌++◌, refl, sym, ◌∙◌, ap, subst, append-nil, Option, None, Some, IfSome, Result, Ok, Err, IfErr, IsErrOf, ◌≢◌, IfOk, ◌≤◌, length, arith}
+use Rattle.std.proofs.Common.{inl, ◌≡◌, ℕ, Bool, true, false, List, [], ◌++◌, refl, sym, ◌∙◌, ap, subst, append-nil, Option, None, Some, IfSome, Result, Ok, Err, IfErr, IsErrOf, ◌≢◌, IfOk, ◌≤◌, length, arith}
 use Rattle.file_journal.specs.Position.{Position}
 use Rattle.client_notes.specs.Calls.{Runs}
 use Rattle.client_notes.specs.Walk.{state}
@@ -296,7 +296,7 @@ module _ {A C D : Type 0} (see : Seen D A C) (on : (first second third : D) → 
   -- then the notes at the end are those after all commands,
   pub lists-at-end : ¬ Failed → h.end.notes.lists ≡ after_all start (first ++ run.done)
   lists-at-end fine =
-      (all.does.done fine).0
+      ((all.does.done fine).0 (inl refl))
       ∙ ap (after_all start) (ap (λ (cs : List NotesCommand). (first ++ run.done) ++ cs) (cut-none run.ended _ _ _ _ _ _ _ fine h.out.ran.ends_over) ∙ append-nil (first ++ run.done))
 
   -- and each image stands for them

@@ -1,5 +1,5 @@
 -- How packets are taken, one after another.
-use Rattle.std.proofs.Common.{◌≡◌, ℕ, List, [], ◌∷◌, ◌++◌, ap, sym, ◌∙◌, subst}
+use Rattle.std.proofs.Common.{inl, refl, ◌≡◌, ℕ, List, [], ◌∷◌, ◌++◌, ap, sym, ◌∙◌, subst}
 use Rattle.std.specs.Prelude.{None, Result, Ok, Err, ⊤}
 use Rattle.disk_model.specs.declared.disk.Disk.{Ghosts}
 use Rattle.ax25_link.specs.declared.state.LinkState.TheVariants.{Up}
@@ -45,7 +45,7 @@ module _ {D : Type 0} (g : Ghosts D) where
         → Made g w (taking mid.notes.lists (taking before.notes.lists a items).after others) mid now → Made g w (taking before.notes.lists a (items ++ others)) before now
     made-then w a items others before mid now first second =
         let h : Happened = taking before.notes.lists a items in
-        let at : mid.notes.lists ≡ after_all before.notes.lists h.noted = (first.noted.does.done (λ never. never)).0 in
+        let at : mid.notes.lists ≡ after_all before.notes.lists h.noted = ((first.noted.does.done (λ never. never)).0 (inl refl)) in
         let next : Made g w (taking (after_all before.notes.lists h.noted) h.after others) mid now = subst (λ (l : Lists). Made g w (taking l h.after others) mid now) at second in
         subst (λ (made : Happened). Made g w made before now) (sym (taking-append before.notes.lists a items others))
         (record {

@@ -1,5 +1,5 @@
 -- How an attempt hears a frame.
-use Rattle.std.proofs.Common.{◌≡◌, List, ◌++◌, take, drop, refl, ap, sym, ◌∙◌, subst, append_assoc}
+use Rattle.std.proofs.Common.{inl, ◌≡◌, List, ◌++◌, take, drop, refl, ap, sym, ◌∙◌, subst, append_assoc}
 use Rattle.std.specs.Prelude.{Option, Result, Ok, Err, ⊤}
 use Rattle.std.proofs.lemmas.List.{take-append-drop}
 use Rattle.ax25_frames.specs.FrameText.{FrameValue}
@@ -63,7 +63,7 @@ module _ {D : Type 0} (g : Ghosts D) where
     stopped-front : (why : Halt) (h : StopsAmong g a items before now why) → (more : List NotesCommand) × ((taking before.notes.lists a items).noted ≡ (taking before.notes.lists a h.before).noted ++ ((job_row h.notes_then.lists (taking before.notes.lists a h.before).after.job h.item).commands ++ more))
     stopped-front why h =
         let p : Happened = taking before.notes.lists a h.before in
-        let at : h.notes_then.lists ≡ after_all before.notes.lists p.noted = (h.done.does.done (λ never. never)).0 in
+        let at : h.notes_then.lists ≡ after_all before.notes.lists p.noted = ((h.done.does.done (λ never. never)).0 (inl refl)) in
         let front = noted-front before.notes.lists a h.before h.item h.behind h.stops.no_outcome in
         (front.0, ap (λ (some : List Item). (taking before.notes.lists a some).noted) h.is_part ∙ front.1 ∙ ap (λ (l : Lists). p.noted ++ ((job_row l p.after.job h.item).commands ++ front.0)) (sym at))
 

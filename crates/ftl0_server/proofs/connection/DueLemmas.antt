@@ -125,7 +125,7 @@ module _ {D : Type 0} (g : Ghosts D) (lasts : (disk : D) → g.lasts disk disk) 
         let is = h.1.1.1 in
         let q : Queued g w between.store between.disk now.disk new made = queues w made is.link is.state in
         let all : List Failure = [] ++ failed_reads (heard.hears.parts ++ q.parts) in
-        let stores : after_all (store_in before.it) made.done ≡ store_in between.store = sym (h.2.done (λ never. never)).0 in
+        let stores : after_all (store_in before.it) made.done ≡ store_in between.store = sym ((h.2.done (λ never. never)).0 (inl refl)) in
         let alike : (part : ℕ) → made.part ≤ part → read_fails all part ≡ read_fails (failed_reads q.parts) part =
         λ part later. (alike-second [] heard.hears.parts q.parts made.part (suc part) none-writes settled.before part later (omega arith)).0 in
         let now_is : whole all ≡ q.now =

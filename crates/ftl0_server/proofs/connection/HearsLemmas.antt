@@ -1,6 +1,6 @@
 -- How what packets make of a connection is put together.
 use Rattle.std.proofs.lemmas.Grind.{common_steps}
-use Rattle.std.proofs.Common.{◌≡◌, ℕ, ◌+◌, ◌<◌, ◌≤◌, Bool, true, false, not, ◌&&◌, List, [], ◌++◌, length, refl, ap, sym, ◌∙◌, subst, arith, length-append}
+use Rattle.std.proofs.Common.{inl, ◌≡◌, ℕ, ◌+◌, ◌<◌, ◌≤◌, Bool, true, false, not, ◌&&◌, List, [], ◌++◌, length, refl, ap, sym, ◌∙◌, subst, arith, length-append}
 use Rattle.std.specs.Prelude.{All, Result, Ok, Err, ⊤}
 use Rattle.std.proofs.lemmas.List.Elements.{All-append, All-weaker}
 use Rattle.px_base.specs.CallSign.{CallSign}
@@ -109,7 +109,7 @@ module _ {D : Type 0} (g : Ghosts D) (on : (first second third : D) → g.lasts 
         let these : taking (caller_of old.session) moment (session_on old.session before) end items all first ≡ made =
         taking-alike (caller_of old.session) moment (session_on old.session before) end items all ([] ++ failed_reads one.parts) first
         (alike-first writes one.parts parts first next are none later) in
-        let stores : after_all (store_in before.store) made.done ≡ store_in between.store = sym (one.by.2.done (λ never. never)).0 in
+        let stores : after_all (store_in before.store) made.done ≡ store_in between.store = sym ((one.by.2.done (λ never. never)).0 (inl refl)) in
         let here : on_from (store_in before.store) made ≡ session_on mid.session between = rw (stores, sym one.by.1.0, sym one.by.1.1.1.state) refl in
         rw (taking-on (caller_of old.session) moment (session_on old.session before) end items others all first (rw these goes), these, number, here, callers)
         (ap (behind made.missed made.done)

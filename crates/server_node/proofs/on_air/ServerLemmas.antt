@@ -248,7 +248,7 @@ module _ {D : Type 0} (g : Ghosts D) (lasts : (disk : D) → g.lasts disk disk) 
           let rest = h.1 server serving in
           rest-whole start events said server is None rest (rw (no-next start events said server is None rest).1 rest.stands) (settles rest.made rest.stands) in
           let runs = runs-on h.0.server h.0.serving in let same = (no-next start events said h.0.server is None (h.1 h.0.server h.0.serving)).1 in
-          (runs-on, grind (arith, common_steps, same, runs, runs.runs.does.done (λ never. never)))
+          (runs-on, grind (arith, common_steps, same, runs, (runs.runs.does.done (λ never. never)).0 (inl refl)))
       gave-all start events (Some halt.Disk) said h = λ server serving. rest-whole start events said server is (Some halt.Disk) (h.1 server serving)
       gave-all start events (Some halt.OutOfMemory) said h = λ server serving. absurd (cc ((h.1 server serving).0, fine))
 

@@ -1,6 +1,6 @@
 -- The course of a client's station: what a client comes to over events and owes the air meanwhile, what it says, and a frame
 -- at which it halts, before which nothing had become of the job, since a link that is down brings no packets.
-use Rattle.std.proofs.Common.{◌≡◌, ℕ, List, [], ◌∷◌, ◌++◌, refl, ap, sym, ◌∙◌, subst, append_assoc, append-nil, Some, Option, ◌≢◌, true, map, false, Bool, not, ◌||◌, ◌&&◌, Err, true≢false, IsErrOf, length, take, arith, take-append-drop, drop}
+use Rattle.std.proofs.Common.{inl, ◌≡◌, ℕ, List, [], ◌∷◌, ◌++◌, refl, ap, sym, ◌∙◌, subst, append_assoc, append-nil, Some, Option, ◌≢◌, true, map, false, Bool, not, ◌||◌, ◌&&◌, Err, true≢false, IsErrOf, length, take, arith, take-append-drop, drop}
 use Rattle.std.proofs.lemmas.List.Concat.{flat_map-append}
 use Rattle.kiss.specs.KissText.{kiss_text}
 use Rattle.ax25_frames.specs.FrameText.{FrameValue, canonical}
@@ -644,7 +644,7 @@ module _ {D : Type 0} (g : Ghosts D) (lasts : (disk : D) → g.lasts disk disk) 
                 ∙ ap (λ (l : Lists). (taking l start (packets_heard client.window a frame)).noted) (sym lists_are)
                 ∙ ap (λ (items : List Item). (taking old.notes.lists start items).noted) h.is_part
                 ∙ front.1
-                ∙ ap (λ (l : Lists). part.noted ++ ((job_row l part.after.job h.item).commands ++ front.0)) (sym (h.done.does.done (λ never. never)).0),
+                ∙ ap (λ (l : Lists). part.noted ++ ((job_row l part.after.job h.item).commands ++ front.0)) (sym ((h.done.does.done (λ never. never)).0 (inl refl))),
           )
 
       halted-among : (why : Halt) → Among why → Halted why

@@ -1,4 +1,4 @@
-use Rattle.std.proofs.Common.{◌≡◌, ℕ, ◌+◌, ◌-◌, ◌*◌, ◌/◌, ◌<◌, ◌++◌, List, drop, length, take, rules, sym, ap, ◌∙◌, subst, arith, length-append, length-drop, drop-drop}
+use Rattle.std.proofs.Common.{inl, refl, ◌≡◌, ℕ, ◌+◌, ◌-◌, ◌*◌, ◌/◌, ◌<◌, ◌++◌, List, drop, length, take, rules, sym, ap, ◌∙◌, subst, arith, length-append, length-drop, drop-drop}
 use Rattle.std.specs.Prelude.{⊤, Result, Err}
 use Rattle.arrayvec.specs.declared.array_vec.ArrayVec.{ArrayVec}
 use Rattle.client_notes.specs.Several.{DoesSeveral}
@@ -26,7 +26,7 @@ note_got-requires g c =
       ready = Several-ready g.D.Disk c.args.notes.now c.loop.notes c.args.disk.now c.loop.disk _ c.loop.invariant.noted;
       allowed =
           block-allowed c.args.server c.args.number n c.loop.counter all c.args.notes.now.lists c.loop.notes.lists c.requires.some (omega arith) c.requires.fits below
-          (c.loop.invariant.noted.does.done (λ never. never)).0 c.as_slice-in-loop.result.now is;
+          ((c.loop.invariant.noted.does.done (λ never. never)).0 (inl refl)) c.as_slice-in-loop.result.now is;
     }
 
 pub returns-in_err-note_got-clause-noted : goal.returns-in_err-note_got-clause-noted

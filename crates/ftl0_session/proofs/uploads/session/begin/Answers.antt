@@ -1,5 +1,5 @@
 -- A new file: its row, or the answer to a refusal.
-use Rattle.std.proofs.Common.{◌≡◌, ℕ, [], ◌∷◌, refl, ap, sym, ◌∙◌, subst, Some, true≢false}
+use Rattle.std.proofs.Common.{inl, ◌≡◌, ℕ, [], ◌∷◌, refl, ap, sym, ◌∙◌, subst, Some, true≢false}
 use Rattle.ftl0_packets.specs.Layout.{ul_go_resp}
 use Rattle.file_store.specs.Command.{begin}
 use Rattle.file_store.specs.State.{store_in}
@@ -16,15 +16,15 @@ pub returns-in-Ok : goal.returns-in-Ok
 returns-in-Ok g c =
     let next : ℕ = (store_in c.args.store.now).next in
     let does = c.in-Ok.ensures.does refl in
-    let made = (does.done (λ e. absurd (true≢false (sym e)))).0 in
-    let row = row-granted c.args.caller c.args.moment (store_in c.args.store.now) c.args.length (begin-can _ _ does.allowed.0) in
+    let made = ((does.done (λ e. absurd (true≢false (sym e)))).0 (inl refl)) in
+    let row = row-granted c.args.caller c.args.moment (store_in c.args.store.now) c.args.length (begin-can _ _ (does.allowed (inl refl)).0) in
     let number : c.in-Ok.up.number ≡ (store_in c.args.store.now).next = ap (λ (u : Upload). u.number) c.in-Ok.ensures.upload in
     record {
       answers = (
         granted_row c.args.caller c.args.moment (store_in c.args.store.now).next c.args.length,
         row,
         (
-          (does.allowed, made),
+          ((does.allowed (inl refl)), made),
           receiving-at c.begin.new.self c.in-Ok.up (store_in c.args.store.now).next [] number c.in-Ok.ensures.holds.1,
           c.go_on.ensures ∙ ap (λ (n : ℕ). texts (ul_go_resp n 0 ∷ [])) (c.number.ensures ∙ number),
         ),

@@ -19,7 +19,7 @@ pub returns-in-Ok : goal.returns-in-Ok
 returns-in-Ok g c = λ moment.
     let holds = c.requires.held.0 in
     let does = c.in-Ok.ensures.does refl in
-    let made = (does.done (λ e. absurd (true≢false (sym e)))).0 in
+    let made = ((does.done (λ e. absurd (true≢false (sym e)))).0 (inl refl)) in
     let row = taken c.args.caller c.args.store.now c.args.up holds moment c.args.octets.now c.in-Ok.ensures.can.0 in
     let number : c.in-Ok.up.number ≡ c.args.up.number = ap (λ (u : Upload). u.number) c.in-Ok.ensures.upload in
     let touches = touches-done c.args.up.number (store_in c.args.store.now) (store_in c.append.new.self) (appending c.args.store.now c.args.up c.args.octets.now)
@@ -30,7 +30,7 @@ returns-in-Ok g c = λ moment.
         taken_row c.args.up.number (with_bytes c.args.store.now c.args.up c.args.octets.now),
         row,
         (
-          (does.allowed, made),
+          ((does.allowed (inl refl)), made),
           receiving-at c.append.new.self c.in-Ok.up c.args.up.number (unfilled_block (with_bytes c.args.store.now c.args.up c.args.octets.now)) number
               (ap (λ (n : ℕ). rest_in c.append.new.self n) number ∙ c.in-Ok.ensures.rest),
           c.reply_nothing.ensures.text,

@@ -18,12 +18,12 @@ returns-in-Ok g c =
     let holds = c.requires.held.0 in
     let commands = whole-sealing c.args.store.now c.args.up c.args.moment None c.in-Ok.ensures.good in
     let does = does-at g.D.Disk _ _ _ _ _ _ _ commands (c.in-Ok.ensures.does refl) in
-    let made = (does.done (λ e. cc e)).0 in
+    let made = ((does.done (λ e. cc e)).0 (inl refl)) in
     let row = whole c.args.self.now.caller c.args.store.now c.args.up holds c.args.moment None c.in-Ok.ensures.can.0 c.in-Ok.ensures.good in
     let touches = touches-done c.args.up.number (store_in c.args.store.now) (store_in c.seal.new.self) _
     (are-whole c.args.up.number c.args.moment (waiting c.args.store.now c.args.up) None) made in
     record {
-      answers = (whole_row c.args.moment c.args.up.number (waiting c.args.store.now c.args.up) None, row, ((does.allowed, made), refl, c.ack.ensures));
+      answers = (whole_row c.args.moment c.args.up.number (waiting c.args.store.now c.args.up) None, row, (((does.allowed (inl refl)), made), refl, c.ack.ensures));
       on_disk = does-row g.D.Disk _ _ _ _ _ _ ⊥ _ row (λ e. cc e) (λ never. absurd never) does;
       untouched = touched _ _ _ _ row (whole-some c.args.moment c.args.up.number (waiting c.args.store.now c.args.up) None);
       held = tt;
@@ -63,7 +63,7 @@ returns-in-Err-Header g c =
     let spent = rw c.in-Err-Header.field-0-is at c.in-Err-Header.ensures.spent in
     let commands = whole-sealing c.args.store.now c.args.up c.args.moment (Some c.in-Err-Header.code) refused.2 in
     let does = does-at g.D.Disk _ _ _ _ _ _ _ commands (reached refl) in
-    let made = (does.done (λ e. cc e)).0 in
+    let made = ((does.done (λ e. cc e)).0 (inl refl)) in
     let row = whole c.args.self.now.caller c.args.store.now c.args.up holds c.args.moment (Some c.in-Err-Header.code) refused.0 refused.2 in
     let touches = touches-done c.args.up.number (store_in c.args.store.now) (store_in c.seal.new.self) _
     (are-whole c.args.up.number c.args.moment (waiting c.args.store.now c.args.up) (Some c.in-Err-Header.code)) made in
@@ -71,7 +71,7 @@ returns-in-Err-Header g c =
       answers = (
         whole_row c.args.moment c.args.up.number (waiting c.args.store.now c.args.up) (Some c.in-Err-Header.code),
         row,
-        ((does.allowed, made), refl, c.write_packet-in-Err-Header.ensures.text),
+        (((does.allowed (inl refl)), made), refl, c.write_packet-in-Err-Header.ensures.text),
       );
       on_disk = does-row g.D.Disk _ _ _ _ _ _ ⊥ _ row (λ e. cc e) (λ never. absurd never) does;
       untouched = touched _ _ _ _ row (whole-some c.args.moment c.args.up.number (waiting c.args.store.now c.args.up) (Some c.in-Err-Header.code));
