@@ -1,14 +1,13 @@
 -- What a client's part in an event does to its disk, in general, and what stays between two events.
-use Rattle.std.proofs.Common.{◌≡◌, ℕ, ◌+◌, ◌-◌, ◌<◌, ◌≤◌, Bool, true, nat_le, List, [], ◌∷◌, length, refl, sym, subst, arith}
+use Rattle.std.proofs.Common.{◌≡◌, ℕ, ◌<◌, ◌≤◌, List, [], length, refl, sym, subst, arith}
 use Rattle.std.proofs.Common.{Option, None, Some, Result, Ok, Err, false}
 use Rattle.std.specs.Prelude.{OnOk}
 use Rattle.disk_model.specs.Cuts.{Arming, Cuts, Failed, LastsSo, Passes, Unarmed, UsesUp, cut_state}
 use Rattle.disk_model.specs.declared.disk.Disk.{Ghosts}
 use Rattle.disk_model.specs.declared.halt.Halt.{Halt}
 use Rattle.file_journal.specs.Calls.{EachImage, TellsAlike}
-use Rattle.file_journal.specs.Commands.{done_within}
 use Rattle.file_journal.specs.Form.{Form}
-use Rattle.file_journal.proofs.Offered.{if_told, started, told_weaker}
+use Rattle.file_journal.proofs.Offered.{if_told, started, told_weaker, within_most}
 use Rattle.ax25_link.specs.Sending.{Sending, next_sending}
 use Rattle.client_notes.specs.Command.{NotesCommand}
 use Rattle.client_notes.specs.Notes.{Lists}
@@ -44,15 +43,6 @@ silent_noted it lists silent = by it.stray silent
     by (Some refusal) silent = absurd (cc)
 
 -- ---- how many commands stand
-
--- calls carry out no more commands than there are
-within_most : {S C : Type 0} (form : Form S C) (commands : List C) (calls : ℕ) → done_within form commands calls ≤ length commands
-within_most form [] calls = omega arith
-within_most form (command ∷ commands) calls = by (nat_le (form.calls command) calls) refl (within_most form commands (calls - form.calls command))
-  where
-    by : (b : Bool) → nat_le (form.calls command) calls ≡ b → done_within form commands (calls - form.calls command) ≤ length commands → done_within form (command ∷ commands) calls ≤ length (command ∷ commands)
-    by true is rest = rw is (omega (arith, rest))
-    by false is rest = rw is (omega arith)
 
 -- no more than there are are asked for
 pub least_most : {S C : Type 0} (form : Form S C) (arming : Arming) (calls : ℕ) (commands : List C) → least_done form arming calls commands ≤ length commands

@@ -26,8 +26,8 @@ standing_of octets = stands_for fresh_notes notes_step notes_magic layout.Growin
 abbrev pub StandsFor : List ℕ → Lists → Type 0
 StandsFor image lists = standing_of image ≡ state lists
 
--- The notes have failed; or the disk's content, where it is told, and each image that a crash since this moment might
--- have left stand for them.
+-- The notes have failed; or the disk's content, where it is told, stands for them, and a crash since this moment leaves
+-- nothing else.
 abbrev pub StandsOn : {D : Type 0} → Ghosts D → NotesState → D → Type 0
 StandsOn g self disk = IsKept g notes_form (kept_on self.lists self.journal disk)
 

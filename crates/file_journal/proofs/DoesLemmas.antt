@@ -17,7 +17,16 @@ use Rattle.file_journal.proofs.ToldLemmas.{alike_on, at_told, if_told, knew, kno
 pub same_on : {D S : Type 0} (now other : S) (journal else_journal : Position) (disk : D) → now ≡ other → journal ≡ else_journal → kept_on now journal disk ≡ kept_on other else_journal disk
 same_on {S = S} now other journal else_journal disk state same = ap₂ (λ (s : S) (j : Position). kept_on s j disk) state same
 
-module _ {D S C : Type 0} (g : Ghosts D) (form : Form S C) where
+module _ {S C : Type 0} (form : Form S C) where
+  -- calls carry out no more commands than there are
+  pub within_most : (commands : List C) (calls : ℕ) → done_within form commands calls ≤ length commands
+  within_most [] calls = omega arith
+  within_most (command ∷ commands) calls = by (nat_le (form.calls command) calls) refl (within_most commands (calls - form.calls command))
+    where
+      by : (b : Bool) → nat_le (form.calls command) calls ≡ b → done_within form commands (calls - form.calls command) ≤ length commands → done_within form (command ∷ commands) calls ≤ length (command ∷ commands)
+      by true is rest = rw is (omega (arith, rest))
+      by false is rest = rw is (omega arith)
+
   -- where so many calls are too few for the first of some commands and one more, they carry out no more than those
   within_done : (commands : List C) (count calls : ℕ) → calls < calls_of form (take (suc count) commands) → done_within form commands calls ≤ count
   within_done [] count calls few = omega arith
@@ -35,6 +44,7 @@ module _ {D S C : Type 0} (g : Ghosts D) (form : Form S C) where
           let rest = then (omega (arith, few, le)) in omega (arith, rest))
       by false is then = rw is (omega arith)
 
+module _ {D S C : Type 0} (g : Ghosts D) (form : Form S C) where
   -- Where a call failed behind so many that passed, no fewer of the commands stand than those carry out; more commands may
   -- come behind them.
   pub cut_makes : (a b : List C) (old new : KeptOn D S) (calls : ℕ) → IsCut g form (done_at form (g.moment old.disk) a) a old new → g.moment old.disk + calls < g.moment new.disk
@@ -44,7 +54,7 @@ module _ {D S C : Type 0} (g : Ghosts D) (form : Form S C) where
       told_weaker (g.content old.disk) _ _ (λ before told soon.
       let done : done_within form (a ++ b) calls ≤ some.count =
       let one : calls_of form (take (some.count + 1) (a ++ b)) ≡ calls_of form (take (suc some.count) (a ++ b)) = ap (λ (n : ℕ). calls_of form (take n (a ++ b))) (let same : some.count + 1 ≡ suc some.count = omega arith in same) in
-      within_done (a ++ b) some.count calls (omega (arith, one, soon, passed, at_first form (g.moment old.disk) (some.count + 1) a b (omega (arith, some.fewer)))) in
+      within_done form (a ++ b) some.count calls (omega (arith, one, soon, passed, at_first form (g.moment old.disk) (some.count + 1) a b (omega (arith, some.fewer)))) in
       told_weaker (g.content new.disk) _ _ (λ now here stands image left.
       makes_within form some.count (some.count + 1) (done_within form (a ++ b) calls) (length (a ++ b)) old.now (a ++ b) image done (omega (arith, sum, some.fewer))
       (makes_first form some.count (some.count + 1) old.now a b image (omega (arith, some.fewer)) (stands image left))) some.images) some.at_most

@@ -41,8 +41,8 @@ standing_of blocks octets = form.standing_of store_form blocks octets
 abbrev pub StandsFor : List ℕ → Store → Type 0
 StandsFor image store = form.StandsFor store_form store image
 
--- The store has failed; or the disk's content, where it is told, and each image that a crash since this moment might have
--- left stand for it.
+-- The store has failed; or the disk's content, where it is told, stands for it, and a crash since this moment leaves
+-- nothing else.
 abbrev pub StandsOn : {D : Type 0} → Ghosts D → StoreState → D → Type 0
 StandsOn g self disk = IsKept g store_form (kept_on (store_in self) self.journal disk)
 
