@@ -134,8 +134,8 @@ module _ {D : Type 0} (g : Ghosts D) (caller : CallSign) (moment len : ℕ) (bef
       let done = does refl in
       let cut = done.cut refl in
       let none : cut.count ≡ 0 = let few : cut.count < 1 = cut.fewer in omega arith in
-      let row = row-granted caller moment (store_in before) len (begin-can _ _ done.allowed.0) in
-      let still : store_in now ≡ store_in before = cut.state ∙ ap (λ (count : ℕ). after_first count (store_in before) (begin (store_in before).next caller len moment ∷ [])) none in
+      let row = row-granted caller moment (store_in before) len (begin-can _ _ (done.allowed (inl refl)).0) in
+      let still : store_in now ≡ store_in before = cut.state (inl refl) ∙ ap (λ (count : ℕ). after_first count (store_in before) (begin (store_in before).next caller len moment ∷ [])) none in
       subst (λ (r : Result ⊤ Halt). Gives-it now disk_now replies r) (sym answer.0)
       (record {
         answers = (granted_row caller moment (store_in before).next len, row, refl, answer.1);

@@ -78,7 +78,7 @@ returns-in-Err-Disk g c = λ moment.
     let spent = rw c.in-Err-Disk.field-0-is at c.in-Err-Disk.ensures.spent in
     let row = taken c.args.caller c.args.store.now c.args.up holds moment c.args.octets.now refused.0 in
     let touches = touches-cut c.args.up.number cut.count (store_in c.args.store.now) (store_in c.append.new.self) (appending c.args.store.now c.args.up c.args.octets.now)
-    (are-grows c.args.up.number _ (with_bytes c.args.store.now c.args.up c.args.octets.now)) cut.state in
+    (are-grows c.args.up.number _ (with_bytes c.args.store.now c.args.up c.args.octets.now)) (cut.state (inl refl)) in
     record {
       answers = (taken_row c.args.up.number (with_bytes c.args.store.now c.args.up c.args.octets.now), row, refl, c.write_packet-in-Err-Disk.ensures.text);
       on_disk = does-row g.D.Disk _ _ _ _ _ _ ⊤ _ row (λ failed. tt) (λ failed. refl) does;

@@ -94,7 +94,7 @@ returns-in-Err-Disk g c =
     let cut = does.cut refl in
     let row = whole c.args.self.now.caller c.args.store.now c.args.up holds c.args.moment (fault_code (octets_come c.args.store.now c.args.up)) refused.0 refl in
     let touches = touches-cut c.args.up.number cut.count (store_in c.args.store.now) (store_in c.seal.new.self) _
-    (are-whole c.args.up.number c.args.moment (waiting c.args.store.now c.args.up) (fault_code (octets_come c.args.store.now c.args.up))) cut.state in
+    (are-whole c.args.up.number c.args.moment (waiting c.args.store.now c.args.up) (fault_code (octets_come c.args.store.now c.args.up))) (cut.state (inl refl)) in
     record {
       answers = (
         whole_row c.args.moment c.args.up.number (waiting c.args.store.now c.args.up) (fault_code (octets_come c.args.store.now c.args.up)),
