@@ -33,6 +33,6 @@ returns-then-not-branch-clause-next g c healthy memory =
           subst (λ (o : Option (List ℕ)). ledger.steps.step (blocks_on o) before (entry c.content.result.now) ≡ None) (there ∙ told)
           (c.in_ok-apply-in-Ok-Some.ensures.refused (grind (arith, common_steps)) (known_told ledger.form octets (there ∙ told))) in
           ap (λ (r : Reading). walk step before c.args.self.now.place r) (at_told {o = c.in-Ok-Some.field-0} _ c.in-Ok-Some.kind (cc) answers.found)
-              ∙ walk_refused step before c.args.self.now.place (entry c.find_next.new.room) _ (subst (λ (l : List ℕ). step before (entry l) ≡ None) c.content.ensures.octets refused)
-              ∙ ap (λ (n : ℕ). damaged_at n) place;
+          ∙ walk_refused step before c.args.self.now.place (entry c.find_next.new.room) _ (subst (λ (l : List ℕ). step before (entry l) ≡ None) c.content.ensures.octets refused)
+          ∙ ap (λ (n : ℕ). damaged_at n) place;
     }) (c.in-Ok-Some.ensures.next (λ is. absurd (cc is)))
