@@ -23,7 +23,7 @@ use Rattle.air_rehearsal.specs.Counting.{Tells}
 use Rattle.air_rehearsal.specs.Playing.{Bench, GoesOn, IsBench, IsStage, client_count, counts_with}
 use Rattle.air_rehearsal.specs.Report.{Report}
 use Rattle.air_rehearsal.specs.ServerEvents.{waiting_of}
-use Rattle.air_rehearsal.specs.Standing.{Least, Makes, StandsDuring, StandsFor, StandsNow, least_of}
+use Rattle.air_rehearsal.specs.Standing.{Makes, StandsDuring, StandsFor, StandsNow, least_done}
 use Rattle.air_rehearsal.specs.Stations.{Role, Station, acts, client_at, looks_on, role_of, the_server, waiting_after}
 use Rattle.air_rehearsal.specs.TakingPart.{CarriesPart, DoesPart, HasDone}
 use Rattle.air_rehearsal.specs.Worlds.{IsSteady, PlayParties, PlaysParty, PlaysStations, asked_from}
@@ -31,6 +31,10 @@ use Rattle.air_rehearsal.specs.declared.cuts.Cut.{Cut}
 use Rattle.air_rehearsal.specs.declared.party.Party.{Party as StoredParty}
 use Rattle.air_rehearsal.proofs.BenchLemmas.{played_at, plays_set, set_count}
 use Rattle.air_rehearsal.proofs.ServerGoes.{stands_still}
+use Rattle.file_journal.specs.Form.{Form}
+use Rattle.client_notes.specs.Notes.{Lists}
+use Rattle.client_notes.specs.Command.{NotesCommand}
+use Rattle.client_notes.specs.Records.{notes_form}
 
 module _ {B : Type 0} (g : Ghosts B) (world : World) (event : Event) (c : ℕ) (part : ClientPart)
     (takes : ClientTakes world event c part) where
@@ -38,7 +42,7 @@ module _ {B : Type 0} (g : Ghosts B) (world : World) (event : Event) (c : ℕ) (
       → StandsDuring (client_at c) world event image
   during image makes = record { part = part; takes = takes; stands = makes }
 
-  makes : (least : Least) (image : List ℕ) → HasDone least.of_notes part image → Makes least (client_at c) world event image
+  makes : (least : (S C : Type 0) → Form S C → List C → ℕ) (image : List ℕ) → HasDone (least Lists NotesCommand notes_form) part image → Makes least (client_at c) world event image
   makes least image done = record { part = part; takes = takes; stands = done }
 
   pub carries_out : (disk disk_now : B) → CarriesPart g part disk disk_now
@@ -82,8 +86,8 @@ module _ {B : Type 0} (g : Ghosts B) (world : World) (event : Event) (c : ℕ) (
               told_weaker (g.content it.left) (λ image. notes_state.StandsFor image party.client.lists)
               (StandsFor (client_at c) next) (λ image _ stands. (party, at, stands)) it.stands;
           no_fewer = λ few.
-              let least : Least = least_of (cuts.arming it.lost) (cut.call - 1) in
-              told_weaker (g.content it.left) (HasDone least.of_notes part) (Makes least (client_at c) world event)
+              let least = least_done (cuts.arming it.lost) (cut.call - 1) in
+              told_weaker (g.content it.left) (HasDone (least Lists NotesCommand notes_form) part) (Makes least (client_at c) world event)
               (λ image _ done. makes least image done) (it.no_fewer few);
           again = it.again c;
         }

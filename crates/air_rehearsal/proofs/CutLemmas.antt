@@ -226,9 +226,9 @@ module _ {B : Type 0} (g : Ghosts B) (cuts : Cuts B)
 
   -- no fewer commands are done than the calls before the failing one carry out, and all of them where none failed
   pub no_fewer : g.write_faults lost < 18446744073709551615
-      → IfSome (g.content left) (HasDone (least_done notes_form (cuts.arming lost) (call - 1)) whole)
+      → IfSome (g.content left) (HasDone (least_done (cuts.arming lost) (call - 1) Lists NotesCommand notes_form) whole)
   no_fewer few =
-      subst (λ (o : Option (List ℕ)). IfSome o (HasDone (least_done notes_form (cuts.arming lost) (call - 1)) whole))
+      subst (λ (o : Option (List ℕ)). IfSome o (HasDone (least_done (cuts.arming lost) (call - 1) Lists NotesCommand notes_form) whole))
       (sym content_is) (by came refl)
     where
       used : UsesUp (Passes (call - 1)) (cut_state g cuts armed).use_of (cut_state g cuts lost).use_of
@@ -243,11 +243,11 @@ module _ {B : Type 0} (g : Ghosts B) (cuts : Cuts B)
           at_told (λ (_ : List ℕ). (image : List ℕ) → images_now g lost image → P image) before.0 before.1 each content
           (counts_now lost (g.moment lost) content (omega arith) is_left)
 
-      by : (r : Result ⊤ Halt) → came ≡ r → HasDone (least_done notes_form (cuts.arming lost) (call - 1)) whole content
+      by : (r : Result ⊤ Halt) → came ≡ r → HasDone (least_done (cuts.arming lost) (call - 1) Lists NotesCommand notes_form) whole content
       by (Ok done) is =
           let all = subst (λ (r : Result ⊤ Halt). OnOk r (EachImage g lost (HasAll whole))) is touches.touches.done in
           makes_within notes_form (length commands) (length commands)
-          (least_done notes_form (cuts.arming lost) (call - 1) commands) (length commands) lists commands content
+          (least_done (cuts.arming lost) (call - 1) Lists NotesCommand notes_form commands) (length commands) lists commands content
           (least_most notes_form (cuts.arming lost) (call - 1) commands) (omega arith) (here (HasAll whole) all)
       by (Err halt.Disk) is = elim used [
         | inl on ↦
@@ -258,8 +258,8 @@ module _ {B : Type 0} (g : Ghosts B) (cuts : Cuts B)
         | inr fails ↦
             let before = told_some (g.content armed) told_armed in
             let each = at_told _ before.0 before.1 (touches.touches.cut is (call - 1) fails.passed) in
-            subst (λ (a : Arming). HasDone (least_done notes_form a (call - 1)) whole content) (sym fails.failed)
-            (here (HasDone (least_done notes_form Failed (call - 1)) whole) each)
+            subst (λ (a : Arming). HasDone (least_done a (call - 1) Lists NotesCommand notes_form) whole content) (sym fails.failed)
+            (here (HasDone (least_done Failed (call - 1) Lists NotesCommand notes_form) whole) each)
       ]
       by (Err halt.OutOfMemory) is = absurd (strikes.not_stopped is)
 

@@ -113,7 +113,7 @@ module _ {D : Type 0} (g : Ghosts D) (it : Client) (frame : FrameValue) (old new
       → (result : Result ⊤ Halt) → HearsBy g it frame old new disk disk_now result → IsErrOf result halt.Disk
       → (calls : ℕ) → g.moment disk + calls < g.moment disk_now
       → IfSome (g.content disk) (λ _. EachImage g disk_now
-      (notes.MakesBetween (least_done notes_form Failed calls noted) (length noted) it.lists noted))
+      (notes.MakesBetween (least_done Failed calls Lists NotesCommand notes_form noted) (length noted) it.lists noted))
   heard_cut on (Ok done) by failed calls passed = absurd (cc failed)
   heard_cut on (Err halt.OutOfMemory) by failed calls passed = absurd (cc failed)
   heard_cut on (Err halt.Disk) by failed calls passed =
@@ -122,10 +122,10 @@ module _ {D : Type 0} (g : Ghosts D) (it : Client) (frame : FrameValue) (old new
       (notes.notes_on new.notes disk_now) calls (front.3.does.cut tt) passed in
       subst
       (λ (l : Lists). IfSome (g.content disk) (λ _. EachImage g disk_now
-      (notes.MakesBetween (least_done notes_form Failed calls noted) (length noted) l noted))) is.lists
+      (notes.MakesBetween (least_done Failed calls Lists NotesCommand notes_form noted) (length noted) l noted))) is.lists
       (subst
       (λ (commands : List NotesCommand). IfSome (g.content disk) (λ _. EachImage g disk_now
-      (notes.MakesBetween (least_done notes_form Failed calls commands) (length commands) old.notes.lists commands)))
+      (notes.MakesBetween (least_done Failed calls Lists NotesCommand notes_form commands) (length commands) old.notes.lists commands)))
       (sym front.2) makes)
 
 module _ (self : StoredParty) (seat : Seat) (at_seat : IsSeat self seat) (place : ℕ) (whole : ClientPart)

@@ -45,7 +45,7 @@ silent_noted it lists silent = by it.stray silent
 -- ---- how many commands stand
 
 -- no more than there are are asked for
-pub least_most : {S C : Type 0} (form : Form S C) (arming : Arming) (calls : ℕ) (commands : List C) → least_done form arming calls commands ≤ length commands
+pub least_most : {S C : Type 0} (form : Form S C) (arming : Arming) (calls : ℕ) (commands : List C) → least_done arming calls S C form commands ≤ length commands
 least_most form Unarmed calls commands = omega arith
 least_most form (Passes left) calls commands = omega arith
 least_most form Failed calls commands = within_most form commands calls

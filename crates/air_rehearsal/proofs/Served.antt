@@ -29,7 +29,7 @@ use Rattle.air_rehearsal.specs.Chain.{CarriesOut, StepBy}
 use Rattle.air_rehearsal.specs.ServerCalls.{IsCutSo, IsTaken}
 use Rattle.air_rehearsal.specs.ServerEvents.{AwaitsServer, ServesEvent, Serving, TellsFailure, server_stage, serving}
 use Rattle.air_rehearsal.specs.ServerEvents.{waiting_of}
-use Rattle.air_rehearsal.specs.Standing.{Makes, StandsNow, least_done, least_of}
+use Rattle.air_rehearsal.specs.Standing.{Makes, StandsNow, least_done}
 use Rattle.air_rehearsal.specs.Stations.{acts, the_server}
 use Rattle.air_rehearsal.specs.Worlds.{IsSteady, PlayParties, PlaysWorld, asked_from}
 use Rattle.air_rehearsal.specs.declared.cuts.Cut.{Cut}
@@ -265,11 +265,11 @@ module _ {B : Type 0} (g : Ghosts B) (cuts : Cuts B)
 
     no-fewer :
         g.write_faults mid.disk < 18446744073709551615
-        → IfSome (g.content gone.left) (Makes (least_of (cuts.arming mid.disk) (cut.call - 1)) the_server world event)
+        → IfSome (g.content gone.left) (Makes (least_done (cuts.arming mid.disk) (cut.call - 1)) the_server world event)
     no-fewer below =
         let commands = server_commands world taken.coming in
         if_told (g.content gone.left)
-        (Makes (least_of (cuts.arming mid.disk) (cut.call - 1)) the_server world event) (λ image is.
+        (Makes (least_done (cuts.arming mid.disk) (cut.call - 1)) the_server world event) (λ image is.
         let there = at_told (λ (c : List ℕ). g.images mid.disk c) image is gone.strikes.loses.left in
         let makes = went.no_fewer below image
         (counts_now mid.disk (g.moment mid.disk) image (omega arith) there) in
@@ -279,7 +279,7 @@ module _ {B : Type 0} (g : Ghosts B) (cuts : Cuts B)
           takes = taken.takes;
           stands =
               subst
-              (λ (s : Store). MakesBetween (least_done store_form (cuts.arming mid.disk) (cut.call - 1) commands)
+              (λ (s : Store). MakesBetween (least_done (cuts.arming mid.disk) (cut.call - 1) Store Command store_form commands)
               (length commands) s commands image) awaits.plays.server.store makes;
         })
 

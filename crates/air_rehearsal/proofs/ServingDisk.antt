@@ -183,7 +183,7 @@ module _ {B : Type 0} (g : Ghosts B) (cuts : Cuts B)
     pub reads : g.read_faults lost ≡ g.read_faults armed
     pub no_fewer :
         g.write_faults lost < 18446744073709551615 → (image : List ℕ) → images_now g lost image
-        → MakesBetween (least_done store_form (cuts.arming lost) calls commands) (length commands) store commands image
+        → MakesBetween (least_done (cuts.arming lost) calls Store Command store_form commands) (length commands) store commands image
 
   module _ (on : (first second third : B) → g.lasts first second → g.lasts second third → g.lasts first third)
       (misses : MissesLaw) (front : FrontOfEventLaw) (it : Server) (coming : NodeEvent) (old new : ServerState)
@@ -284,19 +284,19 @@ module _ {B : Type 0} (g : Ghosts B) (cuts : Cuts B)
               let last = told-content (g.content lost) (all.puts.told.1 told) in
               let each = at_told
               (λ (_ : List ℕ). EachImage g lost (MakesBetween
-              (least_done store_form Failed left_calls (begun_in happened ++ begins.0))
+              (least_done Failed left_calls Store Command store_form (begun_in happened ++ begins.0))
               (length (begun_in happened ++ begins.0)) (store_in old.store) (begun_in happened ++ begins.0))) first.0
               first.1 makes in
               let here = at_told
               (λ (_ : List ℕ). (image : List ℕ) → images_now g lost image → MakesBetween
-              (least_done store_form Failed left_calls (begun_in happened ++ begins.0))
+              (least_done Failed left_calls Store Command store_form (begun_in happened ++ begins.0))
               (length (begun_in happened ++ begins.0)) (store_in old.store) (begun_in happened ++ begins.0) image) last.0
               last.1 each image now in
               subst
-              (λ (a : Arming). MakesBetween (least_done store_form a left_calls (event []).done) (length (event []).done)
+              (λ (a : Arming). MakesBetween (least_done a left_calls Store Command store_form (event []).done) (length (event []).done)
               (store_in old.store) (event []).done image) (sym fails.failed)
               (subst
-              (λ (all : List Command). MakesBetween (least_done store_form Failed left_calls all) (length all)
+              (λ (all : List Command). MakesBetween (least_done Failed left_calls Store Command store_form all) (length all)
               (store_in old.store) all image) (sym commands) here);
         }
 

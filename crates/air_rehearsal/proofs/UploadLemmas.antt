@@ -138,11 +138,11 @@ module _ {D : Type 0} (g : Ghosts D) (whole : ClientPart) (old new : NotesState)
         (notes.notes_on new disk_now) calls (several.does.cut (fails is)) passed in
         subst
         (λ (commands : List NotesCommand). IfSome (g.content disk) (λ _. EachImage g disk_now
-        (notes.MakesBetween (least_done notes_form Failed calls commands) (length commands) whole.party.client.lists
+        (notes.MakesBetween (least_done Failed calls Lists NotesCommand notes_form commands) (length commands) whole.party.client.lists
         commands))) (sym commands_is)
         (subst
         (λ (l : Lists). IfSome (g.content disk) (λ _. EachImage g disk_now
-        (notes.MakesBetween (least_done notes_form Failed calls (command ∷ [])) 1 l (command ∷ [])))) lists_is makes);
+        (notes.MakesBetween (least_done Failed calls Lists NotesCommand notes_form (command ∷ [])) 1 l (command ∷ [])))) lists_is makes);
     done = by came fine;
   }
     where

@@ -5,7 +5,7 @@ use Rattle.disk_model.specs.declared.disk.Disk.{Ghosts}
 use Rattle.file_journal.specs.Calls.{IsQuietNow, Leaves, TellsAlike}
 use Rattle.air_world.specs.Schedule.{Event}
 use Rattle.air_world.specs.World.{World}
-use Rattle.air_rehearsal.specs.Standing.{Makes, StandsAlike, StandsDuring, StandsFor, StandsNow, least_of}
+use Rattle.air_rehearsal.specs.Standing.{Makes, StandsAlike, StandsDuring, StandsFor, StandsNow, least_done}
 use Rattle.air_rehearsal.specs.Stations.{Role, Station, acts, breaks_off, looks_on, role_of, waiting_after, will_be_cut}
 
 -- A station between two events: the world, the cut that waits for it, by the number of its call, and its disk.
@@ -52,7 +52,7 @@ module _ {B : Type 0} (g : Ghosts B) (cuts : Cuts B) (station : Station) where
     pub stands : IfSome (g.content left) (StandsFor station new.world)
     pub no_fewer :
         g.write_faults lost < 18446744073709551615
-        → IfSome (g.content left) (Makes (least_of (cuts.arming lost) (call - 1)) station old.world event)
+        → IfSome (g.content left) (Makes (least_done (cuts.arming lost) (call - 1)) station old.world event)
     pub again : StartsAgain g station left new.disk
 
   -- What an event does to the disk, by what it is for the station, and by the cut that waits for it. In an event of

@@ -10,7 +10,8 @@ use Rattle.disk_model.specs.declared.halt.Halt.{Halt}
 use Rattle.disk_model.specs.declared.halt.Halt.TheVariants as halt
 use Rattle.file_journal.specs.Calls.{EachImage}
 use Rattle.ax25_link.specs.Window.{window_of}
-use Rattle.client_notes.specs.Notes.{task_count}
+use Rattle.client_notes.specs.Command.{NotesCommand}
+use Rattle.client_notes.specs.Notes.{Lists, task_count}
 use Rattle.client_notes.specs.Records.{notes_form}
 use Rattle.client_notes.specs.State.{StandsFor}
 use Rattle.ftl0_job.specs.JobState.{HasTask, IsTaskOf}
@@ -73,7 +74,7 @@ module _ {D : Type 0} (g : Ghosts D) where
     pub fails : IsErrOf came halt.Disk → Rose (g.write_faults disk) (g.write_faults disk_now)
     pub cut :
         IsErrOf came halt.Disk → (calls : ℕ) → g.moment disk + calls < g.moment disk_now
-        → IfSome (g.content disk) (λ _. EachImage g disk_now (HasDone (least_done notes_form Failed calls) whole))
+        → IfSome (g.content disk) (λ _. EachImage g disk_now (HasDone (least_done Failed calls Lists NotesCommand notes_form) whole))
     pub done : OnOk came (EachImage g disk_now (HasAll whole))
 
   -- the same, and the delivery, if it is one, is marked

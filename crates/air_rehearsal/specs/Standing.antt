@@ -9,9 +9,11 @@ use Rattle.node.specs.Events.{NodeEvent}
 use Rattle.file_store.specs.Command.{Command}
 use Rattle.file_store.specs.OnDisk as store
 use Rattle.file_store.specs.Records.{store_form}
+use Rattle.file_store.specs.Store.{Store}
 use Rattle.file_store.specs.Recovery as store_recovery
 use Rattle.file_store.specs.State as store_state
 use Rattle.client_notes.specs.Command.{NotesCommand}
+use Rattle.client_notes.specs.Notes.{Lists}
 use Rattle.client_notes.specs.Records.{notes_form}
 use Rattle.client_notes.specs.Recovery as notes_recovery
 use Rattle.client_notes.specs.Several as notes
@@ -40,37 +42,29 @@ pub record StoreMakes (least : List Command → ℕ) (old : World) (event : Even
       old.server.store (server_commands old coming) image
 
 -- the same of the notes of the client at this place
-pub record NotesMake (least : List NotesCommand → ℕ) (c : ℕ) (old : World) (event : Event) (image : List ℕ) : Type 0 where
+pub record NotesMake (least : List NotesCommand → ℕ) (c : ℕ) (old : World) (event : Event) (image : List ℕ)
+    : Type 0 where
   pub part : ClientPart
   pub takes : ClientTakes old event c part
   pub stands :
       notes.MakesBetween (least (client_commands part)) (length (client_commands part))
       part.party.client.lists (client_commands part) image
 
--- how many of some commands stand at the least, of a store and of notes
-pub record Least : Type 0 where
-  pub of_store : List Command → ℕ
-  pub of_notes : List NotesCommand → ℕ
-
-abbrev pub Makes : Least → Station → World → Event → List ℕ → Type 0
-Makes least the_server old event image = StoreMakes least.of_store old event image
-Makes least (client_at c) old event image = NotesMake least.of_notes c old event image
+-- the one or the other, where `least` says it of the commands of any form
+abbrev pub Makes : ((S C : Type 0) → Form S C → List C → ℕ) → Station → World → Event → List ℕ → Type 0
+Makes least the_server old event image = StoreMakes (least Store Command store_form) old event image
+Makes least (client_at c) old event image = NotesMake (least Lists NotesCommand notes_form) c old event image
 
 -- after the first of the commands that the event has in this world, for whatever number of them
 abbrev pub StandsDuring : Station → World → Event → List ℕ → Type 0
-StandsDuring = Makes (record { of_store = λ commands. 0; of_notes = λ commands. 0 })
+StandsDuring = Makes (λ S C form commands. 0)
 
 -- How many of these commands stand at the least, where so many calls were to pass and the disk is armed so then: all
 -- of them where no call failed by the arming, else as many as those calls carry out.
-abbrev pub least_done : {S C : Type 0} → Form S C → Arming → ℕ → List C → ℕ
-least_done form Unarmed calls commands = length commands
-least_done form (Passes left) calls commands = length commands
-least_done form Failed calls commands = done_within form commands calls
-
--- the same of the commands of a store, and of those of notes
-abbrev pub least_of : Arming → ℕ → Least
-least_of arming calls =
-    record { of_store = least_done store_form arming calls; of_notes = least_done notes_form arming calls }
+abbrev pub least_done : Arming → ℕ → (S C : Type 0) → Form S C → List C → ℕ
+least_done Unarmed calls S C form commands = length commands
+least_done (Passes left) calls S C form commands = length commands
+least_done Failed calls S C form commands = done_within form commands calls
 
 -- The octets stand for what those before stand for, and differ from them only as a recovery may leave them: 18 octets
 -- or more are left as they are.

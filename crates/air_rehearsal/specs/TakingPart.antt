@@ -4,7 +4,7 @@ use Rattle.disk_model.specs.Cuts.{ArmsOnly, Cuts, KeepsPast, LosesPower}
 use Rattle.disk_model.specs.declared.disk.Disk.{Ghosts}
 use Rattle.file_journal.specs.Calls.{Leaves, TellsAlike}
 use Rattle.client_notes.specs.Command.{NotesCommand}
-use Rattle.client_notes.specs.Notes.{Task, task_of}
+use Rattle.client_notes.specs.Notes.{Lists, Task, task_of}
 use Rattle.client_notes.specs.Records.{notes_form}
 use Rattle.client_notes.specs.Several as notes
 use Rattle.client_notes.specs.State.{StandsFor}
@@ -123,7 +123,7 @@ module _ {B : Type 0} (g : Ghosts B) (cuts : Cuts B) where
     pub stands : IfSome (g.content left) (λ image. StandsFor image next.client.lists)
     pub no_fewer :
         g.write_faults lost < 18446744073709551615
-        → IfSome (g.content left) (HasDone (least_done notes_form (cuts.arming lost) (call - 1)) part)
+        → IfSome (g.content left) (HasDone (least_done (cuts.arming lost) (call - 1) Lists NotesCommand notes_form) part)
     pub again : (c : ℕ) → StartsAgain g (client_at c) left disk_now
 
   -- by the cut that waits for the client, if one does
