@@ -308,7 +308,7 @@ module _ {A C D : Type 0} (see : Seen D A C) (lasts : (disk : D) → see.disk.la
       end = end;
       ready = s.ready;
       starts = starts;
-      out = subst (λ (l : Lists). Carrying job l) (starts.does.done (λ never_. never_)).0 (subst (λ (j : JobState). Carrying j s.asked.notes.lists) made_is uploads.carries);
+      out = subst (λ (l : Lists). Carrying job l) ((starts.does.done (λ never_. never_)).0 (inl refl)) (subst (λ (j : JobState). Carrying j s.asked.notes.lists) made_is uploads.carries);
     }
 
     abbrev Answered : Result Sent SendStop → Type 0
