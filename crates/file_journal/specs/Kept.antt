@@ -46,9 +46,9 @@ pub record MayTurn {D S V C : Type 0} (g : Ghosts D) (form : Form V C) (steps : 
   pub healthy : journal.failed ≡ false
   pub may : allowed
 
--- The disk failed in one of the commands: the state, where it is known, is the one after those before it. Each image has
--- these, and that one or not; and those before it stay. They were done in time, and the one in which it failed would have been: the
--- first so many at the moment that `time` has of that number. The journal has failed.
+-- The disk failed in one of the commands: the state, where it is known, is the one after those before it. Each image
+-- has these, and that one or not; and those before it stay. They were done in time, and the one in which it failed
+-- would have been: the first so many at the moment that `time` has of that number. The journal has failed.
 pub record IsCut {D S C : Type 0} (g : Ghosts D) (form : Form S C) (time : ℕ → ℕ) (commands : List C)
     (old new : KeptOn D S) : Type 0 where
   pub count : ℕ

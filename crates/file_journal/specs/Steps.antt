@@ -12,8 +12,8 @@ use Rattle.file_journal.specs.declared.layout.Layout.{Layout}
 use Rattle.file_journal.specs.declared.layout.Layout.TheVariants as layout
 
 -- The states that records make: the one before the first record, by the block number, and that number; and the one
--- after a record, where the state before it, with what the blocks hold, allows that record; and what holds of each state
--- that records make. A state uses some blocks. What some of them hold decided that it was reached.
+-- after a record, where the state before it, with what the blocks hold, allows that record; and what holds of each
+-- state that records make. A state uses some blocks. What some of them hold decided that it was reached.
 pub record Steps (S : Type 0) : Type 1 where
   pub fresh : ℕ → S
   pub number : S → ℕ

@@ -1,6 +1,7 @@
 //! What the records of a journal are applied to.
 
-ghost use Rattle.std.specs.Prelude.{◌≡◌, ◌+◌, ◌^◌, ◌<◌, ◌≤◌, ℕ, List, length, true, false, Option, None, Some, IfSome, IfOk, IsErrOf, OnErr, OnOk};
+ghost use Rattle.std.specs.Prelude.{◌≡◌, ◌+◌, ◌^◌, ◌<◌, ◌≤◌, ℕ, List, length, true, false, Option, None, Some, IfSome, IsErrOf};
+ghost use Rattle.std.specs.Prelude.{IfOk, OnErr, OnOk};
 ghost use Rattle.file_journal.specs.Calls.{Reads};
 ghost use Rattle.file_journal.specs.Form.{Form};
 ghost use Rattle.file_journal.specs.Header.{AreBlocks};
