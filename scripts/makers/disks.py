@@ -13,12 +13,13 @@ class Stopped(Exception):
 
 
 class Disk:
-    """A disk of these octets, which passes so many calls of write and sync, or all of them. The first write that fails leaves
-    its range open. The writes since the last sync stand with the octets that they found, by which they can be undone."""
+    """A disk of these octets, which passes so many calls of write and sync, or all of them, or all but those of these numbers,
+    which count a question for the length too. The first write that fails leaves its range open. The writes since the last sync
+    stand with the octets that they found, by which they can be undone."""
 
-    def __init__(self, octets, passes=None):
+    def __init__(self, octets, passes=None, failing=()):
         self.present, self.least, self.since = Octets(octets), len(octets), []
-        self.passes, self.torn = passes, False
+        self.passes, self.failing, self.calls, self.asked, self.torn = passes, failing, 0, 0, False
 
     @property
     def octets(self):
@@ -37,12 +38,15 @@ class Disk:
     def read(self, at, count):
         return self.present[at : at + count]
 
+    def ask_length(self):
+        self.asked += 1
+        if self.calls + self.asked in self.failing:
+            raise Stopped()
+
     def counted(self):
         """Counts a call of write or sync, and tells whether it passes."""
-        if self.passes is None:
-            return True
-        self.passes -= 1
-        return self.passes >= 0
+        self.calls += 1
+        return self.calls + self.asked not in self.failing and (self.passes is None or self.calls <= self.passes)
 
     def write(self, at, octets):
         if not self.counted():
@@ -103,6 +107,7 @@ class Journal:
     def __init__(self, disk, magic, blocks, take, layout=GROWING):
         self.disk, self.failed = disk, False
         disk.sync()
+        disk.ask_length()
         octets = disk.octets if layout == GROWING else Octets(disk.present)
         first = self.gate = first_gate(layout, blocks_in(octets) if len(octets) > HEADER else blocks)
 

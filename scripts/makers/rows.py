@@ -29,11 +29,11 @@ def played(heading, path, given):
     return [heading] + [given(line) if is_row(line) else line for line in rows_of(path)]
 
 
-def played_sections(path, play, before):
-    """The lines of the sections that can be played, those that stand together in one list. A row is played behind what the one
-    before it left: `play` gives its line and what it leaves, or None where it can't."""
+def played_sections(lines, play, before):
+    """What is printed for the sections of these lines that can be played, those that stand together in one list. A row is played
+    behind what the one before it left: `play` gives its line and what it leaves, or None where it can't."""
     parts, section, left = [[]], [], before
-    for line in rows_of(path) + ["#"]:
+    for line in lines + ["#"]:
         if not is_row(line):
             if section is not None:
                 parts[-1] += section
