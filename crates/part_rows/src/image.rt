@@ -1,10 +1,10 @@
-//! Rows of disks, each in hexadecimal: a store of 8 blocks is recovered from its octets, and the files that it holds
+//! Rows of disks, each the words of its octets: a store of 8 blocks is recovered from them, and the files that it holds
 //! are printed, or why the octets are none.
 
 use anyhow::Result;
 use disk_model::MemoryDisk;
 use file_store::{FileStore, Limits};
-use row_words::Player;
+use row_words::{Player, read_octets};
 use std::alloc::Global;
 
 /// Plays rows of disks, each on its own.
@@ -19,7 +19,7 @@ impl Player for ImageRows {
 
 /// Recovers a store from the octets of a row, and shows it, or why it isn't recovered. Takes memory.
 fn recovered(alloc: Global, row: &str) -> Result<String> {
-    let octets = hex::decode(alloc, row)?;
+    let octets = read_octets(alloc, row)?;
     let mut disk = MemoryDisk::new(alloc, octets.as_slice(), &[])?;
     match FileStore::recover(alloc, &mut disk, Limits { blocks: 8 }) {
         Ok(store) => shown(alloc, &store),
