@@ -74,7 +74,8 @@ module _ {D : Type 0} (g : Ghosts D) where
     pub fails : IsErrOf came halt.Disk → Rose (g.write_faults disk) (g.write_faults disk_now)
     pub cut :
         IsErrOf came halt.Disk → (calls : ℕ) → g.moment disk + calls < g.moment disk_now
-        → IfSome (g.content disk) (λ _. EachImage g disk_now (HasDone (least_done Failed calls Lists NotesCommand notes_form) whole))
+        → IfSome (g.content disk) (λ _.
+        EachImage g disk_now (HasDone (least_done Failed calls Lists NotesCommand notes_form) whole))
     pub done : OnOk came (EachImage g disk_now (HasAll whole))
 
   -- the same, and the delivery, if it is one, is marked

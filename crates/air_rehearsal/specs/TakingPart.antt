@@ -123,7 +123,8 @@ module _ {B : Type 0} (g : Ghosts B) (cuts : Cuts B) where
     pub stands : IfSome (g.content left) (λ image. StandsFor image next.client.lists)
     pub no_fewer :
         g.write_faults lost < 18446744073709551615
-        → IfSome (g.content left) (HasDone (least_done (cuts.arming lost) (call - 1) Lists NotesCommand notes_form) part)
+        → IfSome (g.content left)
+        (HasDone (least_done (cuts.arming lost) (call - 1) Lists NotesCommand notes_form) part)
     pub again : (c : ℕ) → StartsAgain g (client_at c) left disk_now
 
   -- by the cut that waits for the client, if one does
