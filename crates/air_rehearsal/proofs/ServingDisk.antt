@@ -223,7 +223,7 @@ module _ {B : Type 0} (g : Ghosts B) (cuts : Cuts B)
               let all : StandsFor image (after_all (store_in old.store) commands) =
               subst (λ (s : Store). StandsFor image s) ((does_now.done (λ never. never)).0 (inl refl))
               (all-images g missed old.store new.store armed lost commands does_now told stands image now) in
-              let few = least_most (cuts.arming lost) left_calls (length commands) in (
+              let few = least_most store_form (cuts.arming lost) left_calls commands in (
                 length commands,
                 few,
                 omega arith,
