@@ -1,0 +1,262 @@
+-- Each command keeps the rules of a store of placed files.
+use Rattle.std.proofs.Common.{◌≡◌, ◌⊎◌, ℕ, ◌+◌, ◌*◌, ◌≤◌, ◌<◌, ◌==◌, cond, not, List, [], ◌∷◌, ◌++◌, length, map}
+use Rattle.std.proofs.Common.{Bool, filter, Option, None, Some, refl, ap, sym, ◌∙◌, subst, arith, inl, inr, length-append}
+use Rattle.std.specs.Prelude.{All, IsSome, IsTrue, sum_by}
+use Rattle.std.proofs.lemmas.Bool.Decides.{eqb_tells}
+use Rattle.std.proofs.lemmas.List.{length-map, map-append}
+use Rattle.std.proofs.lemmas.List.Elements.{All-push}
+use Rattle.std.proofs.lemmas.List.Filters.{length-filter_both}
+use Rattle.std.proofs.lemmas.List.Folds.{fold-map}
+use Rattle.std.proofs.lemmas.List.Sums.{sum_by_push}
+use Rattle.block_entries.specs.FilesLaws.{all_changed, all_filter, all_push, found_holds, rise_changed, rise_filter, rise_push, sum_changed, sum_without}
+use Rattle.block_entries.specs.IsPlaced.{ArePlaced, IsPlaced, IsPlacedFile}
+use Rattle.block_entries.specs.Placed.{Placed, PlacedStore, Seal, has_number, new_placed, no_entries, placed_of, run_of, runs_of}
+use Rattle.block_entries.specs.PlacedCommand.{PlacedCommand, after, begin, changed, drop_entry, grow, grown, is_allowed, is_partial, seal, seen_command, sealed, with_changed}
+use Rattle.block_entries.specs.PlacedCommand.{can_seal}
+use Rattle.block_entries.specs.Seen.{seen, seen_entry}
+use Rattle.block_entries.specs.TestLaws.{Grows, MayCome, MayGrow, MaySeal, MayTake, Passes, may_come, may_grow, may_seal, may_take, partial_none, passed}
+use Rattle.block_table.specs.Table.{Run, rooms_of, times_in, times_of}
+use Rattle.file_entries.specs.Command.{HasCall}
+use Rattle.file_entries.specs.Limits.{longest_file, most_entries}
+use Rattle.file_entries.specs.Store.{Entry, blocks_for, blocks_of}
+use Rattle.file_journal.specs.Layout.{Blocks}
+use Rattle.px_base.specs.CallSign.{CallSign, IsCall}
+
+-- ---- sums over the runs
+
+-- a sum over what is made of each
+pub sum_map : {A B : Type 0} (g : B → ℕ) (v : A → B) (xs : List A) → sum_by g (map v xs) ≡ sum_by (λ x. g (v x)) xs
+sum_map g v xs = fold-map (λ (a : ℕ) x. a + g x) v 0 xs
+
+-- how often a block stands in a file
+abbrev pub times_at : ℕ → Placed → ℕ
+times_at block file = times_in block (run_of file)
+
+pub times_files : (block : ℕ) (files : List Placed) → times_of block (runs_of files) ≡ sum_by (times_at block) files
+times_files block files = sum_map (times_in block) run_of files
+
+-- how many blocks a file takes at its whole length
+abbrev pub room_at : Placed → ℕ
+room_at file = blocks_for file.length
+
+pub rooms_files : (files : List Placed) → rooms_of (runs_of files) ≡ sum_by room_at files
+rooms_files files = sum_map (λ (r : Run). r.room) run_of files
+
+-- the files take as many blocks as the entries that they are seen as
+pub blocks_seen : (held : Blocks) (store : PlacedStore) → blocks_of (seen held store) ≡ rooms_of (runs_of store.entries)
+blocks_seen held store =
+    sum_map (λ (e : Entry). blocks_for e.length) (seen_entry held) store.entries ∙ sym (rooms_files store.entries)
+
+pub times_grown :
+    (b block used : ℕ) (file : Placed) → times_at b (grown block used file) ≡ times_at b file + cond (block == b) 1 0
+times_grown b block used file = sum_by_push (λ (x : ℕ). cond (x == b) 1 0) file.blocks block
+
+-- ---- one file
+
+pub new_is : (limit number : ℕ) (caller : CallSign) (file_length moment : ℕ) → IsCall caller → file_length ≤ longest_file
+    → IsPlacedFile limit (new_placed number caller file_length moment)
+new_is limit number caller file_length moment call short = record {
+  caller = call;
+  short = short;
+  fits = omega arith;
+  whole = λ (is : IsSome (new_placed number caller file_length moment).seal). absurd (cc);
+  count = omega arith;
+  full = inr (omega arith);
+  below = λ i d h. omega (arith, h);
+}
+
+-- so many further octets come in one more block, where the file has room for them
+held_more : (held used file_length count : ℕ) → (held ≡ file_length) ⊎ (held ≡ 512 * count) → held + used ≤ file_length
+    → 1 ≤ used → held ≡ 512 * count
+held_more held used file_length count (inl all) room some = absurd (omega (arith, all, room, some))
+held_more held used file_length count (inr full) room some = full
+
+pub grows_full : (limit : ℕ) (file : Placed) (used : ℕ) → IsPlacedFile limit file → MayGrow file used → 1 ≤ used
+    → file.held ≡ 512 * length file.blocks
+grows_full limit file used is may some =
+    held_more file.held used file.length (length file.blocks) is.full may.room some
+
+grown_full : (held used file_length count : ℕ) → held ≡ 512 * count → (used ≡ 512) ⊎ (held + used ≡ file_length)
+    → (held + used ≡ file_length) ⊎ (held + used ≡ 512 * (count + 1))
+grown_full held used file_length count is (inl whole) = inr (omega (arith, is, whole))
+grown_full held used file_length count is (inr last) = inl last
+
+grown_count : (held used count : ℕ) → held ≡ 512 * count → 1 ≤ used → used ≤ 512 → count + 1 ≡ blocks_for (held + used)
+grown_count held used count is some most = omega (arith, is, some, most)
+
+never_sealed : {A : Type 0} (o : Option A) → o ≡ None → IsSome o → ⊥
+never_sealed None none is = cc
+never_sealed (Some x) none is = cc
+
+pub grown_is : (store : PlacedStore) (file : Placed) (block used : ℕ) → IsPlacedFile store.blocks file → MayGrow file used
+    → MayTake store block used → IsPlacedFile store.blocks (grown block used file)
+grown_is store file block used is may take =
+    let full = grows_full store.blocks file used is may take.some in
+    let len : length (file.blocks ++ block ∷ []) ≡ length file.blocks + 1 = length-append file.blocks (block ∷ []) in
+    record {
+      caller = is.caller;
+      short = is.short;
+      fits = may.room;
+      whole = λ some. absurd (never_sealed file.seal may.partial some);
+      count = len ∙ grown_count file.held used (length file.blocks) full take.some take.most;
+      full = subst (λ (n : ℕ). (file.held + used ≡ file.length) ⊎ (file.held + used ≡ 512 * n)) (sym len)
+          (grown_full file.held used file.length (length file.blocks) full may.fills);
+      below = All-push (λ (b : ℕ). b < store.blocks) file.blocks block is.below take.there;
+    }
+
+pub sealed_is : (limit moment sum : ℕ) (file : Placed) → IsPlacedFile limit file → file.held ≡ file.length
+    → IsPlacedFile limit (sealed moment sum file)
+sealed_is limit moment sum file is whole = record {
+  caller = is.caller;
+  short = is.short;
+  fits = is.fits;
+  whole = λ some. whole;
+  count = is.count;
+  full = is.full;
+  below = is.below;
+}
+
+-- ---- all files
+
+pub none_is_placed : (blocks : ℕ) → IsPlaced (no_entries blocks)
+none_is_placed blocks = record {
+  numbers = tt;
+  files = tt;
+  once = λ block. omega arith;
+  next = omega arith;
+  few = omega arith;
+  rooms = omega arith;
+}
+
+begin_placed : (store : PlacedStore) (caller : CallSign) (file_length moment : ℕ) → IsPlaced store → IsCall caller
+    → file_length ≤ longest_file → length store.entries < most_entries
+    → rooms_of (runs_of store.entries) + blocks_for file_length ≤ store.blocks
+    → IsPlaced (after store (begin store.next caller file_length moment))
+begin_placed store caller file_length moment is call short few room =
+    let new : Placed = new_placed store.next caller file_length moment in
+    let all = store.entries ++ new ∷ [] in
+    record {
+      numbers = rise_push 1 store.next store.entries new is.numbers is.next refl;
+      files = all_push (IsPlacedFile store.blocks) store.entries new is.files
+          (new_is store.blocks store.next caller file_length moment call short);
+      once = λ b. omega (arith, is.once b, times_files b store.entries, times_files b all, sum_by_push (times_at b) store.entries new);
+      next = omega arith;
+      few = omega (arith, few, length-append store.entries (new ∷ []));
+      rooms = omega (arith, room, rooms_files store.entries, rooms_files all, sum_by_push room_at store.entries new);
+    }
+
+module _ (store : PlacedStore) (number : ℕ) (change : Placed → Placed) (file : Placed) (is : IsPlaced store) (found : placed_of store number ≡ Some file)
+    (same_number : (g : Placed) → (change g).number ≡ g.number) (same_length : (change file).length ≡ file.length) (here : IsPlacedFile store.blocks (change file)) where
+  abbrev now : List Placed
+  now = map (changed number change) store.entries
+
+  changed_placed : ((b : ℕ) → times_of b (runs_of now) ≤ 1) → IsPlaced (with_changed store number change)
+  changed_placed once = record {
+    numbers = rise_changed number change 1 store.next store.entries same_number is.numbers;
+    files = all_changed (IsPlacedFile store.blocks) number change 1 store.next store.entries file is.numbers found here is.files;
+    once = once;
+    next = is.next;
+    few = subst (λ (n : ℕ). n ≤ most_entries) (sym (length-map store.entries (changed number change))) is.few;
+    rooms = omega (
+        arith,
+        is.rooms,
+        rooms_files store.entries,
+        rooms_files now,
+        sum_changed room_at number change 1 store.next store.entries file is.numbers found,
+        ap blocks_for same_length,
+      );
+  }
+
+  times_changed : (b : ℕ) → times_of b (runs_of now) + times_at b file ≡ times_of b (runs_of store.entries) + times_at b (change file)
+  times_changed b = omega (
+    arith,
+    times_files b store.entries,
+    times_files b now,
+    sum_changed (times_at b) number change 1 store.next store.entries file is.numbers found,
+  )
+
+grow_placed : (store : PlacedStore) (number block used : ℕ) → IsPlaced store → Grows store number block used
+    → IsPlaced (after store (grow number block used))
+grow_placed store number block used is grows =
+    let take = grows.takes in
+    let file = grows.passes.file in
+    let found = grows.passes.found in
+    let may = may_grow file used grows.passes.test_is in
+    let one = found_holds (IsPlacedFile store.blocks) number store.entries file is.files found in
+    let here = grown_is store file block used one may take in
+    changed_placed store number (grown block used) file is found (λ g. refl) refl here
+    (λ b.
+    grind (
+      arith,
+      times_changed store number (grown block used) file is found (λ g. refl) refl here b,
+      times_grown b block used file,
+      is.once b,
+      take.free,
+      eqb_tells block b,
+    ))
+
+seal_placed : (held : Blocks) (store : PlacedStore) (number moment sum : ℕ) → IsPlaced store
+    → Passes store number (λ f. can_seal held f moment sum) → IsPlaced (after store (seal number moment sum))
+seal_placed held store number moment sum is passes =
+    let file = passes.file in
+    let found = passes.found in
+    let may = may_seal held file moment sum passes.test_is in
+    let one = found_holds (IsPlacedFile store.blocks) number store.entries file is.files found in
+    let here = sealed_is store.blocks moment sum file one may.whole in
+    changed_placed store number (sealed moment sum) file is found (λ g. refl) refl here
+    (λ b.
+    omega (
+      arith,
+      times_changed store number (sealed moment sum) file is found (λ g. refl) refl here b,
+      is.once b,
+    ))
+
+drop_placed : (store : PlacedStore) (number : ℕ) → IsPlaced store → Passes store number is_partial
+    → IsPlaced (after store (drop_entry number))
+drop_placed store number is passes =
+    let test : Placed → Bool = λ f. not (has_number number f) in
+    let left = filter test store.entries in
+    record {
+      numbers = rise_filter test 1 store.next store.entries is.numbers;
+      files = all_filter (IsPlacedFile store.blocks) test store.entries is.files;
+      once = λ b. omega (
+          arith,
+          is.once b,
+          times_files b store.entries,
+          times_files b left,
+          sum_without (times_at b) number 1 store.next store.entries passes.file is.numbers passes.found,
+        );
+      next = is.next;
+      few = omega (arith, is.few, length-filter_both test (λ f. not (test f)) (λ _. refl) store.entries);
+      rooms = omega (
+          arith,
+          is.rooms,
+          rooms_files store.entries,
+          rooms_files left,
+          sum_without room_at number 1 store.next store.entries passes.file is.numbers passes.found,
+        );
+    }
+
+-- what the condition of a Begin says
+pub begin_may : (held : Blocks) (store : PlacedStore) (number : ℕ) (caller : CallSign) (file_length moment : ℕ)
+    → IsTrue (is_allowed held store (begin number caller file_length moment))
+    → MayCome number store.next file_length (length store.entries) (rooms_of (runs_of store.entries) + blocks_for file_length) store.blocks
+begin_may held store number caller file_length moment ok =
+    subst (λ (n : ℕ). MayCome number store.next file_length n (rooms_of (runs_of store.entries) + blocks_for file_length) store.blocks)
+    (length-map store.entries (seen_entry held))
+    (subst (λ (n : ℕ). MayCome number store.next file_length (length (map (seen_entry held) store.entries)) (n + blocks_for file_length) store.blocks)
+    (blocks_seen held store)
+    (may_come number store.next file_length (length (map (seen_entry held) store.entries)) (blocks_of (seen held store) + blocks_for file_length) store.blocks ok))
+
+pub after_placed : (held : Blocks) (store : PlacedStore) (command : PlacedCommand) → IsPlaced store
+    → HasCall (seen_command held command) → IsTrue (is_allowed held store command) → IsPlaced (after store command)
+after_placed held store (begin number caller file_length moment) is call ok =
+    let may = begin_may held store number caller file_length moment ok in
+    subst (λ (n : ℕ). IsPlaced (after store (begin n caller file_length moment))) (sym may.number_is)
+    (begin_placed store caller file_length moment is call may.short may.few may.room)
+after_placed held store (grow number block used) is call ok =
+    grow_placed store number block used is (may_take held store number block used ok)
+after_placed held store (seal number moment sum) is call ok =
+    seal_placed held store number moment sum is (passed store number (λ f. can_seal held f moment sum) ok)
+after_placed held store (drop_entry number) is call ok =
+    drop_placed store number is (passed store number is_partial ok)

@@ -1,0 +1,116 @@
+-- The commands as records of a store's journal. All numbers have least significant octets first.
+use Rattle.std.specs.Prelude.{◌≡◌, ℕ, ◌^◌, ◌<◌, ◌==◌, List, [], ◌∷◌, ◌++◌, length, if◌then◌else◌, Option, None, Some}
+use Rattle.std.specs.Option.{option_and_then}
+use Rattle.block_entries.specs.IsPlaced.{IsPlaced}
+use Rattle.block_entries.specs.Placed.{Decides, PlacedStore, Uses, no_entries}
+use Rattle.block_entries.specs.PlacedCommand.{PlacedCommand, after, begin, drop_entry, grow, is_allowed, seal}
+use Rattle.block_entries.specs.Seen.{seen}
+use Rattle.file_entries.specs.Command as file
+use Rattle.file_entries.specs.Command.{Command, IsAllowed}
+use Rattle.file_entries.specs.Records.{IsNumber, command_of, record_of_command}
+use Rattle.file_entries.specs.Records as whole
+use Rattle.file_entries.specs.Store.{Store}
+use Rattle.file_journal.specs.Form.{Form, record_calls}
+use Rattle.file_journal.specs.Layout.{Blocks, block_in}
+use Rattle.file_journal.specs.Records.{Record, record_of}
+use Rattle.file_journal.specs.Steps.{Steps, walked}
+use Rattle.file_journal.specs.Walk.{see}
+use Rattle.file_journal.specs.declared.layout.Layout.TheVariants as layout
+use Rattle.px_base.specs.CallSign.{IsCall}
+use Rattle.px_base.specs.Numbers.{le16, le16_octets, le32, le32_octets}
+
+-- The record of a command. Begin and Drop are those of the command that is seen. Grow, kind 2: number, block, both of
+-- four octets, and how many octets are used, of two. Seal, kind 3: number, moment, both of four, and the sum, of two.
+abbrev pub record_of_placed : PlacedCommand → Record
+record_of_placed (begin number caller file_length moment) =
+    record_of_command (file.begin number caller file_length moment)
+record_of_placed (grow number block used) =
+    record_of 2 (le32_octets number ++ le32_octets block ++ le16_octets used)
+record_of_placed (seal number moment sum) =
+    record_of 3 (le32_octets number ++ le32_octets moment ++ le16_octets sum)
+record_of_placed (drop_entry number) = record_of_command (file.drop_entry number)
+
+-- the number fits two octets
+abbrev pub IsShort : ℕ → Type 0
+IsShort number = number < 2 ^ 16
+
+-- the command can be written: its numbers fit their octets, and its caller is a call
+abbrev pub IsWritable : PlacedCommand → Type 0
+IsWritable (begin number caller file_length moment) = whole.IsWritable (file.begin number caller file_length moment)
+IsWritable (grow number block used) = IsNumber number × IsNumber block × IsShort used
+IsWritable (seal number moment sum) = IsNumber number × IsNumber moment × IsShort sum
+IsWritable (drop_entry number) = IsNumber number
+
+-- the record is this command's
+abbrev pub Writes : Record → PlacedCommand → Type 0
+Writes entry command = IsWritable command × (entry ≡ record_of_placed command)
+
+-- The same, computed from the record.
+
+-- a Begin or a Drop, placed; no other command has octets or a seal without their place
+abbrev pub placed_as : Command → Option PlacedCommand
+placed_as (file.begin number caller file_length moment) = Some (begin number caller file_length moment)
+placed_as (file.grow number octets) = None
+placed_as (file.seal number moment) = None
+placed_as (file.drop_entry number) = Some (drop_entry number)
+
+-- the command of a record of kind 2 or 3, where the content has ten octets
+abbrev pub grow_in : List ℕ → Option PlacedCommand
+grow_in content =
+    if length content == 10 then Some (grow (le32 content 0) (le32 content 4) (le16 content 8)) else None
+
+abbrev pub seal_in : List ℕ → Option PlacedCommand
+seal_in content =
+    if length content == 10 then Some (seal (le32 content 0) (le32 content 4) (le16 content 8)) else None
+
+-- the command that the record is, if it is one
+unfoldable pub placed_in : Record → Option PlacedCommand
+placed_in entry =
+    if entry.kind == 2 then grow_in entry.content
+    else if entry.kind == 3 then seal_in entry.content
+    else option_and_then placed_as (command_of entry)
+
+-- the store after the command, where its condition holds with what the blocks hold
+abbrev pub placed_after : Blocks → PlacedStore → PlacedCommand → Option PlacedStore
+placed_after held store command = if is_allowed held store command then Some (after store command) else None
+
+-- the store after the command that the record is, where it is one whose condition holds
+abbrev pub placed_step : Blocks → PlacedStore → Record → Option PlacedStore
+placed_step held store entry = option_and_then (placed_after held store) (placed_in entry)
+
+-- the magic of a store of files in blocks: `PXSTORE9`
+abbrev pub placed_magic : List ℕ
+placed_magic = 80 ∷ 88 ∷ 83 ∷ 84 ∷ 79 ∷ 82 ∷ 69 ∷ 57 ∷ []
+
+-- what the records make of a store
+abbrev pub placed_steps : Steps PlacedStore
+placed_steps =
+    record {
+      fresh = no_entries;
+      number = λ store. store.blocks;
+      step = placed_step;
+      uses = Uses;
+      decides = Decides;
+    }
+
+-- how many calls of the disk a command takes: two more where octets are put in a block before its record
+abbrev pub calls_for : Command → ℕ
+calls_for (file.begin number caller file_length moment) = record_calls
+calls_for (file.grow number octets) = 6
+calls_for (file.seal number moment) = record_calls
+calls_for (file.drop_entry number) = record_calls
+
+-- The stores that a journal of these commands keeps: octets stand for the store of files that the records and the blocks
+-- make together.
+abbrev pub placed_form : Form Store Command
+placed_form =
+    record {
+      magic = placed_magic;
+      layout = layout.Blocks;
+      number = λ store. store.blocks;
+      standing = λ blocks octets.
+          see (seen (block_in octets)) (walked placed_steps placed_magic layout.Blocks blocks octets);
+      allowed = IsAllowed;
+      after = file.after;
+      calls = calls_for;
+    }
