@@ -14,7 +14,7 @@ use Rattle.block_entries.specs.IsPlaced.{IsPlaced, IsPlacedFile, Rise}
 use Rattle.block_entries.specs.KeptLaws.{grows_full}
 use Rattle.block_entries.specs.Placed.{Placed, PlacedStore, Seal, has_number, new_placed, placed_of}
 use Rattle.block_entries.specs.PlacedCommand.{PlacedCommand, after, begin, can_seal, changed, drop_entry, grow, grown, is_allowed, is_partial, seal, sealed, seen_command}
-use Rattle.block_entries.specs.Seen.{holding_with, octets_in, seen, seen_entry, stamp_at, whole_block}
+use Rattle.block_entries.specs.Seen.{entry_with, holding_with, octets_in, seen, seen_entry, stamp_at, whole_block}
 use Rattle.block_entries.specs.TestLaws.{Grows, MayGrow, MaySeal, Passes, may_grow, may_seal, may_take, partial_none, passed}
 use Rattle.file_entries.specs.Command as file
 use Rattle.file_entries.specs.Command.{kept_with, passes, with_more}
@@ -58,10 +58,6 @@ octets_grown held f block used full =
     ∙ ap (λ (os : List ℕ). os ++ take used (w block)) (sym all)
 
 -- ---- one entry
-
--- the entry of a file that has come so far
-abbrev pub entry_with : Placed → Holding → Entry
-entry_with f holding = record { number = f.number; caller = f.caller; length = f.length; begun = f.begun; holding = holding }
 
 -- a file without seal is seen as one under way
 pub partial_seen : (held : Blocks) (f : Placed) → f.seal ≡ None → (seen_entry held f).holding ≡ partial (octets_in held f)

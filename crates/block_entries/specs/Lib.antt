@@ -1,8 +1,11 @@
+pub mod CallLaws
 pub mod FilesLaws
 pub mod IsPlaced
 pub mod KeptLaws
 pub mod Placed
 pub mod PlacedCommand
+pub mod PlacedLaws
 pub mod PlacedRecords
+pub mod SameLaws
 pub mod Seen
 pub mod TestLaws

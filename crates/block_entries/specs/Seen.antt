@@ -29,16 +29,20 @@ abbrev pub holding_with : Option Seal → Placed → List ℕ → Holding
 holding_with None file octets = partial octets
 holding_with (Some seal) file octets = complete (stamped (stamp_at seal.moment file) octets) seal.moment
 
--- the entry that it is
-abbrev pub seen_entry : Blocks → Placed → Entry
-seen_entry held file =
+-- the entry of a file that has come so far
+abbrev pub entry_with : Placed → Holding → Entry
+entry_with file holding =
     record {
       number = file.number;
       caller = file.caller;
       length = file.length;
       begun = file.begun;
-      holding = holding_with file.seal file (octets_in held file);
+      holding = holding;
     }
+
+-- the entry that it is
+abbrev pub seen_entry : Blocks → Placed → Entry
+seen_entry held file = entry_with file (holding_with file.seal file (octets_in held file))
 
 -- the store that all are
 abbrev pub seen : Blocks → PlacedStore → Store

@@ -1,0 +1,82 @@
+-- What a store of placed files is seen as keeps the rules of a store.
+use Rattle.std.proofs.Common.{◌≡◌, ℕ, ◌+◌, ◌≤◌, List, [], ◌∷◌, length, map, Option, None, Some, refl, ap, sym, ◌∙◌, subst, arith, not}
+use Rattle.std.specs.Prelude.{IfSome, IsSome, IsTrue}
+use Rattle.std.specs.List.{AllByRecursion}
+use Rattle.std.proofs.lemmas.List.{length-map}
+use Rattle.block_entries.specs.FilesLaws.{all_changed, all_filter, all_push}
+use Rattle.block_entries.specs.IsPlaced.{ArePlaced, IsPlaced, IsPlacedFile, KeepsSeal, KeepsSeals, Rise}
+use Rattle.block_entries.specs.KeptLaws.{blocks_seen}
+use Rattle.block_entries.specs.Placed.{Placed, PlacedStore, Seal, has_number, new_placed}
+use Rattle.block_entries.specs.PlacedCommand.{PlacedCommand, after, begin, can_seal, drop_entry, grow, grown, is_allowed, seal, sealed}
+use Rattle.block_entries.specs.Seen.{holding_with, octets_in, seen, seen_entry, stamp_at, sum_with}
+use Rattle.block_entries.specs.TestLaws.{may_grow, may_seal, may_take, passed}
+use Rattle.block_entries.proofs.SeenLemmas.{length_octets}
+use Rattle.file_entries.specs.IsStore.{AreEntries, FitsLength, HaveCallers, IsStore}
+use Rattle.file_entries.specs.Limits.{most_entries}
+use Rattle.file_journal.specs.Layout.{Blocks}
+use Rattle.pfh_items.specs.Faults.{fault_code}
+use Rattle.pfh_writer.proofs.StampedLemmas.{length-stamped}
+
+-- ---- seals
+
+none_keeps : (o : Option Seal) (P : Seal → Type 0) → o ≡ None → IfSome o P
+none_keeps None P none = tt
+none_keeps (Some s) P none = absurd (cc)
+
+pub after_seals : (held : Blocks) (store : PlacedStore) (command : PlacedCommand) → IsPlaced store → IsTrue (is_allowed held store command)
+    → KeepsSeals held store → KeepsSeals held (after store command)
+after_seals held store (begin number caller file_length moment) is ok keeps =
+    all_push (KeepsSeal held) store.entries (new_placed number caller file_length moment) keeps tt
+after_seals held store (grow number block used) is ok keeps =
+    let grows = may_take held store number block used ok in
+    let one = grows.passes.file in
+    let none = (may_grow one used grows.passes.test_is).partial in
+    all_changed (KeepsSeal held) number (grown block used) 1 store.next store.entries one is.numbers grows.passes.found
+    (none_keeps one.seal (λ s. (fault_code (octets_in held (grown block used one)) ≡ None) × (s.sum ≡ sum_with s.moment (grown block used one) (octets_in held (grown block used one)))) none) keeps
+after_seals held store (seal number moment sum) is ok keeps =
+    let passes = passed store number (λ f. can_seal held f moment sum) ok in
+    let may = may_seal held passes.file moment sum passes.test_is in
+    all_changed (KeepsSeal held) number (sealed moment sum) 1 store.next store.entries passes.file is.numbers passes.found (may.faultless, may.sum_is) keeps
+after_seals held store (drop_entry number) is ok keeps = all_filter (KeepsSeal held) (λ f. not (has_number number f)) store.entries keeps
+
+-- ---- the rules of a store
+
+-- the octets of a file fit its length, stamped where it is sealed
+fits_seen : (f : Placed) (octets : List ℕ) (limit : ℕ) (s : Option Seal) → IsPlacedFile limit f → length octets ≡ f.held → (IsSome s → f.held ≡ f.length)
+    → IfSome s (λ _. fault_code octets ≡ None) → FitsLength (holding_with s f octets) f.length
+fits_seen f octets limit None is same whole keeps = subst (λ (n : ℕ). n ≤ f.length) (sym same) is.fits
+fits_seen f octets limit (Some s) is same whole keeps = length-stamped (stamp_at s.moment f) octets is.caller keeps ∙ same ∙ whole refl
+
+faultless : (s : Option Seal) (P : Type 0) (Q : Seal → Type 0) → IfSome s (λ seal. P × Q seal) → IfSome s (λ _. P)
+faultless None P Q keeps = tt
+faultless (Some s) P Q keeps = keeps.0
+
+are_seen : (held : Blocks) (limit low next : ℕ) (files : List Placed) → Rise low files next → ArePlaced limit files → AllByRecursion (KeepsSeal held) files
+    → AreEntries low (map (seen_entry held) files) next
+are_seen held limit low next [] rise are keeps = tt
+are_seen held limit low next (f ∷ fs) rise are keeps =
+    let octets = octets_in held f in
+    (
+      rise.0,
+      rise.1,
+      fits_seen f octets limit f.seal are.0 (length_octets held limit f are.0) are.0.whole
+          (faultless f.seal (fault_code octets ≡ None) (λ s. s.sum ≡ sum_with s.moment f octets) keeps.0),
+      are.0.short,
+      are_seen held limit (f.number + 1) next fs rise.2 are.1 keeps.1,
+    )
+
+callers_seen : (held : Blocks) (limit : ℕ) (files : List Placed) → ArePlaced limit files → HaveCallers (map (seen_entry held) files)
+callers_seen held limit [] are = tt
+callers_seen held limit (f ∷ fs) are = (are.0.caller, callers_seen held limit fs are.1)
+
+pub seen_store : (held : Blocks) (store : PlacedStore) → IsPlaced store → KeepsSeals held store → 1 ≤ store.blocks → store.blocks ≤ 65536
+    → IsStore (seen held store)
+seen_store held store is keeps some most = record {
+  entries = are_seen held store.blocks 1 store.next store.entries is.numbers is.files keeps;
+  callers = callers_seen held store.blocks store.entries is.files;
+  next = is.next;
+  count = subst (λ (n : ℕ). n ≤ most_entries) (sym (length-map store.entries (seen_entry held))) is.few;
+  blocks = subst (λ (n : ℕ). n ≤ store.blocks) (sym (blocks_seen held store)) is.rooms;
+  some = some;
+  most = most;
+}
