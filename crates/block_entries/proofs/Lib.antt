@@ -1,2 +1,3 @@
+mod RecordLemmas
 mod RulesLemmas
 mod SeenLemmas

@@ -1,19 +1,21 @@
 -- What a store of placed files is seen as keeps the rules of a store.
 use Rattle.std.proofs.Common.{◌≡◌, ℕ, ◌+◌, ◌≤◌, List, [], ◌∷◌, length, map, Option, None, Some, refl, ap, sym, ◌∙◌, subst, arith, not}
-use Rattle.std.specs.Prelude.{IfSome, IsSome, IsTrue}
+use Rattle.std.specs.Prelude.{IfSome, IsSome, IsTrue, if◌then◌else◌, is_some, sum_by}
 use Rattle.std.specs.List.{AllByRecursion}
 use Rattle.std.proofs.lemmas.List.{length-map}
+use Rattle.std.proofs.lemmas.List.Sums.{sum_by-cons}
 use Rattle.block_entries.specs.FilesLaws.{all_changed, all_filter, all_push}
 use Rattle.block_entries.specs.IsPlaced.{ArePlaced, IsPlaced, IsPlacedFile, KeepsSeal, KeepsSeals, Rise}
-use Rattle.block_entries.specs.KeptLaws.{blocks_seen}
-use Rattle.block_entries.specs.Placed.{Placed, PlacedStore, Seal, has_number, new_placed}
+use Rattle.block_entries.specs.KeptLaws.{blocks_seen, times_at}
+use Rattle.block_entries.specs.Placed.{Decides, Placed, PlacedStore, Seal, has_number, new_placed, times_sealed}
 use Rattle.block_entries.specs.PlacedCommand.{PlacedCommand, after, begin, can_seal, drop_entry, grow, grown, is_allowed, seal, sealed}
+use Rattle.block_entries.specs.SameLaws.{octets_same}
 use Rattle.block_entries.specs.Seen.{holding_with, octets_in, seen, seen_entry, stamp_at, sum_with}
 use Rattle.block_entries.specs.TestLaws.{may_grow, may_seal, may_take, passed}
 use Rattle.block_entries.proofs.SeenLemmas.{length_octets}
 use Rattle.file_entries.specs.IsStore.{AreEntries, FitsLength, HaveCallers, IsStore}
 use Rattle.file_entries.specs.Limits.{most_entries}
-use Rattle.file_journal.specs.Layout.{Blocks}
+use Rattle.file_journal.specs.Layout.{Blocks, HoldSame}
 use Rattle.pfh_items.specs.Faults.{fault_code}
 use Rattle.pfh_writer.proofs.StampedLemmas.{length-stamped}
 
@@ -55,8 +57,7 @@ are_seen : (held : Blocks) (limit low next : ℕ) (files : List Placed) → Rise
     → AreEntries low (map (seen_entry held) files) next
 are_seen held limit low next [] rise are keeps = tt
 are_seen held limit low next (f ∷ fs) rise are keeps =
-    let octets = octets_in held f in
-    (
+    let octets = octets_in held f in (
       rise.0,
       rise.1,
       fits_seen f octets limit f.seal are.0 (length_octets held limit f are.0) are.0.whole
@@ -80,3 +81,32 @@ seen_store held store is keeps some most = record {
   some = some;
   most = most;
 }
+
+-- ---- seals, whatever other blocks hold
+
+-- what a seal says of octets
+abbrev SaysOf : Placed → List ℕ → Option Seal → Type 0
+SaysOf f octets o = IfSome o (λ s. (fault_code octets ≡ None) × (s.sum ≡ sum_with s.moment f octets))
+
+seal_same : (one other : Blocks) (f : Placed) → HoldSame (λ b. 1 ≤ times_sealed b f) one other → KeepsSeal one f → KeepsSeal other f
+seal_same one other f same keeps = by f.seal refl keeps
+  where
+    by : (o : Option Seal) → f.seal ≡ o → SaysOf f (octets_in one f) o → SaysOf f (octets_in other f) o
+    by None is keeps = tt
+    by (Some s) is keeps =
+        let all : (b : ℕ) → times_sealed b f ≡ times_at b f =
+        λ b. ap (λ (o : Option Seal). if is_some o then times_at b f else 0) is in
+        let octets = octets_same one other f (λ b some. same b (subst (λ (n : ℕ). 1 ≤ n) (sym (all b)) some)) in
+        subst (λ (os : List ℕ). SaysOf f os (Some s)) (sym octets) keeps
+
+files_same : (one other : Blocks) (files : List Placed) → HoldSame (λ b. 1 ≤ sum_by (times_sealed b) files) one other → AllByRecursion (KeepsSeal one) files
+    → AllByRecursion (KeepsSeal other) files
+files_same one other [] same keeps = tt
+files_same one other (f ∷ fs) same keeps =
+    let more = λ (b : ℕ). sum_by-cons (times_sealed b) f fs in (
+      seal_same one other f (λ b is. same b (omega (arith, is, more b))) keeps.0,
+      files_same one other fs (λ b is. same b (omega (arith, is, more b))) keeps.1,
+    )
+
+pub seals_same : (one other : Blocks) (store : PlacedStore) → HoldSame (Decides store) one other → KeepsSeals one store → KeepsSeals other store
+seals_same one other store same keeps = files_same one other store.entries same keeps

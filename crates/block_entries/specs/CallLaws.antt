@@ -1,10 +1,9 @@
 -- A record that is a command names a call, where the command names a caller.
 use Rattle.std.proofs.Common.{◌≡◌, ℕ, ◌==◌, List, length, take, drop, Option, None, Some, refl, sym, subst, inl, inr}
-use Rattle.std.specs.Prelude.{if◌then◌else◌}
 use Rattle.std.specs.Option.{option_and_then}
 use Rattle.std.proofs.lemmas.Bool.Decides.{eqb_tells}
 use Rattle.block_entries.specs.PlacedCommand.{PlacedCommand, begin, drop_entry, grow, seal, seen_command}
-use Rattle.block_entries.specs.PlacedRecords.{grow_in, placed_as, placed_in, seal_in}
+use Rattle.block_entries.specs.PlacedRecords.{placed_as, placed_in}
 use Rattle.file_entries.specs.Command as file
 use Rattle.file_entries.specs.Command.{Command, HasCall}
 use Rattle.file_entries.specs.Records as whole

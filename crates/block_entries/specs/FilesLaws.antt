@@ -1,7 +1,7 @@
 -- What a change of one file, or its going, makes of a list of files whose numbers rise.
-use Rattle.std.proofs.Common.{◌≡◌, ℕ, ◌+◌, ◌≤◌, ◌<◌, ◌==◌, Bool, true, false, not, List, [], ◌∷◌, ◌++◌, length, map}
-use Rattle.std.proofs.Common.{filter, Option, None, Some, refl, ap, sym, ◌∙◌, subst, arith, inl, inr}
-use Rattle.std.specs.Prelude.{find, sum_by, option_map}
+use Rattle.std.proofs.Common.{◌≡◌, ℕ, ◌+◌, ◌≤◌, ◌<◌, ◌==◌, Bool, true, false, not, List, [], ◌∷◌, ◌++◌, map}
+use Rattle.std.proofs.Common.{filter, Some, refl, ap, sym, ◌∙◌, subst, arith, inl, inr}
+use Rattle.std.specs.Prelude.{find, sum_by}
 use Rattle.std.specs.List.{AllByRecursion}
 use Rattle.std.proofs.lemmas.Bool.Decides.{eqb_tells, nat_tests}
 use Rattle.std.proofs.lemmas.List.Sums.{sum_by-cons}
@@ -105,17 +105,15 @@ all_changed P number change low next (f ∷ fs) file rise found here all =
     elim (eqb_tells f.number number) [
       | inl w ↦
           let is : Some f ≡ Some file = rw w.0 at found in
-          let same : f ≡ file = cc in
-          (
+          let same : f ≡ file = cc in (
             subst P (sym (changed_here number change f w.0 ∙ ap change same)) here,
             subst (λ (gs : List Placed). AllByRecursion P gs)
                 (sym (changed_past number change (f.number + 1) next fs rise.2 (omega (arith, w.1)))) all.1,
           )
-      | inr w ↦
-          (
-            subst P (sym (changed_other number change f w.0)) all.0,
-            all_changed P number change (f.number + 1) next fs file rise.2 (rw w.0 at found) here all.1,
-          )
+      | inr w ↦ (
+        subst P (sym (changed_other number change f w.0)) all.0,
+        all_changed P number change (f.number + 1) next fs file rise.2 (rw w.0 at found) here all.1,
+      )
     ]
 
 -- a sum over the files changes by that one

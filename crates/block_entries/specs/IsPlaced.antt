@@ -1,7 +1,7 @@
 -- What holds of each store of placed files that the commands make.
 use Rattle.std.specs.Prelude.{◌≡◌, ◌⊎◌, ℕ, ◌+◌, ◌*◌, ◌≤◌, ◌<◌, List, [], ◌∷◌, length, All, IsSome, IfSome, None, ⊤}
 use Rattle.std.specs.List.{AllByRecursion}
-use Rattle.block_entries.specs.Placed.{Placed, PlacedStore, Seal, runs_of}
+use Rattle.block_entries.specs.Placed.{Placed, PlacedStore, runs_of}
 use Rattle.block_entries.specs.Seen.{octets_in, sum_with}
 use Rattle.block_table.specs.Table.{rooms_of, times_of}
 use Rattle.file_entries.specs.Limits.{longest_file, most_entries}

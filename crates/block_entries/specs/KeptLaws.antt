@@ -1,20 +1,20 @@
 -- Each command keeps the rules of a store of placed files.
 use Rattle.std.proofs.Common.{◌≡◌, ◌⊎◌, ℕ, ◌+◌, ◌*◌, ◌≤◌, ◌<◌, ◌==◌, cond, not, List, [], ◌∷◌, ◌++◌, length, map}
 use Rattle.std.proofs.Common.{Bool, filter, Option, None, Some, refl, ap, sym, ◌∙◌, subst, arith, inl, inr, length-append}
-use Rattle.std.specs.Prelude.{All, IsSome, IsTrue, sum_by}
+use Rattle.std.specs.Prelude.{IsSome, IsTrue, sum_by}
 use Rattle.std.proofs.lemmas.Bool.Decides.{eqb_tells}
-use Rattle.std.proofs.lemmas.List.{length-map, map-append}
+use Rattle.std.proofs.lemmas.List.{length-map}
 use Rattle.std.proofs.lemmas.List.Elements.{All-push}
 use Rattle.std.proofs.lemmas.List.Filters.{length-filter_both}
 use Rattle.std.proofs.lemmas.List.Folds.{fold-map}
 use Rattle.std.proofs.lemmas.List.Sums.{sum_by_push}
 use Rattle.block_entries.specs.FilesLaws.{all_changed, all_filter, all_push, found_holds, rise_changed, rise_filter, rise_push, sum_changed, sum_without}
-use Rattle.block_entries.specs.IsPlaced.{ArePlaced, IsPlaced, IsPlacedFile}
-use Rattle.block_entries.specs.Placed.{Placed, PlacedStore, Seal, has_number, new_placed, no_entries, placed_of, run_of, runs_of}
+use Rattle.block_entries.specs.IsPlaced.{IsPlaced, IsPlacedFile}
+use Rattle.block_entries.specs.Placed.{Placed, PlacedStore, has_number, new_placed, no_entries, placed_of, run_of, runs_of}
 use Rattle.block_entries.specs.PlacedCommand.{PlacedCommand, after, begin, changed, drop_entry, grow, grown, is_allowed, is_partial, seal, seen_command, sealed, with_changed}
 use Rattle.block_entries.specs.PlacedCommand.{can_seal}
 use Rattle.block_entries.specs.Seen.{seen, seen_entry}
-use Rattle.block_entries.specs.TestLaws.{Grows, MayCome, MayGrow, MaySeal, MayTake, Passes, may_come, may_grow, may_seal, may_take, partial_none, passed}
+use Rattle.block_entries.specs.TestLaws.{Grows, MayCome, MayGrow, MayTake, Passes, may_come, may_grow, may_seal, may_take, passed}
 use Rattle.block_table.specs.Table.{Run, rooms_of, times_in, times_of}
 use Rattle.file_entries.specs.Command.{HasCall}
 use Rattle.file_entries.specs.Limits.{longest_file, most_entries}
@@ -158,13 +158,13 @@ module _ (store : PlacedStore) (number : ℕ) (change : Placed → Placed) (file
     next = is.next;
     few = subst (λ (n : ℕ). n ≤ most_entries) (sym (length-map store.entries (changed number change))) is.few;
     rooms = omega (
-        arith,
-        is.rooms,
-        rooms_files store.entries,
-        rooms_files now,
-        sum_changed room_at number change 1 store.next store.entries file is.numbers found,
-        ap blocks_for same_length,
-      );
+      arith,
+      is.rooms,
+      rooms_files store.entries,
+      rooms_files now,
+      sum_changed room_at number change 1 store.next store.entries file is.numbers found,
+      ap blocks_for same_length,
+    );
   }
 
   times_changed : (b : ℕ) → times_of b (runs_of now) + times_at b file ≡ times_of b (runs_of store.entries) + times_at b (change file)
@@ -220,21 +220,21 @@ drop_placed store number is passes =
       numbers = rise_filter test 1 store.next store.entries is.numbers;
       files = all_filter (IsPlacedFile store.blocks) test store.entries is.files;
       once = λ b. omega (
-          arith,
-          is.once b,
-          times_files b store.entries,
-          times_files b left,
-          sum_without (times_at b) number 1 store.next store.entries passes.file is.numbers passes.found,
-        );
+        arith,
+        is.once b,
+        times_files b store.entries,
+        times_files b left,
+        sum_without (times_at b) number 1 store.next store.entries passes.file is.numbers passes.found,
+      );
       next = is.next;
       few = omega (arith, is.few, length-filter_both test (λ f. not (test f)) (λ _. refl) store.entries);
       rooms = omega (
-          arith,
-          is.rooms,
-          rooms_files store.entries,
-          rooms_files left,
-          sum_without room_at number 1 store.next store.entries passes.file is.numbers passes.found,
-        );
+        arith,
+        is.rooms,
+        rooms_files store.entries,
+        rooms_files left,
+        sum_without room_at number 1 store.next store.entries passes.file is.numbers passes.found,
+      );
     }
 
 -- what the condition of a Begin says

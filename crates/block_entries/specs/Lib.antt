@@ -2,6 +2,7 @@ pub mod CallLaws
 pub mod FilesLaws
 pub mod IsPlaced
 pub mod KeptLaws
+pub mod Laws
 pub mod Placed
 pub mod PlacedCommand
 pub mod PlacedLaws

@@ -1,6 +1,6 @@
 -- What a store of files is where the octets of its files stand in blocks of a disk: of each entry, in which blocks.
-use Rattle.std.specs.Prelude.{◌≡◌, ℕ, ◌≤◌, ◌==◌, List, [], ◌∷◌, ◌++◌, Bool, if◌then◌else◌, find, map, sum_by}
-use Rattle.std.specs.Prelude.{Option, None, Some, is_some}
+use Rattle.std.specs.Prelude.{ℕ, ◌≤◌, ◌==◌, List, [], Bool, if◌then◌else◌, find, map, sum_by}
+use Rattle.std.specs.Prelude.{Option, None, is_some}
 use Rattle.block_table.specs.Table.{Run, times_in, times_of}
 use Rattle.file_entries.specs.Store.{blocks_for}
 use Rattle.px_base.specs.CallSign.{CallSign}

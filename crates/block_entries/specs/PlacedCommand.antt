@@ -1,6 +1,6 @@
 -- The commands that change which files there are and in which blocks they stand, with the condition of each and what it
 -- does.
-use Rattle.std.specs.Prelude.{ℕ, ◌+◌, ◌==◌, List, [], ◌∷◌, ◌++◌, map, filter, take, Bool, not, ◌&&◌, ◌||◌}
+use Rattle.std.specs.Prelude.{ℕ, ◌+◌, ◌==◌, [], ◌∷◌, ◌++◌, map, filter, take, Bool, not, ◌&&◌, ◌||◌}
 use Rattle.std.specs.Prelude.{false, nat_le, nat_lt, if◌then◌else◌, option_map, unwrap_or, is_none, Some}
 use Rattle.block_entries.specs.Placed.{Placed, PlacedStore, has_number, is_sealed, new_placed, placed_of, runs_of}
 use Rattle.block_entries.specs.Seen.{octets_in, seen, sum_with, whole_block}

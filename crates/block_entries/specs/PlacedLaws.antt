@@ -1,17 +1,19 @@
 -- What the records of a journal make of a store of placed files: it keeps its rules, and what blocks hold that it doesn't
 -- use changes nothing of it.
-use Rattle.std.proofs.Common.{◌≡◌, ℕ, ◌<◌, Some, refl, sym, ◌∙◌, ap, subst}
+use Rattle.std.proofs.Common.{◌≡◌, ℕ, Some, refl, sym, ◌∙◌, ap, subst}
 use Rattle.block_entries.specs.CallLaws.{read_call}
 use Rattle.block_entries.specs.IsPlaced.{IsPlaced}
 use Rattle.block_entries.specs.KeptLaws.{after_placed, none_is_placed}
-use Rattle.block_entries.specs.Placed.{Decides, PlacedStore, Uses, no_entries}
+use Rattle.block_entries.specs.Placed.{Decides, PlacedStore}
 use Rattle.block_entries.specs.PlacedCommand.{PlacedCommand, after, begin, drop_entry, grow, is_allowed, seal}
 use Rattle.block_entries.specs.PlacedRecords.{placed_form, placed_in, placed_step, placed_steps}
 use Rattle.block_entries.specs.SameLaws.{allowed_same, decides_after, decides_uses, none_used, seen_same, uses_below}
 use Rattle.block_entries.specs.Seen.{seen}
+use Rattle.file_journal.specs.Form.{TellsItsNumber}
 use Rattle.file_journal.specs.Layout.{Blocks, HoldSame}
 use Rattle.file_journal.specs.Records.{Record}
-use Rattle.file_journal.proofs.Offered.{stepped, steps}
+use Rattle.file_journal.specs.Steps.{IsSeenBy}
+use Rattle.file_journal.proofs.Offered.{seen_own_number, stepped, steps}
 
 -- a command leaves the number of blocks
 pub after_blocks : (store : PlacedStore) (command : PlacedCommand) → (after store command).blocks ≡ store.blocks
@@ -46,3 +48,27 @@ module _ (held : Blocks) (before now : PlacedStore) (entry : Record) (is : place
       steps (is_allowed other) after before step.0 (placed_in entry) step.1
       (allowed_same held other before step.0 rules step.2 alike)
       ∙ ap Some (sym step.3)
+
+placed_number : TellsItsNumber placed_form
+placed_number =
+    seen_own_number placed_steps seen placed_form (λ blocks octets. refl) (λ held now. refl) (λ blocks. refl)
+    (λ held before now entry is. step_blocks held before now entry is)
+
+pub placed_seen : IsSeenBy placed_steps seen placed_form
+placed_seen =
+    record {
+      standing = λ blocks octets. refl;
+      own_number = placed_number;
+      fresh_state = none_is_placed;
+      step_state = λ held before now entry rules is. step_state held before now entry is rules;
+      fresh_number = λ is blocks. refl;
+      same_number = λ held before now entry is. step_blocks held before now entry is;
+      fresh_none = none_used;
+      growing = λ is now block uses. absurd (cc is);
+      within = λ now block rules uses. uses_below now block rules uses;
+      decided = λ now block rules decides. decides_uses now block decides;
+      decided_on = λ held before now entry rules is block decides.
+          step_decides held before now entry is rules block decides;
+      same_step = λ one other before now entry rules is same. step_same one before now entry is other rules same;
+      same_seen = λ one other now rules same. seen_same one other now same;
+    }

@@ -16,7 +16,6 @@ use Rattle.file_journal.specs.Records.{Record, record_of}
 use Rattle.file_journal.specs.Steps.{Steps, walked}
 use Rattle.file_journal.specs.Walk.{see}
 use Rattle.file_journal.specs.declared.layout.Layout.TheVariants as layout
-use Rattle.px_base.specs.CallSign.{IsCall}
 use Rattle.px_base.specs.Numbers.{le16, le16_octets, le32, le32_octets}
 
 -- The record of a command. Begin and Drop are those of the command that is seen. Grow, kind 2: number, block, both of
@@ -89,6 +88,7 @@ placed_steps =
       fresh = no_entries;
       number = λ store. store.blocks;
       step = placed_step;
+      is_state = IsPlaced;
       uses = Uses;
       decides = Decides;
     }

@@ -1,5 +1,5 @@
 -- What blocks hold that a store of placed files doesn't use changes nothing of what it is seen as.
-use Rattle.std.proofs.Common.{◌≡◌, ℕ, suc, ◌+◌, ◌≤◌, ◌<◌, ◌==◌, Bool, cond, not, ◌&&◌, true, false, List, [], ◌∷◌, ◌++◌, length, map, replicate, take}
+use Rattle.std.proofs.Common.{◌≡◌, ℕ, suc, ◌+◌, ◌≤◌, ◌<◌, ◌==◌, Bool, cond, ◌&&◌, true, false, List, [], ◌∷◌, ◌++◌, map, replicate, take}
 use Rattle.std.proofs.Common.{Option, None, Some, refl, ap, ap₂, sym, ◌∙◌, subst, arith, inl, inr, nat_le, nat_lt}
 use Rattle.std.specs.Prelude.{All, IsTrue, count_by, if◌then◌else◌, is_none, is_some, sum_by}
 use Rattle.std.specs.List.{flat_map}

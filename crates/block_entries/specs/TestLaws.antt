@@ -1,9 +1,8 @@
 -- What the conditions of commands say.
-use Rattle.std.proofs.Common.{◌≡◌, ◌⊎◌, ℕ, ◌+◌, ◌≤◌, ◌<◌, ◌==◌, Bool, true, false, not, ◌&&◌, ◌||◌, List, length}
-use Rattle.std.proofs.Common.{nat_le, nat_lt, Option, None, Some, refl, ap, sym, ◌∙◌, subst, arith, inl, inr}
-use Rattle.std.specs.Prelude.{IsTrue, find, is_none, is_some, option_map, unwrap_or}
-use Rattle.std.proofs.lemmas.Bool.{and_parts, eq-eqb, eqb-true, le-leb, leb-true, lt-ltb, ltb-true}
-use Rattle.std.proofs.lemmas.Bool.Decides.{eqb_tells, nat_tests}
+use Rattle.std.proofs.Common.{◌≡◌, ◌⊎◌, ℕ, ◌+◌, ◌≤◌, ◌<◌, ◌==◌, Bool, true, false, not, ◌&&◌, ◌||◌}
+use Rattle.std.proofs.Common.{nat_le, nat_lt, Option, None, Some, refl, ap, inl, inr}
+use Rattle.std.specs.Prelude.{IsTrue, is_none, is_some, option_map, unwrap_or}
+use Rattle.std.proofs.lemmas.Bool.{and_parts, eqb-true, leb-true, ltb-true}
 use Rattle.block_entries.specs.Placed.{Placed, PlacedStore, Seal, placed_of, runs_of}
 use Rattle.block_entries.specs.PlacedCommand.{can_grow, can_seal, grow, is_allowed, is_free, is_partial, passes_at}
 use Rattle.block_entries.specs.Seen.{octets_in, sum_with}

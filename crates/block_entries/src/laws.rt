@@ -1,9 +1,37 @@
-//! Laws of entries whose octets stand in blocks.
+//! Laws of stores of placed files.
 
-ghost use Rattle.std.specs.Prelude.{◌≡◌};
-ghost use Rattle.block_entries.specs.PlacedRecords.{placed_form};
+ghost use Rattle.block_entries.specs.Laws.{PlacedLaw, RecordsLaw, SealsLaw, SeenLaw, StoreLaw};
+ghost use Rattle.block_entries.specs.PlacedRecords.{placed_form, placed_steps};
+ghost use Rattle.block_entries.specs.Seen.{seen};
+ghost use Rattle.file_journal.specs.Steps.{IsSeenBy};
 
-/// A form.
-pub fn form_law()
-    ensures { placed_form.layout ≡ placed_form.layout }
+/// Each command whose condition holds keeps the rules of a store of placed files, and the seals.
+pub fn placed_law()
+    ensures { PlacedLaw }
+{}
+
+/// Seals are kept whatever the blocks hold that no sealed file has.
+pub fn seals_law()
+    ensures { SealsLaw }
+{}
+
+/// A command whose condition holds is seen as one of the store of files, whose condition holds too.
+pub fn seen_law()
+    ensures { SeenLaw }
+{}
+
+/// Where the seals are kept, what is seen keeps the rules of a store.
+pub fn store_law()
+    ensures { StoreLaw }
+{}
+
+/// A record is read as a command exactly where it is that command's record, and each command that can be written has
+/// one.
+pub fn records_law()
+    ensures { RecordsLaw }
+{}
+
+/// What blocks hold that a store doesn't use changes nothing of what octets stand for.
+pub fn journal_law()
+    ensures { IsSeenBy placed_steps seen placed_form }
 {}

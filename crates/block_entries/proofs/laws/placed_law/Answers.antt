@@ -1,0 +1,6 @@
+use Rattle.block_entries.specs.KeptLaws.{after_placed, none_is_placed}
+use Rattle.block_entries.proofs.RulesLemmas.{after_seals}
+use Rattle.block_entries.proofs.laws.placed_law.Goals as goal
+
+pub returns : goal.returns
+returns c = (none_is_placed, λ held blocks. tt, after_placed, after_seals)

@@ -1,0 +1,54 @@
+-- Laws of stores of placed files, over every store and all that blocks may hold.
+use Rattle.std.specs.Prelude.{◌≡◌, ◌↔◌, ℕ, ◌≤◌, Some, IsTrue}
+use Rattle.block_entries.specs.IsPlaced.{IsPlaced, KeepsSeals}
+use Rattle.block_entries.specs.Placed.{Decides, PlacedStore, no_entries}
+use Rattle.block_entries.specs.PlacedCommand.{PlacedCommand, after, is_allowed, seen_command}
+use Rattle.block_entries.specs.PlacedRecords.{IsWritable, Writes, placed_in, record_of_placed}
+use Rattle.block_entries.specs.Seen.{seen}
+use Rattle.file_entries.specs.Command as file
+use Rattle.file_entries.specs.Command.{HasCall}
+use Rattle.file_entries.specs.IsStore.{IsStore}
+use Rattle.file_entries.specs.Store.{empty_store}
+use Rattle.file_journal.specs.Layout.{Blocks, HoldSame}
+use Rattle.file_journal.specs.Records.{IsRecord, Record}
+
+-- A store without entries keeps the rules of a store of placed files, and so does each command whose condition holds,
+-- where the caller that it names is a call. It keeps the seals too.
+abbrev pub PlacedLaw : Type 0
+PlacedLaw =
+    ((blocks : ℕ) → IsPlaced (no_entries blocks))
+    × ((held : Blocks) (blocks : ℕ) → KeepsSeals held (no_entries blocks))
+    × ((held : Blocks) (store : PlacedStore) (command : PlacedCommand) → IsPlaced store
+    → HasCall (seen_command held command) → IsTrue (is_allowed held store command) → IsPlaced (after store command))
+    × ((held : Blocks) (store : PlacedStore) (command : PlacedCommand) → IsPlaced store
+    → IsTrue (is_allowed held store command) → KeepsSeals held store → KeepsSeals held (after store command))
+
+-- Seals are kept whatever the blocks hold that no sealed file has.
+abbrev pub SealsLaw : Type 0
+SealsLaw =
+    (one other : Blocks) (store : PlacedStore) → HoldSame (Decides store) one other → KeepsSeals one store
+    → KeepsSeals other store
+
+-- A command whose condition holds is seen as a command of the store of files, whose condition holds there; and what it
+-- makes is seen as what that makes. A store without entries is seen as an empty one.
+abbrev pub SeenLaw : Type 0
+SeenLaw =
+    ((held : Blocks) (blocks : ℕ) → seen held (no_entries blocks) ≡ empty_store blocks)
+    × ((held : Blocks) (store : PlacedStore) (command : PlacedCommand) → IsPlaced store
+    → IsTrue (is_allowed held store command)
+    → IsTrue (file.is_allowed (seen held store) (seen_command held command))
+    × (seen held (after store command) ≡ file.after (seen held store) (seen_command held command)))
+
+-- Where the seals are kept, the rules of a store hold of what is seen, of 1 to 65,536 blocks.
+abbrev pub StoreLaw : Type 0
+StoreLaw =
+    (held : Blocks) (store : PlacedStore) → IsPlaced store → KeepsSeals held store → 1 ≤ store.blocks
+    → store.blocks ≤ 65536 → IsStore (seen held store)
+
+-- A record of at most 600 octets is read as a command exactly where it is that command's record; and each command that
+-- can be written has such a record.
+abbrev pub RecordsLaw : Type 0
+RecordsLaw =
+    ((entry : Record) (command : PlacedCommand) → IsRecord entry
+    → (placed_in entry ≡ Some command) ↔ Writes entry command)
+    × ((command : PlacedCommand) → IsWritable command → IsRecord (record_of_placed command))
