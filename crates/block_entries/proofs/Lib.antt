@@ -1,3 +1,4 @@
 mod RecordLemmas
 mod RulesLemmas
 mod SeenLemmas
+mod StandingLemmas

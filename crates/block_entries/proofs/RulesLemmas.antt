@@ -33,12 +33,13 @@ after_seals held store (grow number block used) is ok keeps =
     let grows = may_take held store number block used ok in
     let one = grows.passes.file in
     let none = (may_grow one used grows.passes.test_is).partial in
-    all_changed (KeepsSeal held) number (grown block used) 1 store.next store.entries one is.numbers grows.passes.found
-    (none_keeps one.seal (λ s. (fault_code (octets_in held (grown block used one)) ≡ None) × (s.sum ≡ sum_with s.moment (grown block used one) (octets_in held (grown block used one)))) none) keeps
+    all_changed (KeepsSeal held) number (grown block used) one
+    (none_keeps one.seal (λ s. (fault_code (octets_in held (grown block used one)) ≡ None) × (s.sum ≡ sum_with s.moment (grown block used one) (octets_in held (grown block used one)))) none)
+    1 store.next store.entries is.numbers grows.passes.found keeps
 after_seals held store (seal number moment sum) is ok keeps =
     let passes = passed store number (λ f. can_seal held f moment sum) ok in
     let may = may_seal held passes.file moment sum passes.test_is in
-    all_changed (KeepsSeal held) number (sealed moment sum) 1 store.next store.entries passes.file is.numbers passes.found (may.faultless, may.sum_is) keeps
+    all_changed (KeepsSeal held) number (sealed moment sum) passes.file (may.faultless, may.sum_is) 1 store.next store.entries is.numbers passes.found keeps
 after_seals held store (drop_entry number) is ok keeps = all_filter (KeepsSeal held) (λ f. not (has_number number f)) store.entries keeps
 
 -- ---- the rules of a store

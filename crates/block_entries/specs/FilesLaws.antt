@@ -83,7 +83,12 @@ pub rise_filter :
     → Rise low (filter test files) next
 rise_filter test low next [] rise = tt
 rise_filter test low next (f ∷ fs) rise =
-    grind (arith, nat_tests, rise_lower (f.number + 1) low next (filter test fs), rise_filter test (f.number + 1) next fs rise.2)
+    grind (
+      arith,
+      nat_tests,
+      rise_lower (f.number + 1) low next (filter test fs),
+      rise_filter test (f.number + 1) next fs rise.2,
+    )
 
 -- ---- one file changed, the others as they are
 
@@ -96,56 +101,57 @@ changed_past number change low next (f ∷ fs) rise past =
     grind (arith, nat_tests, changed_past number change (f.number + 1) next fs rise.2)
 
 -- what holds of each file, and of the changed one
-pub all_changed :
-    (P : Placed → Type 0) (number : ℕ) (change : Placed → Placed) (low next : ℕ) (files : List Placed) (file : Placed)
-    → Rise low files next → find (has_number number) files ≡ Some file → P (change file) → AllByRecursion P files
-    → AllByRecursion P (map (changed number change) files)
-all_changed P number change low next [] file rise found here all = tt
-all_changed P number change low next (f ∷ fs) file rise found here all =
-    elim (eqb_tells f.number number) [
-      | inl w ↦
-          let is : Some f ≡ Some file = rw w.0 at found in
-          let same : f ≡ file = cc in (
-            subst P (sym (changed_here number change f w.0 ∙ ap change same)) here,
-            subst (λ (gs : List Placed). AllByRecursion P gs)
-                (sym (changed_past number change (f.number + 1) next fs rise.2 (omega (arith, w.1)))) all.1,
+module _ (P : Placed → Type 0) (number : ℕ) (change : Placed → Placed) (file : Placed) (here : P (change file)) where
+  pub all_changed :
+      (low next : ℕ) (files : List Placed) → Rise low files next → find (has_number number) files ≡ Some file
+      → AllByRecursion P files → AllByRecursion P (map (changed number change) files)
+  all_changed low next [] rise found all = tt
+  all_changed low next (f ∷ fs) rise found all =
+      elim (eqb_tells f.number number) [
+        | inl w ↦
+            let is : Some f ≡ Some file = rw w.0 at found in
+            let same : f ≡ file = cc in (
+              subst P (sym (changed_here number change f w.0 ∙ ap change same)) here,
+              subst (λ (gs : List Placed). AllByRecursion P gs)
+                  (sym (changed_past number change (f.number + 1) next fs rise.2 (omega (arith, w.1))))
+                  all.1,
+            )
+        | inr w ↦ (
+            subst P (sym (changed_other number change f w.0)) all.0,
+            all_changed (f.number + 1) next fs rise.2 (rw w.0 at found) all.1,
           )
-      | inr w ↦ (
-        subst P (sym (changed_other number change f w.0)) all.0,
-        all_changed P number change (f.number + 1) next fs file rise.2 (rw w.0 at found) here all.1,
-      )
-    ]
+      ]
 
 -- a sum over the files changes by that one
-pub sum_changed :
-    (m : Placed → ℕ) (number : ℕ) (change : Placed → Placed) (low next : ℕ) (files : List Placed) (file : Placed)
-    → Rise low files next → find (has_number number) files ≡ Some file
-    → sum_by m (map (changed number change) files) + m file ≡ sum_by m files + m (change file)
-sum_changed m number change low next [] file rise found = absurd (cc)
-sum_changed m number change low next (f ∷ fs) file rise found =
-    elim (eqb_tells f.number number) [
-      | inl w ↦
-          let is : Some f ≡ Some file = rw w.0 at found in
-          let same : f ≡ file = cc in
-          let rest = changed_past number change (f.number + 1) next fs rise.2 (omega (arith, w.1)) in
-          let new = changed_here number change f w.0 ∙ ap change same in
-          omega (
-            arith,
-            sum_by-cons m f fs,
-            sum_by-cons m (changed number change f) (map (changed number change) fs),
-            ap (λ (gs : List Placed). sum_by m gs) rest,
-            ap m new,
-            ap m same,
-          )
-      | inr w ↦
-          omega (
-            arith,
-            sum_by-cons m f fs,
-            sum_by-cons m (changed number change f) (map (changed number change) fs),
-            ap m (changed_other number change f w.0),
-            sum_changed m number change (f.number + 1) next fs file rise.2 (rw w.0 at found),
-          )
-    ]
+module _ (m : Placed → ℕ) (number : ℕ) (change : Placed → Placed) (file : Placed) where
+  pub sum_changed :
+      (low next : ℕ) (files : List Placed) → Rise low files next → find (has_number number) files ≡ Some file
+      → sum_by m (map (changed number change) files) + m file ≡ sum_by m files + m (change file)
+  sum_changed low next [] rise found = absurd (cc)
+  sum_changed low next (f ∷ fs) rise found =
+      elim (eqb_tells f.number number) [
+        | inl w ↦
+            let is : Some f ≡ Some file = rw w.0 at found in
+            let same : f ≡ file = cc in
+            let rest = changed_past number change (f.number + 1) next fs rise.2 (omega (arith, w.1)) in
+            let new = changed_here number change f w.0 ∙ ap change same in
+            omega (
+              arith,
+              sum_by-cons m f fs,
+              sum_by-cons m (changed number change f) (map (changed number change) fs),
+              ap (λ (gs : List Placed). sum_by m gs) rest,
+              ap m new,
+              ap m same,
+            )
+        | inr w ↦
+            omega (
+              arith,
+              sum_by-cons m f fs,
+              sum_by-cons m (changed number change f) (map (changed number change) fs),
+              ap m (changed_other number change f w.0),
+              sum_changed (f.number + 1) next fs rise.2 (rw w.0 at found),
+            )
+      ]
 
 -- ---- one file gone
 
@@ -153,7 +159,8 @@ without_past :
     (number low next : ℕ) (files : List Placed) → Rise low files next → number < low
     → filter (λ f. not (has_number number f)) files ≡ files
 without_past number low next [] rise past = refl
-without_past number low next (f ∷ fs) rise past = grind (arith, nat_tests, without_past number (f.number + 1) next fs rise.2)
+without_past number low next (f ∷ fs) rise past =
+    grind (arith, nat_tests, without_past number (f.number + 1) next fs rise.2)
 
 pub all_filter :
     (P : Placed → Type 0) (test : Placed → Bool) (files : List Placed) → AllByRecursion P files

@@ -1,6 +1,7 @@
 -- Each command keeps the rules of a store of placed files.
 use Rattle.std.proofs.Common.{◌≡◌, ◌⊎◌, ℕ, ◌+◌, ◌*◌, ◌≤◌, ◌<◌, ◌==◌, cond, not, List, [], ◌∷◌, ◌++◌, length, map}
-use Rattle.std.proofs.Common.{Bool, filter, Option, None, Some, refl, ap, sym, ◌∙◌, subst, arith, inl, inr, length-append}
+use Rattle.std.proofs.Common.{Bool, filter, Option, None, Some, refl, ap, sym, ◌∙◌, subst, arith, inl, inr}
+use Rattle.std.proofs.Common.{length-append}
 use Rattle.std.specs.Prelude.{IsSome, IsTrue, sum_by}
 use Rattle.std.proofs.lemmas.Bool.Decides.{eqb_tells}
 use Rattle.std.proofs.lemmas.List.{length-map}
@@ -8,13 +9,17 @@ use Rattle.std.proofs.lemmas.List.Elements.{All-push}
 use Rattle.std.proofs.lemmas.List.Filters.{length-filter_both}
 use Rattle.std.proofs.lemmas.List.Folds.{fold-map}
 use Rattle.std.proofs.lemmas.List.Sums.{sum_by_push}
-use Rattle.block_entries.specs.FilesLaws.{all_changed, all_filter, all_push, found_holds, rise_changed, rise_filter, rise_push, sum_changed, sum_without}
+use Rattle.block_entries.specs.FilesLaws.{all_changed, all_filter, all_push, found_holds, rise_changed, rise_filter}
+use Rattle.block_entries.specs.FilesLaws.{rise_push, sum_changed, sum_without}
 use Rattle.block_entries.specs.IsPlaced.{IsPlaced, IsPlacedFile}
-use Rattle.block_entries.specs.Placed.{Placed, PlacedStore, has_number, new_placed, no_entries, placed_of, run_of, runs_of}
-use Rattle.block_entries.specs.PlacedCommand.{PlacedCommand, after, begin, changed, drop_entry, grow, grown, is_allowed, is_partial, seal, seen_command, sealed, with_changed}
+use Rattle.block_entries.specs.Placed.{Placed, PlacedStore, has_number, new_placed, no_entries, placed_of, run_of}
+use Rattle.block_entries.specs.Placed.{runs_of}
+use Rattle.block_entries.specs.PlacedCommand.{PlacedCommand, after, begin, changed, drop_entry, grow, grown}
+use Rattle.block_entries.specs.PlacedCommand.{is_allowed, is_partial, seal, seen_command, sealed, with_changed}
 use Rattle.block_entries.specs.PlacedCommand.{can_seal}
 use Rattle.block_entries.specs.Seen.{seen, seen_entry}
-use Rattle.block_entries.specs.TestLaws.{Grows, MayCome, MayGrow, MayTake, Passes, may_come, may_grow, may_seal, may_take, passed}
+use Rattle.block_entries.specs.TestLaws.{Grows, MayCome, MayGrow, MayTake, Passes, may_come, may_grow, may_seal}
+use Rattle.block_entries.specs.TestLaws.{may_take, passed}
 use Rattle.block_table.specs.Table.{Run, rooms_of, times_in, times_of}
 use Rattle.file_entries.specs.Command.{HasCall}
 use Rattle.file_entries.specs.Limits.{longest_file, most_entries}
@@ -53,7 +58,8 @@ times_grown b block used file = sum_by_push (λ (x : ℕ). cond (x == b) 1 0) fi
 
 -- ---- one file
 
-pub new_is : (limit number : ℕ) (caller : CallSign) (file_length moment : ℕ) → IsCall caller → file_length ≤ longest_file
+pub new_is :
+    (limit number : ℕ) (caller : CallSign) (file_length moment : ℕ) → IsCall caller → file_length ≤ longest_file
     → IsPlacedFile limit (new_placed number caller file_length moment)
 new_is limit number caller file_length moment call short = record {
   caller = call;
@@ -88,7 +94,8 @@ never_sealed : {A : Type 0} (o : Option A) → o ≡ None → IsSome o → ⊥
 never_sealed None none is = cc
 never_sealed (Some x) none is = cc
 
-pub grown_is : (store : PlacedStore) (file : Placed) (block used : ℕ) → IsPlacedFile store.blocks file → MayGrow file used
+pub grown_is :
+    (store : PlacedStore) (file : Placed) (block used : ℕ) → IsPlacedFile store.blocks file → MayGrow file used
     → MayTake store block used → IsPlacedFile store.blocks (grown block used file)
 grown_is store file block used is may take =
     let full = grows_full store.blocks file used is may take.some in
@@ -139,21 +146,29 @@ begin_placed store caller file_length moment is call short few room =
       numbers = rise_push 1 store.next store.entries new is.numbers is.next refl;
       files = all_push (IsPlacedFile store.blocks) store.entries new is.files
           (new_is store.blocks store.next caller file_length moment call short);
-      once = λ b. omega (arith, is.once b, times_files b store.entries, times_files b all, sum_by_push (times_at b) store.entries new);
+      once = λ b. omega (
+          arith,
+          is.once b,
+          times_files b store.entries,
+          times_files b all,
+          sum_by_push (times_at b) store.entries new,
+        );
       next = omega arith;
       few = omega (arith, few, length-append store.entries (new ∷ []));
       rooms = omega (arith, room, rooms_files store.entries, rooms_files all, sum_by_push room_at store.entries new);
     }
 
-module _ (store : PlacedStore) (number : ℕ) (change : Placed → Placed) (file : Placed) (is : IsPlaced store) (found : placed_of store number ≡ Some file)
-    (same_number : (g : Placed) → (change g).number ≡ g.number) (same_length : (change file).length ≡ file.length) (here : IsPlacedFile store.blocks (change file)) where
+module _ (store : PlacedStore) (number : ℕ) (change : Placed → Placed) (file : Placed) (is : IsPlaced store)
+    (found : placed_of store number ≡ Some file) (same_number : (g : Placed) → (change g).number ≡ g.number)
+    (same_length : (change file).length ≡ file.length) (here : IsPlacedFile store.blocks (change file)) where
   abbrev now : List Placed
   now = map (changed number change) store.entries
 
   changed_placed : ((b : ℕ) → times_of b (runs_of now) ≤ 1) → IsPlaced (with_changed store number change)
   changed_placed once = record {
     numbers = rise_changed number change 1 store.next store.entries same_number is.numbers;
-    files = all_changed (IsPlacedFile store.blocks) number change 1 store.next store.entries file is.numbers found here is.files;
+    files = all_changed (IsPlacedFile store.blocks) number change file here 1 store.next store.entries is.numbers found
+        is.files;
     once = once;
     next = is.next;
     few = subst (λ (n : ℕ). n ≤ most_entries) (sym (length-map store.entries (changed number change))) is.few;
@@ -162,17 +177,19 @@ module _ (store : PlacedStore) (number : ℕ) (change : Placed → Placed) (file
       is.rooms,
       rooms_files store.entries,
       rooms_files now,
-      sum_changed room_at number change 1 store.next store.entries file is.numbers found,
+      sum_changed room_at number change file 1 store.next store.entries is.numbers found,
       ap blocks_for same_length,
     );
   }
 
-  times_changed : (b : ℕ) → times_of b (runs_of now) + times_at b file ≡ times_of b (runs_of store.entries) + times_at b (change file)
+  times_changed :
+      (b : ℕ)
+      → times_of b (runs_of now) + times_at b file ≡ times_of b (runs_of store.entries) + times_at b (change file)
   times_changed b = omega (
     arith,
     times_files b store.entries,
     times_files b now,
-    sum_changed (times_at b) number change 1 store.next store.entries file is.numbers found,
+    sum_changed (times_at b) number change file 1 store.next store.entries is.numbers found,
   )
 
 grow_placed : (store : PlacedStore) (number block used : ℕ) → IsPlaced store → Grows store number block used
@@ -237,16 +254,22 @@ drop_placed store number is passes =
       );
     }
 
--- what the condition of a Begin says
-pub begin_may : (held : Blocks) (store : PlacedStore) (number : ℕ) (caller : CallSign) (file_length moment : ℕ)
+-- what the condition of a Begin says, where so many entries stand, which take so many blocks
+abbrev Comes : PlacedStore → ℕ → ℕ → ℕ → ℕ → Type 0
+Comes store number file_length count taken =
+    MayCome number store.next file_length count (taken + blocks_for file_length) store.blocks
+
+pub begin_may :
+    (held : Blocks) (store : PlacedStore) (number : ℕ) (caller : CallSign) (file_length moment : ℕ)
     → IsTrue (is_allowed held store (begin number caller file_length moment))
-    → MayCome number store.next file_length (length store.entries) (rooms_of (runs_of store.entries) + blocks_for file_length) store.blocks
+    → Comes store number file_length (length store.entries) (rooms_of (runs_of store.entries))
 begin_may held store number caller file_length moment ok =
-    subst (λ (n : ℕ). MayCome number store.next file_length n (rooms_of (runs_of store.entries) + blocks_for file_length) store.blocks)
+    let entries = map (seen_entry held) store.entries in
+    let taken = blocks_of (seen held store) in
+    let first = may_come number store.next file_length (length entries) (taken + blocks_for file_length) store.blocks ok in
+    subst (λ (n : ℕ). Comes store number file_length n (rooms_of (runs_of store.entries)))
     (length-map store.entries (seen_entry held))
-    (subst (λ (n : ℕ). MayCome number store.next file_length (length (map (seen_entry held) store.entries)) (n + blocks_for file_length) store.blocks)
-    (blocks_seen held store)
-    (may_come number store.next file_length (length (map (seen_entry held) store.entries)) (blocks_of (seen held store) + blocks_for file_length) store.blocks ok))
+    (subst (λ (n : ℕ). Comes store number file_length (length entries) n) (blocks_seen held store) first)
 
 pub after_placed : (held : Blocks) (store : PlacedStore) (command : PlacedCommand) → IsPlaced store
     → HasCall (seen_command held command) → IsTrue (is_allowed held store command) → IsPlaced (after store command)

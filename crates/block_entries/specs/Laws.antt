@@ -1,16 +1,19 @@
 -- Laws of stores of placed files, over every store and all that blocks may hold.
-use Rattle.std.specs.Prelude.{◌≡◌, ◌↔◌, ℕ, ◌≤◌, Some, IsTrue}
+use Rattle.std.specs.Prelude.{◌≡◌, ◌↔◌, ℕ, ◌≤◌, List, Some, IsTrue}
 use Rattle.block_entries.specs.IsPlaced.{IsPlaced, KeepsSeals}
 use Rattle.block_entries.specs.Placed.{Decides, PlacedStore, no_entries}
 use Rattle.block_entries.specs.PlacedCommand.{PlacedCommand, after, is_allowed, seen_command}
-use Rattle.block_entries.specs.PlacedRecords.{IsWritable, Writes, placed_in, record_of_placed}
+use Rattle.block_entries.specs.PlacedRecords.{IsWritable, Writes, placed_in, placed_magic, placed_steps, record_of_placed}
 use Rattle.block_entries.specs.Seen.{seen}
 use Rattle.file_entries.specs.Command as file
 use Rattle.file_entries.specs.Command.{HasCall}
 use Rattle.file_entries.specs.IsStore.{IsStore}
 use Rattle.file_entries.specs.Store.{empty_store}
-use Rattle.file_journal.specs.Layout.{Blocks, HoldSame}
+use Rattle.file_journal.specs.Layout.{Blocks, HoldSame, block_in}
 use Rattle.file_journal.specs.Records.{IsRecord, Record}
+use Rattle.file_journal.specs.Steps.{walked}
+use Rattle.file_journal.specs.Walk.{state}
+use Rattle.file_journal.specs.declared.layout.Layout.TheVariants as layout
 
 -- A store without entries keeps the rules of a store of placed files, and so does each command whose condition holds,
 -- where the caller that it names is a call. It keeps the seals too.
@@ -52,3 +55,10 @@ RecordsLaw =
     ((entry : Record) (command : PlacedCommand) → IsRecord entry
     → (placed_in entry ≡ Some command) ↔ Writes entry command)
     × ((command : PlacedCommand) → IsWritable command → IsRecord (record_of_placed command))
+
+-- A store for which octets stand keeps its rules and its seals.
+abbrev pub StandingLaw : Type 0
+StandingLaw =
+    (blocks : ℕ) (octets : List ℕ) (now : PlacedStore)
+    → walked placed_steps placed_magic layout.Blocks blocks octets ≡ state now
+    → IsPlaced now × KeepsSeals (block_in octets) now

@@ -1,5 +1,5 @@
--- What the records of a journal make of a store of placed files: it keeps its rules, and what blocks hold that it doesn't
--- use changes nothing of it.
+-- What the records of a journal make of a store of placed files: it keeps its rules, and what blocks hold that it
+-- doesn't use changes nothing of it.
 use Rattle.std.proofs.Common.{◌≡◌, ℕ, Some, refl, sym, ◌∙◌, ap, subst}
 use Rattle.block_entries.specs.CallLaws.{read_call}
 use Rattle.block_entries.specs.IsPlaced.{IsPlaced}
@@ -22,13 +22,14 @@ after_blocks store (grow number block used) = refl
 after_blocks store (seal number moment sum) = refl
 after_blocks store (drop_entry number) = refl
 
-module _ (held : Blocks) (before now : PlacedStore) (entry : Record) (is : placed_step held before entry ≡ Some now) where
+module _ (held : Blocks) (before now : PlacedStore) (entry : Record)
+    (is : placed_step held before entry ≡ Some now) where
   step_blocks : now.blocks ≡ before.blocks
   step_blocks =
       let step = stepped (is_allowed held) after before now (placed_in entry) is in
       ap (λ (s : PlacedStore). s.blocks) step.3 ∙ after_blocks before step.0
 
-  step_state : IsPlaced before → IsPlaced now
+  pub step_state : IsPlaced before → IsPlaced now
   step_state rules =
       let step = stepped (is_allowed held) after before now (placed_in entry) is in
       subst IsPlaced (sym step.3) (after_placed held before step.0 rules (read_call held entry step.0 step.1) step.2)

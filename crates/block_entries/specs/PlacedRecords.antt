@@ -100,8 +100,8 @@ calls_for (file.grow number octets) = 6
 calls_for (file.seal number moment) = record_calls
 calls_for (file.drop_entry number) = record_calls
 
--- The stores that a journal of these commands keeps: octets stand for the store of files that the records and the blocks
--- make together.
+-- The stores that a journal of these commands keeps: octets stand for the store of files that the records and the
+-- blocks make together.
 abbrev pub placed_form : Form Store Command
 placed_form =
     record {

@@ -1,5 +1,6 @@
 -- What blocks hold that a store of placed files doesn't use changes nothing of what it is seen as.
-use Rattle.std.proofs.Common.{◌≡◌, ℕ, suc, ◌+◌, ◌≤◌, ◌<◌, ◌==◌, Bool, cond, ◌&&◌, true, false, List, [], ◌∷◌, ◌++◌, map, replicate, take}
+use Rattle.std.proofs.Common.{◌≡◌, ℕ, suc, ◌+◌, ◌≤◌, ◌<◌, ◌==◌, Bool, cond, ◌&&◌, true, false, List, [], ◌∷◌, ◌++◌}
+use Rattle.std.proofs.Common.{map, replicate, take}
 use Rattle.std.proofs.Common.{Option, None, Some, refl, ap, ap₂, sym, ◌∙◌, subst, arith, inl, inr, nat_le, nat_lt}
 use Rattle.std.specs.Prelude.{All, IsTrue, count_by, if◌then◌else◌, is_none, is_some, sum_by}
 use Rattle.std.specs.List.{flat_map}
@@ -10,8 +11,10 @@ use Rattle.std.proofs.lemmas.List.Sums.{sum_by-cons, sum_by_push}
 use Rattle.block_entries.specs.FilesLaws.{sum_changed, sum_without}
 use Rattle.block_entries.specs.IsPlaced.{ArePlaced, IsPlaced}
 use Rattle.block_entries.specs.KeptLaws.{blocks_seen, times_at, times_files}
-use Rattle.block_entries.specs.Placed.{Decides, Placed, PlacedStore, Seal, Uses, is_sealed, new_placed, no_entries, placed_of, run_of, times_sealed}
-use Rattle.block_entries.specs.PlacedCommand.{PlacedCommand, after, begin, can_seal, drop_entry, grow, grown, is_allowed, is_partial, seal, sealed}
+use Rattle.block_entries.specs.Placed.{Decides, Placed, PlacedStore, Seal, Uses, is_sealed, new_placed, no_entries}
+use Rattle.block_entries.specs.Placed.{placed_of, run_of, times_sealed}
+use Rattle.block_entries.specs.PlacedCommand.{PlacedCommand, after, begin, can_seal, drop_entry, grow, grown}
+use Rattle.block_entries.specs.PlacedCommand.{is_allowed, is_partial, seal, sealed}
 use Rattle.block_entries.specs.Seen.{entry_with, holding_with, octets_in, seen, seen_entry, sum_with, whole_block}
 use Rattle.block_entries.specs.TestLaws.{may_grow, may_seal, may_take, partial_none, passed, passes_found}
 use Rattle.block_table.specs.Table.{times_in}
@@ -58,7 +61,9 @@ entries_same one other (f ∷ fs) same =
     (ap (λ (os : List ℕ). entry_with f (holding_with f.seal f os)) here)
     (entries_same one other fs (λ b is. same b (omega (arith, is, more b))))
 
-pub seen_same : (one other : Blocks) (store : PlacedStore) → HoldSame (Uses store) one other → seen other store ≡ seen one store
+pub seen_same :
+    (one other : Blocks) (store : PlacedStore) → HoldSame (Uses store) one other
+    → seen other store ≡ seen one store
 seen_same one other store same =
     ap (λ (es : List Entry). store_from es store.next store.blocks)
     (entries_same one other store.entries
@@ -145,7 +150,7 @@ decides_after held store (grow number at used) is ok block some =
       arith,
       some,
       none_sealed block one none,
-      sum_changed (times_sealed block) number (grown at used) 1 store.next store.entries one is.numbers
+      sum_changed (times_sealed block) number (grown at used) one 1 store.next store.entries is.numbers
           grows.passes.found,
     )
 decides_after held store (seal number moment sum) is ok block some =
@@ -155,7 +160,7 @@ decides_after held store (seal number moment sum) is ok block some =
       arith,
       some,
       none_sealed block passes.file none,
-      sum_changed (times_sealed block) number (sealed moment sum) 1 store.next store.entries passes.file is.numbers
+      sum_changed (times_sealed block) number (sealed moment sum) passes.file 1 store.next store.entries is.numbers
           passes.found,
     )
 decides_after held store (drop_entry number) is ok block some =
@@ -178,7 +183,7 @@ seal_decides store number moment sum f is found none block some =
       some,
       here,
       none_sealed block f none,
-      sum_changed (times_sealed block) number (sealed moment sum) 1 store.next store.entries f is.numbers found,
+      sum_changed (times_sealed block) number (sealed moment sum) f 1 store.next store.entries is.numbers found,
     )
 
 can_begin_same :

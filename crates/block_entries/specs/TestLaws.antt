@@ -144,7 +144,8 @@ may_come number next file_length count taken blocks ok =
     let tests =
     and_parts (nat_le file_length longest_file && nat_lt count most_entries && nat_lt next last_next)
     (nat_le taken blocks) own.1 in
-    let more = and_parts (nat_le file_length longest_file && nat_lt count most_entries) (nat_lt next last_next) tests.0 in
+    let more =
+    and_parts (nat_le file_length longest_file && nat_lt count most_entries) (nat_lt next last_next) tests.0 in
     let first = and_parts (nat_le file_length longest_file) (nat_lt count most_entries) more.0 in
     record {
       number_is = eqb-true _ _ own.0;

@@ -1,6 +1,6 @@
 //! Laws of stores of placed files.
 
-ghost use Rattle.block_entries.specs.Laws.{PlacedLaw, RecordsLaw, SealsLaw, SeenLaw, StoreLaw};
+ghost use Rattle.block_entries.specs.Laws.{PlacedLaw, RecordsLaw, SealsLaw, SeenLaw, StandingLaw, StoreLaw};
 ghost use Rattle.block_entries.specs.PlacedRecords.{placed_form, placed_steps};
 ghost use Rattle.block_entries.specs.Seen.{seen};
 ghost use Rattle.file_journal.specs.Steps.{IsSeenBy};
@@ -34,4 +34,9 @@ pub fn records_law()
 /// What blocks hold that a store doesn't use changes nothing of what octets stand for.
 pub fn journal_law()
     ensures { IsSeenBy placed_steps seen placed_form }
+{}
+
+/// A store for which octets stand keeps its rules and its seals.
+pub fn standing_law()
+    ensures { StandingLaw }
 {}
