@@ -3,7 +3,7 @@ use Rattle.std.proofs.Common.{◌≡◌, ℕ, ◌+◌, ◌^◌, ◌<◌, ◌==�
 use Rattle.std.proofs.Common.{refl, sym, ap, ◌∙◌, subst, arith, inl, inr, length-append}
 use Rattle.std.specs.Prelude.{◌↔◌}
 use Rattle.std.specs.Option.{option_and_then}
-use Rattle.std.proofs.lemmas.Bool.{eqb-true}
+use Rattle.std.proofs.lemmas.Bool.{eqb-true, ne_eqb}
 use Rattle.std.proofs.lemmas.Bool.Decides.{eqb_tells}
 use Rattle.px_base.specs.Numbers.{le16, le16_octets, le32, le32_octets}
 use Rattle.px_base.specs.CallOctets.{call_octets}
@@ -163,3 +163,17 @@ written_record (begin number caller file_length moment) is =
 written_record (grow number block used) is = record { kind = omega arith; octets = octets_three number block used; most = omega arith }
 written_record (seal number moment sum) is = record { kind = omega arith; octets = octets_three number moment sum; most = omega arith }
 written_record (drop_entry number) is = record { kind = omega arith; octets = octets_le32 number; most = omega arith }
+
+-- ---- the kinds
+
+pub of_kind_2 : (kind : ℕ) (content : List ℕ) → kind ≡ 2 → grow_in content ≡ placed_in (record_of kind content)
+unfolding placed_in
+of_kind_2 kind content is = sym (ap (λ (k : ℕ). placed_in (record_of k content)) is)
+
+pub of_kind_3 : (kind : ℕ) (content : List ℕ) → kind ≡ 3 → seal_in content ≡ placed_in (record_of kind content)
+unfolding placed_in
+of_kind_3 kind content is = sym (ap (λ (k : ℕ). placed_in (record_of k content)) is)
+
+pub of_other_kind : (kind : ℕ) (content : List ℕ) → (kind ≡ 2 → ⊥) → (kind ≡ 3 → ⊥) → option_and_then placed_as (command_of (record_of kind content)) ≡ placed_in (record_of kind content)
+unfolding placed_in
+of_other_kind kind content two three = rw (ne_eqb kind 2 two, ne_eqb kind 3 three) refl

@@ -5,6 +5,7 @@ pub mod KeptLaws
 pub mod Laws
 pub mod Placed
 pub mod PlacedCommand
+pub mod PlacedCommands
 pub mod PlacedLaws
 pub mod PlacedRecords
 pub mod SameLaws

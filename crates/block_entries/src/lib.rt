@@ -4,4 +4,9 @@
 //! the journal says of which file it is and in which block further octets stand, and the blocks hold the octets.
 #![tactic(auto)]
 
+mod command;
 pub mod laws;
+mod reading;
+mod writing;
+
+pub use command::PlacedCommand;

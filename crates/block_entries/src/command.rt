@@ -1,0 +1,139 @@
+//! The commands of a store of placed files as records of its journal.
+
+ghost use Rattle.std.specs.Prelude.{◌≡◌, IfSome};
+ghost use Rattle.std.specs.Option.{option_and_then, option_map};
+ghost use Rattle.file_journal.specs.Records.{record_of};
+ghost use Rattle.file_entries.specs.Commands.{command_value};
+ghost use Rattle.file_entries.specs.Records.{IsWritable as IsWritableWhole, command_of};
+ghost use Rattle.block_entries.specs.PlacedCommands.{placed_value};
+ghost use Rattle.block_entries.specs.PlacedRecords.{IsWritable, placed_as, placed_in, record_of_placed};
+
+use crate::reading::{read_grow, read_seal};
+use crate::writing::{put_grow, put_seal};
+use file_entries::Command;
+use file_journal::RecordContent;
+use px_base::Call;
+
+/// A command that changes which files there are, and in which blocks their octets stand.
+#[derive(Clone, Copy, Debug)]
+pub enum PlacedCommand {
+    /// A file is begun.
+    Begin {
+        /// Its number.
+        number: u32,
+        /// Whose file it is.
+        caller: Call,
+        /// Its length in octets.
+        length: u32,
+        /// The moment, in seconds since 1 January 1970.
+        moment: u32,
+    },
+    /// Further octets of a file are held.
+    Grow {
+        /// The file's number.
+        number: u32,
+        /// The block at whose front they stand.
+        block: u32,
+        /// How many they are.
+        used: u16,
+    },
+    /// A file is whole, and is kept with its stamp.
+    Seal {
+        /// The file's number.
+        number: u32,
+        /// The moment, in seconds since 1 January 1970.
+        moment: u32,
+        /// The sum of its header with the stamp.
+        sum: u16,
+    },
+    /// A file is given up.
+    Drop {
+        /// The file's number.
+        number: u32,
+    },
+}
+
+impl PlacedCommand {
+    /// The command that a record of this kind and content is; `None` exactly where the content hasn't the kind's
+    /// length, its call is none, or there is no such kind. Takes no memory.
+    pub fn read(kind: u8, content: &[u8]) -> Option<PlacedCommand>
+        ensures command { option_map placed_value result ≡ placed_in (record_of kind content.now) }
+        ensures writable { IfSome result (λ command. IsWritable (placed_value command)) }
+    {
+        match kind {
+            2 => read_grow(content),
+            3 => read_seal(content),
+            _ => read_other(kind, content),
+        }
+    }
+
+    /// Writes the command's content in place of what `content` holds, and gives the kind of its record. Takes no
+    /// memory.
+    pub fn write(&self, content: &mut RecordContent) -> u8
+        requires { IsWritable (placed_value self.now) }
+        ensures { record_of result content.new ≡ record_of_placed (placed_value self.now) }
+    {
+        match self {
+            PlacedCommand::Begin {
+                number,
+                caller,
+                length,
+                moment,
+            } => {
+                let command = Command::Begin {
+                    number: *number,
+                    caller: *caller,
+                    length: *length,
+                    moment: *moment,
+                };
+                command.write(content)
+            }
+            PlacedCommand::Grow {
+                number,
+                block,
+                used,
+            } => put_grow(content, *number, *block, *used),
+            PlacedCommand::Seal {
+                number,
+                moment,
+                sum,
+            } => put_seal(content, *number, *moment, *sum),
+            PlacedCommand::Drop { number } => Command::Drop { number: *number }.write(content),
+        }
+    }
+}
+
+/// The Begin or the Drop that a record is.
+fn read_other(kind: u8, content: &[u8]) -> Option<PlacedCommand>
+    ensures command { option_map placed_value result
+        ≡ option_and_then placed_as (command_of (record_of kind content.now)) }
+    ensures writable { IfSome result (λ command. IsWritable (placed_value command)) }
+{
+    match Command::read(kind, content) {
+        Some(command) => placed(&command),
+        None => None,
+    }
+}
+
+/// A Begin or a Drop of the store of files, placed.
+fn placed(command: &Command<'_>) -> Option<PlacedCommand>
+    requires { IsWritableWhole (command_value command.now) }
+    ensures command { option_map placed_value result ≡ placed_as (command_value command.now) }
+    ensures writable { IfSome result (λ command. IsWritable (placed_value command)) }
+{
+    match command {
+        Command::Begin {
+            number,
+            caller,
+            length,
+            moment,
+        } => Some(PlacedCommand::Begin {
+            number: *number,
+            caller: *caller,
+            length: *length,
+            moment: *moment,
+        }),
+        Command::Drop { number } => Some(PlacedCommand::Drop { number: *number }),
+        Command::Grow { .. } | Command::Seal { .. } => None,
+    }
+}

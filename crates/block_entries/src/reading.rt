@@ -1,0 +1,39 @@
+//! The commands that contents of records are.
+
+ghost use Rattle.std.specs.Prelude.{◌≡◌, IfSome};
+ghost use Rattle.std.specs.Option.{option_map};
+ghost use Rattle.block_entries.specs.PlacedCommands.{placed_value};
+ghost use Rattle.block_entries.specs.PlacedRecords.{IsWritable, grow_in, seal_in};
+
+use crate::command::PlacedCommand;
+use px_base::{le16, le32};
+
+/// The Grow that a content is.
+pub(crate) fn read_grow(content: &[u8]) -> Option<PlacedCommand>
+    ensures command { option_map placed_value result ≡ grow_in content.now }
+    ensures writable { IfSome result (λ command. IsWritable (placed_value command)) }
+{
+    if content.len() != 10 {
+        return None;
+    }
+    Some(PlacedCommand::Grow {
+        number: le32(content, 0),
+        block: le32(content, 4),
+        used: le16(content, 8),
+    })
+}
+
+/// The Seal that a content is.
+pub(crate) fn read_seal(content: &[u8]) -> Option<PlacedCommand>
+    ensures command { option_map placed_value result ≡ seal_in content.now }
+    ensures writable { IfSome result (λ command. IsWritable (placed_value command)) }
+{
+    if content.len() != 10 {
+        return None;
+    }
+    Some(PlacedCommand::Seal {
+        number: le32(content, 0),
+        moment: le32(content, 4),
+        sum: le16(content, 8),
+    })
+}

@@ -1,0 +1,49 @@
+//! The contents of the records of commands. Each call gives the kind of the record.
+
+ghost use Rattle.std.specs.Prelude.{◌≡◌, ◌+◌, ◌≤◌, ◌++◌, length};
+ghost use Rattle.file_journal.specs.Records.{record_of};
+ghost use Rattle.block_entries.specs.PlacedCommand.{grow, seal};
+ghost use Rattle.block_entries.specs.PlacedRecords.{record_of_placed};
+ghost use Rattle.px_base.specs.Numbers.{le16_octets, le32_octets};
+
+use byteorder::{ByteOrder, LittleEndian};
+use file_journal::RecordContent;
+
+/// The content of a Grow.
+pub(crate) fn put_grow(content: &mut RecordContent, number: u32, block: u32, used: u16) -> u8
+    ensures { record_of result content.new ≡ record_of_placed (grow number block used) }
+{
+    put_numbers(content, number, block, used);
+    2
+}
+
+/// The content of a Seal.
+pub(crate) fn put_seal(content: &mut RecordContent, number: u32, moment: u32, sum: u16) -> u8
+    ensures { record_of result content.new ≡ record_of_placed (seal number moment sum) }
+{
+    put_numbers(content, number, moment, sum);
+    3
+}
+
+/// Two numbers of four octets and one of two, in place of what the content holds.
+fn put_numbers(content: &mut RecordContent, first: u32, second: u32, third: u16)
+    ensures { content.new ≡ le32_octets first ++ le32_octets second ++ le16_octets third }
+{
+    content.clear();
+    put_number(content, first);
+    put_number(content, second);
+    let mut octets = [0; 2];
+    LittleEndian::write_u16(&mut octets, third);
+    content.put(&octets);
+}
+
+/// Puts the four octets of a number at the end.
+fn put_number(content: &mut RecordContent, number: u32)
+    requires { length content.old + 4 ≤ 600 }
+    ensures octets { content.new ≡ content.old ++ le32_octets number }
+    ensures len { length content.new ≡ length content.old + 4 }
+{
+    let mut octets = [0; 4];
+    LittleEndian::write_u32(&mut octets, number);
+    content.put(&octets);
+}
