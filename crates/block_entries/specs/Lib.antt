@@ -6,6 +6,7 @@ pub mod Laws
 pub mod Placed
 pub mod PlacedCommand
 pub mod PlacedCommands
+pub mod PlacedFiles
 pub mod PlacedLaws
 pub mod PlacedRecords
 pub mod SameLaws

@@ -7,6 +7,7 @@
 mod command;
 pub mod laws;
 mod reading;
+mod stored_file;
 mod writing;
 
 pub use command::PlacedCommand;

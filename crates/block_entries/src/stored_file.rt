@@ -1,0 +1,186 @@
+//! A file of the store, without the blocks that its octets stand in.
+
+ghost use Rattle.std.specs.Prelude.{◌≡◌, ◌+◌, ◌≤◌, ◌^◌, ◌<◌, ◌++◌, length, drop, [], Some, None, is_some, IsSome, OnOk, OnErr};
+ghost use Rattle.std.specs.Option.{option_map};
+ghost use Rattle.block_entries.specs.Placed.{is_sealed, new_placed};
+ghost use Rattle.block_entries.specs.PlacedCommand.{sealed};
+ghost use Rattle.block_entries.specs.PlacedFiles.{placed_info};
+ghost use Rattle.file_entries.specs.Files.{octets_or_none};
+
+use file_entries::Info;
+use px_base::{Call, OutOfMemory};
+use std::alloc::Global;
+use std::marker::Model;
+
+/// When a file was sealed, and the sum that its header has with its stamp.
+#[derive(Clone, Copy, Debug)]
+pub(crate) struct SealMark {
+    /// The moment, in seconds since 1 January 1970.
+    pub(crate) moment: u32,
+    /// The sum.
+    pub(crate) sum: u16,
+}
+
+/// A file, without its blocks. Contracts see it as a `PlacedFile` without blocks.
+#[derive(Drop)]
+pub(crate) struct StoredFile {
+    number: u32,
+    caller: Call,
+    length: u32,
+    begun: u32,
+    /// How many octets are held.
+    held: u32,
+    /// The octets that came of an upload that is out and aren't held yet.
+    waiting: Vec<u8>,
+    /// Whether an upload of the file is out.
+    out: bool,
+    /// The file's seal.
+    mark: Option<SealMark>,
+}
+
+impl Model for StoredFile {
+    ghost use Rattle.std.specs.Prelude.{[]};
+    ghost use Rattle.block_entries.specs.PlacedFiles.{PlacedFile, rest_when, seal_of};
+
+    ghost Value = { PlacedFile };
+
+    ghost view = { λ a. record {
+      entry = record {
+        number = a.number;
+        caller = a.caller;
+        length = a.length;
+        begun = a.begun;
+        held = a.held;
+        blocks = [];
+        seal = seal_of a.mark;
+      };
+      rest = rest_when a.out a.waiting.items;
+    } };
+}
+
+impl StoredFile {
+    /// A file of which no octet is held, and no upload is out. Takes no memory.
+    pub(crate) fn new(
+        alloc: Global,
+        number: u32,
+        caller: Call,
+        file_length: u32,
+        moment: u32,
+    ) -> StoredFile
+        ensures { result ≡ record { entry = new_placed number caller file_length moment; rest = None } }
+    {
+        StoredFile {
+            number,
+            caller,
+            length: file_length,
+            begun: moment,
+            held: 0,
+            waiting: Vec::new(alloc),
+            out: false,
+            mark: None,
+        }
+    }
+
+    /// The number of the file.
+    pub(crate) fn number(&self) -> u32
+        ensures { result ≡ self.now.entry.number }
+    {
+        self.number
+    }
+
+    /// Whether the file is sealed.
+    pub(crate) fn is_complete(&self) -> bool
+        ensures { result ≡ is_sealed self.now.entry }
+    {
+        self.mark.is_some()
+    }
+
+    /// Whether an upload of the file is out.
+    pub(crate) fn is_out(&self) -> bool
+        ensures { result ≡ is_some self.now.rest }
+    {
+        self.out
+    }
+
+    /// The octets that came of the upload that is out and aren't held yet; none where none is out.
+    pub(crate) fn rest(&self) -> &[u8]
+        ensures { result.now ≡ octets_or_none self.now.rest }
+    {
+        if self.out {
+            self.waiting.as_slice()
+        } else {
+            &[]
+        }
+    }
+
+    /// What the store tells of the file.
+    pub(crate) fn info(&self) -> Info
+        ensures { result ≡ placed_info self.now.entry }
+    {
+        Info {
+            number: self.number,
+            caller: self.caller,
+            length: self.length,
+            held: self.held,
+            complete: self.mark.is_some(),
+            begun: self.begun,
+        }
+    }
+
+    /// An upload of the file goes out, of which no octet waits.
+    pub(crate) fn take_out(&mut self)
+        ensures { self.new ≡ record self.old { rest = Some [] } }
+    {
+        self.waiting.clear();
+        self.out = true;
+    }
+
+    /// The upload that is out is given up, if there is one; the octets that aren't held yet are lost.
+    pub(crate) fn park(&mut self)
+        ensures { self.new ≡ record self.old { rest = None } }
+    {
+        self.waiting.clear();
+        self.out = false;
+    }
+
+    /// Octets come of the upload that is out, behind those that wait; or nothing changes where there is no memory. Takes
+    /// memory.
+    pub(crate) fn bring(&mut self, bytes: &[u8]) -> Result<(), OutOfMemory>
+        ensures ok { OnOk result (self.new ≡ record self.old { rest = option_map (λ r. r ++ bytes.now) self.old.rest }) }
+        ensures err { OnErr result (self.new ≡ self.old) }
+    {
+        self.waiting.extend_from_slice(bytes)?;
+        Ok(())
+    }
+
+    /// The first octets that wait become held.
+    pub(crate) fn hold(&mut self, count: usize)
+        requires there { count ≤ length (octets_or_none self.old.rest) }
+        requires fits { self.old.entry.held + count < 2 ^ 32 }
+        ensures { self.new ≡ record self.old {
+            entry = record self.old.entry { held = self.old.entry.held + count };
+            rest = option_map (drop count) self.old.rest;
+        } }
+    {
+        let left = self.waiting.len() - count;
+        self.waiting.as_mut_slice().copy_within(count.., 0);
+        self.waiting.truncate(left);
+        self.held += count as u32;
+    }
+
+    /// So many further octets are held, of a file of which no upload is out.
+    pub(crate) fn grow(&mut self, used: u16)
+        requires in_ { self.old.rest ≡ None }
+        requires fits { self.old.entry.held + used < 2 ^ 32 }
+        ensures { self.new ≡ record self.old { entry = record self.old.entry { held = self.old.entry.held + used } } }
+    {
+        self.held += u32::from(used);
+    }
+
+    /// The file is kept with this seal.
+    pub(crate) fn seal(&mut self, moment: u32, sum: u16)
+        ensures { self.new ≡ record self.old { entry = sealed moment sum self.old.entry } }
+    {
+        self.mark = Some(SealMark { moment, sum });
+    }
+}
