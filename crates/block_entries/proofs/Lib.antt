@@ -1,4 +1,9 @@
+mod BeginLemmas
+mod ChangeLemmas
+mod HalvingLemmas
+mod PlacesLemmas
 mod RecordLemmas
 mod RulesLemmas
+mod RunsLemmas
 mod SeenLemmas
 mod StandingLemmas

@@ -135,7 +135,7 @@ none_is_placed blocks = record {
   rooms = omega arith;
 }
 
-begin_placed : (store : PlacedStore) (caller : CallSign) (file_length moment : ℕ) → IsPlaced store → IsCall caller
+pub begin_placed : (store : PlacedStore) (caller : CallSign) (file_length moment : ℕ) → IsPlaced store → IsCall caller
     → file_length ≤ longest_file → length store.entries < most_entries
     → rooms_of (runs_of store.entries) + blocks_for file_length ≤ store.blocks
     → IsPlaced (after store (begin store.next caller file_length moment))

@@ -118,9 +118,11 @@ in_runs [] files = []
 in_runs (run ∷ runs) [] = []
 in_runs (run ∷ runs) (file ∷ files) = with_run run file ∷ in_runs runs files
 
--- The rules of a store of placed files hold; and each file has the run at its place, which may have as many blocks as the
--- file takes.
+-- The rules of a store of placed files hold; each file has the run at its place, which may have as many blocks as the
+-- file takes; and there are 1 to 65,536 blocks.
 pub record AreKept (runs : List Run) (files : List PlacedFile) (next blocks : ℕ) : Type 0 where
   pub rules : IsPlaced (store_of (files_from (in_runs runs files) next blocks))
   pub runs_are : runs_of (entries_of (in_runs runs files)) ≡ runs
   pub count : length runs ≡ length files
+  pub some : 1 ≤ blocks
+  pub most : blocks ≤ 65536

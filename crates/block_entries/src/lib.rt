@@ -5,9 +5,12 @@
 #![tactic(auto)]
 
 mod command;
+mod entries;
 pub mod laws;
+mod limits;
 mod reading;
 mod stored_file;
 mod writing;
 
 pub use command::PlacedCommand;
+pub use entries::Entries;

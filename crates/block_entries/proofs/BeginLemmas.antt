@@ -1,0 +1,98 @@
+-- What one more file does to all.
+use Rattle.std.proofs.Common.{◌≡◌, ℕ, ◌+◌, ◌-◌, ◌≤◌, ◌<◌, List, [], ◌∷◌, ◌++◌, length, refl, ap, sym, ◌∙◌, subst, arith, Option, None, Some, length-append}
+use Rattle.std.specs.Option.{option_and_then}
+use Rattle.std.proofs.lemmas.List.{length-map}
+use Rattle.block_entries.specs.IsPlaced.{IsPlaced}
+use Rattle.block_entries.specs.KeptLaws.{begin_placed, blocks_seen}
+use Rattle.block_entries.specs.Placed.{Placed, new_placed, placed_from, run_of, runs_of}
+use Rattle.block_entries.specs.PlacedCommand.{after, begin}
+use Rattle.block_entries.specs.PlacedFiles.{AreKept, Becomes, PlacedFile, PlacedFiles, entries_of, file_of, files_from, in_runs, rest_of, store_of, with_run}
+use Rattle.block_entries.specs.Seen.{seen, seen_entry}
+use Rattle.block_entries.proofs.ChangeLemmas.{rest_of_file}
+use Rattle.block_entries.proofs.PlacesLemmas.{entries_push, file_next, push_here, push_other}
+use Rattle.block_entries.proofs.RunsLemmas.{in_runs_push, runs_push}
+use Rattle.block_table.specs.Table.{Run, new_run, rooms_of}
+use Rattle.file_entries.specs.Command.{MayBegin}
+use Rattle.file_entries.specs.Limits.{most_entries}
+use Rattle.file_entries.specs.Store.{blocks_for}
+use Rattle.file_journal.specs.Layout.{Blocks}
+use Rattle.px_base.specs.CallSign.{CallSign, IsCall}
+
+module _ (runs : List Run) (items : List PlacedFile) (next blocks : ℕ) (kept : AreKept runs items next blocks) (now : PlacedFiles) (view : files_from (in_runs runs items) next blocks ≡ now)
+    (caller : CallSign) (file_length moment : ℕ) (call : IsCall caller) (may : (held : Blocks) × MayBegin (seen held (store_of now)) file_length) where
+  abbrev zs : List PlacedFile
+  zs = in_runs runs items
+
+  abbrev inside : PlacedFiles
+  inside = files_from zs next blocks
+
+  may_inside : MayBegin (seen may.0 (store_of inside)) file_length
+  may_inside = subst (λ (n : PlacedFiles). MayBegin (seen may.0 (store_of n)) file_length) (sym view) may.1
+
+  rooms_are : rooms_of runs ≡ rooms_of (runs_of (entries_of zs))
+  rooms_are = ap rooms_of (sym kept.runs_are)
+
+  room_left : rooms_of (runs_of (entries_of zs)) + blocks_for file_length ≤ blocks
+  room_left = omega (arith, may_inside.room, blocks_seen may.0 (store_of inside), kept.rules.rooms)
+
+  pub run_left : blocks_for file_length ≤ blocks - rooms_of runs
+  run_left = omega (arith, room_left, rooms_are)
+
+  few : length (entries_of zs) < most_entries
+  few = subst (λ (n : ℕ). n < most_entries) (length-map (entries_of zs) (seen_entry may.0)) may_inside.few
+
+  begun : IsPlaced (after (store_of inside) (begin next caller file_length moment))
+  begun = begin_placed (store_of inside) caller file_length moment kept.rules call may_inside.short few room_left
+
+  -- the new file
+  abbrev new : PlacedFile
+  new = record { entry = new_placed next caller file_length moment; rest = None }
+
+  module _ (runs_after : List Run) (room limit : ℕ) (y : PlacedFile) (runs_are : runs_after ≡ runs ++ new_run room ∷ []) (room_is : room ≡ blocks_for file_length) (limit_is : limit ≡ blocks) (new_is : y ≡ new) where
+    abbrev others : List PlacedFile
+    others = in_runs runs_after (items ++ y ∷ [])
+
+    others_are : others ≡ zs ++ new ∷ []
+    others_are =
+        ap (λ (rs : List Run). in_runs rs (items ++ y ∷ [])) runs_are
+        ∙ in_runs_push runs items (new_run room) y kept.count
+        ∙ ap (λ (f : PlacedFile). zs ++ with_run (new_run room) f ∷ []) new_is
+
+    entries_are : entries_of others ≡ entries_of zs ++ new.entry ∷ []
+    entries_are = ap entries_of others_are ∙ entries_push zs new
+
+    store_is : store_of (files_from others (next + 1) limit) ≡ after (store_of inside) (begin next caller file_length moment)
+    store_is =
+        ap (λ (es : List Placed). placed_from es (next + 1) limit) entries_are
+        ∙ ap (λ (n : ℕ). placed_from (entries_of zs ++ new.entry ∷ []) (next + 1) n) limit_is
+
+    pub begin_kept : AreKept runs_after (items ++ y ∷ []) (next + 1) limit
+    begin_kept = record {
+      rules = subst IsPlaced (sym store_is) begun;
+      runs_are =
+          ap (λ (fs : List PlacedFile). runs_of (entries_of fs)) others_are
+          ∙ runs_push zs new
+          ∙ ap (λ (rs : List Run). rs ++ run_of new.entry ∷ []) kept.runs_are
+          ∙ ap (λ (n : ℕ). runs ++ new_run n ∷ []) (sym room_is)
+          ∙ sym runs_are;
+      count = omega (arith, ap (λ (rs : List Run). length rs) runs_are, length-append runs (new_run room ∷ []), length-append items (y ∷ []), kept.count);
+      some = subst (λ (n : ℕ). 1 ≤ n) (sym limit_is) kept.some;
+      most = subst (λ (n : ℕ). n ≤ 65536) (sym limit_is) kept.most;
+    }
+
+    no_file : file_of zs next ≡ None
+    no_file = file_next next 1 next zs kept.rules.numbers (omega arith)
+
+    becomes_inside : Becomes inside (files_from others (next + 1) limit) (after (store_of inside) (begin next caller file_length moment)) next None
+    becomes_inside = record {
+      store_is = store_is;
+      here = rest_of_file (files_from others (next + 1) limit) next new
+          (subst (λ (fs : List PlacedFile). file_of fs next ≡ Some new) (sym others_are) (push_here zs next new no_file refl));
+      others = λ other ne.
+          ap (option_and_then (λ (f : PlacedFile). f.rest))
+          (ap (λ (fs : List PlacedFile). file_of fs other) others_are ∙ push_other zs next other new refl ne);
+    }
+
+    pub begin_becomes : Becomes now (files_from others (next + 1) limit) (after (store_of now) (begin now.next caller file_length moment)) now.next None
+    begin_becomes =
+        subst (λ (n : PlacedFiles). Becomes n (files_from others (next + 1) limit) (after (store_of n) (begin n.next caller file_length moment)) n.next None) view becomes_inside

@@ -1,0 +1,183 @@
+-- What a change of one file does to all.
+use Rattle.std.proofs.Common.{◌≡◌, ℕ, ◌+◌, ◌≤◌, ◌<◌, Bool, List, [], ◌∷◌, ◌++◌, length, get_or, set, refl, ap, sym, ◌∙◌, subst, arith, Option, None, Some}
+use Rattle.std.specs.Prelude.{IsSome, IsTrue, IfNone, IfSome, slice_get}
+use Rattle.std.specs.List.{remove}
+use Rattle.std.proofs.lemmas.List.{length-set}
+use Rattle.std.specs.Option.{option_and_then, option_map}
+use Rattle.block_entries.specs.IsPlaced.{IsPlaced}
+use Rattle.block_entries.specs.Placed.{Placed, PlacedStore, placed_from, placed_of, run_of, runs_of}
+use Rattle.block_entries.specs.PlacedCommand.{after, drop_entry, with_changed}
+use Rattle.block_entries.specs.PlacedFiles.{AreKept, Becomes, ChangesRest, IsPlace, KeepsRests, PlacedFile, PlacedFiles, Waits, entries_of, file_of, files_from, in_runs, rest_of, store_of, with_run}
+use Rattle.block_entries.proofs.PlacesLemmas.{at_place, find_entries, found_at, remove_entries, remove_here, remove_other, set_entries_changed, set_entries_same, set_here, set_other}
+use Rattle.block_entries.proofs.RunsLemmas.{in_runs_at, in_runs_file, length_in_runs, runs_at, runs_set}
+use Rattle.block_table.specs.Table.{Run, new_run}
+
+-- ---- whether a file is there
+
+pub place_at : (files : List PlacedFile) (number place : ℕ) (o : Option ℕ) → o ≡ Some place → IfSome o (IsPlace files number) → IsPlace files number place
+place_at files number place o is some = subst (λ (p : Option ℕ). IfSome p (IsPlace files number)) is some
+
+pub has_place : (files : List PlacedFile) (number : ℕ) (o : Option ℕ) → IfNone o (file_of files number ≡ None) → (file_of files number ≡ None → ⊥) → IsSome o
+has_place files number None none there = absurd (there none)
+has_place files number (Some place) none there = refl
+
+-- there is no place, and so no file
+pub no_place : (files : List PlacedFile) (number : ℕ) (o : Option ℕ) → o ≡ None → IfNone o (file_of files number ≡ None) → file_of files number ≡ None
+no_place files number o is none = subst (λ (p : Option ℕ). IfNone p (file_of files number ≡ None)) is none
+
+pub no_entry : (files : PlacedFiles) (number : ℕ) → file_of files.files number ≡ None → placed_of (store_of files) number ≡ None
+no_entry files number none = find_entries number files.files ∙ ap (option_map (λ (f : PlacedFile). f.entry)) none
+
+pub no_rest : (files : PlacedFiles) (number : ℕ) → file_of files.files number ≡ None → rest_of files number ≡ None
+no_rest files number none = ap (option_and_then (λ (f : PlacedFile). f.rest)) none
+
+pub never_some : {A : Type 0} (o : Option A) → o ≡ None → IsSome o → ⊥
+never_some None none h = cc
+never_some (Some x) none h = cc
+
+pub entry_of_file : (files : PlacedFiles) (number : ℕ) (file : PlacedFile) → file_of files.files number ≡ Some file → placed_of (store_of files) number ≡ Some file.entry
+entry_of_file files number file found = find_entries number files.files ∙ ap (option_map (λ (f : PlacedFile). f.entry)) found
+
+pub rest_of_file : (files : PlacedFiles) (number : ℕ) (file : PlacedFile) → file_of files.files number ≡ Some file → rest_of files number ≡ file.rest
+rest_of_file files number file found = ap (option_and_then (λ (f : PlacedFile). f.rest)) found
+
+-- what waits of an upload that is out
+pub waits_some : (files : PlacedFiles) (number count : ℕ) → Waits files number count → IsSome (rest_of files number)
+waits_some files number count w = subst (λ (o : Option (List ℕ)). IsSome o) (sym w.1) refl
+
+-- ---- the file at a place
+
+module _ (runs : List Run) (items : List PlacedFile) (next blocks : ℕ) (kept : AreKept runs items next blocks) (now : PlacedFiles) (view : files_from (in_runs runs items) next blocks ≡ now) where
+  -- the files, with the blocks of their runs
+  abbrev pub zs : List PlacedFile
+  zs = in_runs runs items
+
+  abbrev pub inside : PlacedFiles
+  inside = files_from zs next blocks
+
+  pub rules_now : IsPlaced (store_of now)
+  rules_now = subst (λ (n : PlacedFiles). IsPlaced (store_of n)) view kept.rules
+
+  module _ (number place : ℕ) (o : Option ℕ) (is : o ≡ Some place) (some : IfSome o (IsPlace now.files number)) where
+    there : IsPlace zs number place
+    there = subst (λ (n : PlacedFiles). IsPlace n.files number place) (sym view) (place_at now.files number place o is some)
+
+    pub in_range : place < length items
+    in_range = omega (arith, (at_place zs place there.file there.there).0, length_in_runs runs items kept.count)
+
+    module _ (x : PlacedFile) (read : x ≡ get_or items place x) where
+      -- its run
+      abbrev pub run : Run
+      run = get_or runs place (new_run 0)
+
+      -- the file with its blocks
+      abbrev pub z : PlacedFile
+      z = with_run run x
+
+      z_is : there.file ≡ z
+      z_is =
+          sym ((at_place zs place there.file there.there).1 x)
+          ∙ in_runs_at runs items place (new_run 0) x kept.count in_range
+          ∙ ap (with_run run) (sym read)
+
+      there_z : slice_get zs place ≡ Some z
+      there_z = there.there ∙ ap Some z_is
+
+      pub number_x : x.entry.number ≡ number
+      number_x = ap (λ (f : PlacedFile). f.entry.number) (sym z_is) ∙ there.same
+
+      found_inside : file_of zs number ≡ Some z
+      found_inside = found_at 1 next zs number place z kept.rules.numbers there_z number_x
+
+      pub found_now : file_of now.files number ≡ Some z
+      found_now = subst (λ (n : PlacedFiles). file_of n.files number ≡ Some z) view found_inside
+
+      pub rest_now : rest_of now number ≡ x.rest
+      rest_now = rest_of_file now number z found_now
+
+      pub entry_now : placed_of (store_of now) number ≡ Some z.entry
+      entry_now = entry_of_file now number z found_now
+
+      pub run_is : run ≡ run_of z.entry
+      run_is =
+          ap (λ (rs : List Run). get_or rs place (new_run 0)) (sym kept.runs_are)
+          ∙ runs_at zs place (new_run 0) x (omega (arith, in_range, length_in_runs runs items kept.count))
+          ∙ ap (λ (f : PlacedFile). run_of f.entry) ((at_place zs place there.file there.there).1 x ∙ z_is)
+
+      -- ---- another file of the number at its place
+
+      module _ (others : List PlacedFile) (y : PlacedFile) (others_are : others ≡ set zs place y) where
+        abbrev pub changed_files : PlacedFiles
+        changed_files = files_from others next blocks
+
+        keeps_rests : y.entry.number ≡ number → KeepsRests now changed_files number
+        keeps_rests same =
+            let kept_there : KeepsRests inside (files_from (set zs place y) next blocks) number =
+            λ other ne. ap (option_and_then (λ (f : PlacedFile). f.rest)) (set_other zs number other place z y there_z number_x same ne) in
+            subst (λ (fs : List PlacedFile). KeepsRests now (files_from fs next blocks) number) (sym others_are)
+            (subst (λ (n : PlacedFiles). KeepsRests n (files_from (set zs place y) next blocks) number) view kept_there)
+
+        rest_here : y.entry.number ≡ number → rest_of changed_files number ≡ y.rest
+        rest_here same =
+            rest_of_file changed_files number y
+            (subst (λ (fs : List PlacedFile). file_of fs number ≡ Some y) (sym others_are)
+            (set_here 1 next zs number place z y kept.rules.numbers there_z number_x same))
+
+        -- the entry is the same
+        pub same_entries : y.entry ≡ z.entry → entries_of others ≡ entries_of zs
+        same_entries same = ap entries_of others_are ∙ set_entries_same zs place z y there_z same
+
+        pub same_becomes : y.entry ≡ z.entry → ChangesRest now changed_files number y.rest
+        same_becomes same =
+            let number_y : y.entry.number ≡ number = ap (λ (e : Placed). e.number) same ∙ number_x in
+            record {
+              store_is = ap (λ (es : List Placed). placed_from es next blocks) (same_entries same) ∙ ap store_of view;
+              here = rest_here number_y;
+              others = keeps_rests number_y;
+            }
+
+        -- the entry is changed
+        pub change_store : (change : Placed → Placed) → y.entry ≡ change z.entry → store_of changed_files ≡ with_changed (store_of inside) number change
+        change_store change new =
+            ap (λ (es : List Placed). placed_from es next blocks)
+            (ap entries_of others_are ∙ set_entries_changed 1 next zs number place z y change kept.rules.numbers there_z number_x new)
+
+        pub change_becomes : (change : Placed → Placed) → y.entry ≡ change z.entry → ((e : Placed) → (change e).number ≡ e.number)
+            → Becomes now changed_files (with_changed (store_of now) number change) number y.rest
+        change_becomes change new same =
+            let number_y : y.entry.number ≡ number = ap (λ (e : Placed). e.number) new ∙ same z.entry ∙ number_x in
+            record {
+              store_is = change_store change new ∙ ap (λ (n : PlacedFiles). with_changed (store_of n) number change) view;
+              here = rest_here number_y;
+              others = keeps_rests number_y;
+            }
+
+        -- the runs, of which that one is the file's
+        pub change_runs : runs_of (entries_of others) ≡ set runs place (run_of y.entry)
+        change_runs =
+            ap (λ (fs : List PlacedFile). runs_of (entries_of fs)) others_are
+            ∙ runs_set zs place y
+            ∙ ap (λ (rs : List Run). set rs place (run_of y.entry)) kept.runs_are
+
+      -- ---- the same entry, with other octets that wait
+
+      module _ (y : PlacedFile) (same : y.entry ≡ x.entry) where
+        abbrev with_rest : List PlacedFile
+        with_rest = in_runs runs (set items place y)
+
+        entry_is : (with_run run y).entry ≡ z.entry
+        entry_is = ap (λ (e : Placed). record e { blocks = run.blocks }) same
+
+        pub rest_becomes : ChangesRest now (files_from with_rest next blocks) number y.rest
+        rest_becomes = same_becomes with_rest (with_run run y) (in_runs_file runs items place (new_run 0) y) entry_is
+
+        pub rest_kept : AreKept runs (set items place y) next blocks
+        rest_kept =
+            let entries = same_entries with_rest (with_run run y) (in_runs_file runs items place (new_run 0) y) entry_is in
+            record {
+              rules = subst (λ (es : List Placed). IsPlaced (placed_from es next blocks)) (sym entries) kept.rules;
+              runs_are = ap runs_of entries ∙ kept.runs_are;
+              count = kept.count ∙ sym (length-set items place y);
+              some = kept.some;
+              most = kept.most;
+            }

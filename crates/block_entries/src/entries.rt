@@ -1,0 +1,195 @@
+//! The entries of a store whose octets stand in blocks, and what the commands do to them.
+
+ghost use Rattle.std.specs.Prelude.{◌≡◌, ◌↔◌, ◌≤◌, [], None, Some, IsSome, IsTrue, IfSome, IfNone, IfOk, OnErr, OnOk};
+ghost use Rattle.std.specs.Option.{option_copied, option_map};
+ghost use Rattle.block_entries.specs.IsPlaced.{IsPlaced};
+ghost use Rattle.block_entries.specs.Placed.{no_entries, placed_of};
+ghost use Rattle.block_entries.specs.PlacedCommand.{after, begin};
+ghost use Rattle.block_entries.specs.PlacedFiles.{Becomes, ChangesRest, IsOut, IsPlace, NothingOut, file_of, placed_info};
+ghost use Rattle.block_entries.specs.PlacedFiles.{rest_of, rest_with, store_of};
+ghost use Rattle.block_entries.specs.Seen.{seen};
+ghost use Rattle.file_entries.specs.Bars.{Bars};
+ghost use Rattle.file_entries.specs.Command.{MayBegin};
+ghost use Rattle.file_entries.specs.Files.{octets_or_none};
+ghost use Rattle.file_journal.specs.Layout.{Blocks};
+
+use crate::limits::blocks_of_length;
+use crate::stored_file::StoredFile;
+use block_table::BlockTable;
+use file_entries::{BeginBar, Info, LAST_NEXT, LONGEST_FILE, MOST_ENTRIES};
+use px_base::{Call, OutOfMemory};
+use std::alloc::Global;
+use std::marker::Model;
+
+/// The entries of a store, in rising number. Contracts see them as an `EntriesState`.
+#[derive(Drop)]
+pub struct Entries {
+    alloc: Global,
+    files: Vec<StoredFile>,
+    /// The blocks of each file: the run at its place.
+    table: BlockTable,
+    /// The number that the next file gets.
+    next: u32,
+}
+
+impl Model for Entries {
+    ghost use Rattle.std.specs.Prelude.{min};
+    ghost use Rattle.file_entries.specs.Files.{spare_of};
+    ghost use Rattle.block_entries.specs.PlacedFiles.{AreKept, EntriesState, files_from, in_runs};
+
+    ghost Value = { EntriesState };
+
+    ghost view = { λ a. record {
+      files = files_from (in_runs a.table.runs a.files.items) a.next a.table.limit;
+      spare = min (spare_of a.files) a.table.spare;
+    } };
+
+    ghost invariant = { λ a. AreKept a.table.runs a.files.items a.next a.table.limit };
+}
+
+impl Entries {
+    /// No entries, of so many blocks. Takes memory: 3 octets for each block.
+    pub fn new(alloc: Global, blocks: u32) -> Result<Entries, OutOfMemory>
+        requires some { 1 ≤ blocks }
+        requires most { blocks ≤ 65536 }
+        ensures store { IfOk result (λ entries. store_of entries.files ≡ no_entries blocks) }
+        ensures out { IfOk result (λ entries. NothingOut entries.files) }
+    {
+        let table = BlockTable::new(alloc, blocks)?;
+        Ok(Entries {
+            alloc,
+            files: Vec::new(alloc),
+            table,
+            next: 1,
+        })
+    }
+
+    /// The number that the next file gets. Takes no memory.
+    pub fn next(&self) -> u32
+        ensures next { result ≡ self.now.files.next }
+        ensures rules { IsPlaced (store_of self.now.files) }
+        ensures some { 1 ≤ self.now.files.blocks }
+        ensures most { self.now.files.blocks ≤ 65536 }
+    {
+        self.next
+    }
+
+    /// Why a file of this length can't be begun; `None` where it may be. Takes no memory.
+    pub fn begin_bar(&self, length: u32) -> Option<BeginBar>
+        ensures some { (held : Blocks) → IfSome result (λ bar. Bars bar (seen held (store_of self.now.files)) length) }
+        ensures none { (held : Blocks) → IfNone result (MayBegin (seen held (store_of self.now.files)) length) }
+    {
+        let count = self.files.len();
+        if length > LONGEST_FILE {
+            return Some(BeginBar::TooLong);
+        }
+        if count >= MOST_ENTRIES {
+            return Some(BeginBar::TooMany);
+        }
+        if self.next == LAST_NEXT {
+            return Some(BeginBar::NumbersGone);
+        }
+        let blocks = blocks_of_length(length);
+        let free = self.table.left();
+        if blocks > free {
+            return Some(BeginBar::NoRoom { blocks, free });
+        }
+        None
+    }
+
+    /// Makes room in memory for one more entry; the entries stay as they are. Takes memory.
+    pub fn reserve(&mut self) -> Result<(), OutOfMemory>
+        ensures files { self.new.files ≡ self.old.files }
+        ensures ok { OnOk result (1 ≤ self.new.spare) }
+    {
+        self.files.reserve(1)?;
+        self.table.reserve(1)?;
+        Ok(())
+    }
+
+    /// Begins a file, of which no upload is out. There is room for it in memory. Takes no memory.
+    pub fn begin(&mut self, caller: Call, length: u32, moment: u32)
+        requires may { (held : Blocks) × MayBegin (seen held (store_of self.old.files)) length }
+        requires room { 1 ≤ self.old.spare }
+        ensures { let number = self.old.files.next in
+            Becomes self.old.files self.new.files
+            (after (store_of self.old.files) (begin number caller length moment)) number None }
+    {
+        let file = StoredFile::new(self.alloc, self.next, caller, length, moment);
+        self.table.begin(blocks_of_length(length));
+        self.files.push(file).unwrap();
+        self.next += 1;
+    }
+
+    /// An upload of this entry goes out, of which no octet waits. Takes no memory.
+    pub fn take_out(&mut self, number: u32)
+        requires { IsSome (placed_of (store_of self.old.files) number) }
+        ensures { ChangesRest self.old.files self.new.files number (Some []) }
+    {
+        let place = self.place_of(number).unwrap();
+        self.files[place].take_out();
+    }
+
+    /// The upload of this entry that is out, if there is one, is given up; the octets that wait are lost. Takes no
+    /// memory.
+    pub fn park(&mut self, number: u32)
+        ensures { ChangesRest self.old.files self.new.files number None }
+    {
+        if let Some(place) = self.place_of(number) {
+            self.files[place].park();
+        }
+    }
+
+    /// Octets come of the upload of this entry that is out, behind those that wait; or nothing changes where there is
+    /// no memory. Takes memory. The work is that of the octets that come, and of finding the entry.
+    pub fn bring(&mut self, number: u32, bytes: &[u8]) -> Result<(), OutOfMemory>
+        requires { IsOut self.old.files number }
+        ensures ok { OnOk result
+            (ChangesRest self.old.files self.new.files number (rest_with self.old.files number bytes.now)) }
+        ensures err { OnErr result (self.new ≡ self.old) }
+    {
+        let place = self.place_of(number).unwrap();
+        self.files[place].bring(bytes)?;
+        Ok(())
+    }
+
+    /// Whether an upload of this number is out. Takes no memory.
+    pub fn is_out(&self, number: u32) -> bool
+        ensures { IsTrue result ↔ IsOut self.now.files number }
+    {
+        match self.place_of(number) {
+            Some(place) => self.files[place].is_out(),
+            None => false,
+        }
+    }
+
+    /// The octets that wait of the upload of this number; none where none is out. Takes no memory.
+    pub fn waiting(&self, number: u32) -> &[u8]
+        ensures { result.now ≡ octets_or_none (rest_of self.now.files number) }
+    {
+        match self.place_of(number) {
+            Some(place) => self.files[place].rest(),
+            None => &[],
+        }
+    }
+
+    /// What the store tells of the entry of this number, or `None` exactly where there is none. Takes no memory.
+    pub fn info(&self, number: u32) -> Option<Info>
+        ensures info { result ≡ option_map placed_info (placed_of (store_of self.now.files) number) }
+        ensures rules { IsPlaced (store_of self.now.files) }
+    {
+        match self.place_of(number) {
+            Some(place) => Some(self.files[place].info()),
+            None => None,
+        }
+    }
+
+    /// The place of the file of this number: the last one's, as where it was begun last, or one that is found by halving.
+    fn place_of(&self, number: u32) -> Option<usize>
+        ensures some { IfSome result (IsPlace self.now.files.files number) }
+        ensures none { IfNone result (file_of self.now.files.files number ≡ None) }
+    {
+        self.files
+            .binary_search_by_key(&number, |file| file.number())
+            .ok()
+    }}
