@@ -1,16 +1,20 @@
 -- What a change of one file does to all.
-use Rattle.std.proofs.Common.{◌≡◌, ℕ, ◌+◌, ◌≤◌, ◌<◌, Bool, List, [], ◌∷◌, ◌++◌, length, get_or, set, refl, ap, sym, ◌∙◌, subst, arith, Option, None, Some}
+use Rattle.std.proofs.Common.{◌≡◌, ℕ, ◌+◌, ◌*◌, ◌^◌, ◌≤◌, ◌<◌, Bool, List, [], ◌∷◌, ◌++◌, length, get_or, set, refl, ap, sym, ◌∙◌, subst, arith, Option, None, Some}
 use Rattle.std.specs.Prelude.{IsSome, IsTrue, IfNone, IfSome, slice_get}
 use Rattle.std.specs.List.{remove}
 use Rattle.std.proofs.lemmas.List.{length-set}
 use Rattle.std.specs.Option.{option_and_then, option_map}
-use Rattle.block_entries.specs.IsPlaced.{IsPlaced}
+use Rattle.block_entries.specs.FilesLaws.{found_holds}
+use Rattle.block_entries.specs.IsPlaced.{IsPlaced, IsPlacedFile}
+use Rattle.block_entries.specs.KeptLaws.{grow_placed, grows_full}
 use Rattle.block_entries.specs.Placed.{Placed, PlacedStore, placed_from, placed_of, run_of, runs_of}
-use Rattle.block_entries.specs.PlacedCommand.{after, drop_entry, with_changed}
+use Rattle.block_entries.specs.PlacedCommand.{after, can_grow, drop_entry, grow, grown, with_changed}
 use Rattle.block_entries.specs.PlacedFiles.{AreKept, Becomes, ChangesRest, IsPlace, KeepsRests, PlacedFile, PlacedFiles, Waits, entries_of, file_of, files_from, in_runs, rest_of, store_of, with_run}
+use Rattle.block_entries.specs.TestLaws.{Grows, MayGrow, Passes, may_grow}
 use Rattle.block_entries.proofs.PlacesLemmas.{at_place, find_entries, found_at, remove_entries, remove_here, remove_other, set_entries_changed, set_entries_same, set_here, set_other}
-use Rattle.block_entries.proofs.RunsLemmas.{in_runs_at, in_runs_file, length_in_runs, runs_at, runs_set}
-use Rattle.block_table.specs.Table.{Run, new_run}
+use Rattle.block_entries.proofs.RunsLemmas.{in_runs_at, in_runs_both, in_runs_file, length_in_runs, runs_at, runs_set}
+use Rattle.block_table.specs.Table.{Run, new_run, times_of, with_block}
+use Rattle.file_entries.specs.Store.{blocks_for}
 
 -- ---- whether a file is there
 
@@ -181,3 +185,77 @@ module _ (runs : List Run) (items : List PlacedFile) (next blocks : ℕ) (kept :
               some = kept.some;
               most = kept.most;
             }
+
+      entry_inside : placed_of (store_of inside) number ≡ Some z.entry
+      entry_inside = entry_of_file inside number z found_inside
+
+      one : IsPlacedFile blocks z.entry
+      one = found_holds (IsPlacedFile blocks) number (entries_of zs) z.entry kept.rules.files entry_inside
+
+      -- what a test tells of the file that passes it
+      passes_z : (test : Placed → Bool) → Passes (store_of now) number test → IsTrue (test z.entry)
+      passes_z test passes =
+          let same : passes.file ≡ z.entry = let here = passes.found in let also = entry_now in cc in
+          subst (λ (e : Placed). IsTrue (test e)) same passes.test_is
+
+      -- ---- further octets in one more block
+
+      module _ (block used : ℕ) (grows : Grows (store_of now) number block used) where
+        may : MayGrow z.entry used
+        may = may_grow z.entry used (passes_z (λ f. can_grow f used) grows.passes)
+
+        full : z.entry.held ≡ 512 * length z.entry.blocks
+        full = grows_full blocks z.entry used one may grows.takes.some
+
+        pub held_fits : x.entry.held + used < 2 ^ 32
+        held_fits = omega (arith, may.room, one.short)
+
+        pub run_room : (place < length runs) × (length run.blocks < run.room)
+        run_room =
+            let room : run.room ≡ blocks_for z.entry.length = ap (λ (r : Run). r.room) run_is in
+            (omega (arith, in_range, kept.count), omega (arith, room, full, may.room, grows.takes.some))
+
+        pub block_free : (block < blocks) × (times_of block runs ≡ 0)
+        block_free =
+            let grows_inside = subst (λ (n : PlacedFiles). Grows (store_of n) number block used) (sym view) grows in
+            (grows_inside.takes.there, ap (times_of block) (sym kept.runs_are) ∙ grows_inside.takes.free)
+
+        module _ (runs_after : List Run) (limit : ℕ) (y : PlacedFile) (rest : Option (List ℕ)) (runs_are : runs_after ≡ set runs place (with_block run block)) (limit_is : limit ≡ blocks)
+            (new_is : y ≡ record { entry = record x.entry { held = x.entry.held + used }; rest = rest }) where
+          abbrev with_more : List PlacedFile
+          with_more = in_runs runs_after (set items place y)
+
+          abbrev more : PlacedFile
+          more = with_run (with_block run block) y
+
+          with_more_is : with_more ≡ set zs place more
+          with_more_is = ap (λ (rs : List Run). in_runs rs (set items place y)) runs_are ∙ in_runs_both runs items place (with_block run block) y
+
+          more_is : more.entry ≡ grown block used z.entry
+          more_is = ap (λ (f : PlacedFile). (with_run (with_block run block) f).entry) new_is
+
+          pub hold_becomes : Becomes now (files_from with_more next limit) (after (store_of now) (grow number block used)) number rest
+          hold_becomes =
+              let becomes = change_becomes with_more more with_more_is (grown block used) more_is (λ e. refl) in
+              let rest_is : y.rest ≡ rest = ap (λ (f : PlacedFile). f.rest) new_is in
+              subst (λ (n : ℕ). Becomes now (files_from with_more next n) (after (store_of now) (grow number block used)) number rest) (sym limit_is)
+              (record { store_is = becomes.store_is; here = becomes.here ∙ rest_is; others = becomes.others })
+
+          pub hold_kept : AreKept runs_after (set items place y) next limit
+          hold_kept =
+              let grows_inside = subst (λ (n : PlacedFiles). Grows (store_of n) number block used) (sym view) grows in
+              let store = change_store with_more more with_more_is (grown block used) more_is in
+              subst (λ (n : ℕ). AreKept runs_after (set items place y) next n) (sym limit_is)
+              (record {
+                rules = subst IsPlaced (sym store) (grow_placed (store_of inside) number block used kept.rules grows_inside);
+                runs_are =
+                    change_runs with_more more with_more_is
+                    ∙ ap (λ (e : Placed). set runs place (run_of e)) more_is
+                    ∙ ap (λ (r : Run). set runs place (with_block r block)) (sym run_is)
+                    ∙ sym runs_are;
+                count =
+                    ap (λ (rs : List Run). length rs) runs_are
+                    ∙ length-set runs place (with_block run block) ∙ kept.count ∙ sym (length-set items place y);
+                some = kept.some;
+                most = kept.most;
+              })

@@ -192,7 +192,7 @@ module _ (store : PlacedStore) (number : ℕ) (change : Placed → Placed) (file
     sum_changed (times_at b) number change file 1 store.next store.entries is.numbers found,
   )
 
-grow_placed : (store : PlacedStore) (number block used : ℕ) → IsPlaced store → Grows store number block used
+pub grow_placed : (store : PlacedStore) (number block used : ℕ) → IsPlaced store → Grows store number block used
     → IsPlaced (after store (grow number block used))
 grow_placed store number block used is grows =
     let take = grows.takes in
@@ -212,7 +212,7 @@ grow_placed store number block used is grows =
       eqb_tells block b,
     ))
 
-seal_placed : (held : Blocks) (store : PlacedStore) (number moment sum : ℕ) → IsPlaced store
+pub seal_placed : (held : Blocks) (store : PlacedStore) (number moment sum : ℕ) → IsPlaced store
     → Passes store number (λ f. can_seal held f moment sum) → IsPlaced (after store (seal number moment sum))
 seal_placed held store number moment sum is passes =
     let file = passes.file in
@@ -228,7 +228,7 @@ seal_placed held store number moment sum is passes =
       is.once b,
     ))
 
-drop_placed : (store : PlacedStore) (number : ℕ) → IsPlaced store → Passes store number is_partial
+pub drop_placed : (store : PlacedStore) (number : ℕ) → IsPlaced store → Passes store number is_partial
     → IsPlaced (after store (drop_entry number))
 drop_placed store number is passes =
     let test : Placed → Bool = λ f. not (has_number number f) in

@@ -4,10 +4,11 @@ ghost use Rattle.std.specs.Prelude.{◌≡◌, ◌↔◌, ◌≤◌, [], None, S
 ghost use Rattle.std.specs.Option.{option_copied, option_map};
 ghost use Rattle.block_entries.specs.IsPlaced.{IsPlaced};
 ghost use Rattle.block_entries.specs.Placed.{no_entries, placed_of};
-ghost use Rattle.block_entries.specs.PlacedCommand.{after, begin};
-ghost use Rattle.block_entries.specs.PlacedFiles.{Becomes, ChangesRest, IsOut, IsPlace, NothingOut, file_of, placed_info};
-ghost use Rattle.block_entries.specs.PlacedFiles.{rest_of, rest_with, store_of};
+ghost use Rattle.block_entries.specs.PlacedCommand.{after, begin, grow};
+ghost use Rattle.block_entries.specs.PlacedFiles.{Becomes, ChangesRest, IsOut, IsPlace, NothingOut, Waits, file_of};
+ghost use Rattle.block_entries.specs.PlacedFiles.{placed_info, rest_of, rest_with, rest_without, store_of};
 ghost use Rattle.block_entries.specs.Seen.{seen};
+ghost use Rattle.block_entries.specs.TestLaws.{Grows};
 ghost use Rattle.file_entries.specs.Bars.{Bars};
 ghost use Rattle.file_entries.specs.Command.{MayBegin};
 ghost use Rattle.file_entries.specs.Files.{octets_or_none};
@@ -151,6 +152,19 @@ impl Entries {
         let place = self.place_of(number).unwrap();
         self.files[place].bring(bytes)?;
         Ok(())
+    }
+
+    /// The first octets that wait become held, in this block: a Grow, whose condition holds. Takes no memory.
+    pub fn hold(&mut self, number: u32, block: u32, count: usize)
+        requires waits { Waits self.old.files number count }
+        requires allowed { Grows (store_of self.old.files) number block count }
+        ensures { Becomes self.old.files self.new.files
+            (after (store_of self.old.files) (grow number block count))
+            number (rest_without self.old.files number count) }
+    {
+        let place = self.place_of(number).unwrap();
+        self.files[place].hold(count);
+        self.table.take(place, block);
     }
 
     /// Whether an upload of this number is out. Takes no memory.
