@@ -1,20 +1,25 @@
 -- What a change of one file does to all.
-use Rattle.std.proofs.Common.{◌≡◌, ℕ, ◌+◌, ◌*◌, ◌^◌, ◌≤◌, ◌<◌, Bool, List, [], ◌∷◌, ◌++◌, length, get_or, set, refl, ap, sym, ◌∙◌, subst, arith, Option, None, Some}
-use Rattle.std.specs.Prelude.{IsSome, IsTrue, IfNone, IfSome, slice_get}
+use Rattle.std.proofs.Common.{◌≡◌, ℕ, suc, ◌+◌, ◌*◌, ◌^◌, ◌≤◌, ◌<◌, ◌⊎◌, inl, inr, Bool, List, [], ◌∷◌, ◌++◌, length, get_or, set, refl, ap, sym, ◌∙◌, subst, arith, Option, None, Some}
+use Rattle.std.specs.Prelude.{IsSome, IsTrue, IfNone, IfSome, find, nat_lt, slice_get}
+use Rattle.std.proofs.lemmas.Bool.{eq-eqb, lt-ltb, ltb-true}
+use Rattle.std.proofs.lemmas.Bool.Decides.{eqb_tells}
 use Rattle.std.specs.List.{remove}
-use Rattle.std.proofs.lemmas.List.{length-set}
+use Rattle.std.proofs.lemmas.List.{length-set, set-get_or}
+use Rattle.std.proofs.lemmas.List.Edits.{length-remove}
 use Rattle.std.specs.Option.{option_and_then, option_map}
 use Rattle.block_entries.specs.FilesLaws.{found_holds}
 use Rattle.block_entries.specs.IsPlaced.{IsPlaced, IsPlacedFile}
-use Rattle.block_entries.specs.KeptLaws.{grow_placed, grows_full}
-use Rattle.block_entries.specs.Placed.{Placed, PlacedStore, placed_from, placed_of, run_of, runs_of}
-use Rattle.block_entries.specs.PlacedCommand.{after, can_grow, drop_entry, grow, grown, with_changed}
-use Rattle.block_entries.specs.PlacedFiles.{AreKept, Becomes, ChangesRest, IsPlace, KeepsRests, PlacedFile, PlacedFiles, Waits, entries_of, file_of, files_from, in_runs, rest_of, store_of, with_run}
+use Rattle.block_entries.specs.KeptLaws.{drop_placed, grow_placed, grows_full, seal_placed}
+use Rattle.block_entries.specs.Placed.{Placed, has_number, placed_from, placed_of, run_of, runs_of}
+use Rattle.block_entries.specs.PlacedCommand.{after, can_grow, can_seal, drop_entry, grow, grown, is_partial, seal, sealed, with_changed}
+use Rattle.block_entries.specs.PlacedFiles.{AreKept, Becomes, ChangesRest, IsLowest, IsPlace, KeepsRests, PlacedFile, PlacedFiles, Waits, entries_of, file_of, files_from, in_runs, lacks_octets, rest_of, store_of, with_run}
 use Rattle.block_entries.specs.TestLaws.{Grows, MayGrow, Passes, may_grow}
 use Rattle.block_entries.proofs.PlacesLemmas.{at_place, find_entries, found_at, remove_entries, remove_here, remove_other, set_entries_changed, set_entries_same, set_here, set_other}
-use Rattle.block_entries.proofs.RunsLemmas.{in_runs_at, in_runs_both, in_runs_file, length_in_runs, runs_at, runs_set}
+use Rattle.block_entries.proofs.RunsLemmas.{in_runs_at, in_runs_both, in_runs_file, in_runs_remove, length_in_runs, runs_at, runs_remove, runs_set}
 use Rattle.block_table.specs.Table.{Run, new_run, times_of, with_block}
 use Rattle.file_entries.specs.Store.{blocks_for}
+use Rattle.file_entries.proofs.Offered.{both-true}
+use Rattle.file_journal.specs.Layout.{Blocks}
 
 -- ---- whether a file is there
 
@@ -48,6 +53,10 @@ rest_of_file files number file found = ap (option_and_then (λ (f : PlacedFile).
 -- what waits of an upload that is out
 pub waits_some : (files : PlacedFiles) (number count : ℕ) → Waits files number count → IsSome (rest_of files number)
 waits_some files number count w = subst (λ (o : Option (List ℕ)). IsSome o) (sym w.1) refl
+
+-- a file that passes a test is there
+pub never_found : (files : PlacedFiles) (number : ℕ) {test : Placed → Bool} → file_of files.files number ≡ None → Passes (store_of files) number test → ⊥
+never_found files number none passes = never_some _ (no_entry files number none) (subst (λ (o : Option Placed). IsSome o) (sym passes.found) refl)
 
 -- ---- the file at a place
 
@@ -259,3 +268,145 @@ module _ (runs : List Run) (items : List PlacedFile) (next blocks : ℕ) (kept :
                 some = kept.some;
                 most = kept.most;
               })
+
+      -- ---- the file sealed
+
+      module _ (held : Blocks) (moment sum : ℕ) (passes : Passes (store_of now) number (λ f. can_seal held f moment sum)) (y : PlacedFile) (rest : Option (List ℕ))
+          (new_is : y ≡ record { entry = sealed moment sum x.entry; rest = rest }) where
+        abbrev with_seal : List PlacedFile
+        with_seal = in_runs runs (set items place y)
+
+        abbrev kept_file : PlacedFile
+        kept_file = with_run run y
+
+        with_seal_is : with_seal ≡ set zs place kept_file
+        with_seal_is = in_runs_file runs items place (new_run 0) y
+
+        kept_is : kept_file.entry ≡ sealed moment sum z.entry
+        kept_is = ap (λ (f : PlacedFile). (with_run run f).entry) new_is
+
+        pub seal_becomes : Becomes now (files_from with_seal next blocks) (after (store_of now) (seal number moment sum)) number rest
+        seal_becomes =
+            let becomes = change_becomes with_seal kept_file with_seal_is (sealed moment sum) kept_is (λ e. refl) in
+            record { store_is = becomes.store_is; here = becomes.here ∙ ap (λ (f : PlacedFile). f.rest) new_is; others = becomes.others }
+
+        pub seal_kept : AreKept runs (set items place y) next blocks
+        seal_kept =
+            let passes_inside = subst (λ (n : PlacedFiles). Passes (store_of n) number (λ f. can_seal held f moment sum)) (sym view) passes in
+            let store = change_store with_seal kept_file with_seal_is (sealed moment sum) kept_is in
+            record {
+              rules = subst IsPlaced (sym store) (seal_placed held (store_of inside) number moment sum kept.rules passes_inside);
+              runs_are =
+                  change_runs with_seal kept_file with_seal_is
+                  ∙ ap (λ (e : Placed). set runs place (run_of e)) kept_is
+                  ∙ ap (λ (r : Run). set runs place r) (sym run_is)
+                  ∙ set-get_or runs place (new_run 0);
+              count = kept.count ∙ sym (length-set items place y);
+              some = kept.some;
+              most = kept.most;
+            }
+
+      -- ---- the file gone
+
+      module _ (passes : Passes (store_of now) number is_partial) (runs_after : List Run) (limit : ℕ) (items_after : List PlacedFile) (runs_are : runs_after ≡ remove runs place) (limit_is : limit ≡ blocks)
+          (items_are : items_after ≡ remove items place) where
+        abbrev left : List PlacedFile
+        left = in_runs runs_after items_after
+
+        left_is : left ≡ remove zs place
+        left_is =
+            ap (λ (rs : List Run). in_runs rs items_after) runs_are
+            ∙ ap (λ (fs : List PlacedFile). in_runs (remove runs place) fs) items_are
+            ∙ in_runs_remove runs items place kept.count
+
+        left_store : store_of (files_from left next blocks) ≡ after (store_of inside) (drop_entry number)
+        left_store =
+            ap (λ (es : List Placed). placed_from es next blocks)
+            (ap entries_of left_is ∙ remove_entries 1 next zs number place z kept.rules.numbers there_z number_x)
+
+        left_rests : KeepsRests now (files_from left next blocks) number
+        left_rests =
+            let kept_there : KeepsRests inside (files_from (remove zs place) next blocks) number =
+            λ other ne. ap (option_and_then (λ (f : PlacedFile). f.rest)) (remove_other zs number other place z there_z number_x ne) in
+            subst (λ (fs : List PlacedFile). KeepsRests now (files_from fs next blocks) number) (sym left_is)
+            (subst (λ (n : PlacedFiles). KeepsRests n (files_from (remove zs place) next blocks) number) view kept_there)
+
+        pub drop_becomes : Becomes now (files_from left next limit) (after (store_of now) (drop_entry number)) number None
+        drop_becomes =
+            subst (λ (n : ℕ). Becomes now (files_from left next n) (after (store_of now) (drop_entry number)) number None) (sym limit_is)
+            (record {
+              store_is = left_store ∙ ap (λ (n : PlacedFiles). after (store_of n) (drop_entry number)) view;
+              here =
+                  ap (λ (fs : List PlacedFile). option_and_then (λ (f : PlacedFile). f.rest) (file_of fs number)) left_is
+                  ∙ ap (option_and_then (λ (f : PlacedFile). f.rest)) (remove_here 1 next zs number place z kept.rules.numbers there_z number_x);
+              others = left_rests;
+            })
+
+        pub drop_kept : AreKept runs_after items_after next limit
+        drop_kept =
+            let passes_inside = subst (λ (n : PlacedFiles). Passes (store_of n) number is_partial) (sym view) passes in
+            subst (λ (n : ℕ). AreKept runs_after items_after next n) (sym limit_is)
+            (record {
+              rules = subst IsPlaced (sym left_store) (drop_placed (store_of inside) number kept.rules passes_inside);
+              runs_are =
+                  ap (λ (fs : List PlacedFile). runs_of (entries_of fs)) left_is
+                  ∙ runs_remove zs place
+                  ∙ ap (λ (rs : List Run). remove rs place) kept.runs_are
+                  ∙ sym runs_are;
+              count = omega (
+                  arith,
+                  ap (λ (rs : List Run). length rs) runs_are,
+                  ap (λ (fs : List PlacedFile). length fs) items_are,
+                  length-remove runs place (omega (arith, in_range, kept.count)),
+                  length-remove items place in_range,
+                  kept.count,
+                );
+              some = kept.some;
+              most = kept.most;
+            })
+
+-- ---- a block that no file has
+
+-- the run of a file that is found
+find_run : (number : ℕ) (files : List Placed) (file : Placed) (d : Run) → find (has_number number) files ≡ Some file
+    → (k : ℕ) × (k < length (runs_of files)) × (get_or (runs_of files) k d ≡ run_of file)
+find_run number [] file d found = absurd (cc)
+find_run number (f ∷ fs) file d found =
+    elim (eqb_tells f.number number) [
+      | inl w ↦
+          let is : Some f ≡ Some file = rw w.0 at found in
+          let same : f ≡ file = cc in
+          (0, omega arith, ap run_of same)
+      | inr w ↦
+          let rest = find_run number fs file d (rw w.0 at found) in
+          (suc rest.0, omega (arith, rest.1), rest.2)
+    ]
+
+still_full : (held file_length count : ℕ) → (held ≡ file_length) ⊎ (held ≡ 512 * count) → held < file_length → held ≡ 512 * count
+still_full held file_length count (inl all) room = absurd (omega (arith, all, room))
+still_full held file_length count (inr is) room = is
+
+-- a file that lacks octets has room for one more block
+module _ (runs : List Run) (items : List PlacedFile) (next blocks : ℕ) (kept : AreKept runs items next blocks) (now : PlacedFiles) (view : files_from (in_runs runs items) next blocks ≡ now) where
+  pub lacks_room : (number : ℕ) → Passes (store_of now) number lacks_octets → (k : ℕ) × (k < length runs) × (length (get_or runs k (new_run 0)).blocks < (get_or runs k (new_run 0)).room)
+  lacks_room number passes_now =
+      let entries = entries_of (in_runs runs items) in
+      let passes : Passes (store_of (files_from (in_runs runs items) next blocks)) number lacks_octets =
+      subst (λ (n : PlacedFiles). Passes (store_of n) number lacks_octets) (sym view) passes_now in
+      let one : IsPlacedFile blocks passes.file = found_holds (IsPlacedFile blocks) number entries passes.file kept.rules.files passes.found in
+      let lacks : passes.file.held < passes.file.length = ltb-true _ _ passes.test_is in
+      let full : passes.file.held ≡ 512 * length passes.file.blocks = still_full passes.file.held passes.file.length (length passes.file.blocks) one.full lacks in
+      let at = find_run number entries passes.file (new_run 0) passes.found in
+      let run_is : get_or runs at.0 (new_run 0) ≡ run_of passes.file = ap (λ (rs : List Run). get_or rs at.0 (new_run 0)) (sym kept.runs_are) ∙ at.2 in
+      let inside : at.0 < length runs = subst (λ (rs : List Run). at.0 < length rs) kept.runs_are at.1 in
+      let blocks_are = ap (λ (r : Run). length r.blocks) run_is in
+      let room_is = ap (λ (r : Run). r.room) run_is in
+      (at.0, inside, omega (arith, blocks_are, room_is, full, lacks))
+
+  pub lowest_is : (block : ℕ) → block < blocks → times_of block runs ≡ 0 → ((other : ℕ) → other < block → 1 ≤ times_of other runs) → IsLowest (store_of now) block
+  lowest_is block below free lower =
+      subst (λ (n : PlacedFiles). IsLowest (store_of n) block) view
+      (record {
+        free = both-true (nat_lt block blocks) _ (lt-ltb _ _ below) (eq-eqb _ _ (ap (times_of block) kept.runs_are ∙ free));
+        lower = λ other less. subst (λ (rs : List Run). 1 ≤ times_of other rs) (sym kept.runs_are) (lower other less);
+      })

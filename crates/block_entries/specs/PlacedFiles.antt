@@ -1,10 +1,11 @@
 -- The placed files as the code has them: beside each one, what came of an upload of it that is out and isn't held yet.
-use Rattle.std.specs.Prelude.{◌≡◌, ◌≢◌, ℕ, ◌≤◌, ◌==◌, List, [], ◌∷◌, ◌++◌, length, map, find, drop}
-use Rattle.std.specs.Prelude.{slice_get, Option, None, Some, Bool, IsSome, if◌then◌else◌}
+use Rattle.std.specs.Prelude.{◌≡◌, ◌≢◌, ℕ, ◌≤◌, ◌<◌, ◌==◌, List, [], ◌∷◌, ◌++◌, length, map, find, drop}
+use Rattle.std.specs.Prelude.{slice_get, Option, None, Some, Bool, IsSome, IsTrue, nat_lt, if◌then◌else◌}
 use Rattle.std.specs.Option.{option_and_then, option_map}
 use Rattle.block_entries.specs.IsPlaced.{IsPlaced}
-use Rattle.block_entries.specs.Placed.{Placed, PlacedStore, Seal, is_sealed, placed_from, runs_of}
+use Rattle.block_entries.specs.Placed.{Placed, PlacedStore, Seal, Uses, is_sealed, placed_from, runs_of}
 use Rattle.block_entries.specs.PlacedCommand.{grown}
+use Rattle.block_entries.specs.PlacedCommand.{is_free}
 use Rattle.block_entries.specs.declared.stored_file.SealMark.{SealMark}
 use Rattle.block_table.specs.Table.{Run}
 use Rattle.file_entries.specs.declared.info.Info.{Info}
@@ -85,6 +86,15 @@ pub record IsPlace (files : List PlacedFile) (number place : ℕ) : Type 0 where
   pub file : PlacedFile
   pub there : slice_get files place ≡ Some file
   pub same : file.entry.number ≡ number
+
+-- whether the file lacks octets still
+abbrev pub lacks_octets : Placed → Bool
+lacks_octets file = nat_lt file.held file.length
+
+-- no file has this block, and some file has each one below it
+pub record IsLowest (store : PlacedStore) (block : ℕ) : Type 0 where
+  pub free : IsTrue (is_free store block)
+  pub lower : (other : ℕ) → other < block → Uses store other
 
 -- what a store tells of a file
 abbrev pub placed_info : Placed → Info

@@ -1,14 +1,14 @@
 //! The entries of a store whose octets stand in blocks, and what the commands do to them.
 
-ghost use Rattle.std.specs.Prelude.{◌≡◌, ◌↔◌, ◌≤◌, [], None, Some, IsSome, IsTrue, IfSome, IfNone, IfOk, OnErr, OnOk};
+ghost use Rattle.std.specs.Prelude.{◌≡◌, ◌↔◌, ℕ, ◌≤◌, [], None, Some, IsSome, IsTrue, IfSome, IfNone, IfOk, OnErr, OnOk};
 ghost use Rattle.std.specs.Option.{option_copied, option_map};
 ghost use Rattle.block_entries.specs.IsPlaced.{IsPlaced};
 ghost use Rattle.block_entries.specs.Placed.{no_entries, placed_of};
-ghost use Rattle.block_entries.specs.PlacedCommand.{after, begin, grow};
-ghost use Rattle.block_entries.specs.PlacedFiles.{Becomes, ChangesRest, IsOut, IsPlace, NothingOut, Waits, file_of};
+ghost use Rattle.block_entries.specs.PlacedCommand.{after, begin, can_seal, drop_entry, grow, is_partial, seal};
+ghost use Rattle.block_entries.specs.PlacedFiles.{Becomes, ChangesRest, IsLowest, IsOut, IsPlace, NothingOut, Waits, file_of, lacks_octets};
 ghost use Rattle.block_entries.specs.PlacedFiles.{placed_info, rest_of, rest_with, rest_without, store_of};
 ghost use Rattle.block_entries.specs.Seen.{seen};
-ghost use Rattle.block_entries.specs.TestLaws.{Grows};
+ghost use Rattle.block_entries.specs.TestLaws.{Grows, Passes};
 ghost use Rattle.file_entries.specs.Bars.{Bars};
 ghost use Rattle.file_entries.specs.Command.{MayBegin};
 ghost use Rattle.file_entries.specs.Files.{octets_or_none};
@@ -154,6 +154,16 @@ impl Entries {
         Ok(())
     }
 
+    /// The lowest block that no file has. There is one, since a file lacks octets still. Takes no memory. The search
+    /// begins where the last one ended, or at the lowest block that was freed since.
+    pub fn lowest_free(&mut self) -> u32
+        requires { (number : ℕ) × Passes (store_of self.old.files) number lacks_octets }
+        ensures lowest { IsLowest (store_of self.old.files) result }
+        ensures same { self.new ≡ self.old }
+    {
+        self.table.lowest_free()
+    }
+
     /// The first octets that wait become held, in this block: a Grow, whose condition holds. Takes no memory.
     pub fn hold(&mut self, number: u32, block: u32, count: usize)
         requires waits { Waits self.old.files number count }
@@ -165,6 +175,29 @@ impl Entries {
         let place = self.place_of(number).unwrap();
         self.files[place].hold(count);
         self.table.take(place, block);
+    }
+
+    /// Seals a file whose Seal's condition holds, with what blocks hold, and of which no upload is out. Takes no memory.
+    pub fn seal(&mut self, number: u32, moment: u32, sum: u16)
+        requires allowed { (held : Blocks)
+            × Passes (store_of self.old.files) number (λ f. can_seal held f moment sum) }
+        requires in_ { rest_of self.old.files number ≡ None }
+        ensures { Becomes self.old.files self.new.files
+            (after (store_of self.old.files) (seal number moment sum)) number None }
+    {
+        let place = self.place_of(number).unwrap();
+        self.files[place].seal(moment, sum);
+    }
+
+    /// Drops a file under way. Takes no memory.
+    pub fn drop_entry(&mut self, number: u32)
+        requires { Passes (store_of self.old.files) number is_partial }
+        ensures { Becomes self.old.files self.new.files
+            (after (store_of self.old.files) (drop_entry number)) number None }
+    {
+        let place = self.place_of(number).unwrap();
+        drop(self.files.remove(place));
+        self.table.remove(place);
     }
 
     /// Whether an upload of this number is out. Takes no memory.

@@ -1,0 +1,22 @@
+use Rattle.std.proofs.Common.{ap, arith}
+use Rattle.block_entries.specs.PlacedFiles.{EntriesState}
+use Rattle.block_entries.proofs.ChangeLemmas.{drop_becomes, drop_kept, has_place, in_range, never_found}
+use Rattle.block_entries.proofs.entries.Entries.drop_entry.Goals as goal
+use Rattle.block_table.specs.Table.{Table}
+
+pub unwrap-place-requires : goal.unwrap-place-requires
+unwrap-place-requires c =
+    has_place c.args.self.now.files.files c.args.number c.place_of.result c.place_of.ensures.none
+    (λ none. never_found c.args.self.now.files c.args.number none c.requires)
+
+pub invariant_of-self : goal.invariant_of-self
+invariant_of-self c =
+    let view = ap (λ (s : EntriesState). s.files) c.self.view_is in
+    drop_kept c.self.inside.table.runs c.self.inside.files.items c.self.inside.next c.self.inside.table.limit c.self.invariant _ view c.args.number _ c.place_of.result c.unwrap-place.ensures c.place_of.ensures.some c.remove.result c.remove.ensures.value
+    c.requires c.remove-2.new.self.runs c.remove-2.new.self.limit c.remove.new.self.items (ap (λ (t : Table). t.runs) c.remove-2.ensures) (ap (λ (t : Table). t.limit) c.remove-2.ensures) c.remove.ensures.items
+
+pub returns : goal.returns
+returns c =
+    let view = ap (λ (s : EntriesState). s.files) c.self.view_is in
+    drop_becomes c.self.inside.table.runs c.self.inside.files.items c.self.inside.next c.self.inside.table.limit c.self.invariant _ view c.args.number _ c.place_of.result c.unwrap-place.ensures c.place_of.ensures.some c.remove.result c.remove.ensures.value
+    c.requires c.remove-2.new.self.runs c.remove-2.new.self.limit c.remove.new.self.items (ap (λ (t : Table). t.runs) c.remove-2.ensures) (ap (λ (t : Table). t.limit) c.remove-2.ensures) c.remove.ensures.items
