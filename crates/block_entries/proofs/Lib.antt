@@ -1,6 +1,7 @@
 mod BeginLemmas
 mod ChangeLemmas
 mod HalvingLemmas
+mod NextLemmas
 mod PlacesLemmas
 mod RecordLemmas
 mod RulesLemmas

@@ -3,7 +3,7 @@ use Rattle.std.specs.Prelude.{◌≡◌, ◌≢◌, ℕ, ◌≤◌, ◌<◌, ◌
 use Rattle.std.specs.Prelude.{slice_get, Option, None, Some, Bool, IsSome, IsTrue, nat_lt, if◌then◌else◌}
 use Rattle.std.specs.Option.{option_and_then, option_map}
 use Rattle.block_entries.specs.IsPlaced.{IsPlaced}
-use Rattle.block_entries.specs.Placed.{Placed, PlacedStore, Seal, Uses, is_sealed, placed_from, runs_of}
+use Rattle.block_entries.specs.Placed.{Placed, PlacedStore, Seal, Uses, is_sealed, placed_from, placed_of, runs_of}
 use Rattle.block_entries.specs.PlacedCommand.{grown}
 use Rattle.block_entries.specs.PlacedCommand.{is_free}
 use Rattle.block_entries.specs.declared.stored_file.SealMark.{SealMark}
@@ -95,6 +95,21 @@ lacks_octets file = nat_lt file.held file.length
 pub record IsLowest (store : PlacedStore) (block : ℕ) : Type 0 where
   pub free : IsTrue (is_free store block)
   pub lower : (other : ℕ) → other < block → Uses store other
+
+-- the file of this number is sealed
+abbrev pub IsSealedIn : PlacedStore → ℕ → Type 0
+IsSealedIn store number = (file : Placed) × (placed_of store number ≡ Some file) × IsTrue (is_sealed file)
+
+-- the least number above this one of a sealed file, or that there is none
+abbrev pub IsNextSealed : PlacedStore → ℕ → Option ℕ → Type 0
+IsNextSealed store above None = (number : ℕ) → above < number → IsSealedIn store number → ⊥
+IsNextSealed store above (Some next) =
+    (above < next) × IsSealedIn store next
+    × ((number : ℕ) → above < number → IsSealedIn store number → next ≤ number)
+
+-- whether the file is sealed
+abbrev pub is_sealed_file : PlacedFile → Bool
+is_sealed_file file = is_sealed file.entry
 
 -- what a store tells of a file
 abbrev pub placed_info : Placed → Info

@@ -1,11 +1,12 @@
 //! The entries of a store whose octets stand in blocks, and what the commands do to them.
 
-ghost use Rattle.std.specs.Prelude.{◌≡◌, ◌↔◌, ℕ, ◌≤◌, [], None, Some, IsSome, IsTrue, IfSome, IfNone, IfOk, OnErr, OnOk};
+ghost use Rattle.std.specs.Prelude.{◌≡◌, ◌↔◌, ℕ, ◌≤◌, [], None, Some, IsSome, IsTrue, IfSome, IfNone, IfOk, OnErr, OnOk, find};
 ghost use Rattle.std.specs.Option.{option_copied, option_map};
 ghost use Rattle.block_entries.specs.IsPlaced.{IsPlaced};
 ghost use Rattle.block_entries.specs.Placed.{no_entries, placed_of};
 ghost use Rattle.block_entries.specs.PlacedCommand.{after, begin, can_seal, drop_entry, grow, is_partial, seal};
-ghost use Rattle.block_entries.specs.PlacedFiles.{Becomes, ChangesRest, IsLowest, IsOut, IsPlace, NothingOut, Waits, file_of, lacks_octets};
+ghost use Rattle.block_entries.specs.PlacedFiles.{Becomes, ChangesRest, IsLowest, IsNextSealed, IsOut, IsPlace, NothingOut, Waits};
+ghost use Rattle.block_entries.specs.PlacedFiles.{file_of, is_sealed_file, lacks_octets};
 ghost use Rattle.block_entries.specs.PlacedFiles.{placed_info, rest_of, rest_with, rest_without, store_of};
 ghost use Rattle.block_entries.specs.Seen.{seen};
 ghost use Rattle.block_entries.specs.TestLaws.{Grows, Passes};
@@ -231,7 +232,15 @@ impl Entries {
         }
     }
 
-    /// The place of the file of this number: the last one's, as where it was begun last, or one that is found by halving.
+    /// The least number above this one of a complete file, or `None` exactly where there is none. Takes no memory.
+    pub fn next_complete(&self, above: u32) -> Option<u32>
+        ensures { IsNextSealed (store_of self.now.files) above result }
+    {
+        let place = self.files.partition_point(|file| file.number() <= above);
+        first_complete(&self.files[place..])
+    }
+
+    /// The place of the file of this number, found by halving.
     fn place_of(&self, number: u32) -> Option<usize>
         ensures some { IfSome result (IsPlace self.now.files.files number) }
         ensures none { IfNone result (file_of self.now.files.files number ≡ None) }
@@ -240,3 +249,11 @@ impl Entries {
             .binary_search_by_key(&number, |file| file.number())
             .ok()
     }}
+
+/// The number of the first complete one of these files.
+fn first_complete(files: &[StoredFile]) -> Option<u32>
+    ensures { result ≡ option_map (λ f. f.entry.number) (find is_sealed_file files.now) }
+{
+    let file = files.iter().find(|file| file.is_complete())?;
+    Some(file.number())
+}
