@@ -1,12 +1,12 @@
 -- What one more file does to all.
-use Rattle.std.proofs.Common.{◌≡◌, ℕ, ◌+◌, ◌-◌, ◌≤◌, ◌<◌, List, [], ◌∷◌, ◌++◌, length, refl, ap, sym, ◌∙◌, subst, arith, Option, None, Some, length-append}
+use Rattle.std.proofs.Common.{◌≡◌, ℕ, ◌+◌, ◌-◌, ◌≤◌, ◌<◌, List, [], ◌∷◌, ◌++◌, length, refl, ap, sym, ◌∙◌, subst, arith, None, Some, length-append}
 use Rattle.std.specs.Option.{option_and_then}
 use Rattle.std.proofs.lemmas.List.{length-map}
 use Rattle.block_entries.specs.IsPlaced.{IsPlaced}
 use Rattle.block_entries.specs.KeptLaws.{begin_placed, blocks_seen}
 use Rattle.block_entries.specs.Placed.{Placed, new_placed, placed_from, run_of, runs_of}
 use Rattle.block_entries.specs.PlacedCommand.{after, begin}
-use Rattle.block_entries.specs.PlacedFiles.{AreKept, Becomes, PlacedFile, PlacedFiles, entries_of, file_of, files_from, in_runs, rest_of, store_of, with_run}
+use Rattle.block_entries.specs.PlacedFiles.{AreKept, Becomes, PlacedFile, PlacedFiles, entries_of, file_of, files_from, in_runs, store_of, with_run}
 use Rattle.block_entries.specs.Seen.{seen, seen_entry}
 use Rattle.block_entries.proofs.ChangeLemmas.{rest_of_file}
 use Rattle.block_entries.proofs.PlacesLemmas.{entries_push, file_next, push_here, push_other}
@@ -42,7 +42,9 @@ module _ (runs : List Run) (items : List PlacedFile) (next blocks : ℕ) (kept :
   few = subst (λ (n : ℕ). n < most_entries) (length-map (entries_of zs) (seen_entry may.0)) may_inside.few
 
   begun : IsPlaced (after (store_of inside) (begin next caller file_length moment))
-  begun = begin_placed (store_of inside) caller file_length moment kept.rules call may_inside.short few room_left
+  begun =
+      begin_placed (store_of inside) caller file_length moment kept.rules call
+      (record { number_is = refl; short = may_inside.short; few = few; left = may_inside.left; room = room_left })
 
   -- the new file
   abbrev new : PlacedFile

@@ -1,5 +1,5 @@
 -- What a change of one file does to all.
-use Rattle.std.proofs.Common.{◌≡◌, ℕ, suc, ◌+◌, ◌*◌, ◌^◌, ◌≤◌, ◌<◌, ◌⊎◌, inl, inr, Bool, List, [], ◌∷◌, ◌++◌, length, get_or, set, refl, ap, sym, ◌∙◌, subst, arith, Option, None, Some}
+use Rattle.std.proofs.Common.{◌≡◌, ℕ, suc, ◌+◌, ◌*◌, ◌^◌, ◌≤◌, ◌<◌, ◌⊎◌, inl, inr, Bool, List, [], ◌∷◌, length, get_or, set, refl, ap, sym, ◌∙◌, subst, arith, Option, None, Some}
 use Rattle.std.specs.Prelude.{IsSome, IsTrue, IfNone, IfSome, find, nat_lt, slice_get}
 use Rattle.std.proofs.lemmas.Bool.{eq-eqb, lt-ltb, ltb-true}
 use Rattle.std.proofs.lemmas.Bool.Decides.{eqb_tells}
@@ -354,13 +354,13 @@ module _ (runs : List Run) (items : List PlacedFile) (next blocks : ℕ) (kept :
                   ∙ ap (λ (rs : List Run). remove rs place) kept.runs_are
                   ∙ sym runs_are;
               count = omega (
-                  arith,
-                  ap (λ (rs : List Run). length rs) runs_are,
-                  ap (λ (fs : List PlacedFile). length fs) items_are,
-                  length-remove runs place (omega (arith, in_range, kept.count)),
-                  length-remove items place in_range,
-                  kept.count,
-                );
+                arith,
+                ap (λ (rs : List Run). length rs) runs_are,
+                ap (λ (fs : List PlacedFile). length fs) items_are,
+                length-remove runs place (omega (arith, in_range, kept.count)),
+                length-remove items place in_range,
+                kept.count,
+              );
               some = kept.some;
               most = kept.most;
             })

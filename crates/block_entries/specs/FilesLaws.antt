@@ -117,9 +117,9 @@ module _ (P : Placed → Type 0) (number : ℕ) (change : Placed → Placed) (fi
                   all.1,
             )
         | inr w ↦ (
-            subst P (sym (changed_other number change f w.0)) all.0,
-            all_changed (f.number + 1) next fs rise.2 (rw w.0 at found) all.1,
-          )
+          subst P (sym (changed_other number change f w.0)) all.0,
+          all_changed (f.number + 1) next fs rise.2 (rw w.0 at found) all.1,
+        )
       ]
 
 -- a sum over the files changes by that one

@@ -135,27 +135,38 @@ none_is_placed blocks = record {
   rooms = omega arith;
 }
 
-pub begin_placed : (store : PlacedStore) (caller : CallSign) (file_length moment : ℕ) → IsPlaced store → IsCall caller
-    → file_length ≤ longest_file → length store.entries < most_entries
-    → rooms_of (runs_of store.entries) + blocks_for file_length ≤ store.blocks
+-- what the condition of a Begin says, where so many entries stand, which take so many blocks
+abbrev pub Comes : PlacedStore → ℕ → ℕ → ℕ → ℕ → Type 0
+Comes store number file_length count taken =
+    MayCome number store.next file_length count (taken + blocks_for file_length) store.blocks
+
+pub begin_placed :
+    (store : PlacedStore) (caller : CallSign) (file_length moment : ℕ) → IsPlaced store → IsCall caller
+    → Comes store store.next file_length (length store.entries) (rooms_of (runs_of store.entries))
     → IsPlaced (after store (begin store.next caller file_length moment))
-begin_placed store caller file_length moment is call short few room =
+begin_placed store caller file_length moment is call may =
     let new : Placed = new_placed store.next caller file_length moment in
     let all = store.entries ++ new ∷ [] in
     record {
       numbers = rise_push 1 store.next store.entries new is.numbers is.next refl;
       files = all_push (IsPlacedFile store.blocks) store.entries new is.files
-          (new_is store.blocks store.next caller file_length moment call short);
+          (new_is store.blocks store.next caller file_length moment call may.short);
       once = λ b. omega (
-          arith,
-          is.once b,
-          times_files b store.entries,
-          times_files b all,
-          sum_by_push (times_at b) store.entries new,
-        );
+        arith,
+        is.once b,
+        times_files b store.entries,
+        times_files b all,
+        sum_by_push (times_at b) store.entries new,
+      );
       next = omega arith;
-      few = omega (arith, few, length-append store.entries (new ∷ []));
-      rooms = omega (arith, room, rooms_files store.entries, rooms_files all, sum_by_push room_at store.entries new);
+      few = omega (arith, may.few, length-append store.entries (new ∷ []));
+      rooms = omega (
+        arith,
+        may.room,
+        rooms_files store.entries,
+        rooms_files all,
+        sum_by_push room_at store.entries new,
+      );
     }
 
 module _ (store : PlacedStore) (number : ℕ) (change : Placed → Placed) (file : Placed) (is : IsPlaced store)
@@ -254,11 +265,6 @@ drop_placed store number is passes =
       );
     }
 
--- what the condition of a Begin says, where so many entries stand, which take so many blocks
-abbrev Comes : PlacedStore → ℕ → ℕ → ℕ → ℕ → Type 0
-Comes store number file_length count taken =
-    MayCome number store.next file_length count (taken + blocks_for file_length) store.blocks
-
 pub begin_may :
     (held : Blocks) (store : PlacedStore) (number : ℕ) (caller : CallSign) (file_length moment : ℕ)
     → IsTrue (is_allowed held store (begin number caller file_length moment))
@@ -266,7 +272,8 @@ pub begin_may :
 begin_may held store number caller file_length moment ok =
     let entries = map (seen_entry held) store.entries in
     let taken = blocks_of (seen held store) in
-    let first = may_come number store.next file_length (length entries) (taken + blocks_for file_length) store.blocks ok in
+    let first =
+    may_come number store.next file_length (length entries) (taken + blocks_for file_length) store.blocks ok in
     subst (λ (n : ℕ). Comes store number file_length n (rooms_of (runs_of store.entries)))
     (length-map store.entries (seen_entry held))
     (subst (λ (n : ℕ). Comes store number file_length (length entries) n) (blocks_seen held store) first)
@@ -275,8 +282,10 @@ pub after_placed : (held : Blocks) (store : PlacedStore) (command : PlacedComman
     → HasCall (seen_command held command) → IsTrue (is_allowed held store command) → IsPlaced (after store command)
 after_placed held store (begin number caller file_length moment) is call ok =
     let may = begin_may held store number caller file_length moment ok in
+    let here : Comes store store.next file_length (length store.entries) (rooms_of (runs_of store.entries)) =
+    record { number_is = refl; short = may.short; few = may.few; left = may.left; room = may.room } in
     subst (λ (n : ℕ). IsPlaced (after store (begin n caller file_length moment))) (sym may.number_is)
-    (begin_placed store caller file_length moment is call may.short may.few may.room)
+    (begin_placed store caller file_length moment is call here)
 after_placed held store (grow number block used) is call ok =
     grow_placed store number block used is (may_take held store number block used ok)
 after_placed held store (seal number moment sum) is call ok =

@@ -3,7 +3,8 @@ use Rattle.std.specs.Prelude.{◌≡◌, ◌↔◌, ℕ, ◌≤◌, List, Some, 
 use Rattle.block_entries.specs.IsPlaced.{IsPlaced, KeepsSeals}
 use Rattle.block_entries.specs.Placed.{Decides, PlacedStore, no_entries}
 use Rattle.block_entries.specs.PlacedCommand.{PlacedCommand, after, is_allowed, seen_command}
-use Rattle.block_entries.specs.PlacedRecords.{IsWritable, Writes, placed_in, placed_magic, placed_steps, record_of_placed}
+use Rattle.block_entries.specs.PlacedRecords.{IsWritable, Writes, placed_in, placed_magic, placed_steps}
+use Rattle.block_entries.specs.PlacedRecords.{record_of_placed}
 use Rattle.block_entries.specs.Seen.{seen}
 use Rattle.file_entries.specs.Command as file
 use Rattle.file_entries.specs.Command.{HasCall}

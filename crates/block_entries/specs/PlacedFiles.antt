@@ -4,12 +4,10 @@ use Rattle.std.specs.Prelude.{slice_get, Option, None, Some, Bool, IsSome, IsTru
 use Rattle.std.specs.Option.{option_and_then, option_map}
 use Rattle.block_entries.specs.IsPlaced.{IsPlaced}
 use Rattle.block_entries.specs.Placed.{Placed, PlacedStore, Seal, Uses, is_sealed, placed_from, placed_of, runs_of}
-use Rattle.block_entries.specs.PlacedCommand.{grown}
 use Rattle.block_entries.specs.PlacedCommand.{is_free}
 use Rattle.block_entries.specs.declared.stored_file.SealMark.{SealMark}
 use Rattle.block_table.specs.Table.{Run}
 use Rattle.file_entries.specs.declared.info.Info.{Info}
-use Rattle.px_base.specs.CallSign.{CallSign}
 
 -- an entry, and where an upload of it is out, the octets that came and aren't held yet
 pub record PlacedFile : Type 0 where
@@ -86,6 +84,10 @@ pub record IsPlace (files : List PlacedFile) (number place : ℕ) : Type 0 where
   pub file : PlacedFile
   pub there : slice_get files place ≡ Some file
   pub same : file.entry.number ≡ number
+
+-- the file with these octets behind those that wait, where an upload is out
+abbrev pub brought : PlacedFile → List ℕ → PlacedFile
+brought file octets = record file { rest = option_map (λ rest. rest ++ octets) file.rest }
 
 -- whether the file lacks octets still
 abbrev pub lacks_octets : Placed → Bool

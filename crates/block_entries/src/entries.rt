@@ -1,12 +1,13 @@
 //! The entries of a store whose octets stand in blocks, and what the commands do to them.
 
-ghost use Rattle.std.specs.Prelude.{◌≡◌, ◌↔◌, ℕ, ◌≤◌, [], None, Some, IsSome, IsTrue, IfSome, IfNone, IfOk, OnErr, OnOk, find};
+ghost use Rattle.std.specs.Prelude.{◌≡◌, ◌↔◌, ℕ, ◌≤◌, [], find, None, Some, IsSome, IsTrue, IfSome, IfNone};
+ghost use Rattle.std.specs.Prelude.{IfOk, OnErr, OnOk};
 ghost use Rattle.std.specs.Option.{option_copied, option_map};
 ghost use Rattle.block_entries.specs.IsPlaced.{IsPlaced};
 ghost use Rattle.block_entries.specs.Placed.{no_entries, placed_of};
 ghost use Rattle.block_entries.specs.PlacedCommand.{after, begin, can_seal, drop_entry, grow, is_partial, seal};
-ghost use Rattle.block_entries.specs.PlacedFiles.{Becomes, ChangesRest, IsLowest, IsNextSealed, IsOut, IsPlace, NothingOut, Waits};
-ghost use Rattle.block_entries.specs.PlacedFiles.{file_of, is_sealed_file, lacks_octets};
+ghost use Rattle.block_entries.specs.PlacedFiles.{Becomes, ChangesRest, IsLowest, IsNextSealed, IsOut, IsPlace};
+ghost use Rattle.block_entries.specs.PlacedFiles.{NothingOut, Waits, file_of, is_sealed_file, lacks_octets};
 ghost use Rattle.block_entries.specs.PlacedFiles.{placed_info, rest_of, rest_with, rest_without, store_of};
 ghost use Rattle.block_entries.specs.Seen.{seen};
 ghost use Rattle.block_entries.specs.TestLaws.{Grows, Passes};
@@ -178,7 +179,8 @@ impl Entries {
         self.table.take(place, block);
     }
 
-    /// Seals a file whose Seal's condition holds, with what blocks hold, and of which no upload is out. Takes no memory.
+    /// Seals a file whose Seal's condition holds, with what blocks hold, and of which no upload is out. Takes no
+    /// memory.
     pub fn seal(&mut self, number: u32, moment: u32, sum: u16)
         requires allowed { (held : Blocks)
             × Passes (store_of self.old.files) number (λ f. can_seal held f moment sum) }
@@ -248,7 +250,8 @@ impl Entries {
         self.files
             .binary_search_by_key(&number, |file| file.number())
             .ok()
-    }}
+    }
+}
 
 /// The number of the first complete one of these files.
 fn first_complete(files: &[StoredFile]) -> Option<u32>

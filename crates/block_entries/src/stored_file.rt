@@ -1,10 +1,10 @@
 //! A file of the store, without the blocks that its octets stand in.
 
-ghost use Rattle.std.specs.Prelude.{◌≡◌, ◌+◌, ◌≤◌, ◌^◌, ◌<◌, ◌++◌, length, drop, [], Some, None, is_some, IsSome, OnOk, OnErr};
+ghost use Rattle.std.specs.Prelude.{◌≡◌, ◌+◌, ◌≤◌, ◌^◌, ◌<◌, length, drop, [], Some, None, is_some, OnOk, OnErr};
 ghost use Rattle.std.specs.Option.{option_map};
 ghost use Rattle.block_entries.specs.Placed.{is_sealed, new_placed};
 ghost use Rattle.block_entries.specs.PlacedCommand.{sealed};
-ghost use Rattle.block_entries.specs.PlacedFiles.{placed_info};
+ghost use Rattle.block_entries.specs.PlacedFiles.{brought, placed_info};
 ghost use Rattle.file_entries.specs.Files.{octets_or_none};
 
 use file_entries::Info;
@@ -143,10 +143,10 @@ impl StoredFile {
         self.out = false;
     }
 
-    /// Octets come of the upload that is out, behind those that wait; or nothing changes where there is no memory. Takes
-    /// memory.
+    /// Octets come of the upload that is out, behind those that wait; or nothing changes where there is no memory.
+    /// Takes memory.
     pub(crate) fn bring(&mut self, bytes: &[u8]) -> Result<(), OutOfMemory>
-        ensures ok { OnOk result (self.new ≡ record self.old { rest = option_map (λ r. r ++ bytes.now) self.old.rest }) }
+        ensures ok { OnOk result (self.new ≡ brought self.old bytes.now) }
         ensures err { OnErr result (self.new ≡ self.old) }
     {
         self.waiting.extend_from_slice(bytes)?;
@@ -158,8 +158,8 @@ impl StoredFile {
         requires there { count ≤ length (octets_or_none self.old.rest) }
         requires fits { self.old.entry.held + count < 2 ^ 32 }
         ensures { self.new ≡ record self.old {
-            entry = record self.old.entry { held = self.old.entry.held + count };
-            rest = option_map (drop count) self.old.rest;
+          entry = record self.old.entry { held = self.old.entry.held + count };
+          rest = option_map (drop count) self.old.rest;
         } }
     {
         let left = self.waiting.len() - count;

@@ -1,4 +1,4 @@
-use Rattle.std.proofs.Common.{rules, ◌≡◌, ◌+◌, ◌∷◌, [], ◌++◌, List, None, ℕ, ap, sym, subst}
+use Rattle.std.proofs.Common.{rules, ◌≡◌, ◌+◌, ◌∷◌, [], ◌++◌, List, None, ap, sym, subst}
 use Rattle.px_base.specs.CallSign.{IsCall}
 use Rattle.block_entries.specs.PlacedCommand.{after, begin}
 use Rattle.block_entries.specs.PlacedFiles.{AreKept, Becomes, EntriesState, PlacedFile, files_from, in_runs, store_of}

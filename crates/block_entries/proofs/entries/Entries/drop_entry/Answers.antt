@@ -1,6 +1,6 @@
-use Rattle.std.proofs.Common.{ap, arith}
+use Rattle.std.proofs.Common.{ap}
 use Rattle.block_entries.specs.PlacedFiles.{EntriesState}
-use Rattle.block_entries.proofs.ChangeLemmas.{drop_becomes, drop_kept, has_place, in_range, never_found}
+use Rattle.block_entries.proofs.ChangeLemmas.{drop_becomes, drop_kept, has_place, never_found}
 use Rattle.block_entries.proofs.entries.Entries.drop_entry.Goals as goal
 use Rattle.block_table.specs.Table.{Table}
 

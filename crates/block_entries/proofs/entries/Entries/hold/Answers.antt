@@ -1,6 +1,6 @@
-use Rattle.std.proofs.Common.{◌≡◌, ◌≤◌, List, ℕ, Option, length, drop, ap, sym, ◌∙◌, subst, arith}
+use Rattle.std.proofs.Common.{◌≡◌, ◌≤◌, List, ℕ, length, drop, ap, sym, ◌∙◌, subst, arith}
 use Rattle.std.specs.Option.{option_map}
-use Rattle.block_entries.specs.PlacedFiles.{EntriesState, PlacedFile, rest_of}
+use Rattle.block_entries.specs.PlacedFiles.{EntriesState, rest_of}
 use Rattle.block_entries.proofs.ChangeLemmas.{block_free, has_place, held_fits, hold_becomes, hold_kept, in_range, never_some, no_rest, rest_now, run_room, waits_some}
 use Rattle.block_entries.proofs.entries.Entries.hold.Goals as goal
 use Rattle.block_entries.proofs.entries.Entries.hold.Goals.{After-index_mut}

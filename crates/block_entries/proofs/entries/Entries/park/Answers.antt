@@ -1,4 +1,4 @@
-use Rattle.std.proofs.Common.{ap, ◌∙◌, arith}
+use Rattle.std.proofs.Common.{ap, ◌∙◌}
 use Rattle.block_entries.specs.PlacedFiles.{EntriesState, PlacedFile}
 use Rattle.block_entries.proofs.ChangeLemmas.{rest_becomes, rest_kept}
 use Rattle.block_entries.proofs.entries.Entries.park.Goals as goal
