@@ -1,10 +1,15 @@
 mod BeginLemmas
+mod BlankedLemmas
+mod BlockRunLemmas
 mod ChangeLemmas
 mod HalvingLemmas
 mod NextLemmas
 mod PlacesLemmas
+mod ReadLemmas
 mod RecordLemmas
 mod RulesLemmas
 mod RunsLemmas
 mod SeenLemmas
+mod StampedPartLemmas
 mod StandingLemmas
+mod WholeBlockLemmas

@@ -1,4 +1,5 @@
 pub mod CallLaws
+pub mod Checking
 pub mod FilesLaws
 pub mod IsPlaced
 pub mod KeptLaws
@@ -9,6 +10,9 @@ pub mod PlacedCommands
 pub mod PlacedFiles
 pub mod PlacedLaws
 pub mod PlacedRecords
+pub mod Reading
 pub mod SameLaws
+pub mod Sealed
 pub mod Seen
+pub mod Taking
 pub mod TestLaws

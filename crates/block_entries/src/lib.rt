@@ -4,13 +4,28 @@
 //! the journal says of which file it is and in which block further octets stand, and the blocks hold the octets.
 #![tactic(auto)]
 
+mod check_fault;
 mod command;
 mod entries;
+mod file_blocks;
+mod file_check;
+mod file_reading;
 pub mod laws;
 mod limits;
+mod piece_taker;
+mod reader;
 mod reading;
+mod sealed_file;
+mod stamp;
 mod stored_file;
 mod writing;
 
+pub use check_fault::CheckFault;
 pub use command::PlacedCommand;
 pub use entries::Entries;
+pub use file_blocks::{FileBlocks, read_octets};
+pub use file_check::CheckedHeader;
+pub use file_reading::{check_file, read_stamped};
+pub use reader::BlockReader;
+pub use sealed_file::SealedFile;
+pub use stamp::Stamp;

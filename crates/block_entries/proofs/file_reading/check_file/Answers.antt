@@ -1,0 +1,44 @@
+use Rattle.std.proofs.Common.{◌≡◌, ℕ, List, Some, sym, ap, ◌∙◌, subst}
+use Rattle.std.specs.List.{flat_map}
+use Rattle.file_journal.specs.Layout.{blocks_on}
+use Rattle.pfh_items.specs.Faults.{fault_code}
+use Rattle.pfh_items.specs.Stamp.{StampValue}
+use Rattle.block_entries.specs.Checking.{HasChecked, IsSealable, IsFaultCode, stamp_of}
+use Rattle.block_entries.specs.Reading.{blocks_of}
+use Rattle.block_entries.specs.Seen.{whole_block}
+use Rattle.block_entries.specs.declared.file_check.FileCheck.{FileCheck}
+use Rattle.block_entries.proofs.BlankedLemmas.{code_found}
+use Rattle.block_entries.proofs.ReadLemmas.{took_whole}
+use Rattle.block_entries.proofs.file_reading.check_file.Goals as goal
+
+abbrev took : StampValue → FileCheck → List ℕ → Type 0
+took stamp check fed = HasChecked stamp check fed
+
+pub returns-in-Ok-clause-header : goal.returns-in-Ok-clause-header
+returns-in-Ok-clause-header g c = λ told.
+    let content = g.D.Disk.content c.args.disk.now in
+    let front = c.in_ok-pass_octets.ensures.took in
+    subst (λ (l : List ℕ). IsSealable (stamp_of c.args.stamp) l c.in-Ok.header.sum c.in-Ok.header.len)
+    (took_whole took content (flat_map (whole_block (blocks_on content)) (blocks_of c.args.table.now c.args.file)) c.args.file.held
+    c.new-check.result c.pass_octets.new.taker front told)
+    (c.in-Ok.ensures (stamp_of c.args.stamp) front.fed (front.took_all (stamp_of c.args.stamp) c.new-check.ensures.checked))
+
+pub returns-in-Err-clause-fault : goal.returns-in-Err-clause-fault
+returns-in-Err-clause-fault g c = λ code is told.
+    let content = g.D.Disk.content c.args.disk.now in
+    let front = c.in_ok-pass_octets.ensures.took in
+    let same : c.in-Err.fault.code ≡ code = cc in
+    ap fault_code
+    (sym
+    (took_whole took content (flat_map (whole_block (blocks_on content)) (blocks_of c.args.table.now c.args.file)) c.args.file.held
+    c.new-check.result c.pass_octets.new.taker front told))
+    ∙ c.in-Err.ensures (stamp_of c.args.stamp) front.fed (front.took_all (stamp_of c.args.stamp) c.new-check.ensures.checked)
+    ∙ ap (λ (n : ℕ). Some n) same
+
+pub returns-in-Err-clause-code : goal.returns-in-Err-clause-code
+returns-in-Err-clause-code g c = λ code is.
+    let front = c.in_ok-pass_octets.ensures.took in
+    let same : c.in-Err.fault.code ≡ code = cc in
+    subst (λ (n : ℕ). IsFaultCode n) same
+    (code_found front.fed c.in-Err.fault.code
+    (c.in-Err.ensures (stamp_of c.args.stamp) front.fed (front.took_all (stamp_of c.args.stamp) c.new-check.ensures.checked)))
