@@ -111,6 +111,16 @@ impl BlockTable {
         }
     }
 
+    /// Whether there is this block, and no run has it. Takes no memory.
+    pub fn is_free(&self, block: u32) -> bool
+        ensures { IsTrue result ↔ IsFree self.now block }
+    {
+        match self.taken.get(block as usize) {
+            Some(taken) => !*taken,
+            None => false,
+        }
+    }
+
     /// The lowest block that no run has. There is one, since a run may have one more. Takes no memory. The search
     /// begins at the hint `lowest` and moves it up to the block that it found, so asking twice doesn't look twice. The
     /// work is at most one look at the mark of each block from the hint on; the search never looks at those below it
