@@ -1,7 +1,7 @@
 -- What a change of one file does to all.
-use Rattle.std.proofs.Common.{◌≡◌, ℕ, suc, ◌+◌, ◌*◌, ◌^◌, ◌≤◌, ◌<◌, ◌⊎◌, inl, inr, Bool, List, [], ◌∷◌, length, get_or, set, refl, ap, sym, ◌∙◌, subst, arith, Option, None, Some}
+use Rattle.std.proofs.Common.{◌≡◌, ℕ, suc, ◌+◌, ◌*◌, ◌^◌, ◌≤◌, ◌<◌, ◌⊎◌, ◌==◌, ◌&&◌, inl, inr, Bool, true, false, true≢false, List, [], ◌∷◌, length, get_or, set, refl, ap, sym, ◌∙◌, subst, arith, Option, None, Some}
 use Rattle.std.specs.Prelude.{IsSome, IsTrue, IfNone, IfSome, find, nat_lt, slice_get}
-use Rattle.std.proofs.lemmas.Bool.{eq-eqb, lt-ltb, ltb-true}
+use Rattle.std.proofs.lemmas.Bool.{and_parts, eq-eqb, eqb-true, lt-ltb, ltb-true}
 use Rattle.std.proofs.lemmas.Bool.Decides.{eqb_tells}
 use Rattle.std.specs.List.{remove}
 use Rattle.std.proofs.lemmas.List.{length-set, set-get_or}
@@ -11,15 +11,15 @@ use Rattle.block_entries.specs.FilesLaws.{found_holds}
 use Rattle.block_entries.specs.IsPlaced.{IsPlaced, IsPlacedFile}
 use Rattle.block_entries.specs.KeptLaws.{drop_placed, grow_placed, grows_full, seal_placed}
 use Rattle.block_entries.specs.Placed.{Placed, has_number, placed_from, placed_of, run_of, runs_of}
-use Rattle.block_entries.specs.PlacedCommand.{after, can_grow, can_seal, drop_entry, grow, grown, is_partial, seal, sealed, with_changed}
+use Rattle.block_entries.specs.PlacedCommand.{after, can_grow, drop_entry, grow, grown, is_free, is_partial, is_whole, seal, sealed, with_changed}
 use Rattle.block_entries.specs.PlacedFiles.{AreKept, Becomes, ChangesRest, IsLowest, IsPlace, KeepsRests, PlacedFile, PlacedFiles, Waits, entries_of, file_of, files_from, in_runs, lacks_octets, rest_of, store_of, with_run}
+use Rattle.block_entries.specs.Reading.{StandsIn}
 use Rattle.block_entries.specs.TestLaws.{Grows, MayGrow, Passes, may_grow}
 use Rattle.block_entries.proofs.PlacesLemmas.{at_place, find_entries, found_at, remove_entries, remove_here, remove_other, set_entries_changed, set_entries_same, set_here, set_other}
 use Rattle.block_entries.proofs.RunsLemmas.{in_runs_at, in_runs_both, in_runs_file, in_runs_remove, length_in_runs, runs_at, runs_remove, runs_set}
-use Rattle.block_table.specs.Table.{Run, new_run, times_of, with_block}
+use Rattle.block_table.specs.Table.{Run, Table, new_run, times_of, with_block}
 use Rattle.file_entries.specs.Store.{blocks_for}
 use Rattle.file_entries.proofs.Offered.{both-true}
-use Rattle.file_journal.specs.Layout.{Blocks}
 
 -- ---- whether a file is there
 
@@ -195,11 +195,22 @@ module _ (runs : List Run) (items : List PlacedFile) (next blocks : ℕ) (kept :
               most = kept.most;
             }
 
-      entry_inside : placed_of (store_of inside) number ≡ Some z.entry
+      pub entry_inside : placed_of (store_of inside) number ≡ Some z.entry
       entry_inside = entry_of_file inside number z found_inside
 
       one : IsPlacedFile blocks z.entry
       one = found_holds (IsPlacedFile blocks) number (entries_of zs) z.entry kept.rules.files entry_inside
+
+      -- where its octets stand
+      pub stands_in : (table : Table) → table.runs ≡ runs → table.limit ≡ blocks → StandsIn table blocks (record { run = place; held = x.entry.held })
+      stands_in table runs_are limit_is =
+          subst (λ (rs : List Run). StandsIn (record table { runs = rs }) blocks (record { run = place; held = x.entry.held })) (sym runs_are)
+          (record {
+            there = omega (arith, in_range, kept.count);
+            below = one.below;
+            fits = omega (arith, one.count);
+            short = omega (arith, one.fits, one.short);
+          })
 
       -- what a test tells of the file that passes it
       passes_z : (test : Placed → Bool) → Passes (store_of now) number test → IsTrue (test z.entry)
@@ -271,7 +282,7 @@ module _ (runs : List Run) (items : List PlacedFile) (next blocks : ℕ) (kept :
 
       -- ---- the file sealed
 
-      module _ (held : Blocks) (moment sum : ℕ) (passes : Passes (store_of now) number (λ f. can_seal held f moment sum)) (y : PlacedFile) (rest : Option (List ℕ))
+      module _ (moment sum : ℕ) (passes : Passes (store_of now) number is_whole) (y : PlacedFile) (rest : Option (List ℕ))
           (new_is : y ≡ record { entry = sealed moment sum x.entry; rest = rest }) where
         abbrev with_seal : List PlacedFile
         with_seal = in_runs runs (set items place y)
@@ -292,10 +303,10 @@ module _ (runs : List Run) (items : List PlacedFile) (next blocks : ℕ) (kept :
 
         pub seal_kept : AreKept runs (set items place y) next blocks
         seal_kept =
-            let passes_inside = subst (λ (n : PlacedFiles). Passes (store_of n) number (λ f. can_seal held f moment sum)) (sym view) passes in
+            let passes_inside = subst (λ (n : PlacedFiles). Passes (store_of n) number is_whole) (sym view) passes in
             let store = change_store with_seal kept_file with_seal_is (sealed moment sum) kept_is in
             record {
-              rules = subst IsPlaced (sym store) (seal_placed held (store_of inside) number moment sum kept.rules passes_inside);
+              rules = subst IsPlaced (sym store) (seal_placed (store_of inside) number moment sum kept.rules passes_inside);
               runs_are =
                   change_runs with_seal kept_file with_seal_is
                   ∙ ap (λ (e : Placed). set runs place (run_of e)) kept_is
@@ -386,6 +397,16 @@ still_full : (held file_length count : ℕ) → (held ≡ file_length) ⊎ (held
 still_full held file_length count (inl all) room = absurd (omega (arith, all, room))
 still_full held file_length count (inr is) room = is
 
+-- a test that tells whether there is a block that stands in no run
+free_test : (b : Bool) (block blocks times : ℕ) → (IsTrue b → (block < blocks) × (times ≡ 0)) → (block < blocks → times ≡ 0 → IsTrue b)
+    → b ≡ (nat_lt block blocks && (times == 0))
+free_test true block blocks times to from = sym (both-true _ _ (lt-ltb _ _ (to refl).0) (eq-eqb _ _ (to refl).1))
+free_test false block blocks times to from = by (nat_lt block blocks && (times == 0)) refl
+  where
+    by : (c : Bool) → (nat_lt block blocks && (times == 0)) ≡ c → false ≡ c
+    by false is = refl
+    by true is = let tests = and_parts (nat_lt block blocks) (times == 0) is in absurd (true≢false (sym (from (ltb-true _ _ tests.0) (eqb-true _ _ tests.1))))
+
 -- a file that lacks octets has room for one more block
 module _ (runs : List Run) (items : List PlacedFile) (next blocks : ℕ) (kept : AreKept runs items next blocks) (now : PlacedFiles) (view : files_from (in_runs runs items) next blocks ≡ now) where
   pub lacks_room : (number : ℕ) → Passes (store_of now) number lacks_octets → (k : ℕ) × (k < length runs) × (length (get_or runs k (new_run 0)).blocks < (get_or runs k (new_run 0)).room)
@@ -410,3 +431,10 @@ module _ (runs : List Run) (items : List PlacedFile) (next blocks : ℕ) (kept :
         free = both-true (nat_lt block blocks) _ (lt-ltb _ _ below) (eq-eqb _ _ (ap (times_of block) kept.runs_are ∙ free));
         lower = λ other less. subst (λ (rs : List Run). 1 ≤ times_of other rs) (sym kept.runs_are) (lower other less);
       })
+
+  pub free_is : (block : ℕ) (b : Bool) → (IsTrue b → (block < blocks) × (times_of block runs ≡ 0)) → (block < blocks → times_of block runs ≡ 0 → IsTrue b)
+      → b ≡ is_free (store_of now) block
+  free_is block b to from =
+      subst (λ (n : PlacedFiles). b ≡ is_free (store_of n) block) view
+      (subst (λ (rs : List Run). b ≡ (nat_lt block blocks && (times_of block rs == 0))) (sym kept.runs_are)
+      (free_test b block blocks (times_of block runs) to from))

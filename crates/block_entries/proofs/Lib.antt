@@ -1,3 +1,4 @@
+mod AppliedLemmas
 mod BeginLemmas
 mod BlankedLemmas
 mod BlockRunLemmas

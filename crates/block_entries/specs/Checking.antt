@@ -1,9 +1,13 @@
 -- How a file is checked before it is sealed.
-use Rattle.std.specs.Prelude.{◌≡◌, ℕ, List, length, Result, Ok, Err, None, Some}
+use Rattle.std.specs.Prelude.{◌≡◌, ℕ, List, length, Option, Result, Ok, Err, None, Some, IfSome}
+use Rattle.block_entries.specs.Placed.{Placed}
+use Rattle.block_entries.specs.Seen.{octets_in, stamp_at}
 use Rattle.block_entries.specs.declared.file_check.CheckedHeader.{CheckedHeader}
 use Rattle.block_entries.specs.declared.file_check.FileCheck.{FileCheck}
 use Rattle.block_entries.specs.declared.stamp.Stamp.{Stamp}
+use Rattle.disk_model.specs.Disk.{IsTold}
 use Rattle.file_entries.specs.Headers.{header_items, header_octets}
+use Rattle.file_journal.specs.Layout.{blocks_on}
 use Rattle.pfh_items.specs.Faults.{code_of, fault_code}
 use Rattle.pfh_items.specs.Stamp.{StampValue}
 use Rattle.pfh_items.specs.declared.fault.FileFault.{FileFault}
@@ -53,3 +57,13 @@ pub record HasPassed (setting : StampSetting) (stamper : StamperValue) (fed : Li
 -- the stamp as a value
 abbrev pub stamp_of : Stamp → StampValue
 stamp_of stamp = record { number = stamp.number; by = stamp.by; moment = stamp.moment }
+
+-- where the disk tells, what the check of this file of a store found: with the stamp of this moment
+abbrev pub ChecksFile : Option (List ℕ) → Option Placed → ℕ → CheckedHeader → Type 0
+ChecksFile content file moment header =
+    IsTold content
+    → IfSome file (λ f. IsSealable (stamp_at moment f) (octets_in (blocks_on content) f) header.sum header.len)
+
+-- where the disk tells, the first rule that this file of a store breaks
+abbrev pub HasFault : Option (List ℕ) → Option Placed → ℕ → Type 0
+HasFault content file code = IsTold content → IfSome file (λ f. fault_code (octets_in (blocks_on content) f) ≡ Some code)

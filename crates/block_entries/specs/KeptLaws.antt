@@ -16,10 +16,10 @@ use Rattle.block_entries.specs.Placed.{Placed, PlacedStore, has_number, new_plac
 use Rattle.block_entries.specs.Placed.{runs_of}
 use Rattle.block_entries.specs.PlacedCommand.{PlacedCommand, after, begin, changed, drop_entry, grow, grown}
 use Rattle.block_entries.specs.PlacedCommand.{is_allowed, is_partial, seal, seen_command, sealed, with_changed}
-use Rattle.block_entries.specs.PlacedCommand.{can_seal}
+use Rattle.block_entries.specs.PlacedCommand.{can_seal, is_whole}
 use Rattle.block_entries.specs.Seen.{seen, seen_entry}
-use Rattle.block_entries.specs.TestLaws.{Grows, MayCome, MayGrow, MayTake, Passes, may_come, may_grow, may_seal}
-use Rattle.block_entries.specs.TestLaws.{may_take, passed}
+use Rattle.block_entries.specs.TestLaws.{Grows, MayCome, MayGrow, MayTake, Passes, may_come, may_grow, may_take}
+use Rattle.block_entries.specs.TestLaws.{passed, passes_whole, whole_is}
 use Rattle.block_table.specs.Table.{Run, rooms_of, times_in, times_of}
 use Rattle.file_entries.specs.Command.{HasCall}
 use Rattle.file_entries.specs.Limits.{longest_file, most_entries}
@@ -223,14 +223,13 @@ grow_placed store number block used is grows =
       eqb_tells block b,
     ))
 
-pub seal_placed : (held : Blocks) (store : PlacedStore) (number moment sum : ℕ) → IsPlaced store
-    → Passes store number (λ f. can_seal held f moment sum) → IsPlaced (after store (seal number moment sum))
-seal_placed held store number moment sum is passes =
+pub seal_placed : (store : PlacedStore) (number moment sum : ℕ) → IsPlaced store → Passes store number is_whole
+    → IsPlaced (after store (seal number moment sum))
+seal_placed store number moment sum is passes =
     let file = passes.file in
     let found = passes.found in
-    let may = may_seal held file moment sum passes.test_is in
     let one = found_holds (IsPlacedFile store.blocks) number store.entries file is.files found in
-    let here = sealed_is store.blocks moment sum file one may.whole in
+    let here = sealed_is store.blocks moment sum file one (whole_is file passes.test_is).whole in
     changed_placed store number (sealed moment sum) file is found (λ g. refl) refl here
     (λ b.
     omega (
@@ -289,6 +288,7 @@ after_placed held store (begin number caller file_length moment) is call ok =
 after_placed held store (grow number block used) is call ok =
     grow_placed store number block used is (may_take held store number block used ok)
 after_placed held store (seal number moment sum) is call ok =
-    seal_placed held store number moment sum is (passed store number (λ f. can_seal held f moment sum) ok)
+    seal_placed store number moment sum is
+    (passes_whole held store number moment sum (passed store number (λ f. can_seal held f moment sum) ok))
 after_placed held store (drop_entry number) is call ok =
     drop_placed store number is (passed store number is_partial ok)

@@ -1,3 +1,4 @@
+pub mod Applied
 pub mod CallLaws
 pub mod Checking
 pub mod FilesLaws

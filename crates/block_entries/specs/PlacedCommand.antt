@@ -38,12 +38,15 @@ can_grow file used =
 abbrev pub is_free : PlacedStore → ℕ → Bool
 is_free store block = nat_lt block store.blocks && (times_of block (runs_of store.entries) == 0)
 
+-- whether the file is under way, and all of its octets are held
+abbrev pub is_whole : Placed → Bool
+is_whole file = is_partial file && (file.held == file.length)
+
 -- whether the file is under way, all of its octets are held, they break no rule of headers, and the stamped header has
 -- this sum
 abbrev pub can_seal : Blocks → Placed → ℕ → ℕ → Bool
 can_seal held file moment sum =
-    is_partial file && (file.held == file.length) && is_none (fault_code (octets_in held file))
-    && (sum == sum_with moment file (octets_in held file))
+    is_whole file && is_none (fault_code (octets_in held file)) && (sum == sum_with moment file (octets_in held file))
 
 -- whether the condition of the command holds, with what the blocks hold
 abbrev pub is_allowed : Blocks → PlacedStore → PlacedCommand → Bool

@@ -4,7 +4,8 @@ use Rattle.std.proofs.Common.{nat_le, nat_lt, Option, None, Some, refl, ap, inl,
 use Rattle.std.specs.Prelude.{IsTrue, is_none, is_some, option_map, unwrap_or}
 use Rattle.std.proofs.lemmas.Bool.{and_parts, eqb-true, leb-true, ltb-true}
 use Rattle.block_entries.specs.Placed.{Placed, PlacedStore, Seal, placed_of, runs_of}
-use Rattle.block_entries.specs.PlacedCommand.{can_grow, can_seal, grow, is_allowed, is_free, is_partial, passes_at}
+use Rattle.block_entries.specs.PlacedCommand.{can_grow, can_seal, grow, is_allowed, is_free, is_partial, is_whole}
+use Rattle.block_entries.specs.PlacedCommand.{passes_at}
 use Rattle.block_entries.specs.Seen.{octets_in, sum_with}
 use Rattle.block_table.specs.Table.{times_of}
 use Rattle.file_entries.specs.Limits.{last_next, longest_file, most_entries}
@@ -98,6 +99,34 @@ may_take held store number block used ok =
         free = eqb-true _ _ free.1;
       };
       passes = passed store number (λ f. can_grow f used) tests.1;
+    }
+
+-- the file is under way, and all of its octets are held
+pub record IsWhole (file : Placed) : Type 0 where
+  pub partial : file.seal ≡ None
+  pub whole : file.held ≡ file.length
+
+pub whole_is : (file : Placed) → IsTrue (is_whole file) → IsWhole file
+whole_is file ok =
+    let tests = and_parts (is_partial file) (file.held == file.length) ok in
+    record { partial = partial_none file tests.0; whole = eqb-true _ _ tests.1 }
+
+-- a file that may be sealed is one
+pub seals_whole :
+    (held : Blocks) (file : Placed) (moment sum : ℕ) → IsTrue (can_seal held file moment sum) → IsTrue (is_whole file)
+seals_whole held file moment sum ok =
+    let tests = and_parts (is_whole file && is_none (fault_code (octets_in held file))) _ ok in
+    (and_parts (is_whole file) (is_none (fault_code (octets_in held file))) tests.0).0
+
+-- the same of the file of a number
+pub passes_whole :
+    (held : Blocks) (store : PlacedStore) (number moment sum : ℕ)
+    → Passes store number (λ f. can_seal held f moment sum) → Passes store number is_whole
+passes_whole held store number moment sum passes =
+    record {
+      file = passes.file;
+      found = passes.found;
+      test_is = seals_whole held passes.file moment sum passes.test_is;
     }
 
 -- the file is under way, all of its octets are held and break no rule, and this is the sum of the stamped header

@@ -1,11 +1,13 @@
 //! The entries of a store whose octets stand in blocks, and what the commands do to them.
 
 ghost use Rattle.std.specs.Prelude.{◌≡◌, ◌↔◌, ℕ, ◌≤◌, [], find, None, Some, IsSome, IsTrue, IfSome, IfNone};
-ghost use Rattle.std.specs.Prelude.{IfOk, OnErr, OnOk};
+ghost use Rattle.std.specs.Prelude.{IfOk, IsErrOf, OnErr, OnOk};
 ghost use Rattle.std.specs.Option.{option_copied, option_map};
+ghost use Rattle.block_entries.specs.Checking.{ChecksFile, HasFault, IsFaultCode};
 ghost use Rattle.block_entries.specs.IsPlaced.{IsPlaced};
 ghost use Rattle.block_entries.specs.Placed.{no_entries, placed_of};
-ghost use Rattle.block_entries.specs.PlacedCommand.{after, begin, can_seal, drop_entry, grow, is_partial, seal};
+ghost use Rattle.block_entries.specs.PlacedCommand.{after, begin, can_seal, drop_entry, grow, is_free};
+ghost use Rattle.block_entries.specs.PlacedCommand.{is_partial, is_whole, seal};
 ghost use Rattle.block_entries.specs.PlacedFiles.{Becomes, ChangesRest, IsLowest, IsNextSealed, IsOut, IsPlace};
 ghost use Rattle.block_entries.specs.PlacedFiles.{NothingOut, Waits, file_of, is_sealed_file, lacks_octets};
 ghost use Rattle.block_entries.specs.PlacedFiles.{placed_info, rest_of, rest_with, rest_without, store_of};
@@ -14,11 +16,14 @@ ghost use Rattle.block_entries.specs.TestLaws.{Grows, Passes};
 ghost use Rattle.file_entries.specs.Bars.{Bars};
 ghost use Rattle.file_entries.specs.Command.{MayBegin};
 ghost use Rattle.file_entries.specs.Files.{octets_or_none};
+ghost use Rattle.file_journal.specs.Calls.{Reads};
 ghost use Rattle.file_journal.specs.Layout.{Blocks};
 
 use crate::limits::blocks_of_length;
 use crate::stored_file::StoredFile;
+use crate::{BlockReader, CheckFault, CheckedHeader, FileBlocks, Stamp, check_file};
 use block_table::BlockTable;
+use disk_model::Disk;
 use file_entries::{BeginBar, Info, LAST_NEXT, LONGEST_FILE, MOST_ENTRIES};
 use px_base::{Call, OutOfMemory};
 use std::alloc::Global;
@@ -156,6 +161,13 @@ impl Entries {
         Ok(())
     }
 
+    /// Whether there is this block, and no file has it. Takes no memory.
+    pub fn is_free(&self, block: u32) -> bool
+        ensures { result ≡ is_free (store_of self.now.files) block }
+    {
+        self.table.is_free(block)
+    }
+
     /// The lowest block that no file has. There is one, since a file lacks octets still. Takes no memory. The search
     /// begins where the last one ended, or at the lowest block that was freed since.
     pub fn lowest_free(&mut self) -> u32
@@ -179,11 +191,71 @@ impl Entries {
         self.table.take(place, block);
     }
 
+    /// Further octets of a file of which no upload is out are held, in this block: a Grow, whose condition holds. Takes
+    /// no memory.
+    pub(crate) fn grow(&mut self, number: u32, block: u32, used: u16)
+        requires in_ { rest_of self.old.files number ≡ None }
+        requires allowed { Grows (store_of self.old.files) number block used }
+        ensures { Becomes self.old.files self.new.files
+            (after (store_of self.old.files) (grow number block used)) number None }
+    {
+        let place = self.place_of(number).unwrap();
+        self.files[place].grow(used);
+        self.table.take(place, block);
+    }
+
     /// Seals a file whose Seal's condition holds, with what blocks hold, and of which no upload is out. Takes no
     /// memory.
     pub fn seal(&mut self, number: u32, moment: u32, sum: u16)
         requires allowed { (held : Blocks)
             × Passes (store_of self.old.files) number (λ f. can_seal held f moment sum) }
+        requires in_ { rest_of self.old.files number ≡ None }
+        ensures { Becomes self.old.files self.new.files
+            (after (store_of self.old.files) (seal number moment sum)) number None }
+    {
+        self.keep_sealed(number, moment, sum);
+    }
+
+    /// Checks a file of which all octets are held by its header: the sum that the header has with the stamp of this
+    /// moment, and its length. It reads each octet once, with one read for each block, and changes none. Takes no
+    /// memory.
+    ///
+    /// `Header`: the file breaks a rule of headers, the first with this code. `Disk`: a read failed.
+    pub fn check<D: Disk, R: BlockReader<D>>(
+        &self,
+        reader: &R,
+        disk: &mut D,
+        number: u32,
+        moment: u32,
+    ) -> Result<CheckedHeader, CheckFault>
+        requires may_read { R.may_read reader.now disk.old }
+        requires blocks { R.block_count reader.now ≡ self.now.files.blocks }
+        requires there { IsSome (placed_of (store_of self.now.files) number) }
+        ensures may_read { R.may_read reader.now disk.new }
+        ensures header { IfOk result
+            (ChecksFile (D.content disk.old) (placed_of (store_of self.now.files) number) moment) }
+        ensures fault { (code : ℕ) → IsErrOf result (CheckFault.Header code)
+            → HasFault (D.content disk.old) (placed_of (store_of self.now.files) number) code }
+        ensures code { (code : ℕ) → IsErrOf result (CheckFault.Header code) → IsFaultCode code }
+        ensures reads { Reads D.Disk (IsErrOf result CheckFault.Disk) disk.old disk.new }
+    {
+        let place = self.place_of(number).unwrap();
+        let info = self.files[place].info();
+        let blocks = FileBlocks {
+            run: place,
+            held: info.held,
+        };
+        let stamp = Stamp {
+            number,
+            by: info.caller,
+            moment,
+        };
+        check_file(reader, disk, &self.table, blocks, stamp)
+    }
+
+    /// A file that is under way and whole is kept with this seal, whatever its blocks hold. No upload of it is out.
+    pub(crate) fn keep_sealed(&mut self, number: u32, moment: u32, sum: u16)
+        requires whole { Passes (store_of self.old.files) number is_whole }
         requires in_ { rest_of self.old.files number ≡ None }
         ensures { Becomes self.old.files self.new.files
             (after (store_of self.old.files) (seal number moment sum)) number None }

@@ -4,6 +4,7 @@
 //! the journal says of which file it is and in which block further octets stand, and the blocks hold the octets.
 #![tactic(auto)]
 
+mod applied;
 mod check_fault;
 mod command;
 mod entries;
@@ -11,6 +12,7 @@ mod file_blocks;
 mod file_check;
 mod file_reading;
 pub mod laws;
+mod ledger;
 mod limits;
 mod piece_taker;
 mod reader;

@@ -1,0 +1,195 @@
+//! Commands that were read from a journal's records, applied to the entries.
+
+ghost use Rattle.std.specs.Prelude.{◌≡◌, ◌==◌, List, ℕ, Option, true, IfOk, IsErr, IsErrOf, OnErr};
+ghost use Rattle.block_entries.specs.Applied.{Applied};
+ghost use Rattle.block_entries.specs.Placed.{Placed};
+ghost use Rattle.block_entries.specs.PlacedCommand.{begin, can_grow, can_seal, drop_entry, grow, is_partial, is_whole};
+ghost use Rattle.block_entries.specs.PlacedCommand.{passes_at, seal};
+ghost use Rattle.block_entries.specs.PlacedCommands.{placed_value};
+ghost use Rattle.block_entries.specs.PlacedFiles.{NothingOut, placed_info, store_of};
+ghost use Rattle.block_entries.specs.TestLaws.{Passes};
+ghost use Rattle.disk_model.specs.Disk.{IsTold};
+ghost use Rattle.file_journal.specs.Calls.{Reads};
+ghost use Rattle.file_journal.specs.Layout.{blocks_on};
+
+use crate::{BlockReader, CheckFault, Entries, PlacedCommand};
+use disk_model::{Disk, DiskFault};
+use file_entries::Info;
+use file_journal::ApplyFault;
+use px_base::{Call, OutOfMemory};
+
+impl Entries {
+    /// Applies a command that was read from a record: whether its condition holds, with what the blocks hold. One whose
+    /// condition doesn't hold changes nothing, and so does a read that failed. No upload is out. Takes memory.
+    pub(crate) fn apply_command<D: Disk, R: BlockReader<D>>(
+        &mut self,
+        reader: &R,
+        disk: &mut D,
+        command: PlacedCommand,
+    ) -> Result<bool, ApplyFault>
+        requires may_read { R.may_read reader.now disk.old }
+        requires blocks { R.block_count reader.now ≡ self.old.files.blocks }
+        requires out { NothingOut self.old.files }
+        ensures applied { IfOk result
+            (λ done. Applied (D.content disk.old) done self.old self.new (placed_value command)) }
+        ensures untouched { IsErrOf result ApplyFault.Disk → self.new ≡ self.old }
+        ensures out { NothingOut self.new.files }
+        ensures reads { Reads D.Disk (IsErrOf result ApplyFault.Disk) disk.old disk.new }
+    {
+        match command {
+            PlacedCommand::Begin {
+                number,
+                caller,
+                length,
+                moment,
+            } => Ok(self.apply_begin(number, caller, length, moment)?),
+            PlacedCommand::Grow {
+                number,
+                block,
+                used,
+            } => Ok(self.apply_grow(number, block, used)),
+            PlacedCommand::Seal {
+                number,
+                moment,
+                sum,
+            } => Ok(self.apply_seal(reader, disk, number, moment, sum)?),
+            PlacedCommand::Drop { number } => Ok(self.apply_drop(number)),
+        }
+    }
+
+    fn apply_begin(
+        &mut self,
+        number: u32,
+        caller: Call,
+        length: u32,
+        moment: u32,
+    ) -> Result<bool, OutOfMemory>
+        requires { NothingOut self.old.files }
+        ensures applied { IfOk result (λ done. (content : Option (List ℕ))
+            → Applied content done self.old self.new (begin number caller length moment)) }
+        ensures out { NothingOut self.new.files }
+    {
+        if number != self.next() || self.begin_bar(length).is_some() {
+            return Ok(false);
+        }
+        self.reserve()?;
+        self.begin(caller, length, moment);
+        Ok(true)
+    }
+
+    fn apply_grow(&mut self, number: u32, block: u32, used: u16) -> bool
+        requires { NothingOut self.old.files }
+        ensures applied { (content : Option (List ℕ))
+            → Applied content result self.old self.new (grow number block used) }
+        ensures out { NothingOut self.new.files }
+    {
+        let lies = 1 <= used && used <= 512 && self.is_free(block);
+        if !lies || !self.has_room(number, used) {
+            return false;
+        }
+        self.grow(number, block, used);
+        true
+    }
+
+    fn apply_seal<D: Disk, R: BlockReader<D>>(
+        &mut self,
+        reader: &R,
+        disk: &mut D,
+        number: u32,
+        moment: u32,
+        sum: u16,
+    ) -> Result<bool, DiskFault>
+        requires may_read { R.may_read reader.now disk.old }
+        requires blocks { R.block_count reader.now ≡ self.old.files.blocks }
+        requires out { NothingOut self.old.files }
+        ensures applied { IfOk result
+            (λ done. Applied (D.content disk.old) done self.old self.new (seal number moment sum)) }
+        ensures untouched { OnErr result (self.new ≡ self.old) }
+        ensures out { NothingOut self.new.files }
+        ensures reads { Reads D.Disk (IsErr result) disk.old disk.new }
+    {
+        if !self.may_seal(reader, disk, number, moment, sum)? {
+            return Ok(false);
+        }
+        self.keep_sealed(number, moment, sum);
+        Ok(true)
+    }
+
+    fn apply_drop(&mut self, number: u32) -> bool
+        requires { NothingOut self.old.files }
+        ensures applied { (content : Option (List ℕ))
+            → Applied content result self.old self.new (drop_entry number) }
+        ensures out { NothingOut self.new.files }
+    {
+        if !self.is_under_way(number) {
+            return false;
+        }
+        self.drop_entry(number);
+        true
+    }
+
+    /// Whether the file of this number may be sealed so, with what the blocks hold.
+    fn may_seal<D: Disk, R: BlockReader<D>>(
+        &self,
+        reader: &R,
+        disk: &mut D,
+        number: u32,
+        moment: u32,
+        sum: u16,
+    ) -> Result<bool, DiskFault>
+        requires may_read { R.may_read reader.now disk.old }
+        requires blocks { R.block_count reader.now ≡ self.now.files.blocks }
+        ensures may { IfOk result (λ may. IsTold (D.content disk.old) → may
+            ≡ passes_at (store_of self.now.files) number (λ f. can_seal (blocks_on (D.content disk.old)) f moment sum)) }
+        ensures whole { result ≡ Ok true → Passes (store_of self.now.files) number is_whole }
+        ensures reads { Reads D.Disk (IsErr result) disk.old disk.new }
+    {
+        if !self.is_whole(number) {
+            return Ok(false);
+        }
+        match self.check(reader, disk, number, moment) {
+            Ok(header) => Ok(header.sum == sum),
+            Err(CheckFault::Header { .. }) => Ok(false),
+            Err(CheckFault::Disk) => Err(DiskFault),
+        }
+    }
+
+    /// Whether the file of this number is under way, and has room for so many further octets in one block.
+    fn has_room(&self, number: u32, used: u16) -> bool
+        ensures { result ≡ passes_at (store_of self.now.files) number (λ f. can_grow f used) }
+    {
+        match self.info(number) {
+            Some(info) => has_room_for(&info, used),
+            None => false,
+        }
+    }
+
+    /// Whether the file of this number is under way, and all of its octets are held.
+    fn is_whole(&self, number: u32) -> bool
+        ensures { result ≡ passes_at (store_of self.now.files) number is_whole }
+    {
+        match self.info(number) {
+            Some(info) => !info.complete && info.held == info.length,
+            None => false,
+        }
+    }
+
+    /// Whether there is a file of this number under way.
+    fn is_under_way(&self, number: u32) -> bool
+        ensures { result ≡ passes_at (store_of self.now.files) number is_partial }
+    {
+        match self.info(number) {
+            Some(info) => !info.complete,
+            None => false,
+        }
+    }
+}
+
+/// Whether a file of which this is told is under way, and has room for so many further octets in one block.
+fn has_room_for(info: &Info, used: u16) -> bool
+    ensures { (file : Placed) → info.now ≡ placed_info file → result ≡ can_grow file used }
+{
+    let held = u64::from(info.held) + u64::from(used);
+    let length = u64::from(info.length);
+    !info.complete && held <= length && (used == 512 || held == length)
+}
