@@ -66,4 +66,5 @@ ChecksFile content file moment header =
 
 -- where the disk tells, the first rule that this file of a store breaks
 abbrev pub HasFault : Option (List ℕ) → Option Placed → ℕ → Type 0
-HasFault content file code = IsTold content → IfSome file (λ f. fault_code (octets_in (blocks_on content) f) ≡ Some code)
+HasFault content file code =
+    IsTold content → IfSome file (λ f. fault_code (octets_in (blocks_on content) f) ≡ Some code)

@@ -1,16 +1,14 @@
 //! Commands that were read from a journal's records, applied to the entries.
 
 ghost use Rattle.std.specs.Prelude.{◌≡◌, ◌==◌, List, ℕ, Option, true, IfOk, IsErr, IsErrOf, OnErr};
-ghost use Rattle.block_entries.specs.Applied.{Applied};
+ghost use Rattle.block_entries.specs.Applied.{Applied, TellsSeal};
 ghost use Rattle.block_entries.specs.Placed.{Placed};
-ghost use Rattle.block_entries.specs.PlacedCommand.{begin, can_grow, can_seal, drop_entry, grow, is_partial, is_whole};
+ghost use Rattle.block_entries.specs.PlacedCommand.{begin, can_grow, drop_entry, grow, is_partial, is_whole};
 ghost use Rattle.block_entries.specs.PlacedCommand.{passes_at, seal};
 ghost use Rattle.block_entries.specs.PlacedCommands.{placed_value};
 ghost use Rattle.block_entries.specs.PlacedFiles.{NothingOut, placed_info, store_of};
 ghost use Rattle.block_entries.specs.TestLaws.{Passes};
-ghost use Rattle.disk_model.specs.Disk.{IsTold};
 ghost use Rattle.file_journal.specs.Calls.{Reads};
-ghost use Rattle.file_journal.specs.Layout.{blocks_on};
 
 use crate::{BlockReader, CheckFault, Entries, PlacedCommand};
 use disk_model::{Disk, DiskFault};
@@ -139,8 +137,8 @@ impl Entries {
     ) -> Result<bool, DiskFault>
         requires may_read { R.may_read reader.now disk.old }
         requires blocks { R.block_count reader.now ≡ self.now.files.blocks }
-        ensures may { IfOk result (λ may. IsTold (D.content disk.old) → may
-            ≡ passes_at (store_of self.now.files) number (λ f. can_seal (blocks_on (D.content disk.old)) f moment sum)) }
+        ensures may { IfOk result
+            (λ may. TellsSeal (D.content disk.old) (store_of self.now.files) number moment sum may) }
         ensures whole { result ≡ Ok true → Passes (store_of self.now.files) number is_whole }
         ensures reads { Reads D.Disk (IsErr result) disk.old disk.new }
     {

@@ -57,8 +57,8 @@ impl FileCheck {
         self.sum = self.sum.wrapping_add(sum16(piece));
     }
 
-    /// The answer for all octets that were taken: the sum and the length of the header of a file that keeps all rules of
-    /// headers, or the first rule that it breaks. Takes no memory.
+    /// The answer for all octets that were taken: the sum and the length of the header of a file that keeps all rules
+    /// of headers, or the first rule that it breaks. Takes no memory.
     pub(crate) fn end(&self) -> Result<CheckedHeader, HeaderFault>
         ensures { (stamp : StampValue) (fed : List ℕ) → HasChecked stamp self.now fed → AnswersCheck stamp fed result }
     {

@@ -18,7 +18,8 @@ use pfh_writer::Stamper;
 use px_base::Call;
 
 /// Checks a file, all of whose octets are held, by its header: the sum that the header has with this stamp, and its
-/// length. It reads each octet once, with one read for each block, into one buffer of 512 octets, and changes none. Takes no memory.
+/// length. It reads each octet once, with one read for each block, into one buffer of 512 octets, and changes none.
+/// Takes no memory.
 ///
 /// `Header`: the file breaks a rule of headers, the first with this code. `Disk`: a read failed.
 pub fn check_file<D: Disk, R: BlockReader<D>>(
