@@ -1,6 +1,6 @@
 -- What a change of one file does to all.
 use Rattle.std.proofs.Common.{◌≡◌, ℕ, suc, ◌+◌, ◌*◌, ◌^◌, ◌≤◌, ◌<◌, ◌⊎◌, ◌==◌, ◌&&◌, inl, inr, Bool, true, false, true≢false, List, [], ◌∷◌, length, get_or, set, refl, ap, sym, ◌∙◌, subst, arith, Option, None, Some}
-use Rattle.std.specs.Prelude.{IsSome, IsTrue, IfNone, IfSome, find, nat_lt, slice_get}
+use Rattle.std.specs.Prelude.{IsSome, IsTrue, IfNone, IfOk, IfSome, OnOk, Result, Ok, Err, find, nat_lt, slice_get}
 use Rattle.std.proofs.lemmas.Bool.{and_parts, eq-eqb, eqb-true, lt-ltb, ltb-true}
 use Rattle.std.proofs.lemmas.Bool.Decides.{eqb_tells}
 use Rattle.std.specs.List.{remove}
@@ -10,13 +10,15 @@ use Rattle.std.specs.Option.{option_and_then, option_map}
 use Rattle.block_entries.specs.FilesLaws.{found_holds}
 use Rattle.block_entries.specs.IsPlaced.{IsPlaced, IsPlacedFile}
 use Rattle.block_entries.specs.KeptLaws.{drop_placed, grow_placed, grows_full, seal_placed}
-use Rattle.block_entries.specs.Placed.{Placed, has_number, placed_from, placed_of, run_of, runs_of}
+use Rattle.block_entries.specs.Placed.{Placed, Seal, has_number, placed_from, placed_of, run_of, runs_of}
 use Rattle.block_entries.specs.PlacedCommand.{after, can_grow, drop_entry, grow, grown, is_free, is_partial, is_whole, seal, sealed, with_changed}
-use Rattle.block_entries.specs.PlacedFiles.{AreKept, Becomes, ChangesRest, IsLowest, IsPlace, KeepsRests, PlacedFile, PlacedFiles, Waits, entries_of, file_of, files_from, in_runs, lacks_octets, rest_of, store_of, with_run}
+use Rattle.block_entries.specs.PlacedFiles.{AreKept, Becomes, ChangesRest, IsLowest, IsPlace, KeepsRests, PlacedFile, PlacedFiles, Waits, entries_of, file_of, files_from, in_runs, lacks_octets, rest_of, seal_of, store_of, with_run}
 use Rattle.block_entries.specs.Reading.{StandsIn}
+use Rattle.block_entries.specs.Sealed.{Sealed}
 use Rattle.block_entries.specs.TestLaws.{Grows, MayGrow, Passes, may_grow}
 use Rattle.block_entries.proofs.PlacesLemmas.{at_place, find_entries, found_at, remove_entries, remove_here, remove_other, set_entries_changed, set_entries_same, set_here, set_other}
 use Rattle.block_entries.proofs.RunsLemmas.{in_runs_at, in_runs_both, in_runs_file, in_runs_remove, length_in_runs, runs_at, runs_remove, runs_set}
+use Rattle.block_entries.specs.declared.stored_file.SealMark.{SealMark}
 use Rattle.block_table.specs.Table.{Run, Table, new_run, times_of, with_block}
 use Rattle.file_entries.specs.Store.{blocks_for}
 use Rattle.file_entries.proofs.Offered.{both-true}
@@ -57,6 +59,30 @@ waits_some files number count w = subst (λ (o : Option (List ℕ)). IsSome o) (
 -- a file that passes a test is there
 pub never_found : (files : PlacedFiles) (number : ℕ) {test : Placed → Bool} → file_of files.files number ≡ None → Passes (store_of files) number test → ⊥
 never_found files number none passes = never_some _ (no_entry files number none) (subst (λ (o : Option Placed). IsSome o) (sym passes.found) refl)
+
+-- what is answered means something weaker too
+pub if_ok : {T E : Type 0} (result : Result T E) {P Q : T → Type 0} → ((x : T) → P x → Q x) → IfOk result P → IfOk result Q
+if_ok (Ok x) step holds = step x holds
+if_ok (Err e) step holds = tt
+
+pub on_ok : {T E : Type 0} (result : Result T E) {P Q : Type 0} → (P → Q) → OnOk result P → OnOk result Q
+on_ok (Ok x) step holds = step holds
+on_ok (Err e) step holds = tt
+
+-- the moment of a seal that is there
+pub mark_there : (o : Option SealMark) (mark : Seal) → seal_of o ≡ Some mark → IsSome o
+mark_there None mark is = absurd (cc)
+mark_there (Some m) mark is = refl
+
+pub mark_moment : (o : Option SealMark) (m : SealMark) (mark : Seal) → o ≡ Some m → seal_of o ≡ Some mark → m.moment ≡ mark.moment
+mark_moment o m mark there is = some_moment m mark (ap seal_of (sym there) ∙ is)
+  where
+    some_moment : (m : SealMark) (mark : Seal) → seal_of (Some m) ≡ Some mark → m.moment ≡ mark.moment
+    some_moment m mark is = let same : record { moment = m.moment; sum = m.sum } ≡ mark = cc in ap (λ (s : Seal). s.moment) same
+
+-- a file of which a seal is told is there
+pub sealed_found : (files : PlacedFiles) (number : ℕ) → file_of files.files number ≡ None → Sealed (store_of files) number → ⊥
+sealed_found files number none sealed = never_some _ (no_entry files number none) (subst (λ (o : Option Placed). IsSome o) (sym sealed.found) refl)
 
 -- ---- the file at a place
 
@@ -211,6 +237,13 @@ module _ (runs : List Run) (items : List PlacedFile) (next blocks : ℕ) (kept :
             fits = omega (arith, one.count);
             short = omega (arith, one.fits, one.short);
           })
+
+      -- a seal of its number is its own
+      pub sealed_here : (sealed : Sealed (store_of now) number) (mark : Option SealMark) → seal_of mark ≡ x.entry.seal
+          → (sealed.file ≡ z.entry) × (seal_of mark ≡ Some sealed.mark)
+      sealed_here sealed mark is =
+          let same : sealed.file ≡ z.entry = let here = sealed.found in let also = entry_now in cc in
+          (same, is ∙ ap (λ (e : Placed). e.seal) (sym same) ∙ sealed.is)
 
       -- what a test tells of the file that passes it
       passes_z : (test : Placed → Bool) → Passes (store_of now) number test → IsTrue (test z.entry)

@@ -1,9 +1,14 @@
 -- What a sealed file is, by the octets in its blocks.
-use Rattle.std.specs.Prelude.{ℕ, List, Option}
+use Rattle.std.specs.Prelude.{◌≡◌, ℕ, List, Option, Some}
 use Rattle.block_entries.specs.Checking.{IsSealable, stamp_of}
+use Rattle.block_entries.specs.Placed.{Placed, PlacedStore, Seal, placed_of}
 use Rattle.block_entries.specs.Reading.{octets_on}
+use Rattle.block_entries.specs.Seen.{octets_in, stamp_at}
+use Rattle.block_entries.specs.declared.file_check.CheckedHeader.{CheckedHeader}
 use Rattle.block_entries.specs.declared.sealed_file.SealedFile.{SealedFile}
 use Rattle.block_table.specs.Table.{Table}
+use Rattle.disk_model.specs.Disk.{IsTold}
+use Rattle.file_journal.specs.Layout.{Blocks, blocks_on}
 use Rattle.pfh_items.specs.Stamp.{stamped}
 
 -- these octets, as they were uploaded, are the file's
@@ -13,3 +18,21 @@ IsSealedFile file octets = IsSealable (stamp_of file.stamp) octets file.sum file
 -- the octets of the file with its stamp, on a disk of this content
 abbrev pub sealed_octets : Option (List ℕ) → Table → SealedFile → List ℕ
 sealed_octets content table file = stamped (stamp_of file.stamp) (octets_on content table file.blocks)
+
+-- the file of this number is sealed, and this is its seal
+pub record Sealed (store : PlacedStore) (number : ℕ) : Type 0 where
+  pub file : Placed
+  pub found : placed_of store number ≡ Some file
+  pub mark : Seal
+  pub is : file.seal ≡ Some mark
+
+-- where the disk tells, the file keeps all rules of headers, and this is of its header with its stamp
+abbrev pub HasHeader : {store : PlacedStore} → {number : ℕ} → Option (List ℕ) → Sealed store number → CheckedHeader → Type 0
+HasHeader content sealed header =
+    IsTold content
+    → IsSealable (stamp_at sealed.mark.moment sealed.file) (octets_in (blocks_on content) sealed.file) header.sum
+    header.len
+
+-- the octets of the file with its stamp
+abbrev pub octets_given : {store : PlacedStore} → {number : ℕ} → Blocks → Sealed store number → List ℕ
+octets_given held sealed = stamped (stamp_at sealed.mark.moment sealed.file) (octets_in held sealed.file)

@@ -1,7 +1,7 @@
 //! The entries of a store whose octets stand in blocks, and what the commands do to them.
 
 ghost use Rattle.std.specs.Prelude.{◌≡◌, ◌↔◌, ℕ, ◌≤◌, [], find, None, Some, IsSome, IsTrue, IfSome, IfNone};
-ghost use Rattle.std.specs.Prelude.{IfOk, IsErrOf, OnErr, OnOk};
+ghost use Rattle.std.specs.Prelude.{◌+◌, length, IfOk, IsErr, IsErrOf, OnErr, OnOk};
 ghost use Rattle.std.specs.Option.{option_copied, option_map};
 ghost use Rattle.block_entries.specs.Checking.{ChecksFile, HasFault, IsFaultCode};
 ghost use Rattle.block_entries.specs.IsPlaced.{IsPlaced};
@@ -11,19 +11,23 @@ ghost use Rattle.block_entries.specs.PlacedCommand.{is_partial, is_whole, seal};
 ghost use Rattle.block_entries.specs.PlacedFiles.{Becomes, ChangesRest, IsLowest, IsNextSealed, IsOut, IsPlace};
 ghost use Rattle.block_entries.specs.PlacedFiles.{NothingOut, Waits, file_of, is_sealed_file, lacks_octets};
 ghost use Rattle.block_entries.specs.PlacedFiles.{placed_info, rest_of, rest_with, rest_without, store_of};
+ghost use Rattle.block_entries.specs.Sealed.{HasHeader, Sealed, octets_given};
 ghost use Rattle.block_entries.specs.Seen.{seen};
+ghost use Rattle.disk_model.specs.Disk.{FillsRoom, IsTold};
 ghost use Rattle.block_entries.specs.TestLaws.{Grows, Passes};
 ghost use Rattle.file_entries.specs.Bars.{Bars};
 ghost use Rattle.file_entries.specs.Command.{MayBegin};
 ghost use Rattle.file_entries.specs.Files.{octets_or_none};
 ghost use Rattle.file_journal.specs.Calls.{Reads};
-ghost use Rattle.file_journal.specs.Layout.{Blocks};
+ghost use Rattle.file_journal.specs.Layout.{Blocks, blocks_on};
 
 use crate::limits::blocks_of_length;
 use crate::stored_file::StoredFile;
-use crate::{BlockReader, CheckFault, CheckedHeader, FileBlocks, Stamp, check_file};
+use crate::{
+    BlockReader, CheckFault, CheckedHeader, FileBlocks, SealedFile, Stamp, check_file, read_stamped,
+};
 use block_table::BlockTable;
-use disk_model::Disk;
+use disk_model::{Disk, DiskFault};
 use file_entries::{BeginBar, Info, LAST_NEXT, LONGEST_FILE, MOST_ENTRIES};
 use px_base::{Call, OutOfMemory};
 use std::alloc::Global;
@@ -251,6 +255,76 @@ impl Entries {
             moment,
         };
         check_file(reader, disk, &self.table, blocks, stamp)
+    }
+
+    /// Checks a sealed file by its header, as it was checked when it was sealed.
+    ///
+    /// `Header`: the file breaks a rule of headers, the first with this code. `Disk`: a read failed.
+    pub fn check_sealed<D: Disk, R: BlockReader<D>>(
+        &self,
+        reader: &R,
+        disk: &mut D,
+        number: u32,
+    ) -> Result<CheckedHeader, CheckFault>
+        requires may_read { R.may_read reader.now disk.old }
+        requires blocks { R.block_count reader.now ≡ self.now.files.blocks }
+        requires there { Sealed (store_of self.now.files) number }
+        ensures may_read { R.may_read reader.now disk.new }
+        ensures header { IfOk result
+            (λ header. (sealed : Sealed (store_of self.now.files) number)
+            → HasHeader (D.content disk.old) sealed header) }
+        ensures fault { (code : ℕ) → IsErrOf result (CheckFault.Header code)
+            → HasFault (D.content disk.old) (placed_of (store_of self.now.files) number) code }
+        ensures reads { Reads D.Disk (IsErrOf result CheckFault.Disk) disk.old disk.new }
+    {
+        let place = self.place_of(number).unwrap();
+        let mark = self.files[place].mark().unwrap();
+        self.check(reader, disk, number, mark.moment)
+    }
+
+    /// Fills the room with the octets of a sealed file, with its stamp, from octet `offset` on; the header is the one
+    /// that a check of it found. Behind it, the octets that are given are read and no others, with one read for each
+    /// block; in it those before them too. It changes none. Takes no memory.
+    pub fn read_sealed<D: Disk, R: BlockReader<D>>(
+        &self,
+        reader: &R,
+        disk: &mut D,
+        number: u32,
+        header: CheckedHeader,
+        offset: u32,
+        room: &mut [u8],
+    ) -> Result<(), DiskFault>
+        requires may_read { R.may_read reader.now disk.old }
+        requires blocks { R.block_count reader.now ≡ self.now.files.blocks }
+        requires there { Sealed (store_of self.now.files) number }
+        requires header { (sealed : Sealed (store_of self.now.files) number)
+            → HasHeader (D.content disk.old) sealed header }
+        requires inside { (sealed : Sealed (store_of self.now.files) number)
+            → offset + length room.old ≤ sealed.file.held }
+        ensures may_read { R.may_read reader.now disk.new }
+        ensures room { OnOk result (IsTold (D.content disk.old)
+            → (sealed : Sealed (store_of self.now.files) number)
+            → FillsRoom (octets_given (blocks_on (D.content disk.old)) sealed) offset (length room.old) room.new) }
+        ensures reads { Reads D.Disk (IsErr result) disk.old disk.new }
+    {
+        let place = self.place_of(number).unwrap();
+        let file = &self.files[place];
+        let info = file.info();
+        let mark = file.mark().unwrap();
+        let sealed = SealedFile {
+            blocks: FileBlocks {
+                run: place,
+                held: info.held,
+            },
+            stamp: Stamp {
+                number,
+                by: info.caller,
+                moment: mark.moment,
+            },
+            sum: header.sum,
+            header_len: header.len,
+        };
+        read_stamped(reader, disk, &self.table, &sealed, offset, room)
     }
 
     /// A file that is under way and whole is kept with this seal, whatever its blocks hold. No upload of it is out.

@@ -4,7 +4,7 @@ ghost use Rattle.std.specs.Prelude.{◌≡◌, ◌+◌, ◌≤◌, ◌^◌, ◌<
 ghost use Rattle.std.specs.Option.{option_map};
 ghost use Rattle.block_entries.specs.Placed.{is_sealed, new_placed};
 ghost use Rattle.block_entries.specs.PlacedCommand.{sealed};
-ghost use Rattle.block_entries.specs.PlacedFiles.{brought, placed_info};
+ghost use Rattle.block_entries.specs.PlacedFiles.{brought, placed_info, seal_of};
 ghost use Rattle.file_entries.specs.Files.{octets_or_none};
 
 use file_entries::Info;
@@ -93,6 +93,13 @@ impl StoredFile {
         ensures { result ≡ is_sealed self.now.entry }
     {
         self.mark.is_some()
+    }
+
+    /// The file's seal.
+    pub(crate) fn mark(&self) -> Option<SealMark>
+        ensures { seal_of result ≡ self.now.entry.seal }
+    {
+        self.mark
     }
 
     /// Whether an upload of the file is out.

@@ -1,0 +1,79 @@
+use Rattle.std.proofs.Common.{◌+◌, ◌≤◌, ℕ, length, refl, ap, sym, ◌∙◌, subst, arith}
+use Rattle.block_entries.specs.Checking.{IsSealable}
+use Rattle.block_entries.specs.Placed.{Placed}
+use Rattle.block_entries.specs.PlacedFiles.{EntriesState, PlacedFiles, placed_info}
+use Rattle.block_entries.specs.Reading.{StandsIn, octets_on}
+use Rattle.block_entries.specs.Seen.{octets_in, stamp_at}
+use Rattle.block_entries.proofs.ChangeLemmas.{has_place, in_range, mark_moment, mark_there, number_x, on_ok, sealed_found, sealed_here, stands_in}
+use Rattle.block_entries.proofs.entries.Entries.read_sealed.Goals as goal
+use Rattle.disk_model.specs.Disk.{FillsRoom}
+use Rattle.file_entries.specs.declared.info.Info.{Info}
+use Rattle.file_journal.specs.Layout.{blocks_on}
+use Rattle.pfh_items.specs.Stamp.{stamped}
+
+pub unwrap-place-requires : goal.unwrap-place-requires
+unwrap-place-requires g c =
+    has_place c.args.self.now.files.files c.args.number c.place_of.result c.place_of.ensures.none
+    (λ none. sealed_found c.args.self.now.files c.args.number none c.requires.there)
+
+pub index-file-requires : goal.index-file-requires
+index-file-requires g c =
+    let view = ap (λ (s : EntriesState). s.files) c.self.view_is in
+    let inside = in_range c.self.inside.table.runs c.self.inside.files.items c.self.inside.next c.self.inside.table.limit c.self.invariant _ view c.args.number _ c.place_of.result c.unwrap-place.ensures c.place_of.ensures.some in
+    omega (arith, inside, c.self.inside.files.ok.0)
+
+pub unwrap-mark-requires : goal.unwrap-mark-requires
+unwrap-mark-requires g c =
+    let view = ap (λ (s : EntriesState). s.files) c.self.view_is in
+    mark_there c.mark.result c.requires.there.mark (sealed_here c.self.inside.table.runs c.self.inside.files.items c.self.inside.next c.self.inside.table.limit c.self.invariant _ view c.args.number _ c.place_of.result c.unwrap-place.ensures c.place_of.ensures.some c.index-file.result.now c.index-file.ensures c.requires.there c.mark.result c.mark.ensures).1
+
+pub read_stamped-requires-clause-stands : goal.read_stamped-requires-clause-stands
+read_stamped-requires-clause-stands g c =
+    let view = ap (λ (s : EntriesState). s.files) c.self.view_is in
+    let place = c.unwrap-place.result in
+    let stands = stands_in c.self.inside.table.runs c.self.inside.files.items c.self.inside.next c.self.inside.table.limit c.self.invariant _ view c.args.number _ c.place_of.result c.unwrap-place.ensures c.place_of.ensures.some c.index-file.result.now c.index-file.ensures c.self.inside.table refl refl in
+    let count = ap (λ (n : PlacedFiles). n.blocks) view ∙ sym c.requires.blocks in
+    subst (λ (n : ℕ). StandsIn c.self.inside.table n (record { run = place; held = c.info-info.result.held })) count
+    (subst (λ (h : ℕ). StandsIn c.self.inside.table c.self.inside.table.limit (record { run = place; held = h }))
+    (ap (λ (i : Info). i.held) (sym c.info-info.ensures)) stands)
+
+pub read_stamped-requires-clause-sealed : goal.read_stamped-requires-clause-sealed
+read_stamped-requires-clause-sealed g c = λ told.
+    let view = ap (λ (s : EntriesState). s.files) c.self.view_is in
+    let content = g.D.Disk.content c.args.disk.now in
+    let sealed = c.requires.there in
+    let here = sealed_here c.self.inside.table.runs c.self.inside.files.items c.self.inside.next c.self.inside.table.limit c.self.invariant _ view c.args.number _ c.place_of.result c.unwrap-place.ensures c.place_of.ensures.some c.index-file.result.now c.index-file.ensures sealed c.mark.result c.mark.ensures in
+    let moment = mark_moment c.mark.result c.unwrap-mark.result sealed.mark c.unwrap-mark.ensures here.1 in
+    let P : ℕ → Info → ℕ → Type 0 = λ n i m.
+    IsSealable (record { number = n; by = i.caller; moment = m }) (octets_on content c.self.inside.table (record { run = c.unwrap-place.result; held = i.held }))
+    c.args.header.sum c.args.header.len in
+    subst (λ (i : Info). P c.args.number i c.unwrap-mark.result.moment) (sym c.info-info.ensures)
+    (subst (λ (n : ℕ). P n (placed_info c.index-file.result.now.entry) c.unwrap-mark.result.moment) (number_x c.self.inside.table.runs c.self.inside.files.items c.self.inside.next c.self.inside.table.limit c.self.invariant _ view c.args.number _ c.place_of.result c.unwrap-place.ensures c.place_of.ensures.some c.index-file.result.now c.index-file.ensures)
+    (subst (P c.index-file.result.now.entry.number (placed_info c.index-file.result.now.entry)) (sym moment)
+    (subst (λ (f : Placed). IsSealable (stamp_at sealed.mark.moment f) (octets_in (blocks_on content) f) c.args.header.sum c.args.header.len) here.0
+    (c.requires.header sealed told))))
+
+pub read_stamped-requires-clause-inside : goal.read_stamped-requires-clause-inside
+read_stamped-requires-clause-inside g c =
+    let view = ap (λ (s : EntriesState). s.files) c.self.view_is in
+    let sealed = c.requires.there in
+    let here = sealed_here c.self.inside.table.runs c.self.inside.files.items c.self.inside.next c.self.inside.table.limit c.self.invariant _ view c.args.number _ c.place_of.result c.unwrap-place.ensures c.place_of.ensures.some c.index-file.result.now c.index-file.ensures sealed c.mark.result c.mark.ensures in
+    subst (λ (h : ℕ). c.args.offset + length c.args.room.now ≤ h)
+    (ap (λ (f : Placed). f.held) here.0 ∙ ap (λ (i : Info). i.held) (sym c.info-info.ensures)) (c.requires.inside sealed)
+
+pub returns-clause-room : goal.returns-clause-room
+returns-clause-room g c =
+    let view = ap (λ (s : EntriesState). s.files) c.self.view_is in
+    let content = g.D.Disk.content c.args.disk.now in
+    let P : ℕ → Info → ℕ → Type 0 = λ n i m.
+    FillsRoom (stamped (record { number = n; by = i.caller; moment = m }) (octets_on content c.self.inside.table (record { run = c.unwrap-place.result; held = i.held })))
+    c.args.offset (length c.args.room.now) c.read_stamped.new.room in
+    on_ok c.read_stamped.result
+    (λ given told sealed.
+    let here = sealed_here c.self.inside.table.runs c.self.inside.files.items c.self.inside.next c.self.inside.table.limit c.self.invariant _ view c.args.number _ c.place_of.result c.unwrap-place.ensures c.place_of.ensures.some c.index-file.result.now c.index-file.ensures sealed c.mark.result c.mark.ensures in
+    let moment = mark_moment c.mark.result c.unwrap-mark.result sealed.mark c.unwrap-mark.ensures here.1 in
+    subst (λ (f : Placed). FillsRoom (stamped (stamp_at sealed.mark.moment f) (octets_in (blocks_on content) f)) c.args.offset (length c.args.room.now) c.read_stamped.new.room) (sym here.0)
+    (subst (P c.index-file.result.now.entry.number (placed_info c.index-file.result.now.entry)) moment
+    (subst (λ (n : ℕ). P n (placed_info c.index-file.result.now.entry) c.unwrap-mark.result.moment) (sym (number_x c.self.inside.table.runs c.self.inside.files.items c.self.inside.next c.self.inside.table.limit c.self.invariant _ view c.args.number _ c.place_of.result c.unwrap-place.ensures c.place_of.ensures.some c.index-file.result.now c.index-file.ensures))
+    (subst (λ (i : Info). P c.args.number i c.unwrap-mark.result.moment) c.info-info.ensures (given told)))))
+    c.read_stamped.ensures.room
