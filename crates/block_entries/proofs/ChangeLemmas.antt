@@ -1,6 +1,6 @@
 -- What a change of one file does to all.
 use Rattle.std.proofs.Common.{◌≡◌, ℕ, suc, ◌+◌, ◌*◌, ◌^◌, ◌≤◌, ◌<◌, ◌⊎◌, ◌==◌, ◌&&◌, inl, inr, Bool, true, false, true≢false, List, [], ◌∷◌, length, get_or, set, refl, ap, sym, ◌∙◌, subst, arith, Option, None, Some}
-use Rattle.std.specs.Prelude.{IsSome, IsTrue, IfNone, IfOk, IfSome, OnOk, Result, Ok, Err, find, nat_lt, slice_get}
+use Rattle.std.specs.Prelude.{IsSome, IsTrue, IfNone, IfSome, find, nat_lt, slice_get}
 use Rattle.std.proofs.lemmas.Bool.{and_parts, eq-eqb, eqb-true, lt-ltb, ltb-true}
 use Rattle.std.proofs.lemmas.Bool.Decides.{eqb_tells}
 use Rattle.std.specs.List.{remove}
@@ -59,15 +59,6 @@ waits_some files number count w = subst (λ (o : Option (List ℕ)). IsSome o) (
 -- a file that passes a test is there
 pub never_found : (files : PlacedFiles) (number : ℕ) {test : Placed → Bool} → file_of files.files number ≡ None → Passes (store_of files) number test → ⊥
 never_found files number none passes = never_some _ (no_entry files number none) (subst (λ (o : Option Placed). IsSome o) (sym passes.found) refl)
-
--- what is answered means something weaker too
-pub if_ok : {T E : Type 0} (result : Result T E) {P Q : T → Type 0} → ((x : T) → P x → Q x) → IfOk result P → IfOk result Q
-if_ok (Ok x) step holds = step x holds
-if_ok (Err e) step holds = tt
-
-pub on_ok : {T E : Type 0} (result : Result T E) {P Q : Type 0} → (P → Q) → OnOk result P → OnOk result Q
-on_ok (Ok x) step holds = step holds
-on_ok (Err e) step holds = tt
 
 -- the moment of a seal that is there
 pub mark_there : (o : Option SealMark) (mark : Seal) → seal_of o ≡ Some mark → IsSome o

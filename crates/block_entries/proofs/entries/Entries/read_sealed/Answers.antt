@@ -1,10 +1,11 @@
 use Rattle.std.proofs.Common.{◌+◌, ◌≤◌, ℕ, length, refl, ap, sym, ◌∙◌, subst, arith}
+use Rattle.std.proofs.lemmas.Result.{on_ok_weaker}
 use Rattle.block_entries.specs.Checking.{IsSealable}
 use Rattle.block_entries.specs.Placed.{Placed}
 use Rattle.block_entries.specs.PlacedFiles.{EntriesState, PlacedFiles, placed_info}
 use Rattle.block_entries.specs.Reading.{StandsIn, octets_on}
 use Rattle.block_entries.specs.Seen.{octets_in, stamp_at}
-use Rattle.block_entries.proofs.ChangeLemmas.{has_place, in_range, mark_moment, mark_there, number_x, on_ok, sealed_found, sealed_here, stands_in}
+use Rattle.block_entries.proofs.ChangeLemmas.{has_place, in_range, mark_moment, mark_there, number_x, sealed_found, sealed_here, stands_in}
 use Rattle.block_entries.proofs.entries.Entries.read_sealed.Goals as goal
 use Rattle.disk_model.specs.Disk.{FillsRoom}
 use Rattle.file_entries.specs.declared.info.Info.{Info}
@@ -68,7 +69,7 @@ returns-clause-room g c =
     let P : ℕ → Info → ℕ → Type 0 = λ n i m.
     FillsRoom (stamped (record { number = n; by = i.caller; moment = m }) (octets_on content c.self.inside.table (record { run = c.unwrap-place.result; held = i.held })))
     c.args.offset (length c.args.room.now) c.read_stamped.new.room in
-    on_ok c.read_stamped.result
+    on_ok_weaker c.read_stamped.result
     (λ given told sealed.
     let here = sealed_here c.self.inside.table.runs c.self.inside.files.items c.self.inside.next c.self.inside.table.limit c.self.invariant _ view c.args.number _ c.place_of.result c.unwrap-place.ensures c.place_of.ensures.some c.index-file.result.now c.index-file.ensures sealed c.mark.result c.mark.ensures in
     let moment = mark_moment c.mark.result c.unwrap-mark.result sealed.mark c.unwrap-mark.ensures here.1 in
