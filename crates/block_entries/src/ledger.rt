@@ -42,6 +42,7 @@ impl Ledger for Entries {
 
     fn fresh(alloc: Global, blocks: u32) -> Result<Entries, OutOfMemory> {
         let entries = Entries::new(alloc, blocks)?;
+        // It tells contracts that the entries keep their rules.
         entries.next();
         Ok(entries)
     }
@@ -57,6 +58,7 @@ impl Ledger for Entries {
             return Ok(false);
         };
         let done = self.apply_command(journal, disk, command)?;
+        // The same here.
         self.next();
         Ok(done)
     }
