@@ -11,6 +11,7 @@ mod RecordLemmas
 mod RulesLemmas
 mod RunsLemmas
 mod SeenLemmas
+mod StampedHeaderLemmas
 mod StampedPartLemmas
 mod StandingLemmas
 mod WholeBlockLemmas

@@ -8,6 +8,7 @@ use Rattle.block_entries.specs.declared.file_check.CheckedHeader.{CheckedHeader}
 use Rattle.block_entries.specs.declared.sealed_file.SealedFile.{SealedFile}
 use Rattle.block_table.specs.Table.{Table}
 use Rattle.disk_model.specs.Disk.{IsTold}
+use Rattle.file_entries.specs.Headers.{IsWholeHeader, header_octets}
 use Rattle.file_journal.specs.Layout.{Blocks, blocks_on}
 use Rattle.pfh_items.specs.Stamp.{stamped}
 
@@ -37,3 +38,8 @@ HasHeader content sealed header =
 -- the octets of the file with its stamp
 abbrev pub octets_given : {store : PlacedStore} → {number : ℕ} → Blocks → Sealed store number → List ℕ
 octets_given held sealed = stamped (stamp_at sealed.mark.moment sealed.file) (octets_in held sealed.file)
+
+-- these octets are the header that the file begins with, and nothing else, and are read as one
+pub record IsSealedHeader (file octets : List ℕ) : Type 0 where
+  pub header : octets ≡ header_octets file
+  pub whole : IsWholeHeader octets

@@ -127,6 +127,6 @@ fn read_through_header<D: Disk, R: BlockReader<D>>(
 }
 
 /// Tells contracts that a call is one. It does nothing.
-fn is_call(_by: Call)
+pub(crate) fn is_call(_by: Call)
     ensures { IsCall _by }
 {}

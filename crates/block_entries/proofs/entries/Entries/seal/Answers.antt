@@ -1,7 +1,29 @@
-use Rattle.block_entries.specs.PlacedFiles.{store_of}
-use Rattle.block_entries.specs.TestLaws.{passes_whole}
-use Rattle.block_entries.proofs.entries.Entries.seal.Goals as goal
+use Rattle.std.proofs.Common.{ap, sym, ◌∙◌, arith}
+use Rattle.block_entries.specs.PlacedFiles.{EntriesState}
+use Rattle.block_entries.proofs.ChangeLemmas.{has_place, in_range, never_found, rest_now, seal_becomes, seal_kept}
+use Rattle.block_entries.proofs.entries.Entries.keep_sealed.Goals as goal
 
-pub keep_sealed-requires-clause-whole : goal.keep_sealed-requires-clause-whole
-keep_sealed-requires-clause-whole c =
-    passes_whole c.requires.allowed.0 (store_of c.args.self.now.files) c.args.number c.args.moment c.args.sum c.requires.allowed.1
+pub unwrap-place-requires : goal.unwrap-place-requires
+unwrap-place-requires c =
+    has_place c.args.self.now.files.files c.args.number c.place_of.result c.place_of.ensures.none
+    (λ none. never_found c.args.self.now.files c.args.number none c.requires.whole)
+
+pub index_mut-requires : goal.index_mut-requires
+index_mut-requires c =
+    let view = ap (λ (s : EntriesState). s.files) c.self.view_is in
+    let inside = in_range c.self.inside.table.runs c.self.inside.files.items c.self.inside.next c.self.inside.table.limit c.self.invariant _ view c.args.number _ c.place_of.result c.unwrap-place.ensures c.place_of.ensures.some in
+    omega (arith, inside, c.self.inside.files.ok.0)
+
+pub invariant_of-self : goal.invariant_of-self
+invariant_of-self c =
+    let view = ap (λ (s : EntriesState). s.files) c.self.view_is in
+    seal_kept c.self.inside.table.runs c.self.inside.files.items c.self.inside.next c.self.inside.table.limit c.self.invariant _ view c.args.number _ c.place_of.result c.unwrap-place.ensures c.place_of.ensures.some c.index_mut.result.now c.index_mut.ensures.value
+    c.args.moment c.args.sum c.requires.whole c.seal.new.self c.index_mut.result.now.rest c.seal.ensures
+
+pub returns : goal.returns
+returns c =
+    let view = ap (λ (s : EntriesState). s.files) c.self.view_is in
+    let rest = rest_now c.self.inside.table.runs c.self.inside.files.items c.self.inside.next c.self.inside.table.limit c.self.invariant _ view c.args.number _ c.place_of.result c.unwrap-place.ensures c.place_of.ensures.some c.index_mut.result.now c.index_mut.ensures.value in
+    let becomes = seal_becomes c.self.inside.table.runs c.self.inside.files.items c.self.inside.next c.self.inside.table.limit c.self.invariant _ view c.args.number _ c.place_of.result c.unwrap-place.ensures c.place_of.ensures.some c.index_mut.result.now c.index_mut.ensures.value
+    c.args.moment c.args.sum c.requires.whole c.seal.new.self c.index_mut.result.now.rest c.seal.ensures in
+    record { store_is = becomes.store_is; here = becomes.here ∙ sym rest ∙ c.requires.in_; others = becomes.others }
