@@ -109,7 +109,7 @@ impl Entries {
         if !self.may_seal(reader, disk, number, moment, sum)? {
             return Ok(false);
         }
-        self.keep_sealed(number, moment, sum);
+        self.seal(number, moment, sum);
         Ok(true)
     }
 

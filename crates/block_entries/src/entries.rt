@@ -6,7 +6,7 @@ ghost use Rattle.std.specs.Option.{option_copied, option_map};
 ghost use Rattle.block_entries.specs.Checking.{ChecksFile, HasFault, IsFaultCode};
 ghost use Rattle.block_entries.specs.IsPlaced.{IsPlaced};
 ghost use Rattle.block_entries.specs.Placed.{no_entries, placed_of};
-ghost use Rattle.block_entries.specs.PlacedCommand.{after, begin, can_seal, drop_entry, grow, is_free};
+ghost use Rattle.block_entries.specs.PlacedCommand.{after, begin, drop_entry, grow, is_free};
 ghost use Rattle.block_entries.specs.PlacedCommand.{is_partial, is_whole, seal};
 ghost use Rattle.block_entries.specs.PlacedFiles.{Becomes, ChangesRest, IsLowest, IsNextSealed, IsOut, IsPlace};
 ghost use Rattle.block_entries.specs.PlacedFiles.{NothingOut, Waits, file_of, is_sealed_file, lacks_octets};
@@ -133,9 +133,10 @@ impl Entries {
         self.next += 1;
     }
 
-    /// An upload of this entry goes out, of which no octet waits. Takes no memory.
+    /// An upload of this entry goes out, of which no octet waits. None was out. Takes no memory.
     pub fn take_out(&mut self, number: u32)
-        requires { IsSome (placed_of (store_of self.old.files) number) }
+        requires there { IsSome (placed_of (store_of self.old.files) number) }
+        requires in_ { rest_of self.old.files number ≡ None }
         ensures { ChangesRest self.old.files self.new.files number (Some []) }
     {
         let place = self.place_of(number).unwrap();
@@ -182,10 +183,12 @@ impl Entries {
         self.table.lowest_free()
     }
 
-    /// The first octets that wait become held, in this block: a Grow, whose condition holds. Takes no memory.
+    /// The first octets that wait become held, in the lowest block that no file has: a Grow, whose condition holds.
+    /// Takes no memory.
     pub fn hold(&mut self, number: u32, block: u32, count: usize)
         requires waits { Waits self.old.files number count }
         requires allowed { Grows (store_of self.old.files) number block count }
+        requires lowest { IsLowest (store_of self.old.files) block }
         ensures { Becomes self.old.files self.new.files
             (after (store_of self.old.files) (grow number block count))
             number (rest_without self.old.files number count) }
@@ -208,16 +211,16 @@ impl Entries {
         self.table.take(place, block);
     }
 
-    /// Seals a file whose Seal's condition holds, with what blocks hold, and of which no upload is out. Takes no
+    /// Seals a file that is under way and whole, and of which no upload is out, whatever its blocks hold. Takes no
     /// memory.
     pub fn seal(&mut self, number: u32, moment: u32, sum: u16)
-        requires allowed { (held : Blocks)
-            × Passes (store_of self.old.files) number (λ f. can_seal held f moment sum) }
+        requires whole { Passes (store_of self.old.files) number is_whole }
         requires in_ { rest_of self.old.files number ≡ None }
         ensures { Becomes self.old.files self.new.files
             (after (store_of self.old.files) (seal number moment sum)) number None }
     {
-        self.keep_sealed(number, moment, sum);
+        let place = self.place_of(number).unwrap();
+        self.files[place].seal(moment, sum);
     }
 
     /// Checks a file of which all octets are held by its header: the sum that the header has with the stamp of this
@@ -325,17 +328,6 @@ impl Entries {
             header_len: header.len,
         };
         read_stamped(reader, disk, &self.table, &sealed, offset, room)
-    }
-
-    /// A file that is under way and whole is kept with this seal, whatever its blocks hold. No upload of it is out.
-    pub(crate) fn keep_sealed(&mut self, number: u32, moment: u32, sum: u16)
-        requires whole { Passes (store_of self.old.files) number is_whole }
-        requires in_ { rest_of self.old.files number ≡ None }
-        ensures { Becomes self.old.files self.new.files
-            (after (store_of self.old.files) (seal number moment sum)) number None }
-    {
-        let place = self.place_of(number).unwrap();
-        self.files[place].seal(moment, sum);
     }
 
     /// Drops a file under way. Takes no memory.

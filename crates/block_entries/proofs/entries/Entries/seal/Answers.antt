@@ -1,7 +1,7 @@
 use Rattle.std.proofs.Common.{ap, sym, ◌∙◌, arith}
 use Rattle.block_entries.specs.PlacedFiles.{EntriesState}
 use Rattle.block_entries.proofs.ChangeLemmas.{has_place, in_range, never_found, rest_now, seal_becomes, seal_kept}
-use Rattle.block_entries.proofs.entries.Entries.keep_sealed.Goals as goal
+use Rattle.block_entries.proofs.entries.Entries.seal.Goals as goal
 
 pub unwrap-place-requires : goal.unwrap-place-requires
 unwrap-place-requires c =

@@ -6,7 +6,7 @@ use Rattle.block_entries.proofs.entries.Entries.take_out.Goals as goal
 pub unwrap-place-requires : goal.unwrap-place-requires
 unwrap-place-requires c =
     has_place c.args.self.now.files.files c.args.number c.place_of.result c.place_of.ensures.none
-    (λ none. never_some _ (no_entry c.args.self.now.files c.args.number none) c.requires)
+    (λ none. never_some _ (no_entry c.args.self.now.files c.args.number none) c.requires.there)
 
 pub index_mut-requires : goal.index_mut-requires
 index_mut-requires c =
