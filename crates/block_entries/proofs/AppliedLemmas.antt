@@ -1,16 +1,17 @@
 -- What the answer to a command says.
-use Rattle.std.proofs.Common.{◌≡◌, ℕ, ◌==◌, ◌&&◌, Bool, true, false, List, Option, None, Some, refl, ap, sym, ◌∙◌, subst, arith, inl, inr}
+use Rattle.std.proofs.Common.{◌≡◌, ℕ, ◌==◌, ◌≤◌, ◌&&◌, Bool, true, false, List, Option, None, Some, refl, ap, sym, ◌∙◌, subst, arith, inl, inr}
 use Rattle.std.specs.Option.{option_map}
 use Rattle.std.specs.Prelude.{IfNone, IfSome, IsTrue, is_some}
 use Rattle.std.proofs.lemmas.Bool.Decides.{eqb_tells, nat_tests}
-use Rattle.block_entries.specs.Applied.{Applied}
+use Rattle.block_entries.specs.Applied.{Applied, TellsSeal}
 use Rattle.block_entries.specs.Checking.{IsSealable}
 use Rattle.block_entries.specs.Placed.{Placed, PlacedStore, placed_of}
-use Rattle.block_entries.specs.PlacedCommand.{PlacedCommand, after, can_seal, is_allowed, is_whole, passes_at}
+use Rattle.block_entries.specs.PlacedCommand.{PlacedCommand, after, can_seal, header_at, is_allowed, is_whole, passes_at, seal, seal_with, with_sealed}
+use Rattle.block_entries.specs.KeptLaws.{header_found}
 use Rattle.block_entries.specs.PlacedFiles.{Becomes, EntriesState, NothingOut, PlacedFiles, placed_info, store_of}
 use Rattle.block_entries.specs.PlacedLaws.{after_blocks}
 use Rattle.block_entries.specs.Seen.{octets_in, stamp_at}
-use Rattle.block_entries.specs.TestLaws.{Passes, passes_found}
+use Rattle.block_entries.specs.TestLaws.{Passes, TakesSeal, passes_found}
 use Rattle.disk_model.specs.Disk.{IsTold}
 use Rattle.file_entries.specs.Bars.{Bars}
 use Rattle.file_entries.specs.Command.{can_begin}
@@ -31,13 +32,13 @@ out_after before now store number out becomes = λ other.
 
 module _ (content : Option (List ℕ)) (before now : EntriesState) (command : PlacedCommand) where
   -- a command whose condition holds
-  pub done_is : (IsTold content → IsTrue (is_allowed (blocks_on content) (store_of before.files) command)) → store_of now.files ≡ after (store_of before.files) command
+  pub done_is : (IsTold content → IsTrue (is_allowed (blocks_on content) (store_of before.files) command)) → store_of now.files ≡ after (blocks_on content) (store_of before.files) command
       → Applied content true before now command
   done_is allowed is =
       record {
         answers = λ told. rw (allowed told) (ap Some (sym is));
         same = λ is. absurd (cc);
-        number = ap (λ (s : PlacedStore). s.blocks) is ∙ after_blocks (store_of before.files) command;
+        number = ap (λ (s : PlacedStore). s.blocks) is ∙ after_blocks (blocks_on content) (store_of before.files) command;
       }
 
   -- and one whose condition doesn't
@@ -48,6 +49,27 @@ module _ (content : Option (List ℕ)) (before now : EntriesState) (command : Pl
         same = λ is. same;
         number = ap (λ (s : EntriesState). s.files.blocks) same;
       }
+
+-- a seal that was told
+module _ (content : Option (List ℕ)) (before now : EntriesState) (number moment sum : ℕ) (o : Option ℕ) (tells : TellsSeal content (store_of before.files) number moment sum o) where
+  pub sealed_done : (header : ℕ) → o ≡ Some header → store_of now.files ≡ with_sealed (store_of before.files) number (seal_with moment sum header)
+      → Applied content true before now (seal number moment sum)
+  sealed_done header some is =
+      record {
+        answers = λ told.
+            let t = subst (λ (h : Option ℕ). TellsSeal content (store_of before.files) number moment sum h) some tells told in
+            let ok : IsTrue (is_allowed (blocks_on content) (store_of before.files) (seal number moment sum)) = sym t.0 in
+            let same : store_of now.files ≡ after (blocks_on content) (store_of before.files) (seal number moment sum) =
+            is ∙ ap (λ (n : ℕ). with_sealed (store_of before.files) number (seal_with moment sum n)) t.1 in
+            rw ok (ap Some (sym same));
+        same = λ is. absurd (cc);
+        number = ap (λ (s : PlacedStore). s.blocks) is;
+      }
+
+  pub sealed_refused : o ≡ None → now ≡ before → Applied content false before now (seal number moment sum)
+  sealed_refused none same =
+      refused_is content before now (seal number moment sum)
+      (λ told. sym (subst (λ (h : Option ℕ). TellsSeal content (store_of before.files) number moment sum h) none tells told).0) same
 
 -- ---- what is told of a file
 
@@ -92,12 +114,26 @@ not_whole held store number moment sum fails = by (placed_of store number) refl 
         passes_found store number (λ f. can_seal held f moment sum) file e ∙ rw here refl
 
 module _ (held : Blocks) (store : PlacedStore) (number moment sum : ℕ) (passes : Passes store number is_whole) where
-  pub sum_decides : (found len : ℕ) → IfSome (placed_of store number) (λ f. IsSealable (stamp_at moment f) (octets_in held f) found len)
+  sum_decides : (found len : ℕ) → IsSealable (stamp_at moment passes.file) (octets_in held passes.file) found len
       → (sum == found) ≡ passes_at store number (λ f. can_seal held f moment sum)
-  sum_decides found len checked =
-      let is = subst (λ (o : Option Placed). IfSome o (λ f. IsSealable (stamp_at moment f) (octets_in held f) found len)) passes.found checked in
+  sum_decides found len is =
       rw (passes_found store number (λ f. can_seal held f moment sum) passes.file passes.found, passes.test_is, is.faultless)
       (ap (λ (n : ℕ). sum == n) is.sum_is)
+
+  pub header_tells : (found len : ℕ) (o : Option ℕ) → IfSome (placed_of store number) (λ f. IsSealable (stamp_at moment f) (octets_in held f) found len)
+      → is_some o ≡ (sum == found) → IfSome o (λ l. l ≡ len)
+      → (is_some o ≡ passes_at store number (λ f. can_seal held f moment sum)) × IfSome o (λ l. l ≡ header_at held store number)
+  header_tells found len o checked test length_is =
+      let is = subst (λ (p : Option Placed). IfSome p (λ f. IsSealable (stamp_at moment f) (octets_in held f) found len)) passes.found checked in
+      let same : len ≡ header_at held store number = is.len_is ∙ sym (header_found held store number passes.file passes.found) in
+      (test ∙ sum_decides found len is, subst (λ (n : ℕ). IfSome o (λ l. l ≡ n)) same length_is)
+
+  pub header_takes : (len : ℕ) (o : Option ℕ) → IfSome (placed_of store number) (λ f. len ≤ f.held) → IfSome o (λ l. l ≡ len)
+      → IfSome o (TakesSeal store number)
+  header_takes len None within is = tt
+  header_takes len (Some l) within is =
+      let inside : len ≤ passes.file.held = subst (λ (p : Option Placed). IfSome p (λ f. len ≤ f.held)) passes.found within in
+      record { passes = passes; inside = subst (λ (n : ℕ). n ≤ passes.file.held) (sym is) inside }
 
   pub fault_refuses : (code : ℕ) → IfSome (placed_of store number) (λ f. fault_code (octets_in held f) ≡ Some code)
       → passes_at store number (λ f. can_seal held f moment sum) ≡ false

@@ -5,7 +5,7 @@ use Rattle.std.proofs.lemmas.List.{length-map}
 use Rattle.block_entries.specs.IsPlaced.{IsPlaced}
 use Rattle.block_entries.specs.KeptLaws.{begin_placed, blocks_seen}
 use Rattle.block_entries.specs.Placed.{Placed, new_placed, placed_from, run_of, runs_of}
-use Rattle.block_entries.specs.PlacedCommand.{after, begin}
+use Rattle.block_entries.specs.PlacedCommand.{with_new}
 use Rattle.block_entries.specs.PlacedFiles.{AreKept, Becomes, PlacedFile, PlacedFiles, entries_of, file_of, files_from, in_runs, store_of, with_run}
 use Rattle.block_entries.specs.Seen.{seen, seen_entry}
 use Rattle.block_entries.proofs.ChangeLemmas.{rest_of_file}
@@ -41,7 +41,7 @@ module _ (runs : List Run) (items : List PlacedFile) (next blocks : ℕ) (kept :
   few : length (entries_of zs) < most_entries
   few = subst (λ (n : ℕ). n < most_entries) (length-map (entries_of zs) (seen_entry may.0)) may_inside.few
 
-  begun : IsPlaced (after (store_of inside) (begin next caller file_length moment))
+  begun : IsPlaced (with_new (store_of inside) (new_placed next caller file_length moment))
   begun =
       begin_placed (store_of inside) caller file_length moment kept.rules call
       (record { number_is = refl; short = may_inside.short; few = few; left = may_inside.left; room = room_left })
@@ -63,7 +63,7 @@ module _ (runs : List Run) (items : List PlacedFile) (next blocks : ℕ) (kept :
     entries_are : entries_of others ≡ entries_of zs ++ new.entry ∷ []
     entries_are = ap entries_of others_are ∙ entries_push zs new
 
-    store_is : store_of (files_from others (next + 1) limit) ≡ after (store_of inside) (begin next caller file_length moment)
+    store_is : store_of (files_from others (next + 1) limit) ≡ with_new (store_of inside) (new_placed next caller file_length moment)
     store_is =
         ap (λ (es : List Placed). placed_from es (next + 1) limit) entries_are
         ∙ ap (λ (n : ℕ). placed_from (entries_of zs ++ new.entry ∷ []) (next + 1) n) limit_is
@@ -85,7 +85,7 @@ module _ (runs : List Run) (items : List PlacedFile) (next blocks : ℕ) (kept :
     no_file : file_of zs next ≡ None
     no_file = file_next next 1 next zs kept.rules.numbers (omega arith)
 
-    becomes_inside : Becomes inside (files_from others (next + 1) limit) (after (store_of inside) (begin next caller file_length moment)) next None
+    becomes_inside : Becomes inside (files_from others (next + 1) limit) (with_new (store_of inside) (new_placed next caller file_length moment)) next None
     becomes_inside = record {
       store_is = store_is;
       here = rest_of_file (files_from others (next + 1) limit) next new
@@ -95,6 +95,6 @@ module _ (runs : List Run) (items : List PlacedFile) (next blocks : ℕ) (kept :
           (ap (λ (fs : List PlacedFile). file_of fs other) others_are ∙ push_other zs next other new refl ne);
     }
 
-    pub begin_becomes : Becomes now (files_from others (next + 1) limit) (after (store_of now) (begin now.next caller file_length moment)) now.next None
+    pub begin_becomes : Becomes now (files_from others (next + 1) limit) (with_new (store_of now) (new_placed now.next caller file_length moment)) now.next None
     begin_becomes =
-        subst (λ (n : PlacedFiles). Becomes n (files_from others (next + 1) limit) (after (store_of n) (begin n.next caller file_length moment)) n.next None) view becomes_inside
+        subst (λ (n : PlacedFiles). Becomes n (files_from others (next + 1) limit) (with_new (store_of n) (new_placed n.next caller file_length moment)) n.next None) view becomes_inside

@@ -11,11 +11,11 @@ use Rattle.block_entries.specs.FilesLaws.{found_holds}
 use Rattle.block_entries.specs.IsPlaced.{IsPlaced, IsPlacedFile}
 use Rattle.block_entries.specs.KeptLaws.{drop_placed, grow_placed, grows_full, seal_placed}
 use Rattle.block_entries.specs.Placed.{Placed, Seal, has_number, placed_from, placed_of, run_of, runs_of}
-use Rattle.block_entries.specs.PlacedCommand.{after, can_grow, drop_entry, grow, grown, is_free, is_partial, is_whole, seal, sealed, with_changed}
-use Rattle.block_entries.specs.PlacedFiles.{AreKept, Becomes, ChangesRest, IsLowest, IsPlace, KeepsRests, PlacedFile, PlacedFiles, Waits, entries_of, file_of, files_from, in_runs, lacks_octets, rest_of, seal_of, store_of, with_run}
+use Rattle.block_entries.specs.PlacedCommand.{can_grow, grown, is_free, is_partial, sealed, with_changed, with_grown, with_sealed, without_file}
+use Rattle.block_entries.specs.PlacedFiles.{AreKept, Becomes, ChangesRest, IsLowest, IsPlace, KeepsRests, PlacedFile, PlacedFiles, Waits, entries_of, file_of, files_from, in_runs, lacks_octets, rest_of, seal_of, seal_value, store_of, with_run}
 use Rattle.block_entries.specs.Reading.{StandsIn}
 use Rattle.block_entries.specs.Sealed.{Sealed}
-use Rattle.block_entries.specs.TestLaws.{Grows, MayGrow, Passes, may_grow}
+use Rattle.block_entries.specs.TestLaws.{Grows, MayGrow, Passes, TakesSeal, may_grow}
 use Rattle.block_entries.proofs.PlacesLemmas.{at_place, find_entries, found_at, remove_entries, remove_here, remove_other, set_entries_changed, set_entries_same, set_here, set_other}
 use Rattle.block_entries.proofs.RunsLemmas.{in_runs_at, in_runs_both, in_runs_file, in_runs_remove, length_in_runs, runs_at, runs_remove, runs_set}
 use Rattle.block_entries.specs.declared.stored_file.SealMark.{SealMark}
@@ -60,16 +60,13 @@ waits_some files number count w = subst (λ (o : Option (List ℕ)). IsSome o) (
 pub never_found : (files : PlacedFiles) (number : ℕ) {test : Placed → Bool} → file_of files.files number ≡ None → Passes (store_of files) number test → ⊥
 never_found files number none passes = never_some _ (no_entry files number none) (subst (λ (o : Option Placed). IsSome o) (sym passes.found) refl)
 
--- the moment of a seal that is there
+-- the seal that is there
 pub mark_there : (o : Option SealMark) (mark : Seal) → seal_of o ≡ Some mark → IsSome o
 mark_there None mark is = absurd (cc)
 mark_there (Some m) mark is = refl
 
-pub mark_moment : (o : Option SealMark) (m : SealMark) (mark : Seal) → o ≡ Some m → seal_of o ≡ Some mark → m.moment ≡ mark.moment
-mark_moment o m mark there is = some_moment m mark (ap seal_of (sym there) ∙ is)
-  where
-    some_moment : (m : SealMark) (mark : Seal) → seal_of (Some m) ≡ Some mark → m.moment ≡ mark.moment
-    some_moment m mark is = let same : record { moment = m.moment; sum = m.sum } ≡ mark = cc in ap (λ (s : Seal). s.moment) same
+pub mark_value : (o : Option SealMark) (m : SealMark) (mark : Seal) → o ≡ Some m → seal_of o ≡ Some mark → seal_value m ≡ mark
+mark_value o m mark there is = let same = ap seal_of (sym there) ∙ is in cc
 
 -- a file of which a seal is told is there
 pub sealed_found : (files : PlacedFiles) (number : ℕ) → file_of files.files number ≡ None → Sealed (store_of files) number → ⊥
@@ -278,11 +275,11 @@ module _ (runs : List Run) (items : List PlacedFile) (next blocks : ℕ) (kept :
           more_is : more.entry ≡ grown block used z.entry
           more_is = ap (λ (f : PlacedFile). (with_run (with_block run block) f).entry) new_is
 
-          pub hold_becomes : Becomes now (files_from with_more next limit) (after (store_of now) (grow number block used)) number rest
+          pub hold_becomes : Becomes now (files_from with_more next limit) (with_grown (store_of now) number block used) number rest
           hold_becomes =
               let becomes = change_becomes with_more more with_more_is (grown block used) more_is (λ e. refl) in
               let rest_is : y.rest ≡ rest = ap (λ (f : PlacedFile). f.rest) new_is in
-              subst (λ (n : ℕ). Becomes now (files_from with_more next n) (after (store_of now) (grow number block used)) number rest) (sym limit_is)
+              subst (λ (n : ℕ). Becomes now (files_from with_more next n) (with_grown (store_of now) number block used) number rest) (sym limit_is)
               (record { store_is = becomes.store_is; here = becomes.here ∙ rest_is; others = becomes.others })
 
           pub hold_kept : AreKept runs_after (set items place y) next limit
@@ -306,8 +303,8 @@ module _ (runs : List Run) (items : List PlacedFile) (next blocks : ℕ) (kept :
 
       -- ---- the file sealed
 
-      module _ (moment sum : ℕ) (passes : Passes (store_of now) number is_whole) (y : PlacedFile) (rest : Option (List ℕ))
-          (new_is : y ≡ record { entry = sealed moment sum x.entry; rest = rest }) where
+      module _ (mark : Seal) (takes : TakesSeal (store_of now) number mark.header) (y : PlacedFile) (rest : Option (List ℕ))
+          (new_is : y ≡ record { entry = sealed mark x.entry; rest = rest }) where
         abbrev with_seal : List PlacedFile
         with_seal = in_runs runs (set items place y)
 
@@ -317,20 +314,20 @@ module _ (runs : List Run) (items : List PlacedFile) (next blocks : ℕ) (kept :
         with_seal_is : with_seal ≡ set zs place kept_file
         with_seal_is = in_runs_file runs items place (new_run 0) y
 
-        kept_is : kept_file.entry ≡ sealed moment sum z.entry
+        kept_is : kept_file.entry ≡ sealed mark z.entry
         kept_is = ap (λ (f : PlacedFile). (with_run run f).entry) new_is
 
-        pub seal_becomes : Becomes now (files_from with_seal next blocks) (after (store_of now) (seal number moment sum)) number rest
+        pub seal_becomes : Becomes now (files_from with_seal next blocks) (with_sealed (store_of now) number mark) number rest
         seal_becomes =
-            let becomes = change_becomes with_seal kept_file with_seal_is (sealed moment sum) kept_is (λ e. refl) in
+            let becomes = change_becomes with_seal kept_file with_seal_is (sealed mark) kept_is (λ e. refl) in
             record { store_is = becomes.store_is; here = becomes.here ∙ ap (λ (f : PlacedFile). f.rest) new_is; others = becomes.others }
 
         pub seal_kept : AreKept runs (set items place y) next blocks
         seal_kept =
-            let passes_inside = subst (λ (n : PlacedFiles). Passes (store_of n) number is_whole) (sym view) passes in
-            let store = change_store with_seal kept_file with_seal_is (sealed moment sum) kept_is in
+            let takes_inside = subst (λ (n : PlacedFiles). TakesSeal (store_of n) number mark.header) (sym view) takes in
+            let store = change_store with_seal kept_file with_seal_is (sealed mark) kept_is in
             record {
-              rules = subst IsPlaced (sym store) (seal_placed (store_of inside) number moment sum kept.rules passes_inside);
+              rules = subst IsPlaced (sym store) (seal_placed (store_of inside) number mark kept.rules takes_inside);
               runs_are =
                   change_runs with_seal kept_file with_seal_is
                   ∙ ap (λ (e : Placed). set runs place (run_of e)) kept_is
@@ -354,7 +351,7 @@ module _ (runs : List Run) (items : List PlacedFile) (next blocks : ℕ) (kept :
             ∙ ap (λ (fs : List PlacedFile). in_runs (remove runs place) fs) items_are
             ∙ in_runs_remove runs items place kept.count
 
-        left_store : store_of (files_from left next blocks) ≡ after (store_of inside) (drop_entry number)
+        left_store : store_of (files_from left next blocks) ≡ without_file (store_of inside) number
         left_store =
             ap (λ (es : List Placed). placed_from es next blocks)
             (ap entries_of left_is ∙ remove_entries 1 next zs number place z kept.rules.numbers there_z number_x)
@@ -366,11 +363,11 @@ module _ (runs : List Run) (items : List PlacedFile) (next blocks : ℕ) (kept :
             subst (λ (fs : List PlacedFile). KeepsRests now (files_from fs next blocks) number) (sym left_is)
             (subst (λ (n : PlacedFiles). KeepsRests n (files_from (remove zs place) next blocks) number) view kept_there)
 
-        pub drop_becomes : Becomes now (files_from left next limit) (after (store_of now) (drop_entry number)) number None
+        pub drop_becomes : Becomes now (files_from left next limit) (without_file (store_of now) number) number None
         drop_becomes =
-            subst (λ (n : ℕ). Becomes now (files_from left next n) (after (store_of now) (drop_entry number)) number None) (sym limit_is)
+            subst (λ (n : ℕ). Becomes now (files_from left next n) (without_file (store_of now) number) number None) (sym limit_is)
             (record {
-              store_is = left_store ∙ ap (λ (n : PlacedFiles). after (store_of n) (drop_entry number)) view;
+              store_is = left_store ∙ ap (λ (n : PlacedFiles). without_file (store_of n) number) view;
               here =
                   ap (λ (fs : List PlacedFile). option_and_then (λ (f : PlacedFile). f.rest) (file_of fs number)) left_is
                   ∙ ap (option_and_then (λ (f : PlacedFile). f.rest)) (remove_here 1 next zs number place z kept.rules.numbers there_z number_x);

@@ -4,15 +4,18 @@ use Rattle.std.specs.Prelude.{IfSome, IsSome, IsTrue, if◌then◌else◌, is_so
 use Rattle.std.specs.List.{AllByRecursion}
 use Rattle.std.proofs.lemmas.List.{length-map}
 use Rattle.std.proofs.lemmas.List.Sums.{sum_by-cons}
-use Rattle.block_entries.specs.FilesLaws.{all_changed, all_filter, all_push}
+use Rattle.block_entries.specs.FilesLaws.{all_changed, all_filter, all_push, found_holds}
+use Rattle.block_entries.specs.Checking.{IsSealable}
 use Rattle.block_entries.specs.IsPlaced.{ArePlaced, IsPlaced, IsPlacedFile, KeepsSeal, KeepsSeals, Rise}
-use Rattle.block_entries.specs.KeptLaws.{blocks_seen, times_at}
+use Rattle.block_entries.specs.KeptLaws.{blocks_seen, header_found, none_keeps, times_at}
 use Rattle.block_entries.specs.Placed.{Decides, Placed, PlacedStore, Seal, has_number, new_placed, times_sealed}
-use Rattle.block_entries.specs.PlacedCommand.{PlacedCommand, after, begin, can_seal, drop_entry, grow, grown, is_allowed, seal, sealed}
+use Rattle.block_entries.specs.PlacedCommand.{PlacedCommand, after, begin, can_seal, drop_entry, grow, grown, header_at, is_allowed, seal, seal_with, sealed}
 use Rattle.block_entries.specs.SameLaws.{octets_same}
+use Rattle.block_entries.specs.Sealed.{Sealed}
 use Rattle.block_entries.specs.Seen.{holding_with, octets_in, seen, seen_entry, stamp_at, sum_with}
 use Rattle.block_entries.specs.TestLaws.{may_grow, may_seal, may_take, passed}
 use Rattle.block_entries.proofs.SeenLemmas.{length_octets}
+use Rattle.file_entries.specs.Headers.{header_octets}
 use Rattle.file_entries.specs.IsStore.{AreEntries, FitsLength, HaveCallers, IsStore}
 use Rattle.file_entries.specs.Limits.{most_entries}
 use Rattle.file_journal.specs.Layout.{Blocks, HoldSame}
@@ -21,12 +24,12 @@ use Rattle.pfh_writer.proofs.StampedLemmas.{length-stamped}
 
 -- ---- seals
 
-none_keeps : (o : Option Seal) (P : Seal → Type 0) → o ≡ None → IfSome o P
-none_keeps None P none = tt
-none_keeps (Some s) P none = absurd (cc)
+-- what a seal says of octets of a file
+abbrev SaysIn : Placed → List ℕ → Seal → Type 0
+SaysIn f octets s = (fault_code octets ≡ None) × (s.sum ≡ sum_with s.moment f octets) × (s.header ≡ length (header_octets octets))
 
 pub after_seals : (held : Blocks) (store : PlacedStore) (command : PlacedCommand) → IsPlaced store → IsTrue (is_allowed held store command)
-    → KeepsSeals held store → KeepsSeals held (after store command)
+    → KeepsSeals held store → KeepsSeals held (after held store command)
 after_seals held store (begin number caller file_length moment) is ok keeps =
     all_push (KeepsSeal held) store.entries (new_placed number caller file_length moment) keeps tt
 after_seals held store (grow number block used) is ok keeps =
@@ -34,13 +37,23 @@ after_seals held store (grow number block used) is ok keeps =
     let one = grows.passes.file in
     let none = (may_grow one used grows.passes.test_is).partial in
     all_changed (KeepsSeal held) number (grown block used) one
-    (none_keeps one.seal (λ s. (fault_code (octets_in held (grown block used one)) ≡ None) × (s.sum ≡ sum_with s.moment (grown block used one) (octets_in held (grown block used one)))) none)
+    (none_keeps one.seal (SaysIn (grown block used one) (octets_in held (grown block used one))) none)
     1 store.next store.entries is.numbers grows.passes.found keeps
 after_seals held store (seal number moment sum) is ok keeps =
     let passes = passed store number (λ f. can_seal held f moment sum) ok in
     let may = may_seal held passes.file moment sum passes.test_is in
-    all_changed (KeepsSeal held) number (sealed moment sum) passes.file (may.faultless, may.sum_is) 1 store.next store.entries is.numbers passes.found keeps
+    all_changed (KeepsSeal held) number (sealed (seal_with moment sum (header_at held store number))) passes.file
+    (may.faultless, may.sum_is, header_found held store number passes.file passes.found) 1 store.next store.entries is.numbers passes.found keeps
 after_seals held store (drop_entry number) is ok keeps = all_filter (KeepsSeal held) (λ f. not (has_number number f)) store.entries keeps
+
+-- what the seal of a sealed file says
+pub sealed_keeps : (held : Blocks) (store : PlacedStore) (number : ℕ) → KeepsSeals held store → (sealed : Sealed store number)
+    → IsSealable (stamp_at sealed.mark.moment sealed.file) (octets_in held sealed.file) sealed.mark.sum sealed.mark.header
+sealed_keeps held store number keeps sealed =
+    let f = sealed.file in
+    let here = found_holds (KeepsSeal held) number store.entries f keeps sealed.found in
+    let says = subst (λ (o : Option Seal). IfSome o (SaysIn f (octets_in held f))) sealed.is here in
+    record { faultless = says.0; sum_is = says.1; len_is = says.2 }
 
 -- ---- the rules of a store
 
@@ -50,9 +63,9 @@ fits_seen : (f : Placed) (octets : List ℕ) (limit : ℕ) (s : Option Seal) →
 fits_seen f octets limit None is same whole keeps = subst (λ (n : ℕ). n ≤ f.length) (sym same) is.fits
 fits_seen f octets limit (Some s) is same whole keeps = length-stamped (stamp_at s.moment f) octets is.caller keeps ∙ same ∙ whole refl
 
-faultless : (s : Option Seal) (P : Type 0) (Q : Seal → Type 0) → IfSome s (λ seal. P × Q seal) → IfSome s (λ _. P)
-faultless None P Q keeps = tt
-faultless (Some s) P Q keeps = keeps.0
+faultless : (s : Option Seal) (P : Type 0) (Q R : Seal → Type 0) → IfSome s (λ seal. P × Q seal × R seal) → IfSome s (λ _. P)
+faultless None P Q R keeps = tt
+faultless (Some s) P Q R keeps = keeps.0
 
 are_seen : (held : Blocks) (limit low next : ℕ) (files : List Placed) → Rise low files next → ArePlaced limit files → AllByRecursion (KeepsSeal held) files
     → AreEntries low (map (seen_entry held) files) next
@@ -62,7 +75,7 @@ are_seen held limit low next (f ∷ fs) rise are keeps =
       rise.0,
       rise.1,
       fits_seen f octets limit f.seal are.0 (length_octets held limit f are.0) are.0.whole
-          (faultless f.seal (fault_code octets ≡ None) (λ s. s.sum ≡ sum_with s.moment f octets) keeps.0),
+          (faultless f.seal (fault_code octets ≡ None) (λ s. s.sum ≡ sum_with s.moment f octets) (λ s. s.header ≡ length (header_octets octets)) keeps.0),
       are.0.short,
       are_seen held limit (f.number + 1) next fs rise.2 are.1 keeps.1,
     )
@@ -87,7 +100,7 @@ seen_store held store is keeps some most = record {
 
 -- what a seal says of octets
 abbrev SaysOf : Placed → List ℕ → Option Seal → Type 0
-SaysOf f octets o = IfSome o (λ s. (fault_code octets ≡ None) × (s.sum ≡ sum_with s.moment f octets))
+SaysOf f octets o = IfSome o (SaysIn f octets)
 
 seal_same : (one other : Blocks) (f : Placed) → HoldSame (λ b. 1 ≤ times_sealed b f) one other → KeepsSeal one f → KeepsSeal other f
 seal_same one other f same keeps = by f.seal refl keeps

@@ -13,7 +13,7 @@ use Rattle.block_entries.specs.FilesLaws.{changed_past, found_holds}
 use Rattle.block_entries.specs.IsPlaced.{IsPlaced, IsPlacedFile, Rise}
 use Rattle.block_entries.specs.KeptLaws.{grows_full}
 use Rattle.block_entries.specs.Placed.{Placed, PlacedStore, Seal, has_number, new_placed, placed_of}
-use Rattle.block_entries.specs.PlacedCommand.{PlacedCommand, after, begin, can_seal, changed, drop_entry, grow, grown, is_allowed, is_partial, seal, sealed, seen_command}
+use Rattle.block_entries.specs.PlacedCommand.{PlacedCommand, after, begin, can_seal, changed, drop_entry, grow, grown, header_at, is_allowed, is_partial, seal, seal_with, sealed, seen_command}
 use Rattle.block_entries.specs.Seen.{entry_with, holding_with, octets_in, seen, seen_entry, stamp_at, whole_block}
 use Rattle.block_entries.specs.TestLaws.{may_grow, may_seal, may_take, partial_none, passed}
 use Rattle.file_entries.specs.Command as file
@@ -71,9 +71,9 @@ grown_seen held f block used none full =
     ∙ ap partial (octets_grown held f block used full)
     ∙ ap (with_more (take used (whole_block held block))) (sym (partial_seen held f none)))
 
-pub sealed_seen : (held : Blocks) (f : Placed) (moment sum : ℕ) → f.seal ≡ None
-    → seen_entry held (sealed moment sum f) ≡ entry_with f (file.sealed moment (seen_entry held f))
-sealed_seen held f moment sum none = ap (λ (h : Holding). entry_with f (kept_with (stamp_at moment f) h)) (sym (partial_seen held f none))
+pub sealed_seen : (held : Blocks) (f : Placed) (mark : Seal) → f.seal ≡ None
+    → seen_entry held (sealed mark f) ≡ entry_with f (file.sealed mark.moment (seen_entry held f))
+sealed_seen held f mark none = ap (λ (h : Holding). entry_with f (kept_with (stamp_at mark.moment f) h)) (sym (partial_seen held f none))
 
 -- ---- all entries
 
@@ -133,7 +133,7 @@ without_seen held number (f ∷ fs) =
 -- ---- the store after a command
 
 pub seen_after : (held : Blocks) (store : PlacedStore) (command : PlacedCommand) → IsPlaced store → IsTrue (is_allowed held store command)
-    → seen held (after store command) ≡ file.after (seen held store) (seen_command held command)
+    → seen held (after held store command) ≡ file.after (seen held store) (seen_command held command)
 seen_after held store (begin number caller file_length moment) is ok =
     ap (λ (es : List Entry). store_from es (number + 1) store.blocks) (map-append (seen_entry held) store.entries (new_placed number caller file_length moment ∷ []))
 seen_after held store (grow number block used) is ok =
@@ -147,9 +147,10 @@ seen_after held store (grow number block used) is ok =
 seen_after held store (seal number moment sum) is ok =
     let passes = passed store number (λ f. can_seal held f moment sum) ok in
     let may = may_seal held passes.file moment sum passes.test_is in
+    let mark = seal_with moment sum (header_at held store number) in
     ap (λ (es : List Entry). store_from es store.next store.blocks)
-    (changed_seen held number (sealed moment sum) (file.sealed moment) 1 store.next store.entries passes.file is.numbers passes.found
-    (sealed_seen held passes.file moment sum may.partial))
+    (changed_seen held number (sealed mark) (file.sealed moment) 1 store.next store.entries passes.file is.numbers passes.found
+    (sealed_seen held passes.file mark may.partial))
 seen_after held store (drop_entry number) is ok =
     ap (λ (es : List Entry). store_from es store.next store.blocks) (without_seen held number store.entries)
 

@@ -43,7 +43,7 @@ Keeps held store = IsPlaced store × KeepsSeals held store
 
 step_keeps : (held : Blocks) (before now : PlacedStore) (entry : Record) → Keeps held before → placed_step held before entry ≡ Some now → Keeps held now
 step_keeps held before now entry keeps is =
-    let step = stepped (is_allowed held) after before now (placed_in entry) is in
+    let step = stepped (is_allowed held) (after held) before now (placed_in entry) is in
     (step_state held before now entry is keeps.0, subst (KeepsSeals held) (sym step.3) (after_seals held before step.0 keeps.0 step.2 keeps.1))
 
 pub standing_keeps : (blocks : ℕ) (octets : List ℕ) (now : PlacedStore) → walked placed_steps placed_magic layout.Blocks blocks octets ≡ state now

@@ -1,7 +1,7 @@
 -- What a command from a record does to the entries.
-use Rattle.std.specs.Prelude.{◌≡◌, ℕ, List, Bool, true, false, Option, None, Some}
+use Rattle.std.specs.Prelude.{◌≡◌, ℕ, List, Bool, true, false, Option, None, Some, IfSome, is_some}
 use Rattle.block_entries.specs.Placed.{PlacedStore}
-use Rattle.block_entries.specs.PlacedCommand.{PlacedCommand, can_seal, passes_at}
+use Rattle.block_entries.specs.PlacedCommand.{PlacedCommand, can_seal, header_at, passes_at}
 use Rattle.block_entries.specs.PlacedFiles.{EntriesState, PlacedFiles, store_of}
 use Rattle.block_entries.specs.PlacedRecords.{placed_after}
 use Rattle.disk_model.specs.Disk.{IsTold}
@@ -20,7 +20,9 @@ pub record Applied (content : Option (List ℕ)) (done : Bool) (before now : Ent
   pub same : done ≡ false → now ≡ before
   pub number : now.files.blocks ≡ before.files.blocks
 
--- where the disk tells, it is told whether the file of this number may be sealed so
-abbrev pub TellsSeal : Option (List ℕ) → PlacedStore → ℕ → ℕ → ℕ → Bool → Type 0
-TellsSeal content store number moment sum may =
-    IsTold content → may ≡ passes_at store number (λ f. can_seal (blocks_on content) f moment sum)
+-- where the disk tells, it is told whether the file of this number may be sealed so, and how long its header is
+abbrev pub TellsSeal : Option (List ℕ) → PlacedStore → ℕ → ℕ → ℕ → Option ℕ → Type 0
+TellsSeal content store number moment sum header =
+    IsTold content
+    → (is_some header ≡ passes_at store number (λ f. can_seal (blocks_on content) f moment sum))
+    × IfSome header (λ len. len ≡ header_at (blocks_on content) store number)

@@ -2,7 +2,7 @@
 use Rattle.std.specs.Prelude.{◌≡◌, ◌⊎◌, ℕ, ◌+◌, ◌*◌, ◌≤◌, ◌<◌, List, [], ◌∷◌, length, All, IsSome, IfSome, None, ⊤}
 use Rattle.std.specs.List.{AllByRecursion}
 use Rattle.block_entries.specs.Placed.{Placed, PlacedStore, runs_of}
-use Rattle.block_entries.specs.Seen.{octets_in, sum_with}
+use Rattle.block_entries.specs.Seen.{header_in, octets_in, sum_with}
 use Rattle.block_table.specs.Table.{rooms_of, times_of}
 use Rattle.file_entries.specs.Limits.{longest_file, most_entries}
 use Rattle.file_entries.specs.Store.{blocks_for}
@@ -15,13 +15,15 @@ abbrev pub Rise : ℕ → List Placed → ℕ → Type 0
 Rise low [] next = ⊤
 Rise low (file ∷ files) next = (low ≤ file.number) × (file.number < next) × Rise (file.number + 1) files next
 
--- The caller is a call. No more octets are held than the file has, all where it is sealed, and they take as few blocks
--- as they may: each of these is full, but where all octets are held. The blocks are among so many.
+-- The caller is a call. No more octets are held than the file has, all where it is sealed, and its header is no longer.
+-- They take as few blocks as they may: each of these is full, but where all octets are held. The blocks are among so
+-- many.
 pub record IsPlacedFile (limit : ℕ) (file : Placed) : Type 0 where
   pub caller : IsCall file.caller
   pub short : file.length ≤ longest_file
   pub fits : file.held ≤ file.length
   pub whole : IsSome file.seal → file.held ≡ file.length
+  pub header : IfSome file.seal (λ s. s.header ≤ file.held)
   pub count : length file.blocks ≡ blocks_for file.held
   pub full : (file.held ≡ file.length) ⊎ (file.held ≡ 512 * length file.blocks)
   pub below : All (λ b. b < limit) file.blocks
@@ -40,11 +42,13 @@ pub record IsPlaced (store : PlacedStore) : Type 0 where
   pub few : length store.entries ≤ most_entries
   pub rooms : rooms_of (runs_of store.entries) ≤ store.blocks
 
--- The octets of a sealed file keep all rules of headers, and its seal has the sum of its stamped header.
+-- The octets of a sealed file keep all rules of headers, and its seal has the sum of its stamped header, and the
+-- header's length.
 abbrev pub KeepsSeal : Blocks → Placed → Type 0
 KeepsSeal held file =
     IfSome file.seal (λ s.
-    (fault_code (octets_in held file) ≡ None) × (s.sum ≡ sum_with s.moment file (octets_in held file)))
+    (fault_code (octets_in held file) ≡ None)
+    × (s.sum ≡ sum_with s.moment file (octets_in held file)) × (s.header ≡ header_in held file))
 
 -- the same of each file
 abbrev pub KeepsSeals : Blocks → PlacedStore → Type 0

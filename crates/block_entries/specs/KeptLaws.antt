@@ -1,10 +1,11 @@
 -- Each command keeps the rules of a store of placed files.
 use Rattle.std.proofs.Common.{◌≡◌, ◌⊎◌, ℕ, ◌+◌, ◌*◌, ◌≤◌, ◌<◌, ◌==◌, cond, not, List, [], ◌∷◌, ◌++◌, length, map}
-use Rattle.std.proofs.Common.{Bool, filter, Option, None, Some, refl, ap, sym, ◌∙◌, subst, arith, inl, inr}
+use Rattle.std.proofs.Common.{Bool, filter, take, Option, None, Some, refl, ap, sym, ◌∙◌, subst, arith, inl, inr}
 use Rattle.std.proofs.Common.{length-append}
-use Rattle.std.specs.Prelude.{IsSome, IsTrue, sum_by}
+use Rattle.std.specs.Prelude.{IfSome, IsSome, IsTrue, option_map, sum_by, unwrap_or}
+use Rattle.std.specs.List.{flat_map}
 use Rattle.std.proofs.lemmas.Bool.Decides.{eqb_tells}
-use Rattle.std.proofs.lemmas.List.{length-map}
+use Rattle.std.proofs.lemmas.List.{length-map, length-take}
 use Rattle.std.proofs.lemmas.List.Elements.{All-push}
 use Rattle.std.proofs.lemmas.List.Filters.{length-filter_both}
 use Rattle.std.proofs.lemmas.List.Folds.{fold-map}
@@ -13,18 +14,22 @@ use Rattle.block_entries.specs.FilesLaws.{all_changed, all_filter, all_push, fou
 use Rattle.block_entries.specs.FilesLaws.{rise_push, sum_changed, sum_without}
 use Rattle.block_entries.specs.IsPlaced.{IsPlaced, IsPlacedFile}
 use Rattle.block_entries.specs.Placed.{Placed, PlacedStore, has_number, new_placed, no_entries, placed_of, run_of}
-use Rattle.block_entries.specs.Placed.{runs_of}
+use Rattle.block_entries.specs.Placed.{Seal, runs_of}
 use Rattle.block_entries.specs.PlacedCommand.{PlacedCommand, after, begin, changed, drop_entry, grow, grown}
-use Rattle.block_entries.specs.PlacedCommand.{is_allowed, is_partial, seal, seen_command, sealed, with_changed}
-use Rattle.block_entries.specs.PlacedCommand.{can_seal, is_whole}
-use Rattle.block_entries.specs.Seen.{seen, seen_entry}
+use Rattle.block_entries.specs.PlacedCommand.{header_at, is_allowed, is_partial, seal, seal_with, seen_command, sealed}
+use Rattle.block_entries.specs.PlacedCommand.{can_seal, with_changed, with_grown, with_new, with_sealed, without_file}
+use Rattle.block_entries.specs.Seen.{header_in, octets_in, seen, seen_entry, whole_block}
 use Rattle.block_entries.specs.TestLaws.{Grows, MayCome, MayGrow, MayTake, Passes, may_come, may_grow, may_take}
-use Rattle.block_entries.specs.TestLaws.{passed, passes_whole, whole_is}
+use Rattle.block_entries.specs.TestLaws.{TakesSeal, may_seal, passed, seals_whole, whole_is}
 use Rattle.block_table.specs.Table.{Run, rooms_of, times_in, times_of}
 use Rattle.file_entries.specs.Command.{HasCall}
+use Rattle.file_entries.specs.Headers.{header_octets, parts_or_none}
 use Rattle.file_entries.specs.Limits.{longest_file, most_entries}
 use Rattle.file_entries.specs.Store.{Entry, blocks_for, blocks_of}
 use Rattle.file_journal.specs.Layout.{Blocks}
+use Rattle.pfh_items.specs.Faults.{fault_code}
+use Rattle.pfh_items.specs.Layout.{HeaderValue, header_text}
+use Rattle.pfh_writer.proofs.StampedLemmas.{good_parts, length-parts, no_fault-code}
 use Rattle.px_base.specs.CallSign.{CallSign, IsCall}
 
 -- ---- sums over the runs
@@ -66,6 +71,7 @@ new_is limit number caller file_length moment call short = record {
   short = short;
   fits = omega arith;
   whole = λ (is : IsSome (new_placed number caller file_length moment).seal). absurd (cc);
+  header = tt;
   count = omega arith;
   full = inr (omega arith);
   below = λ i d h. omega (arith, h);
@@ -94,6 +100,10 @@ never_sealed : {A : Type 0} (o : Option A) → o ≡ None → IsSome o → ⊥
 never_sealed None none is = cc
 never_sealed (Some x) none is = cc
 
+pub none_keeps : (o : Option Seal) (P : Seal → Type 0) → o ≡ None → IfSome o P
+none_keeps None P none = tt
+none_keeps (Some s) P none = absurd (cc)
+
 pub grown_is :
     (store : PlacedStore) (file : Placed) (block used : ℕ) → IsPlacedFile store.blocks file → MayGrow file used
     → MayTake store block used → IsPlacedFile store.blocks (grown block used file)
@@ -105,19 +115,21 @@ grown_is store file block used is may take =
       short = is.short;
       fits = may.room;
       whole = λ some. absurd (never_sealed file.seal may.partial some);
+      header = none_keeps file.seal (λ s. s.header ≤ file.held + used) may.partial;
       count = len ∙ grown_count file.held used (length file.blocks) full take.some take.most;
       full = subst (λ (n : ℕ). (file.held + used ≡ file.length) ⊎ (file.held + used ≡ 512 * n)) (sym len)
           (grown_full file.held used file.length (length file.blocks) full may.fills);
       below = All-push (λ (b : ℕ). b < store.blocks) file.blocks block is.below take.there;
     }
 
-pub sealed_is : (limit moment sum : ℕ) (file : Placed) → IsPlacedFile limit file → file.held ≡ file.length
-    → IsPlacedFile limit (sealed moment sum file)
-sealed_is limit moment sum file is whole = record {
+pub sealed_is : (limit : ℕ) (mark : Seal) (file : Placed) → IsPlacedFile limit file → file.held ≡ file.length
+    → mark.header ≤ file.held → IsPlacedFile limit (sealed mark file)
+sealed_is limit mark file is whole inside = record {
   caller = is.caller;
   short = is.short;
   fits = is.fits;
   whole = λ some. whole;
+  header = inside;
   count = is.count;
   full = is.full;
   below = is.below;
@@ -143,7 +155,7 @@ Comes store number file_length count taken =
 pub begin_placed :
     (store : PlacedStore) (caller : CallSign) (file_length moment : ℕ) → IsPlaced store → IsCall caller
     → Comes store store.next file_length (length store.entries) (rooms_of (runs_of store.entries))
-    → IsPlaced (after store (begin store.next caller file_length moment))
+    → IsPlaced (with_new store (new_placed store.next caller file_length moment))
 begin_placed store caller file_length moment is call may =
     let new : Placed = new_placed store.next caller file_length moment in
     let all = store.entries ++ new ∷ [] in
@@ -204,7 +216,7 @@ module _ (store : PlacedStore) (number : ℕ) (change : Placed → Placed) (file
   )
 
 pub grow_placed : (store : PlacedStore) (number block used : ℕ) → IsPlaced store → Grows store number block used
-    → IsPlaced (after store (grow number block used))
+    → IsPlaced (with_grown store number block used)
 grow_placed store number block used is grows =
     let take = grows.takes in
     let file = grows.passes.file in
@@ -223,23 +235,23 @@ grow_placed store number block used is grows =
       eqb_tells block b,
     ))
 
-pub seal_placed : (store : PlacedStore) (number moment sum : ℕ) → IsPlaced store → Passes store number is_whole
-    → IsPlaced (after store (seal number moment sum))
-seal_placed store number moment sum is passes =
-    let file = passes.file in
-    let found = passes.found in
+pub seal_placed : (store : PlacedStore) (number : ℕ) (mark : Seal) → IsPlaced store
+    → TakesSeal store number mark.header → IsPlaced (with_sealed store number mark)
+seal_placed store number mark is takes =
+    let file = takes.passes.file in
+    let found = takes.passes.found in
     let one = found_holds (IsPlacedFile store.blocks) number store.entries file is.files found in
-    let here = sealed_is store.blocks moment sum file one (whole_is file passes.test_is).whole in
-    changed_placed store number (sealed moment sum) file is found (λ g. refl) refl here
+    let here = sealed_is store.blocks mark file one (whole_is file takes.passes.test_is).whole takes.inside in
+    changed_placed store number (sealed mark) file is found (λ g. refl) refl here
     (λ b.
     omega (
       arith,
-      times_changed store number (sealed moment sum) file is found (λ g. refl) refl here b,
+      times_changed store number (sealed mark) file is found (λ g. refl) refl here b,
       is.once b,
     ))
 
 pub drop_placed : (store : PlacedStore) (number : ℕ) → IsPlaced store → Passes store number is_partial
-    → IsPlaced (after store (drop_entry number))
+    → IsPlaced (without_file store number)
 drop_placed store number is passes =
     let test : Placed → Bool = λ f. not (has_number number f) in
     let left = filter test store.entries in
@@ -277,18 +289,60 @@ begin_may held store number caller file_length moment ok =
     (length-map store.entries (seen_entry held))
     (subst (λ (n : ℕ). Comes store number file_length (length entries) n) (blocks_seen held store) first)
 
+-- a header that keeps all rules is no longer than the octets that it is of
+pub header_within : (octets : List ℕ) → fault_code octets ≡ None → length (header_octets octets) ≤ length octets
+header_within octets none =
+    let good = good_parts octets (no_fault-code octets none) in
+    let all = length-parts octets good.parts good.begins good.are in
+    let same : length (header_octets octets) ≡ length (header_text good.parts.items) =
+    ap (λ (p : Option HeaderValue). length (header_text (parts_or_none p).items)) good.are in
+    omega (arith, all, same, length-append (header_text good.parts.items) good.parts.body)
+
+-- what is told of the header of the file that is found
+pub header_found :
+    (held : Blocks) (store : PlacedStore) (number : ℕ) (file : Placed) → placed_of store number ≡ Some file
+    → header_at held store number ≡ header_in held file
+header_found held store number file found =
+    ap (λ (o : Option Placed). unwrap_or (option_map (header_in held) o) 0) found
+
+header_short :
+    (len : ℕ) (octets : List ℕ) (count : ℕ) (all : List ℕ) → len ≤ length octets → octets ≡ take count all
+    → len ≤ count
+header_short len octets count all within is =
+    omega (arith, within, ap (λ (os : List ℕ). length os) is, length-take count all)
+
+pub takes_seal :
+    (held : Blocks) (store : PlacedStore) (number moment sum : ℕ)
+    → Passes store number (λ f. can_seal held f moment sum) → TakesSeal store number (header_at held store number)
+takes_seal held store number moment sum passes =
+    let may = may_seal held passes.file moment sum passes.test_is in
+    let file = passes.file in
+    let within : header_at held store number ≤ file.held =
+    subst (λ (n : ℕ). n ≤ file.held) (sym (header_found held store number file passes.found))
+    (header_short (header_in held file) (octets_in held file) file.held
+    (flat_map (whole_block held) file.blocks) (header_within (octets_in held file) may.faultless) refl) in
+    record {
+      passes = record {
+        file = file;
+        found = passes.found;
+        test_is = seals_whole held file moment sum passes.test_is;
+      };
+      inside = within;
+    }
+
 pub after_placed : (held : Blocks) (store : PlacedStore) (command : PlacedCommand) → IsPlaced store
-    → HasCall (seen_command held command) → IsTrue (is_allowed held store command) → IsPlaced (after store command)
+    → HasCall (seen_command held command) → IsTrue (is_allowed held store command) → IsPlaced (after held store command)
 after_placed held store (begin number caller file_length moment) is call ok =
     let may = begin_may held store number caller file_length moment ok in
     let here : Comes store store.next file_length (length store.entries) (rooms_of (runs_of store.entries)) =
     record { number_is = refl; short = may.short; few = may.few; left = may.left; room = may.room } in
-    subst (λ (n : ℕ). IsPlaced (after store (begin n caller file_length moment))) (sym may.number_is)
+    subst (λ (n : ℕ). IsPlaced (with_new store (new_placed n caller file_length moment))) (sym may.number_is)
     (begin_placed store caller file_length moment is call here)
 after_placed held store (grow number block used) is call ok =
     grow_placed store number block used is (may_take held store number block used ok)
 after_placed held store (seal number moment sum) is call ok =
-    seal_placed store number moment sum is
-    (passes_whole held store number moment sum (passed store number (λ f. can_seal held f moment sum) ok))
+    let passes = passed store number (λ f. can_seal held f moment sum) ok in
+    seal_placed store number (seal_with moment sum (header_at held store number)) is
+    (takes_seal held store number moment sum passes)
 after_placed held store (drop_entry number) is call ok =
     drop_placed store number is (passed store number is_partial ok)

@@ -23,9 +23,9 @@ PlacedLaw =
     ((blocks : ℕ) → IsPlaced (no_entries blocks))
     × ((held : Blocks) (blocks : ℕ) → KeepsSeals held (no_entries blocks))
     × ((held : Blocks) (store : PlacedStore) (command : PlacedCommand) → IsPlaced store
-    → HasCall (seen_command held command) → IsTrue (is_allowed held store command) → IsPlaced (after store command))
+    → HasCall (seen_command held command) → IsTrue (is_allowed held store command) → IsPlaced (after held store command))
     × ((held : Blocks) (store : PlacedStore) (command : PlacedCommand) → IsPlaced store
-    → IsTrue (is_allowed held store command) → KeepsSeals held store → KeepsSeals held (after store command))
+    → IsTrue (is_allowed held store command) → KeepsSeals held store → KeepsSeals held (after held store command))
 
 -- Seals are kept whatever the blocks hold that no sealed file has.
 abbrev pub SealsLaw : Type 0
@@ -41,7 +41,7 @@ SeenLaw =
     × ((held : Blocks) (store : PlacedStore) (command : PlacedCommand) → IsPlaced store
     → IsTrue (is_allowed held store command)
     → IsTrue (file.is_allowed (seen held store) (seen_command held command))
-    × (seen held (after store command) ≡ file.after (seen held store) (seen_command held command)))
+    × (seen held (after held store command) ≡ file.after (seen held store) (seen_command held command)))
 
 -- Where the seals are kept, the rules of a store hold of what is seen, of 1 to 65,536 blocks.
 abbrev pub StoreLaw : Type 0

@@ -5,10 +5,11 @@ use Rattle.block_table.specs.Table.{Run, times_in, times_of}
 use Rattle.file_entries.specs.Store.{blocks_for}
 use Rattle.px_base.specs.CallSign.{CallSign}
 
--- when a file was sealed, and the sum that its header has with its stamp
+-- when a file was sealed, the sum that its header has with its stamp, and the header's length in octets
 pub record Seal : Type 0 where
   pub moment : ℕ
   pub sum : ℕ
+  pub header : ℕ
 
 -- a file: its number, whose it is, its length in octets, the moment in which it was begun; how many octets are held, in
 -- which blocks, in order; and its seal, where it has one

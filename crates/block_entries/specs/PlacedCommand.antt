@@ -2,8 +2,9 @@
 -- does.
 use Rattle.std.specs.Prelude.{ℕ, ◌+◌, ◌==◌, [], ◌∷◌, ◌++◌, map, filter, take, Bool, not, ◌&&◌, ◌||◌}
 use Rattle.std.specs.Prelude.{false, nat_le, nat_lt, if◌then◌else◌, option_map, unwrap_or, is_none, Some}
-use Rattle.block_entries.specs.Placed.{Placed, PlacedStore, has_number, is_sealed, new_placed, placed_of, runs_of}
-use Rattle.block_entries.specs.Seen.{octets_in, seen, sum_with, whole_block}
+use Rattle.block_entries.specs.Placed.{Placed, PlacedStore, Seal, has_number, is_sealed, new_placed, placed_of}
+use Rattle.block_entries.specs.Placed.{runs_of}
+use Rattle.block_entries.specs.Seen.{header_in, octets_in, seen, sum_with, whole_block}
 use Rattle.block_table.specs.Table.{times_of}
 use Rattle.file_entries.specs.Command as file
 use Rattle.file_entries.specs.Command.{can_begin}
@@ -61,9 +62,17 @@ is_allowed held store (drop_entry number) = passes_at store number is_partial
 abbrev pub grown : ℕ → ℕ → Placed → Placed
 grown block used file = record file { held = file.held + used; blocks = file.blocks ++ block ∷ [] }
 
+-- a seal by its parts: the moment, the sum, and the header's length
+abbrev pub seal_with : ℕ → ℕ → ℕ → Seal
+seal_with moment sum header = record { moment = moment; sum = sum; header = header }
+
+-- the length of the header of the file of this number; 0 where there is none
+abbrev pub header_at : Blocks → PlacedStore → ℕ → ℕ
+header_at held store number = unwrap_or (option_map (header_in held) (placed_of store number)) 0
+
 -- the file with its seal
-abbrev pub sealed : ℕ → ℕ → Placed → Placed
-sealed moment sum file = record file { seal = Some (record { moment = moment; sum = sum }) }
+abbrev pub sealed : Seal → Placed → Placed
+sealed mark file = record file { seal = Some mark }
 
 -- a file of this number changed so, and any other as it is
 abbrev pub changed : ℕ → (Placed → Placed) → Placed → Placed
@@ -73,16 +82,30 @@ changed number change file = if has_number number file then change file else fil
 abbrev pub with_changed : PlacedStore → ℕ → (Placed → Placed) → PlacedStore
 with_changed store number change = record store { entries = map (changed number change) store.entries }
 
--- the store after a command whose condition holds
-abbrev pub after : PlacedStore → PlacedCommand → PlacedStore
-after store (begin number caller file_length moment) =
-    record store {
-      entries = store.entries ++ new_placed number caller file_length moment ∷ [];
-      next = number + 1;
-    }
-after store (grow number block used) = with_changed store number (grown block used)
-after store (seal number moment sum) = with_changed store number (sealed moment sum)
-after store (drop_entry number) = record store { entries = filter (λ f. not (has_number number f)) store.entries }
+-- the store with one more file, which was just begun
+abbrev pub with_new : PlacedStore → Placed → PlacedStore
+with_new store file = record store { entries = store.entries ++ file ∷ []; next = file.number + 1 }
+
+-- the store in which so many further octets of the file of this number are held, in this block
+abbrev pub with_grown : PlacedStore → ℕ → ℕ → ℕ → PlacedStore
+with_grown store number block used = with_changed store number (grown block used)
+
+-- the store in which the file of this number has this seal
+abbrev pub with_sealed : PlacedStore → ℕ → Seal → PlacedStore
+with_sealed store number mark = with_changed store number (sealed mark)
+
+-- the store without the file of this number
+abbrev pub without_file : PlacedStore → ℕ → PlacedStore
+without_file store number = record store { entries = filter (λ f. not (has_number number f)) store.entries }
+
+-- the store after a command whose condition holds, with what the blocks hold
+abbrev pub after : Blocks → PlacedStore → PlacedCommand → PlacedStore
+after held store (begin number caller file_length moment) =
+    with_new store (new_placed number caller file_length moment)
+after held store (grow number block used) = with_grown store number block used
+after held store (seal number moment sum) =
+    with_sealed store number (seal_with moment sum (header_at held store number))
+after held store (drop_entry number) = without_file store number
 
 -- what the command is of the store of files, with what the blocks hold
 abbrev pub seen_command : Blocks → PlacedCommand → file.Command

@@ -132,8 +132,12 @@ abbrev pub rest_when : Bool → List ℕ → Option (List ℕ)
 rest_when out octets = if out then Some octets else None
 
 -- the seal that the code has
+abbrev pub seal_value : SealMark → Seal
+seal_value mark = record { moment = mark.moment; sum = mark.sum; header = mark.header_len }
+
+-- the same, where there is one
 abbrev pub seal_of : Option SealMark → Option Seal
-seal_of mark = option_map (λ m. record { moment = m.moment; sum = m.sum }) mark
+seal_of mark = option_map seal_value mark
 
 -- the file with the blocks of this run
 abbrev pub with_run : Run → PlacedFile → PlacedFile

@@ -71,7 +71,7 @@ placed_in entry =
 
 -- the store after the command, where its condition holds with what the blocks hold
 abbrev pub placed_after : Blocks → PlacedStore → PlacedCommand → Option PlacedStore
-placed_after held store command = if is_allowed held store command then Some (after store command) else None
+placed_after held store command = if is_allowed held store command then Some (after held store command) else None
 
 -- the store after the command that the record is, where it is one whose condition holds
 abbrev pub placed_step : Blocks → PlacedStore → Record → Option PlacedStore

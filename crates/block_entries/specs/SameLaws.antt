@@ -1,6 +1,6 @@
 -- What blocks hold that a store of placed files doesn't use changes nothing of what it is seen as.
 use Rattle.std.proofs.Common.{◌≡◌, ℕ, suc, ◌+◌, ◌≤◌, ◌<◌, ◌==◌, Bool, cond, ◌&&◌, true, false, List, [], ◌∷◌, ◌++◌}
-use Rattle.std.proofs.Common.{map, replicate, take}
+use Rattle.std.proofs.Common.{length, map, replicate, take}
 use Rattle.std.proofs.Common.{Option, None, Some, refl, ap, ap₂, sym, ◌∙◌, subst, arith, inl, inr, nat_le, nat_lt}
 use Rattle.std.specs.Prelude.{All, IsTrue, count_by, if◌then◌else◌, is_none, is_some, sum_by}
 use Rattle.std.specs.List.{flat_map}
@@ -10,15 +10,16 @@ use Rattle.std.proofs.lemmas.List.{length-map}
 use Rattle.std.proofs.lemmas.List.Sums.{sum_by-cons, sum_by_push}
 use Rattle.block_entries.specs.FilesLaws.{sum_changed, sum_without}
 use Rattle.block_entries.specs.IsPlaced.{ArePlaced, IsPlaced}
-use Rattle.block_entries.specs.KeptLaws.{blocks_seen, times_at, times_files}
+use Rattle.block_entries.specs.KeptLaws.{blocks_seen, header_found, times_at, times_files}
 use Rattle.block_entries.specs.Placed.{Decides, Placed, PlacedStore, Seal, Uses, is_sealed, new_placed, no_entries}
 use Rattle.block_entries.specs.Placed.{placed_of, run_of, times_sealed}
 use Rattle.block_entries.specs.PlacedCommand.{PlacedCommand, after, begin, can_seal, drop_entry, grow, grown}
-use Rattle.block_entries.specs.PlacedCommand.{is_allowed, is_partial, seal, sealed}
+use Rattle.block_entries.specs.PlacedCommand.{header_at, is_allowed, is_partial, seal, seal_with, sealed, with_sealed}
 use Rattle.block_entries.specs.Seen.{entry_with, holding_with, octets_in, seen, seen_entry, sum_with, whole_block}
-use Rattle.block_entries.specs.TestLaws.{may_grow, may_seal, may_take, partial_none, passed, passes_found}
+use Rattle.block_entries.specs.TestLaws.{Passes, may_grow, may_seal, may_take, partial_none, passed, passes_found}
 use Rattle.block_table.specs.Table.{times_in}
 use Rattle.file_entries.specs.Command.{can_begin}
+use Rattle.file_entries.specs.Headers.{header_octets}
 use Rattle.file_entries.specs.Limits.{last_next, longest_file, most_entries}
 use Rattle.file_entries.specs.Store.{Entry, blocks_for, store_from}
 use Rattle.file_journal.specs.Layout.{Blocks, HoldSame}
@@ -135,7 +136,7 @@ none_sealed block f none =
 
 pub decides_after :
     (held : Blocks) (store : PlacedStore) (command : PlacedCommand) → IsPlaced store
-    → IsTrue (is_allowed held store command) → (block : ℕ) → Decides store block → Decides (after store command) block
+    → IsTrue (is_allowed held store command) → (block : ℕ) → Decides store block → Decides (after held store command) block
 decides_after held store (begin number caller file_length moment) is ok block some =
     omega (
       arith,
@@ -160,8 +161,8 @@ decides_after held store (seal number moment sum) is ok block some =
       arith,
       some,
       none_sealed block passes.file none,
-      sum_changed (times_sealed block) number (sealed moment sum) passes.file 1 store.next store.entries is.numbers
-          passes.found,
+      sum_changed (times_sealed block) number (sealed (seal_with moment sum (header_at held store number))) passes.file
+          1 store.next store.entries is.numbers passes.found,
     )
 decides_after held store (drop_entry number) is ok block some =
     let passes = passed store number is_partial ok in
@@ -174,16 +175,16 @@ decides_after held store (drop_entry number) is ok block some =
 
 -- the blocks of a file decide that it could be sealed
 seal_decides :
-    (store : PlacedStore) (number moment sum : ℕ) (f : Placed) → IsPlaced store → placed_of store number ≡ Some f
-    → f.seal ≡ None → (block : ℕ) → 1 ≤ times_at block f → Decides (after store (seal number moment sum)) block
-seal_decides store number moment sum f is found none block some =
-    let here : times_sealed block (sealed moment sum f) ≡ times_at block f = refl in
+    (store : PlacedStore) (number : ℕ) (mark : Seal) (f : Placed) → IsPlaced store → placed_of store number ≡ Some f
+    → f.seal ≡ None → (block : ℕ) → 1 ≤ times_at block f → Decides (with_sealed store number mark) block
+seal_decides store number mark f is found none block some =
+    let here : times_sealed block (sealed mark f) ≡ times_at block f = refl in
     omega (
       arith,
       some,
       here,
       none_sealed block f none,
-      sum_changed (times_sealed block) number (sealed moment sum) f 1 store.next store.entries is.numbers found,
+      sum_changed (times_sealed block) number (sealed mark) f 1 store.next store.entries is.numbers found,
     )
 
 can_begin_same :
@@ -198,10 +199,22 @@ can_begin_same one other store file_length =
     && nat_le (t + blocks_for file_length) store.blocks)
     count taken
 
+-- the octets of a file that may be sealed are the same where its blocks hold the same
+sealed_same :
+    (one other : Blocks) (store : PlacedStore) (number moment sum : ℕ) → IsPlaced store
+    → (passes : Passes store number (λ f. can_seal one f moment sum))
+    → HoldSame (Decides (after one store (seal number moment sum))) one other
+    → octets_in other passes.file ≡ octets_in one passes.file
+sealed_same one other store number moment sum is passes same =
+    let f = passes.file in
+    let none = (may_seal one f moment sum passes.test_is).partial in
+    let mark = seal_with moment sum (header_at one store number) in
+    octets_same one other f (λ b some. same b (seal_decides store number mark f is passes.found none b some))
+
 -- A command that is allowed is allowed too where the blocks of the files that are sealed after it hold the same.
 pub allowed_same :
     (one other : Blocks) (store : PlacedStore) (command : PlacedCommand) → IsPlaced store
-    → IsTrue (is_allowed one store command) → HoldSame (Decides (after store command)) one other
+    → IsTrue (is_allowed one store command) → HoldSame (Decides (after one store command)) one other
     → IsTrue (is_allowed other store command)
 allowed_same one other store (begin number caller file_length moment) is ok same =
     ap (λ (b : Bool). (number == store.next) && b) (can_begin_same one other store file_length) ∙ ok
@@ -209,10 +222,7 @@ allowed_same one other store (grow number block used) is ok same = ok
 allowed_same one other store (seal number moment sum) is ok same =
     let passes = passed store number (λ f. can_seal one f moment sum) ok in
     let f = passes.file in
-    let none = (may_seal one f moment sum passes.test_is).partial in
-    let octets =
-    octets_same one other f
-    (λ b some. same b (seal_decides store number moment sum f is passes.found none b some)) in
+    let octets = sealed_same one other store number moment sum is passes same in
     passes_found store number (λ g. can_seal other g moment sum) f passes.found
     ∙ ap
     (λ (os : List ℕ).
@@ -220,3 +230,19 @@ allowed_same one other store (seal number moment sum) is ok same =
     octets
     ∙ passes.test_is
 allowed_same one other store (drop_entry number) is ok same = ok
+
+-- and makes the same
+pub after_same :
+    (one other : Blocks) (store : PlacedStore) (command : PlacedCommand) → IsPlaced store
+    → IsTrue (is_allowed one store command) → HoldSame (Decides (after one store command)) one other
+    → after other store command ≡ after one store command
+after_same one other store (begin number caller file_length moment) is ok same = refl
+after_same one other store (grow number block used) is ok same = refl
+after_same one other store (seal number moment sum) is ok same =
+    let passes = passed store number (λ f. can_seal one f moment sum) ok in
+    let octets = sealed_same one other store number moment sum is passes same in
+    ap (λ (n : ℕ). with_sealed store number (seal_with moment sum n))
+    (header_found other store number passes.file passes.found
+    ∙ ap (λ (os : List ℕ). length (header_octets os)) octets
+    ∙ sym (header_found one store number passes.file passes.found))
+after_same one other store (drop_entry number) is ok same = refl

@@ -27,14 +27,6 @@ pub record Sealed (store : PlacedStore) (number : ℕ) : Type 0 where
   pub mark : Seal
   pub is : file.seal ≡ Some mark
 
--- where the disk tells, the file keeps all rules of headers, and this is of its header with its stamp
-abbrev pub HasHeader :
-    {store : PlacedStore} → {number : ℕ} → Option (List ℕ) → Sealed store number → CheckedHeader → Type 0
-HasHeader content sealed header =
-    IsTold content
-    → IsSealable (stamp_at sealed.mark.moment sealed.file) (octets_in (blocks_on content) sealed.file) header.sum
-    header.len
-
 -- the octets of the file with its stamp
 abbrev pub octets_given : {store : PlacedStore} → {number : ℕ} → Blocks → Sealed store number → List ℕ
 octets_given held sealed = stamped (stamp_at sealed.mark.moment sealed.file) (octets_in held sealed.file)

@@ -1,8 +1,8 @@
 -- Which files the entries are, with what the blocks of a disk hold.
-use Rattle.std.specs.Prelude.{ℕ, List, ◌++◌, map, replicate, take, Option, None, Some}
+use Rattle.std.specs.Prelude.{ℕ, List, ◌++◌, length, map, replicate, take, Option, None, Some}
 use Rattle.std.specs.List.{flat_map}
 use Rattle.block_entries.specs.Placed.{Placed, PlacedStore, Seal}
-use Rattle.file_entries.specs.Headers.{header_items}
+use Rattle.file_entries.specs.Headers.{header_items, header_octets}
 use Rattle.file_entries.specs.Store.{Entry, Holding, Store, complete, partial, store_from}
 use Rattle.file_journal.specs.Layout.{Blocks}
 use Rattle.pfh_items.specs.Stamp.{StampValue, stamped}
@@ -23,6 +23,10 @@ stamp_at moment file = record { number = file.number; by = file.caller; moment =
 -- the sum that the header of a file of these octets has with that stamp
 abbrev pub sum_with : ℕ → Placed → List ℕ → ℕ
 sum_with moment file octets = stamped_sum (stamp_at moment file) (header_items octets)
+
+-- the length of the header that the octets of a file begin with
+abbrev pub header_in : Blocks → Placed → ℕ
+header_in held file = length (header_octets (octets_in held file))
 
 -- how far a file of these octets has come: with its seal it is complete, and stamped
 abbrev pub holding_with : Option Seal → Placed → List ℕ → Holding

@@ -118,16 +118,10 @@ seals_whole held file moment sum ok =
     let tests = and_parts (is_whole file && is_none (fault_code (octets_in held file))) _ ok in
     (and_parts (is_whole file) (is_none (fault_code (octets_in held file))) tests.0).0
 
--- the same of the file of a number
-pub passes_whole :
-    (held : Blocks) (store : PlacedStore) (number moment sum : ℕ)
-    → Passes store number (λ f. can_seal held f moment sum) → Passes store number is_whole
-passes_whole held store number moment sum passes =
-    record {
-      file = passes.file;
-      found = passes.found;
-      test_is = seals_whole held passes.file moment sum passes.test_is;
-    }
+-- the file of this number is under way, all of its octets are held, and a header of this length is no longer
+pub record TakesSeal (store : PlacedStore) (number header : ℕ) : Type 0 where
+  pub passes : Passes store number is_whole
+  pub inside : header ≤ passes.file.held
 
 -- the file is under way, all of its octets are held and break no rule, and this is the sum of the stamped header
 pub record MaySeal (held : Blocks) (file : Placed) (moment sum : ℕ) : Type 0 where

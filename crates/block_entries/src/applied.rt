@@ -1,16 +1,16 @@
 //! Commands that were read from a journal's records, applied to the entries.
 
-ghost use Rattle.std.specs.Prelude.{◌≡◌, ◌==◌, List, ℕ, Option, true, IfOk, IsErr, IsErrOf, OnErr};
+ghost use Rattle.std.specs.Prelude.{◌≡◌, ◌==◌, List, ℕ, Option, is_some, IfOk, IfSome, IsErr, IsErrOf, OnErr};
 ghost use Rattle.block_entries.specs.Applied.{Applied, TellsSeal};
 ghost use Rattle.block_entries.specs.Placed.{Placed};
 ghost use Rattle.block_entries.specs.PlacedCommand.{begin, can_grow, drop_entry, grow, is_partial, is_whole};
 ghost use Rattle.block_entries.specs.PlacedCommand.{passes_at, seal};
 ghost use Rattle.block_entries.specs.PlacedCommands.{placed_value};
 ghost use Rattle.block_entries.specs.PlacedFiles.{NothingOut, placed_info, store_of};
-ghost use Rattle.block_entries.specs.TestLaws.{Passes};
+ghost use Rattle.block_entries.specs.TestLaws.{TakesSeal};
 ghost use Rattle.file_journal.specs.Calls.{Reads};
 
-use crate::{BlockReader, CheckFault, Entries, PlacedCommand};
+use crate::{BlockReader, CheckFault, CheckedHeader, Entries, PlacedCommand};
 use disk_model::{Disk, DiskFault};
 use file_entries::Info;
 use file_journal::ApplyFault;
@@ -106,10 +106,10 @@ impl Entries {
         ensures out { NothingOut self.new.files }
         ensures reads { Reads D.Disk (IsErr result) disk.old disk.new }
     {
-        if !self.may_seal(reader, disk, number, moment, sum)? {
+        let Some(header_len) = self.may_seal(reader, disk, number, moment, sum)? else {
             return Ok(false);
-        }
-        self.seal(number, moment, sum);
+        };
+        self.seal(number, moment, sum, header_len);
         Ok(true)
     }
 
@@ -126,7 +126,7 @@ impl Entries {
         true
     }
 
-    /// Whether the file of this number may be sealed so, with what the blocks hold.
+    /// Whether the file of this number may be sealed so, with what the blocks hold: if so, the length of its header.
     fn may_seal<D: Disk, R: BlockReader<D>>(
         &self,
         reader: &R,
@@ -134,20 +134,19 @@ impl Entries {
         number: u32,
         moment: u32,
         sum: u16,
-    ) -> Result<bool, DiskFault>
+    ) -> Result<Option<u32>, DiskFault>
         requires may_read { R.may_read reader.now disk.old }
         requires blocks { R.block_count reader.now ≡ self.now.files.blocks }
-        ensures may { IfOk result
-            (λ may. TellsSeal (D.content disk.old) (store_of self.now.files) number moment sum may) }
-        ensures whole { result ≡ Ok true → Passes (store_of self.now.files) number is_whole }
+        ensures may { IfOk result (TellsSeal (D.content disk.old) (store_of self.now.files) number moment sum) }
+        ensures takes { IfOk result (λ header. IfSome header (TakesSeal (store_of self.now.files) number)) }
         ensures reads { Reads D.Disk (IsErr result) disk.old disk.new }
     {
         if !self.is_whole(number) {
-            return Ok(false);
+            return Ok(None);
         }
         match self.check(reader, disk, number, moment) {
-            Ok(header) => Ok(header.sum == sum),
-            Err(CheckFault::Header { .. }) => Ok(false),
+            Ok(header) => Ok(of_sum(header, sum)),
+            Err(CheckFault::Header { .. }) => Ok(None),
             Err(CheckFault::Disk) => Err(DiskFault),
         }
     }
@@ -180,6 +179,18 @@ impl Entries {
             Some(info) => !info.complete,
             None => false,
         }
+    }
+}
+
+/// The length of a header, where it has this sum.
+fn of_sum(header: CheckedHeader, sum: u16) -> Option<u32>
+    ensures sum { is_some result ≡ (sum == header.sum) }
+    ensures len { IfSome result (λ len. len ≡ header.len) }
+{
+    if header.sum == sum {
+        Some(header.len)
+    } else {
+        None
     }
 }
 

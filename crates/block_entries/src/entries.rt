@@ -4,17 +4,17 @@ ghost use Rattle.std.specs.Prelude.{◌≡◌, ◌↔◌, ℕ, ◌≤◌, [], fi
 ghost use Rattle.std.specs.Prelude.{◌+◌, length, IfOk, IsErr, IsErrOf, OnErr, OnOk};
 ghost use Rattle.std.specs.Option.{option_copied, option_map};
 ghost use Rattle.block_entries.specs.Checking.{ChecksFile, HasFault, IsFaultCode};
-ghost use Rattle.block_entries.specs.IsPlaced.{IsPlaced};
-ghost use Rattle.block_entries.specs.Placed.{no_entries, placed_of};
-ghost use Rattle.block_entries.specs.PlacedCommand.{after, begin, drop_entry, grow, is_free};
-ghost use Rattle.block_entries.specs.PlacedCommand.{is_partial, is_whole, seal};
+ghost use Rattle.block_entries.specs.IsPlaced.{IsPlaced, KeepsSeals};
+ghost use Rattle.block_entries.specs.Placed.{new_placed, no_entries, placed_of};
+ghost use Rattle.block_entries.specs.PlacedCommand.{is_free, is_partial, seal_with, with_grown, with_new};
+ghost use Rattle.block_entries.specs.PlacedCommand.{with_sealed, without_file};
 ghost use Rattle.block_entries.specs.PlacedFiles.{Becomes, ChangesRest, IsLowest, IsNextSealed, IsOut, IsPlace};
 ghost use Rattle.block_entries.specs.PlacedFiles.{NothingOut, Waits, file_of, is_sealed_file, lacks_octets};
 ghost use Rattle.block_entries.specs.PlacedFiles.{placed_info, rest_of, rest_with, rest_without, store_of};
-ghost use Rattle.block_entries.specs.Sealed.{HasHeader, Sealed, octets_given};
+ghost use Rattle.block_entries.specs.Sealed.{Sealed, octets_given};
 ghost use Rattle.block_entries.specs.Seen.{seen};
 ghost use Rattle.disk_model.specs.Disk.{FillsRoom, IsTold};
-ghost use Rattle.block_entries.specs.TestLaws.{Grows, Passes};
+ghost use Rattle.block_entries.specs.TestLaws.{Grows, Passes, TakesSeal};
 ghost use Rattle.file_entries.specs.Bars.{Bars};
 ghost use Rattle.file_entries.specs.Command.{MayBegin};
 ghost use Rattle.file_entries.specs.Files.{octets_or_none};
@@ -125,7 +125,7 @@ impl Entries {
         requires room { 1 ≤ self.old.spare }
         ensures { let number = self.old.files.next in
             Becomes self.old.files self.new.files
-            (after (store_of self.old.files) (begin number caller length moment)) number None }
+            (with_new (store_of self.old.files) (new_placed number caller length moment)) number None }
     {
         let file = StoredFile::new(self.alloc, self.next, caller, length, moment);
         self.table.begin(blocks_of_length(length));
@@ -190,7 +190,7 @@ impl Entries {
         requires allowed { Grows (store_of self.old.files) number block count }
         requires lowest { IsLowest (store_of self.old.files) block }
         ensures { Becomes self.old.files self.new.files
-            (after (store_of self.old.files) (grow number block count))
+            (with_grown (store_of self.old.files) number block count)
             number (rest_without self.old.files number count) }
     {
         let place = self.place_of(number).unwrap();
@@ -204,23 +204,23 @@ impl Entries {
         requires in_ { rest_of self.old.files number ≡ None }
         requires allowed { Grows (store_of self.old.files) number block used }
         ensures { Becomes self.old.files self.new.files
-            (after (store_of self.old.files) (grow number block used)) number None }
+            (with_grown (store_of self.old.files) number block used) number None }
     {
         let place = self.place_of(number).unwrap();
         self.files[place].grow(used);
         self.table.take(place, block);
     }
 
-    /// Seals a file that is under way and whole, and of which no upload is out, whatever its blocks hold. Takes no
-    /// memory.
-    pub fn seal(&mut self, number: u32, moment: u32, sum: u16)
-        requires whole { Passes (store_of self.old.files) number is_whole }
+    /// Seals a file that is under way and whole, and of which no upload is out, whatever its blocks hold: at this
+    /// moment, with the sum and the length of its header, which a check of it found. Takes no memory.
+    pub fn seal(&mut self, number: u32, moment: u32, sum: u16, header_len: u32)
+        requires takes { TakesSeal (store_of self.old.files) number header_len }
         requires in_ { rest_of self.old.files number ≡ None }
         ensures { Becomes self.old.files self.new.files
-            (after (store_of self.old.files) (seal number moment sum)) number None }
+            (with_sealed (store_of self.old.files) number (seal_with moment sum header_len)) number None }
     {
         let place = self.place_of(number).unwrap();
-        self.files[place].seal(moment, sum);
+        self.files[place].seal(moment, sum, header_len);
     }
 
     /// Checks a file of which all octets are held by its header: the sum that the header has with the stamp of this
@@ -241,6 +241,8 @@ impl Entries {
         ensures may_read { R.may_read reader.now disk.new }
         ensures header { IfOk result
             (ChecksFile (D.content disk.old) (placed_of (store_of self.now.files) number) moment) }
+        ensures inside { IfOk result (λ header.
+            IfSome (placed_of (store_of self.now.files) number) (λ f. header.len ≤ f.held)) }
         ensures fault { (code : ℕ) → IsErrOf result (CheckFault.Header code)
             → HasFault (D.content disk.old) (placed_of (store_of self.now.files) number) code }
         ensures code { (code : ℕ) → IsErrOf result (CheckFault.Header code) → IsFaultCode code }
@@ -260,48 +262,22 @@ impl Entries {
         check_file(reader, disk, &self.table, blocks, stamp)
     }
 
-    /// Checks a sealed file by its header, as it was checked when it was sealed.
-    ///
-    /// `Header`: the file breaks a rule of headers, the first with this code. `Disk`: a read failed.
-    pub fn check_sealed<D: Disk, R: BlockReader<D>>(
-        &self,
-        reader: &R,
-        disk: &mut D,
-        number: u32,
-    ) -> Result<CheckedHeader, CheckFault>
-        requires may_read { R.may_read reader.now disk.old }
-        requires blocks { R.block_count reader.now ≡ self.now.files.blocks }
-        requires there { Sealed (store_of self.now.files) number }
-        ensures may_read { R.may_read reader.now disk.new }
-        ensures header { IfOk result
-            (λ header. (sealed : Sealed (store_of self.now.files) number)
-            → HasHeader (D.content disk.old) sealed header) }
-        ensures fault { (code : ℕ) → IsErrOf result (CheckFault.Header code)
-            → HasFault (D.content disk.old) (placed_of (store_of self.now.files) number) code }
-        ensures reads { Reads D.Disk (IsErrOf result CheckFault.Disk) disk.old disk.new }
-    {
-        let place = self.place_of(number).unwrap();
-        let mark = self.files[place].mark().unwrap();
-        self.check(reader, disk, number, mark.moment)
-    }
-
-    /// Fills the room with the octets of a sealed file, with its stamp, from octet `offset` on; the header is the one
-    /// that a check of it found. Behind it, the octets that are given are read and no others, with one read for each
-    /// block; in it those before them too. It changes none. Takes no memory.
+    /// Fills the room with the octets of a sealed file, with its stamp, from octet `offset` on. Behind the header it
+    /// reads the octets that it gives and no others, with one read for each block; in the header those before them too.
+    /// It changes none. Takes no memory.
     pub fn read_sealed<D: Disk, R: BlockReader<D>>(
         &self,
         reader: &R,
         disk: &mut D,
         number: u32,
-        header: CheckedHeader,
         offset: u32,
         room: &mut [u8],
     ) -> Result<(), DiskFault>
         requires may_read { R.may_read reader.now disk.old }
         requires blocks { R.block_count reader.now ≡ self.now.files.blocks }
         requires there { Sealed (store_of self.now.files) number }
-        requires header { (sealed : Sealed (store_of self.now.files) number)
-            → HasHeader (D.content disk.old) sealed header }
+        requires seals { IsTold (D.content disk.old)
+            → KeepsSeals (blocks_on (D.content disk.old)) (store_of self.now.files) }
         requires inside { (sealed : Sealed (store_of self.now.files) number)
             → offset + length room.old ≤ sealed.file.held }
         ensures may_read { R.may_read reader.now disk.new }
@@ -324,8 +300,8 @@ impl Entries {
                 by: info.caller,
                 moment: mark.moment,
             },
-            sum: header.sum,
-            header_len: header.len,
+            sum: mark.sum,
+            header_len: mark.header_len,
         };
         read_stamped(reader, disk, &self.table, &sealed, offset, room)
     }
@@ -334,7 +310,7 @@ impl Entries {
     pub fn drop_entry(&mut self, number: u32)
         requires { Passes (store_of self.old.files) number is_partial }
         ensures { Becomes self.old.files self.new.files
-            (after (store_of self.old.files) (drop_entry number)) number None }
+            (without_file (store_of self.old.files) number) number None }
     {
         let place = self.place_of(number).unwrap();
         drop(self.files.remove(place));

@@ -34,6 +34,7 @@ pub fn check_file<D: Disk, R: BlockReader<D>>(
     ensures may_read { R.may_read reader.now disk.new }
     ensures header { IfOk result (λ header. IsTold (D.content disk.old)
         → IsSealable (stamp_of stamp) (octets_on (D.content disk.old) table.now file) header.sum header.len) }
+    ensures inside { IfOk result (λ header. header.len ≤ file.held) }
     ensures fault { (code : ℕ) → IsErrOf result (CheckFault.Header code) → IsTold (D.content disk.old)
         → fault_code (octets_on (D.content disk.old) table.now file) ≡ Some code }
     ensures code { (code : ℕ) → IsErrOf result (CheckFault.Header code) → IsFaultCode code }

@@ -1,8 +1,7 @@
 //! Why a header wasn't read.
 
 ghost use Rattle.std.specs.Prelude.{◌≡◌};
-ghost use Rattle.block_entries.specs.declared.read_header_fault.ReadHeaderFault.TheVariants.{Disk as HeaderDisk};
-ghost use Rattle.block_entries.specs.declared.read_header_fault.ReadHeaderFault.TheVariants.{OutOfMemory as HeaderNoMemory};
+ghost use Rattle.block_entries.specs.declared.read_header_fault.ReadHeaderFault.TheVariants as header;
 
 use disk_model::DiskFault;
 use px_base::OutOfMemory;
@@ -20,7 +19,7 @@ pub enum ReadHeaderFault {
 }
 
 impl From<DiskFault> for ReadHeaderFault {
-    ghost from_gives = { λ _ fault. fault ≡ HeaderDisk };
+    ghost from_gives = { λ _ fault. fault ≡ header.Disk };
 
     fn from(_fault: DiskFault) -> ReadHeaderFault {
         ReadHeaderFault::Disk
@@ -28,7 +27,7 @@ impl From<DiskFault> for ReadHeaderFault {
 }
 
 impl From<OutOfMemory> for ReadHeaderFault {
-    ghost from_gives = { λ _ fault. fault ≡ HeaderNoMemory };
+    ghost from_gives = { λ _ fault. fault ≡ header.OutOfMemory };
 
     fn from(_refused: OutOfMemory) -> ReadHeaderFault {
         ReadHeaderFault::OutOfMemory

@@ -3,7 +3,7 @@
 ghost use Rattle.std.specs.Prelude.{◌≡◌, ◌+◌, ◌≤◌, ◌^◌, ◌<◌, length, drop, [], Some, None, is_some, OnOk, OnErr};
 ghost use Rattle.std.specs.Option.{option_map};
 ghost use Rattle.block_entries.specs.Placed.{is_sealed, new_placed};
-ghost use Rattle.block_entries.specs.PlacedCommand.{sealed};
+ghost use Rattle.block_entries.specs.PlacedCommand.{seal_with, sealed};
 ghost use Rattle.block_entries.specs.PlacedFiles.{brought, placed_info, seal_of};
 ghost use Rattle.file_entries.specs.Files.{octets_or_none};
 
@@ -12,13 +12,15 @@ use px_base::{Call, OutOfMemory};
 use std::alloc::Global;
 use std::marker::Model;
 
-/// When a file was sealed, and the sum that its header has with its stamp.
+/// When a file was sealed, and what its seal says of its header.
 #[derive(Clone, Copy, Debug)]
 pub(crate) struct SealMark {
     /// The moment, in seconds since 1 January 1970.
     pub(crate) moment: u32,
-    /// The sum.
+    /// The sum of the header with the stamp.
     pub(crate) sum: u16,
+    /// The length of the header in octets.
+    pub(crate) header_len: u32,
 }
 
 /// A file, without its blocks. Contracts see it as a `PlacedFile` without blocks.
@@ -185,9 +187,13 @@ impl StoredFile {
     }
 
     /// The file is kept with this seal.
-    pub(crate) fn seal(&mut self, moment: u32, sum: u16)
-        ensures { self.new ≡ record self.old { entry = sealed moment sum self.old.entry } }
+    pub(crate) fn seal(&mut self, moment: u32, sum: u16, header_len: u32)
+        ensures { self.new ≡ record self.old { entry = sealed (seal_with moment sum header_len) self.old.entry } }
     {
-        self.mark = Some(SealMark { moment, sum });
+        self.mark = Some(SealMark {
+            moment,
+            sum,
+            header_len,
+        });
     }
 }

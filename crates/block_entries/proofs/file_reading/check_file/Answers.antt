@@ -1,9 +1,11 @@
-use Rattle.std.proofs.Common.{◌≡◌, ℕ, List, Some, sym, ap, ◌∙◌, subst}
+use Rattle.std.proofs.Common.{◌≡◌, ◌≤◌, ℕ, List, length, Some, sym, ap, ◌∙◌, subst}
 use Rattle.std.specs.List.{flat_map}
+use Rattle.file_entries.specs.Headers.{header_octets}
 use Rattle.file_journal.specs.Layout.{blocks_on}
 use Rattle.pfh_items.specs.Faults.{fault_code}
 use Rattle.pfh_items.specs.Stamp.{StampValue}
 use Rattle.block_entries.specs.Checking.{HasChecked, IsSealable, IsFaultCode, stamp_of}
+use Rattle.block_entries.specs.KeptLaws.{header_within}
 use Rattle.block_entries.specs.Reading.{blocks_of}
 use Rattle.block_entries.specs.Seen.{whole_block}
 use Rattle.block_entries.specs.declared.file_check.FileCheck.{FileCheck}
@@ -22,6 +24,14 @@ returns-in-Ok-clause-header g c = λ told.
     (took_whole took content (flat_map (whole_block (blocks_on content)) (blocks_of c.args.table.now c.args.file)) c.args.file.held
     c.new-check.result c.pass_octets.new.taker front told)
     (c.in-Ok.ensures (stamp_of c.args.stamp) front.fed (front.took_all (stamp_of c.args.stamp) c.new-check.ensures.checked))
+
+pub returns-in-Ok-clause-inside : goal.returns-in-Ok-clause-inside
+returns-in-Ok-clause-inside g c =
+    let front = c.in_ok-pass_octets.ensures.took in
+    let is = c.in-Ok.ensures (stamp_of c.args.stamp) front.fed (front.took_all (stamp_of c.args.stamp) c.new-check.ensures.checked) in
+    let within = header_within front.fed is.faultless in
+    subst (λ (n : ℕ). n ≤ c.args.file.held) (sym is.len_is)
+    (subst (λ (n : ℕ). length (header_octets front.fed) ≤ n) front.size within)
 
 pub returns-in-Err-clause-fault : goal.returns-in-Err-clause-fault
 returns-in-Err-clause-fault g c = λ code is told.

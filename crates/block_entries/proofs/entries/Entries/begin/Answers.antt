@@ -1,6 +1,7 @@
 use Rattle.std.proofs.Common.{rules, ◌≡◌, ◌+◌, ◌∷◌, [], ◌++◌, List, None, ap, sym, subst}
 use Rattle.px_base.specs.CallSign.{IsCall}
-use Rattle.block_entries.specs.PlacedCommand.{after, begin}
+use Rattle.block_entries.specs.Placed.{new_placed}
+use Rattle.block_entries.specs.PlacedCommand.{with_new}
 use Rattle.block_entries.specs.PlacedFiles.{AreKept, Becomes, EntriesState, PlacedFile, files_from, in_runs, store_of}
 use Rattle.block_entries.proofs.BeginLemmas.{begin_becomes, begin_kept}
 use Rattle.block_entries.proofs.entries.Entries.begin.Goals as goal
@@ -25,7 +26,7 @@ returns c =
     let call : IsCall c.args.caller = search rules in
     let table = c.begin.new.self in
     let number = c.args.self.now.files.next in
-    subst (λ (fs : List PlacedFile). Becomes c.args.self.now.files (files_from (in_runs table.runs fs) (c.self.inside.next + 1) table.limit) (after (store_of c.args.self.now.files) (begin number c.args.caller c.args.length c.args.moment)) number None)
+    subst (λ (fs : List PlacedFile). Becomes c.args.self.now.files (files_from (in_runs table.runs fs) (c.self.inside.next + 1) table.limit) (with_new (store_of c.args.self.now.files) (new_placed number c.args.caller c.args.length c.args.moment)) number None)
     (sym (items (goal.at.returns c).After-unwrap))
     (begin_becomes c.self.inside.table.runs c.self.inside.files.items c.self.inside.next c.self.inside.table.limit c.self.invariant _ view c.args.caller c.args.length c.args.moment call c.requires.may
     table.runs _ table.limit c.new-file.result c.begin.ensures.runs c.blocks_of_length.ensures c.begin.ensures.limit c.new-file.ensures)

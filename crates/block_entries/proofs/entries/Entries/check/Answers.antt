@@ -1,4 +1,4 @@
-use Rattle.std.proofs.Common.{◌≡◌, ℕ, Option, Some, refl, ap, sym, ◌∙◌, subst, arith}
+use Rattle.std.proofs.Common.{◌≡◌, ◌≤◌, ℕ, Option, Some, refl, ap, sym, ◌∙◌, subst, arith}
 use Rattle.std.specs.Prelude.{IfOk, IfSome}
 use Rattle.block_entries.specs.Checking.{ChecksFile, IsSealable}
 use Rattle.block_entries.specs.Placed.{Placed}
@@ -45,6 +45,13 @@ returns-clause-header g c =
     (subst (λ (n : ℕ). P n (placed_info c.index.result.now.entry))
     (sym (number_x c.self.inside.table.runs c.self.inside.files.items c.self.inside.next c.self.inside.table.limit c.self.invariant _ view c.args.number _ c.place_of.result c.unwrap-place.ensures c.place_of.ensures.some c.index.result.now c.index.ensures))
     (subst (P c.args.number) c.info-info.ensures c.check_file.ensures.header))
+
+pub returns-clause-inside : goal.returns-clause-inside
+returns-clause-inside g c =
+    let view = ap (λ (s : EntriesState). s.files) c.self.view_is in
+    subst (λ (o : Option Placed). IfOk c.check_file.result (λ header. IfSome o (λ f. header.len ≤ f.held)))
+    (sym (entry_now c.self.inside.table.runs c.self.inside.files.items c.self.inside.next c.self.inside.table.limit c.self.invariant _ view c.args.number _ c.place_of.result c.unwrap-place.ensures c.place_of.ensures.some c.index.result.now c.index.ensures))
+    (subst (λ (i : Info). IfOk c.check_file.result (λ header. header.len ≤ i.held)) c.info-info.ensures c.check_file.ensures.inside)
 
 pub returns-clause-fault : goal.returns-clause-fault
 returns-clause-fault g c = λ code is told.

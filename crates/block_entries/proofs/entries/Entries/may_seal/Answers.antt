@@ -4,7 +4,7 @@ use Rattle.block_entries.specs.PlacedCommand.{is_whole, passes_at}
 use Rattle.block_entries.specs.PlacedFiles.{store_of}
 use Rattle.block_entries.specs.TestLaws.{passed}
 use Rattle.block_entries.specs.declared.check_fault.CheckFault.TheVariants.{Header}
-use Rattle.block_entries.proofs.AppliedLemmas.{fault_refuses}
+use Rattle.block_entries.proofs.AppliedLemmas.{fault_refuses, header_takes}
 use Rattle.block_entries.proofs.entries.Entries.may_seal.Goals as goal
 use Rattle.file_journal.specs.Layout.{blocks_on}
 
@@ -12,7 +12,16 @@ pub returns-in-Err-Header-clause-may : goal.returns-in-Err-Header-clause-may
 returns-in-Err-Header-clause-may g c = λ told.
     let store = store_of c.args.self.now.files in
     let whole : passes_at store c.args.number is_whole ≡ true = let e = c.is_whole.ensures in let f = c.if-not-is_whole.false in cc in
-    let fails : IsErrOf c.check.result (Header c.in-Err-Header.field-0-0) = let e = c.in-Err-Header.is in let f = c.in-Err-Header.field-0-is in cc in
-    sym (fault_refuses (blocks_on (g.D.Disk.content c.args.disk.now)) store c.args.number c.args.moment c.args.sum
-    (passed store c.args.number is_whole whole) c.in-Err-Header.field-0-0
-    (c.check.ensures.fault c.in-Err-Header.field-0-0 fails told))
+    let fails : IsErrOf c.check.result (Header c.in-Err-Header.field-0-0) = let e = c.in-Err-Header.is in let f = c.in-Err-Header.field-0-is in cc in (
+      sym (fault_refuses (blocks_on (g.D.Disk.content c.args.disk.now)) store c.args.number c.args.moment c.args.sum
+          (passed store c.args.number is_whole whole) c.in-Err-Header.field-0-0
+          (c.check.ensures.fault c.in-Err-Header.field-0-0 fails told)),
+      tt,
+    )
+
+pub returns-in-Ok-clause-takes : goal.returns-in-Ok-clause-takes
+returns-in-Ok-clause-takes g c =
+    let store = store_of c.args.self.now.files in
+    let whole : passes_at store c.args.number is_whole ≡ true = let e = c.is_whole.ensures in let f = c.if-not-is_whole.false in cc in
+    header_takes (blocks_on (g.D.Disk.content c.args.disk.now)) store c.args.number c.args.moment c.args.sum
+    (passed store c.args.number is_whole whole) c.in-Ok.header.len c.of_sum.result c.in-Ok.ensures.inside c.of_sum.ensures.len

@@ -1,11 +1,12 @@
 use Rattle.std.proofs.Common.{◌+◌, ◌≤◌, ℕ, length, refl, ap, sym, ◌∙◌, subst, arith}
 use Rattle.std.proofs.lemmas.Result.{on_ok_weaker}
 use Rattle.block_entries.specs.Checking.{IsSealable}
-use Rattle.block_entries.specs.Placed.{Placed}
-use Rattle.block_entries.specs.PlacedFiles.{EntriesState, PlacedFiles, placed_info}
+use Rattle.block_entries.specs.Placed.{Placed, Seal}
+use Rattle.block_entries.specs.PlacedFiles.{EntriesState, PlacedFiles, placed_info, seal_value, store_of}
 use Rattle.block_entries.specs.Reading.{StandsIn, octets_on}
 use Rattle.block_entries.specs.Seen.{octets_in, stamp_at}
-use Rattle.block_entries.proofs.ChangeLemmas.{has_place, in_range, mark_moment, mark_there, number_x, sealed_found, sealed_here, stands_in}
+use Rattle.block_entries.proofs.ChangeLemmas.{has_place, in_range, mark_there, mark_value, number_x, sealed_found, sealed_here, stands_in}
+use Rattle.block_entries.proofs.RulesLemmas.{sealed_keeps}
 use Rattle.block_entries.proofs.entries.Entries.read_sealed.Goals as goal
 use Rattle.disk_model.specs.Disk.{FillsRoom}
 use Rattle.file_entries.specs.declared.info.Info.{Info}
@@ -44,15 +45,16 @@ read_stamped-requires-clause-sealed g c = λ told.
     let content = g.D.Disk.content c.args.disk.now in
     let sealed = c.requires.there in
     let here = sealed_here c.self.inside.table.runs c.self.inside.files.items c.self.inside.next c.self.inside.table.limit c.self.invariant _ view c.args.number _ c.place_of.result c.unwrap-place.ensures c.place_of.ensures.some c.index-file.result.now c.index-file.ensures sealed c.mark.result c.mark.ensures in
-    let moment = mark_moment c.mark.result c.unwrap-mark.result sealed.mark c.unwrap-mark.ensures here.1 in
-    let P : ℕ → Info → ℕ → Type 0 = λ n i m.
-    IsSealable (record { number = n; by = i.caller; moment = m }) (octets_on content c.self.inside.table (record { run = c.unwrap-place.result; held = i.held }))
-    c.args.header.sum c.args.header.len in
-    subst (λ (i : Info). P c.args.number i c.unwrap-mark.result.moment) (sym c.info-info.ensures)
-    (subst (λ (n : ℕ). P n (placed_info c.index-file.result.now.entry) c.unwrap-mark.result.moment) (number_x c.self.inside.table.runs c.self.inside.files.items c.self.inside.next c.self.inside.table.limit c.self.invariant _ view c.args.number _ c.place_of.result c.unwrap-place.ensures c.place_of.ensures.some c.index-file.result.now c.index-file.ensures)
-    (subst (P c.index-file.result.now.entry.number (placed_info c.index-file.result.now.entry)) (sym moment)
-    (subst (λ (f : Placed). IsSealable (stamp_at sealed.mark.moment f) (octets_in (blocks_on content) f) c.args.header.sum c.args.header.len) here.0
-    (c.requires.header sealed told))))
+    let mark = seal_value c.unwrap-mark.result in
+    let same = mark_value c.mark.result c.unwrap-mark.result sealed.mark c.unwrap-mark.ensures here.1 in
+    let P : ℕ → Info → Seal → Type 0 = λ n i m.
+    IsSealable (record { number = n; by = i.caller; moment = m.moment }) (octets_on content c.self.inside.table (record { run = c.unwrap-place.result; held = i.held }))
+    m.sum m.header in
+    subst (λ (i : Info). P c.args.number i mark) (sym c.info-info.ensures)
+    (subst (λ (n : ℕ). P n (placed_info c.index-file.result.now.entry) mark) (number_x c.self.inside.table.runs c.self.inside.files.items c.self.inside.next c.self.inside.table.limit c.self.invariant _ view c.args.number _ c.place_of.result c.unwrap-place.ensures c.place_of.ensures.some c.index-file.result.now c.index-file.ensures)
+    (subst (P c.index-file.result.now.entry.number (placed_info c.index-file.result.now.entry)) (sym same)
+    (subst (λ (f : Placed). IsSealable (stamp_at sealed.mark.moment f) (octets_in (blocks_on content) f) sealed.mark.sum sealed.mark.header) here.0
+    (sealed_keeps (blocks_on content) (store_of c.args.self.now.files) c.args.number (c.requires.seals told) sealed))))
 
 pub read_stamped-requires-clause-inside : goal.read_stamped-requires-clause-inside
 read_stamped-requires-clause-inside g c =
@@ -72,7 +74,7 @@ returns-clause-room g c =
     on_ok_weaker c.read_stamped.result
     (λ given told sealed.
     let here = sealed_here c.self.inside.table.runs c.self.inside.files.items c.self.inside.next c.self.inside.table.limit c.self.invariant _ view c.args.number _ c.place_of.result c.unwrap-place.ensures c.place_of.ensures.some c.index-file.result.now c.index-file.ensures sealed c.mark.result c.mark.ensures in
-    let moment = mark_moment c.mark.result c.unwrap-mark.result sealed.mark c.unwrap-mark.ensures here.1 in
+    let moment = ap (λ (m : Seal). m.moment) (mark_value c.mark.result c.unwrap-mark.result sealed.mark c.unwrap-mark.ensures here.1) in
     subst (λ (f : Placed). FillsRoom (stamped (stamp_at sealed.mark.moment f) (octets_in (blocks_on content) f)) c.args.offset (length c.args.room.now) c.read_stamped.new.room) (sym here.0)
     (subst (P c.index-file.result.now.entry.number (placed_info c.index-file.result.now.entry)) moment
     (subst (λ (n : ℕ). P n (placed_info c.index-file.result.now.entry) c.unwrap-mark.result.moment) (sym (number_x c.self.inside.table.runs c.self.inside.files.items c.self.inside.next c.self.inside.table.limit c.self.invariant _ view c.args.number _ c.place_of.result c.unwrap-place.ensures c.place_of.ensures.some c.index-file.result.now c.index-file.ensures))
