@@ -55,6 +55,12 @@ sealed_keeps held store number keeps sealed =
     let says = subst (λ (o : Option Seal). IfSome o (SaysIn f (octets_in held f))) sealed.is here in
     record { faultless = says.0; sum_is = says.1; len_is = says.2 }
 
+-- its header is no longer than what is held
+pub sealed_inside : (store : PlacedStore) (number : ℕ) → IsPlaced store → (sealed : Sealed store number) → sealed.mark.header ≤ sealed.file.held
+sealed_inside store number is sealed =
+    let one = found_holds (IsPlacedFile store.blocks) number store.entries sealed.file is.files sealed.found in
+    subst (λ (o : Option Seal). IfSome o (λ s. s.header ≤ sealed.file.held)) sealed.is one.header
+
 -- ---- the rules of a store
 
 -- the octets of a file fit its length, stamped where it is sealed

@@ -1,7 +1,7 @@
 //! The entries of a store whose octets stand in blocks, and what the commands do to them.
 
 ghost use Rattle.std.specs.Prelude.{◌≡◌, ◌↔◌, ℕ, ◌≤◌, [], find, None, Some, IsSome, IsTrue, IfSome, IfNone};
-ghost use Rattle.std.specs.Prelude.{◌+◌, length, IfOk, IsErr, IsErrOf, OnErr, OnOk};
+ghost use Rattle.std.specs.Prelude.{◌+◌, ◌<◌, length, vec_capacity, IfOk, IsErr, IsErrOf, OnErr, OnOk};
 ghost use Rattle.std.specs.Option.{option_copied, option_map};
 ghost use Rattle.block_entries.specs.Checking.{ChecksFile, HasFault, IsFaultCode};
 ghost use Rattle.block_entries.specs.IsPlaced.{IsPlaced, KeepsSeals};
@@ -11,7 +11,7 @@ ghost use Rattle.block_entries.specs.PlacedCommand.{with_sealed, without_file};
 ghost use Rattle.block_entries.specs.PlacedFiles.{Becomes, ChangesRest, IsLowest, IsNextSealed, IsOut, IsPlace};
 ghost use Rattle.block_entries.specs.PlacedFiles.{NothingOut, Waits, file_of, is_sealed_file, lacks_octets};
 ghost use Rattle.block_entries.specs.PlacedFiles.{placed_info, rest_of, rest_with, rest_without, store_of};
-ghost use Rattle.block_entries.specs.Sealed.{Sealed, octets_given};
+ghost use Rattle.block_entries.specs.Sealed.{IsSealedHeader, Sealed, octets_given};
 ghost use Rattle.block_entries.specs.Seen.{seen};
 ghost use Rattle.disk_model.specs.Disk.{FillsRoom, IsTold};
 ghost use Rattle.block_entries.specs.TestLaws.{Grows, Passes, TakesSeal};
@@ -24,7 +24,8 @@ ghost use Rattle.file_journal.specs.Layout.{Blocks, blocks_on};
 use crate::limits::blocks_of_length;
 use crate::stored_file::StoredFile;
 use crate::{
-    BlockReader, CheckFault, CheckedHeader, FileBlocks, SealedFile, Stamp, check_file, read_stamped,
+    BlockReader, CheckFault, CheckedHeader, FileBlocks, ReadHeaderFault, SealedFile, Stamp,
+    check_file, read_header, read_stamped,
 };
 use block_table::BlockTable;
 use disk_model::{Disk, DiskFault};
@@ -304,6 +305,51 @@ impl Entries {
             header_len: mark.header_len,
         };
         read_stamped(reader, disk, &self.table, &sealed, offset, room)
+    }
+
+    /// Puts the header of a sealed file, with its stamp, into `header`, in the place of what stands there. It reads the
+    /// header's octets once, with one read for each block. Takes memory only where `header` has no room for it.
+    ///
+    /// `OutOfMemory`: nothing was read. After an error `header` holds any octets, or none.
+    pub fn read_header<D: Disk, R: BlockReader<D>>(
+        &self,
+        reader: &R,
+        disk: &mut D,
+        number: u32,
+        header: &mut Vec<u8>,
+    ) -> Result<(), ReadHeaderFault>
+        requires may_read { R.may_read reader.now disk.old }
+        requires blocks { R.block_count reader.now ≡ self.now.files.blocks }
+        requires there { Sealed (store_of self.now.files) number }
+        requires seals { IsTold (D.content disk.old)
+            → KeepsSeals (blocks_on (D.content disk.old)) (store_of self.now.files) }
+        ensures may_read { R.may_read reader.now disk.new }
+        ensures header { OnOk result (IsTold (D.content disk.old)
+            → (sealed : Sealed (store_of self.now.files) number)
+            → IsSealedHeader (octets_given (blocks_on (D.content disk.old)) sealed) header.new.items) }
+        ensures memory { IsErrOf result ReadHeaderFault.OutOfMemory
+            → (sealed : Sealed (store_of self.now.files) number)
+            → vec_capacity header.old < sealed.mark.header }
+        ensures reads { Reads D.Disk (IsErrOf result ReadHeaderFault.Disk) disk.old disk.new }
+    {
+        let place = self.place_of(number).unwrap();
+        let file = &self.files[place];
+        let info = file.info();
+        let mark = file.mark().unwrap();
+        let sealed = SealedFile {
+            blocks: FileBlocks {
+                run: place,
+                held: info.held,
+            },
+            stamp: Stamp {
+                number,
+                by: info.caller,
+                moment: mark.moment,
+            },
+            sum: mark.sum,
+            header_len: mark.header_len,
+        };
+        read_header(reader, disk, &self.table, &sealed, header)
     }
 
     /// Drops a file under way. Takes no memory.
