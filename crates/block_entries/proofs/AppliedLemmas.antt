@@ -114,7 +114,7 @@ not_whole held store number moment sum fails = by (placed_of store number) refl 
         passes_found store number (λ f. can_seal held f moment sum) file e ∙ rw here refl
 
 module _ (held : Blocks) (store : PlacedStore) (number moment sum : ℕ) (passes : Passes store number is_whole) where
-  sum_decides : (found len : ℕ) → IsSealable (stamp_at moment passes.file) (octets_in held passes.file) found len
+  pub sum_decides : (found len : ℕ) → IsSealable (stamp_at moment passes.file) (octets_in held passes.file) found len
       → (sum == found) ≡ passes_at store number (λ f. can_seal held f moment sum)
   sum_decides found len is =
       rw (passes_found store number (λ f. can_seal held f moment sum) passes.file passes.found, passes.test_is, is.faultless)

@@ -5,6 +5,7 @@ mod BlockRunLemmas
 mod ChangeLemmas
 mod HalvingLemmas
 mod NextLemmas
+pub mod Offered
 mod PlacesLemmas
 mod ReadLemmas
 mod RecordLemmas
@@ -14,4 +15,5 @@ mod SeenLemmas
 mod StampedHeaderLemmas
 mod StampedPartLemmas
 mod StandingLemmas
+mod StoreLemmas
 mod WholeBlockLemmas

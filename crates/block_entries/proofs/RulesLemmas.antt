@@ -73,6 +73,11 @@ faultless : (s : Option Seal) (P : Type 0) (Q R : Seal → Type 0) → IfSome s 
 faultless None P Q R keeps = tt
 faultless (Some s) P Q R keeps = keeps.0
 
+pub seal_faultless : (held : Blocks) (f : Placed) → KeepsSeal held f → IfSome f.seal (λ _. fault_code (octets_in held f) ≡ None)
+seal_faultless held f keeps =
+    let octets = octets_in held f in
+    faultless f.seal (fault_code octets ≡ None) (λ s. s.sum ≡ sum_with s.moment f octets) (λ s. s.header ≡ length (header_octets octets)) keeps
+
 are_seen : (held : Blocks) (limit low next : ℕ) (files : List Placed) → Rise low files next → ArePlaced limit files → AllByRecursion (KeepsSeal held) files
     → AreEntries low (map (seen_entry held) files) next
 are_seen held limit low next [] rise are keeps = tt
@@ -81,7 +86,7 @@ are_seen held limit low next (f ∷ fs) rise are keeps =
       rise.0,
       rise.1,
       fits_seen f octets limit f.seal are.0 (length_octets held limit f are.0) are.0.whole
-          (faultless f.seal (fault_code octets ≡ None) (λ s. s.sum ≡ sum_with s.moment f octets) (λ s. s.header ≡ length (header_octets octets)) keeps.0),
+          (seal_faultless held f keeps.0),
       are.0.short,
       are_seen held limit (f.number + 1) next fs rise.2 are.1 keeps.1,
     )

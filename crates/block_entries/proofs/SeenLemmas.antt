@@ -13,9 +13,9 @@ use Rattle.block_entries.specs.FilesLaws.{changed_past, found_holds}
 use Rattle.block_entries.specs.IsPlaced.{IsPlaced, IsPlacedFile, Rise}
 use Rattle.block_entries.specs.KeptLaws.{grows_full}
 use Rattle.block_entries.specs.Placed.{Placed, PlacedStore, Seal, has_number, new_placed, placed_of}
-use Rattle.block_entries.specs.PlacedCommand.{PlacedCommand, after, begin, can_seal, changed, drop_entry, grow, grown, header_at, is_allowed, is_partial, seal, seal_with, sealed, seen_command}
+use Rattle.block_entries.specs.PlacedCommand.{PlacedCommand, after, begin, can_seal, changed, drop_entry, grow, grown, header_at, is_allowed, is_partial, is_whole, seal, seal_with, sealed, seen_command, with_grown, with_sealed}
 use Rattle.block_entries.specs.Seen.{entry_with, holding_with, octets_in, seen, seen_entry, stamp_at, whole_block}
-use Rattle.block_entries.specs.TestLaws.{may_grow, may_seal, may_take, partial_none, passed}
+use Rattle.block_entries.specs.TestLaws.{Grows, Passes, may_grow, may_seal, may_take, partial_none, passed, seals_whole, whole_is}
 use Rattle.file_entries.specs.Command as file
 use Rattle.file_entries.specs.Command.{kept_with, passes, with_more}
 use Rattle.file_entries.specs.Store.{Entry, Holding, entry_of, partial, store_from}
@@ -77,7 +77,7 @@ sealed_seen held f mark none = ap (λ (h : Holding). entry_with f (kept_with (st
 
 -- ---- all entries
 
-find_seen : (held : Blocks) (number : ℕ) (files : List Placed)
+pub find_seen : (held : Blocks) (number : ℕ) (files : List Placed)
     → find (λ (e : Entry). e.number == number) (map (seen_entry held) files) ≡ option_map (seen_entry held) (find (has_number number) files)
 find_seen held number [] = refl
 find_seen held number (f ∷ fs) =
@@ -132,25 +132,34 @@ without_seen held number (f ∷ fs) =
 
 -- ---- the store after a command
 
-pub seen_after : (held : Blocks) (store : PlacedStore) (command : PlacedCommand) → IsPlaced store → IsTrue (is_allowed held store command)
-    → seen held (after held store command) ≡ file.after (seen held store) (seen_command held command)
-seen_after held store (begin number caller file_length moment) is ok =
-    ap (λ (es : List Entry). store_from es (number + 1) store.blocks) (map-append (seen_entry held) store.entries (new_placed number caller file_length moment ∷ []))
-seen_after held store (grow number block used) is ok =
-    let grows = may_take held store number block used ok in
+-- further octets of a file in a block are seen as a Grow
+pub seen_grown : (held : Blocks) (store : PlacedStore) (number block used : ℕ) → IsPlaced store → Grows store number block used
+    → seen held (with_grown store number block used) ≡ file.after (seen held store) (file.grow number (take used (whole_block held block)))
+seen_grown held store number block used is grows =
     let one = grows.passes.file in
     let may = may_grow one used grows.passes.test_is in
     let rules = found_holds (IsPlacedFile store.blocks) number store.entries one is.files grows.passes.found in
     ap (λ (es : List Entry). store_from es store.next store.blocks)
     (changed_seen held number (grown block used) (file.grown (take used (whole_block held block))) 1 store.next store.entries one is.numbers grows.passes.found
     (grown_seen held one block used may.partial (grows_full store.blocks one used rules may grows.takes.some)))
+
+-- a seal of a whole file is seen as a Seal, whatever it says of the header
+pub seen_sealed : (held : Blocks) (store : PlacedStore) (number : ℕ) (mark : Seal) → IsPlaced store → Passes store number is_whole
+    → seen held (with_sealed store number mark) ≡ file.after (seen held store) (file.seal number mark.moment)
+seen_sealed held store number mark is passes =
+    ap (λ (es : List Entry). store_from es store.next store.blocks)
+    (changed_seen held number (sealed mark) (file.sealed mark.moment) 1 store.next store.entries passes.file is.numbers passes.found
+    (sealed_seen held passes.file mark (whole_is passes.file passes.test_is).partial))
+
+pub seen_after : (held : Blocks) (store : PlacedStore) (command : PlacedCommand) → IsPlaced store → IsTrue (is_allowed held store command)
+    → seen held (after held store command) ≡ file.after (seen held store) (seen_command held command)
+seen_after held store (begin number caller file_length moment) is ok =
+    ap (λ (es : List Entry). store_from es (number + 1) store.blocks) (map-append (seen_entry held) store.entries (new_placed number caller file_length moment ∷ []))
+seen_after held store (grow number block used) is ok = seen_grown held store number block used is (may_take held store number block used ok)
 seen_after held store (seal number moment sum) is ok =
     let passes = passed store number (λ f. can_seal held f moment sum) ok in
-    let may = may_seal held passes.file moment sum passes.test_is in
-    let mark = seal_with moment sum (header_at held store number) in
-    ap (λ (es : List Entry). store_from es store.next store.blocks)
-    (changed_seen held number (sealed mark) (file.sealed moment) 1 store.next store.entries passes.file is.numbers passes.found
-    (sealed_seen held passes.file mark may.partial))
+    seen_sealed held store number (seal_with moment sum (header_at held store number)) is
+    (record { file = passes.file; found = passes.found; test_is = seals_whole held passes.file moment sum passes.test_is })
 seen_after held store (drop_entry number) is ok =
     ap (λ (es : List Entry). store_from es store.next store.blocks) (without_seen held number store.entries)
 
