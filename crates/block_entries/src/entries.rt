@@ -110,10 +110,12 @@ impl Entries {
         None
     }
 
-    /// Makes room in memory for one more entry; the entries stay as they are. Takes memory.
+    /// Makes room in memory for one more entry; the entries stay as they are. Where there is no memory, what room there
+    /// was stays. Takes memory.
     pub fn reserve(&mut self) -> Result<(), OutOfMemory>
         ensures files { self.new.files ≡ self.old.files }
         ensures ok { OnOk result (1 ≤ self.new.spare) }
+        ensures err { OnErr result (self.old.spare ≤ self.new.spare) }
     {
         self.files.reserve(1)?;
         self.table.reserve(1)?;
@@ -124,9 +126,10 @@ impl Entries {
     pub fn begin(&mut self, caller: Call, length: u32, moment: u32)
         requires may { (held : Blocks) × MayBegin (seen held (store_of self.old.files)) length }
         requires room { 1 ≤ self.old.spare }
-        ensures { let number = self.old.files.next in
+        ensures becomes { let number = self.old.files.next in
             Becomes self.old.files self.new.files
             (with_new (store_of self.old.files) (new_placed number caller length moment)) number None }
+        ensures spare { self.old.spare ≤ self.new.spare + 1 }
     {
         let file = StoredFile::new(self.alloc, self.next, caller, length, moment);
         self.table.begin(blocks_of_length(length));
@@ -190,9 +193,10 @@ impl Entries {
         requires waits { Waits self.old.files number count }
         requires allowed { Grows (store_of self.old.files) number block count }
         requires lowest { IsLowest (store_of self.old.files) block }
-        ensures { Becomes self.old.files self.new.files
+        ensures becomes { Becomes self.old.files self.new.files
             (with_grown (store_of self.old.files) number block count)
             number (rest_without self.old.files number count) }
+        ensures spare { self.old.spare ≤ self.new.spare }
     {
         let place = self.place_of(number).unwrap();
         self.files[place].hold(count);
@@ -355,8 +359,9 @@ impl Entries {
     /// Drops a file under way. Takes no memory.
     pub fn drop_entry(&mut self, number: u32)
         requires { Passes (store_of self.old.files) number is_partial }
-        ensures { Becomes self.old.files self.new.files
+        ensures becomes { Becomes self.old.files self.new.files
             (without_file (store_of self.old.files) number) number None }
+        ensures spare { self.old.spare ≤ self.new.spare }
     {
         let place = self.place_of(number).unwrap();
         drop(self.files.remove(place));

@@ -20,13 +20,13 @@ invariant_of-self c =
     (begin_kept c.self.inside.table.runs c.self.inside.files.items c.self.inside.next c.self.inside.table.limit c.self.invariant _ view c.args.caller c.args.length c.args.moment call c.requires.may
     table.runs _ table.limit c.new-file.result c.begin.ensures.runs c.blocks_of_length.ensures c.begin.ensures.limit c.new-file.ensures)
 
-pub returns : goal.returns
-returns c =
+pub returns-clause-becomes : goal.returns-clause-becomes
+returns-clause-becomes c =
     let view = ap (λ (s : EntriesState). s.files) c.self.view_is in
     let call : IsCall c.args.caller = search rules in
     let table = c.begin.new.self in
     let number = c.args.self.now.files.next in
     subst (λ (fs : List PlacedFile). Becomes c.args.self.now.files (files_from (in_runs table.runs fs) (c.self.inside.next + 1) table.limit) (with_new (store_of c.args.self.now.files) (new_placed number c.args.caller c.args.length c.args.moment)) number None)
-    (sym (items (goal.at.returns c).After-unwrap))
+    (sym (items (goal.at.returns-clause-becomes c).After-unwrap))
     (begin_becomes c.self.inside.table.runs c.self.inside.files.items c.self.inside.next c.self.inside.table.limit c.self.invariant _ view c.args.caller c.args.length c.args.moment call c.requires.may
     table.runs _ table.limit c.new-file.result c.begin.ensures.runs c.blocks_of_length.ensures c.begin.ensures.limit c.new-file.ensures)

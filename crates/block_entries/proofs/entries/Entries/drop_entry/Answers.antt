@@ -15,8 +15,8 @@ invariant_of-self c =
     drop_kept c.self.inside.table.runs c.self.inside.files.items c.self.inside.next c.self.inside.table.limit c.self.invariant _ view c.args.number _ c.place_of.result c.unwrap-place.ensures c.place_of.ensures.some c.remove.result c.remove.ensures.value
     c.requires c.remove-2.new.self.runs c.remove-2.new.self.limit c.remove.new.self.items (ap (λ (t : Table). t.runs) c.remove-2.ensures) (ap (λ (t : Table). t.limit) c.remove-2.ensures) c.remove.ensures.items
 
-pub returns : goal.returns
-returns c =
+pub returns-clause-becomes : goal.returns-clause-becomes
+returns-clause-becomes c =
     let view = ap (λ (s : EntriesState). s.files) c.self.view_is in
     drop_becomes c.self.inside.table.runs c.self.inside.files.items c.self.inside.next c.self.inside.table.limit c.self.invariant _ view c.args.number _ c.place_of.result c.unwrap-place.ensures c.place_of.ensures.some c.remove.result c.remove.ensures.value
     c.requires c.remove-2.new.self.runs c.remove-2.new.self.limit c.remove.new.self.items (ap (λ (t : Table). t.runs) c.remove-2.ensures) (ap (λ (t : Table). t.limit) c.remove-2.ensures) c.remove.ensures.items
