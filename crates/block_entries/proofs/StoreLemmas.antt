@@ -1,5 +1,5 @@
 -- What changes of the entries are of the store of files that they are seen as.
-use Rattle.std.proofs.Common.{◌≡◌, ℕ, ◌<◌, ◌≤◌, ◌==◌, Bool, List, ◌++◌, length, take, drop, replicate, nat_le, nat_lt, Option, None, Some, refl, ap, ap₂, sym, ◌∙◌, subst, arith}
+use Rattle.std.proofs.Common.{◌≡◌, ℕ, Bool, List, ◌++◌, length, take, drop, replicate, nat_le, nat_lt, Option, None, Some, refl, ap, ap₂, sym, ◌∙◌, subst, arith}
 use Rattle.std.specs.Prelude.{IfSome, IsTrue, is_some, ◌&&◌}
 use Rattle.std.specs.Option.{option_map}
 use Rattle.std.proofs.lemmas.Bool.{eq-eqb}
@@ -18,10 +18,9 @@ use Rattle.block_entries.specs.TestLaws.{Grows, Passes, may_grow, passes_found}
 use Rattle.block_entries.proofs.AppliedLemmas.{sum_decides}
 use Rattle.block_entries.proofs.RulesLemmas.{seal_faultless}
 use Rattle.block_entries.proofs.SeenLemmas.{entry_seen, find_seen, length_octets, partial_seen, seen_grown}
-use Rattle.block_table.specs.Table.{times_of}
 use Rattle.file_entries.specs.Command as file
 use Rattle.file_entries.specs.Info.{IsCompleteIn, IsNextComplete, info_of, is_complete}
-use Rattle.file_entries.specs.Store.{Entry, Holding, entry_of, octets_of}
+use Rattle.file_entries.specs.Store.{Entry, octets_of}
 use Rattle.file_entries.specs.declared.info.Info.{Info}
 use Rattle.file_entries.proofs.Offered.{both-true, grow-is_allowed}
 use Rattle.file_journal.specs.Layout.{Blocks}

@@ -23,7 +23,8 @@ PlacedLaw =
     ((blocks : ℕ) → IsPlaced (no_entries blocks))
     × ((held : Blocks) (blocks : ℕ) → KeepsSeals held (no_entries blocks))
     × ((held : Blocks) (store : PlacedStore) (command : PlacedCommand) → IsPlaced store
-    → HasCall (seen_command held command) → IsTrue (is_allowed held store command) → IsPlaced (after held store command))
+    → HasCall (seen_command held command) → IsTrue (is_allowed held store command)
+    → IsPlaced (after held store command))
     × ((held : Blocks) (store : PlacedStore) (command : PlacedCommand) → IsPlaced store
     → IsTrue (is_allowed held store command) → KeepsSeals held store → KeepsSeals held (after held store command))
 

@@ -7,7 +7,8 @@ use Rattle.block_entries.specs.KeptLaws.{after_placed, none_is_placed}
 use Rattle.block_entries.specs.Placed.{Decides, PlacedStore}
 use Rattle.block_entries.specs.PlacedCommand.{PlacedCommand, after, begin, drop_entry, grow, is_allowed, seal}
 use Rattle.block_entries.specs.PlacedRecords.{placed_form, placed_in, placed_step, placed_steps}
-use Rattle.block_entries.specs.SameLaws.{after_same, allowed_same, decides_after, decides_uses, none_used, seen_same, uses_below}
+use Rattle.block_entries.specs.SameLaws.{after_same, allowed_same, decides_after, decides_uses, none_used, seen_same}
+use Rattle.block_entries.specs.SameLaws.{uses_below}
 use Rattle.block_entries.specs.Seen.{seen}
 use Rattle.file_journal.specs.Form.{TellsItsNumber}
 use Rattle.file_journal.specs.Layout.{Blocks, HoldSame}

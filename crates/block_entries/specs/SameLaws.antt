@@ -136,7 +136,8 @@ none_sealed block f none =
 
 pub decides_after :
     (held : Blocks) (store : PlacedStore) (command : PlacedCommand) → IsPlaced store
-    → IsTrue (is_allowed held store command) → (block : ℕ) → Decides store block → Decides (after held store command) block
+    → IsTrue (is_allowed held store command) → (block : ℕ) → Decides store block
+    → Decides (after held store command) block
 decides_after held store (begin number caller file_length moment) is ok block some =
     omega (
       arith,

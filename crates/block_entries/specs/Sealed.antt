@@ -4,12 +4,10 @@ use Rattle.block_entries.specs.Checking.{IsSealable, stamp_of}
 use Rattle.block_entries.specs.Placed.{Placed, PlacedStore, Seal, placed_of}
 use Rattle.block_entries.specs.Reading.{octets_on}
 use Rattle.block_entries.specs.Seen.{octets_in, stamp_at}
-use Rattle.block_entries.specs.declared.file_check.CheckedHeader.{CheckedHeader}
 use Rattle.block_entries.specs.declared.sealed_file.SealedFile.{SealedFile}
 use Rattle.block_table.specs.Table.{Table}
-use Rattle.disk_model.specs.Disk.{IsTold}
 use Rattle.file_entries.specs.Headers.{IsWholeHeader, header_octets}
-use Rattle.file_journal.specs.Layout.{Blocks, blocks_on}
+use Rattle.file_journal.specs.Layout.{Blocks}
 use Rattle.pfh_items.specs.Stamp.{stamped}
 
 -- these octets, as they were uploaded, are the file's
