@@ -1,18 +1,19 @@
 -- What changes of the entries are of the store of files that they are seen as.
-use Rattle.std.proofs.Common.{◌≡◌, ℕ, Bool, List, ◌++◌, length, take, drop, replicate, nat_le, nat_lt, Option, None, Some, refl, ap, ap₂, sym, ◌∙◌, subst, arith}
+use Rattle.std.proofs.Common.{◌≡◌, ℕ, ◌≤◌, Bool, List, ◌++◌, length, take, drop, replicate, nat_le, nat_lt, Option, None, Some, refl, ap, ap₂, sym, ◌∙◌, subst, arith}
 use Rattle.std.specs.Prelude.{IfSome, IsTrue, is_some, ◌&&◌}
 use Rattle.std.specs.Option.{option_map}
 use Rattle.std.proofs.lemmas.Bool.{eq-eqb}
 use Rattle.std.proofs.lemmas.Bool.Decides.{nat_tests}
 use Rattle.std.proofs.lemmas.List.{append_assoc, take-append-drop, take-take, take_at}
 use Rattle.block_entries.specs.Checking.{IsSealable}
-use Rattle.block_entries.specs.FilesLaws.{found_holds}
-use Rattle.block_entries.specs.KeptLaws.{header_found}
+use Rattle.block_entries.specs.FilesLaws.{found_holds, sum_without}
+use Rattle.block_entries.specs.KeptLaws.{header_found, times_at, times_files}
 use Rattle.block_entries.specs.IsPlaced.{IsPlaced, IsPlacedFile, KeepsSeal}
-use Rattle.block_entries.specs.Placed.{Placed, PlacedStore, Seal, placed_of}
+use Rattle.block_entries.specs.Placed.{Placed, PlacedStore, Seal, Uses, placed_of}
 use Rattle.block_entries.specs.PlacedCommand.{can_grow, grow, header_at, is_allowed, is_free, is_whole, seal, seal_with, with_grown, with_sealed}
 use Rattle.block_entries.specs.PlacedRecords.{placed_after}
 use Rattle.block_entries.specs.PlacedFiles.{IsNextSealed, IsSealedIn, placed_info}
+use Rattle.block_entries.specs.SameLaws.{octets_same}
 use Rattle.block_entries.specs.Seen.{holding_with, octets_in, seen, seen_entry, stamp_at, whole_block}
 use Rattle.block_entries.specs.TestLaws.{Grows, Passes, may_grow, passes_found}
 use Rattle.block_entries.proofs.AppliedLemmas.{sum_decides}
@@ -23,7 +24,7 @@ use Rattle.file_entries.specs.Info.{IsCompleteIn, IsNextComplete, info_of, is_co
 use Rattle.file_entries.specs.Store.{Entry, octets_of}
 use Rattle.file_entries.specs.declared.info.Info.{Info}
 use Rattle.file_entries.proofs.Offered.{both-true, grow-is_allowed}
-use Rattle.file_journal.specs.Layout.{Blocks}
+use Rattle.file_journal.specs.Layout.{Blocks, HoldSame}
 use Rattle.file_journal.specs.Steps.{HasPut}
 use Rattle.pfh_items.specs.Faults.{fault_code}
 use Rattle.pfh_writer.proofs.StampedLemmas.{length-stamped}
@@ -83,6 +84,23 @@ seal_step held store number moment sum header passes is =
     sym (sum_decides held store number moment sum passes sum header is) ∙ eq-eqb sum sum refl in
     let same : header_at held store number ≡ header = header_found held store number passes.file passes.found ∙ sym is.len_is in
     rw ok (ap (λ (n : ℕ). Some (with_sealed store number (seal_with moment sum n))) same)
+
+-- the blocks of a file are used
+found_uses : (store : PlacedStore) (number : ℕ) (f : Placed) → IsPlaced store → placed_of store number ≡ Some f → (block : ℕ) → 1 ≤ times_at block f
+    → Uses store block
+found_uses store number f is found block some =
+    omega (
+      arith,
+      some,
+      times_files block store.entries,
+      sum_without (times_at block) number 1 store.next store.entries f is.numbers found,
+    )
+
+-- so its octets are the same whatever the blocks hold that the store doesn't use
+pub found_octets : (one other : Blocks) (store : PlacedStore) (number : ℕ) (f : Placed) → IsPlaced store → placed_of store number ≡ Some f
+    → HoldSame (Uses store) one other → octets_in other f ≡ octets_in one f
+found_octets one other store number f is found same =
+    octets_same one other f (λ block some. same block (found_uses store number f is found block some))
 
 -- ---- what is told of a file
 
