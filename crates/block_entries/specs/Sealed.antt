@@ -5,6 +5,7 @@ use Rattle.block_entries.specs.Placed.{Placed, PlacedStore, Seal, placed_of}
 use Rattle.block_entries.specs.Reading.{octets_on}
 use Rattle.block_entries.specs.Seen.{octets_in, stamp_at}
 use Rattle.block_entries.specs.declared.sealed_file.SealedFile.{SealedFile}
+use Rattle.block_entries.specs.declared.stored_file.SealMark.{SealMark}
 use Rattle.block_table.specs.Table.{Table}
 use Rattle.file_entries.specs.Headers.{IsWholeHeader, header_octets}
 use Rattle.file_journal.specs.Layout.{Blocks}
@@ -17,6 +18,16 @@ IsSealedFile file octets = IsSealable (stamp_of file.stamp) octets file.sum file
 -- the octets of the file with its stamp, on a disk of this content
 abbrev pub sealed_octets : Option (List ℕ) → Table → SealedFile → List ℕ
 sealed_octets content table file = stamped (stamp_of file.stamp) (octets_on content table file.blocks)
+
+-- what a file is as one with this seal, whose octets stand in this run of a table
+abbrev pub sealed_file : ℕ → SealMark → Placed → SealedFile
+sealed_file run mark file =
+    record {
+      blocks = record { run = run; held = file.held };
+      stamp = record { number = file.number; by = file.caller; moment = mark.moment };
+      sum = mark.sum;
+      header_len = mark.header_len;
+    }
 
 -- the file of this number is sealed, and this is its seal
 pub record Sealed (store : PlacedStore) (number : ℕ) : Type 0 where

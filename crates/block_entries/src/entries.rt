@@ -24,8 +24,8 @@ ghost use Rattle.file_journal.specs.Layout.{Blocks, blocks_on};
 use crate::limits::blocks_of_length;
 use crate::stored_file::StoredFile;
 use crate::{
-    BlockReader, CheckFault, CheckedHeader, FileBlocks, ReadHeaderFault, SealedFile, Stamp,
-    check_file, read_header, read_stamped,
+    BlockReader, CheckFault, CheckedHeader, FileBlocks, ReadHeaderFault, Stamp, check_file,
+    read_header, read_stamped,
 };
 use block_table::BlockTable;
 use disk_model::{Disk, DiskFault};
@@ -293,21 +293,8 @@ impl Entries {
     {
         let place = self.place_of(number).unwrap();
         let file = &self.files[place];
-        let info = file.info();
         let mark = file.mark().unwrap();
-        let sealed = SealedFile {
-            blocks: FileBlocks {
-                run: place,
-                held: info.held,
-            },
-            stamp: Stamp {
-                number,
-                by: info.caller,
-                moment: mark.moment,
-            },
-            sum: mark.sum,
-            header_len: mark.header_len,
-        };
+        let sealed = file.sealed_in(place, mark);
         read_stamped(reader, disk, &self.table, &sealed, offset, room)
     }
 
@@ -338,21 +325,8 @@ impl Entries {
     {
         let place = self.place_of(number).unwrap();
         let file = &self.files[place];
-        let info = file.info();
         let mark = file.mark().unwrap();
-        let sealed = SealedFile {
-            blocks: FileBlocks {
-                run: place,
-                held: info.held,
-            },
-            stamp: Stamp {
-                number,
-                by: info.caller,
-                moment: mark.moment,
-            },
-            sum: mark.sum,
-            header_len: mark.header_len,
-        };
+        let sealed = file.sealed_in(place, mark);
         read_header(reader, disk, &self.table, &sealed, header)
     }
 

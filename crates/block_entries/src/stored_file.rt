@@ -5,8 +5,10 @@ ghost use Rattle.std.specs.Option.{option_map};
 ghost use Rattle.block_entries.specs.Placed.{is_sealed, new_placed};
 ghost use Rattle.block_entries.specs.PlacedCommand.{seal_with, sealed};
 ghost use Rattle.block_entries.specs.PlacedFiles.{brought, placed_info, seal_of};
+ghost use Rattle.block_entries.specs.Sealed.{sealed_file};
 ghost use Rattle.file_entries.specs.Files.{octets_or_none};
 
+use crate::{FileBlocks, SealedFile, Stamp};
 use file_entries::Info;
 use px_base::{Call, OutOfMemory};
 use std::alloc::Global;
@@ -102,6 +104,25 @@ impl StoredFile {
         ensures { seal_of result ≡ self.now.entry.seal }
     {
         self.mark
+    }
+
+    /// What it is as a file with this seal, whose octets stand in this run of a table.
+    pub(crate) fn sealed_in(&self, run: usize, mark: SealMark) -> SealedFile
+        ensures { result ≡ sealed_file run mark self.now.entry }
+    {
+        SealedFile {
+            blocks: FileBlocks {
+                run,
+                held: self.held,
+            },
+            stamp: Stamp {
+                number: self.number,
+                by: self.caller,
+                moment: mark.moment,
+            },
+            sum: mark.sum,
+            header_len: mark.header_len,
+        }
     }
 
     /// Whether an upload of the file is out.

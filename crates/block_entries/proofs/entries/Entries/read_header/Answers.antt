@@ -3,14 +3,14 @@ use Rattle.std.specs.Prelude.{vec_capacity}
 use Rattle.std.proofs.lemmas.Result.{on_ok_weaker}
 use Rattle.block_entries.specs.Checking.{IsSealable}
 use Rattle.block_entries.specs.Placed.{Placed, Seal}
-use Rattle.block_entries.specs.PlacedFiles.{EntriesState, PlacedFiles, placed_info, seal_value, store_of}
+use Rattle.block_entries.specs.PlacedFiles.{EntriesState, PlacedFiles, store_of}
 use Rattle.block_entries.specs.Reading.{StandsIn, octets_on}
-use Rattle.block_entries.specs.Sealed.{IsSealedHeader}
+use Rattle.block_entries.specs.Sealed.{IsSealedFile, IsSealedHeader, sealed_octets}
 use Rattle.block_entries.specs.Seen.{octets_in, stamp_at}
-use Rattle.block_entries.proofs.ChangeLemmas.{has_place, in_range, mark_there, mark_value, number_x, rules_now, sealed_found, sealed_here, stands_in}
+use Rattle.block_entries.proofs.ChangeLemmas.{has_place, in_range, mark_there, mark_value, rules_now, sealed_found, sealed_here, stands_in}
 use Rattle.block_entries.proofs.RulesLemmas.{sealed_inside, sealed_keeps}
 use Rattle.block_entries.proofs.entries.Entries.read_header.Goals as goal
-use Rattle.file_entries.specs.declared.info.Info.{Info}
+use Rattle.block_entries.specs.declared.sealed_file.SealedFile.{SealedFile}
 use Rattle.file_journal.specs.Layout.{blocks_on}
 use Rattle.pfh_items.specs.Stamp.{stamped}
 
@@ -33,12 +33,10 @@ unwrap-mark-requires g c =
 pub read_header-requires-clause-stands : goal.read_header-requires-clause-stands
 read_header-requires-clause-stands g c =
     let view = ap (λ (s : EntriesState). s.files) c.self.view_is in
-    let place = c.unwrap-place.result in
     let stands = stands_in c.self.inside.table.runs c.self.inside.files.items c.self.inside.next c.self.inside.table.limit c.self.invariant _ view c.args.number _ c.place_of.result c.unwrap-place.ensures c.place_of.ensures.some c.index-file.result.now c.index-file.ensures c.self.inside.table refl refl in
     let count = ap (λ (n : PlacedFiles). n.blocks) view ∙ sym c.requires.blocks in
-    subst (λ (n : ℕ). StandsIn c.self.inside.table n (record { run = place; held = c.info-info.result.held })) count
-    (subst (λ (h : ℕ). StandsIn c.self.inside.table c.self.inside.table.limit (record { run = place; held = h }))
-    (ap (λ (i : Info). i.held) (sym c.info-info.ensures)) stands)
+    subst (λ (s : SealedFile). StandsIn c.self.inside.table (g.R.BlockReader.block_count c.args.reader.now) s.blocks) (sym c.sealed_in-sealed.ensures)
+    (subst (λ (n : ℕ). StandsIn c.self.inside.table n (record { run = c.unwrap-place.result; held = c.index-file.result.now.entry.held })) count stands)
 
 pub read_header-requires-clause-sealed : goal.read_header-requires-clause-sealed
 read_header-requires-clause-sealed g c = λ told.
@@ -46,16 +44,12 @@ read_header-requires-clause-sealed g c = λ told.
     let content = g.D.Disk.content c.args.disk.now in
     let sealed = c.requires.there in
     let here = sealed_here c.self.inside.table.runs c.self.inside.files.items c.self.inside.next c.self.inside.table.limit c.self.invariant _ view c.args.number _ c.place_of.result c.unwrap-place.ensures c.place_of.ensures.some c.index-file.result.now c.index-file.ensures sealed c.mark.result c.mark.ensures in
-    let mark = seal_value c.unwrap-mark.result in
     let same = mark_value c.mark.result c.unwrap-mark.result sealed.mark c.unwrap-mark.ensures here.1 in
-    let P : ℕ → Info → Seal → Type 0 = λ n i m.
-    IsSealable (record { number = n; by = i.caller; moment = m.moment }) (octets_on content c.self.inside.table (record { run = c.unwrap-place.result; held = i.held }))
-    m.sum m.header in
-    subst (λ (i : Info). P c.args.number i mark) (sym c.info-info.ensures)
-    (subst (λ (n : ℕ). P n (placed_info c.index-file.result.now.entry) mark) (number_x c.self.inside.table.runs c.self.inside.files.items c.self.inside.next c.self.inside.table.limit c.self.invariant _ view c.args.number _ c.place_of.result c.unwrap-place.ensures c.place_of.ensures.some c.index-file.result.now c.index-file.ensures)
-    (subst (P c.index-file.result.now.entry.number (placed_info c.index-file.result.now.entry)) (sym same)
+    subst (λ (s : SealedFile). IsSealedFile s (octets_on content c.self.inside.table s.blocks)) (sym c.sealed_in-sealed.ensures)
+    (subst (λ (m : Seal). IsSealable (stamp_at m.moment c.index-file.result.now.entry)
+    (octets_on content c.self.inside.table (record { run = c.unwrap-place.result; held = c.index-file.result.now.entry.held })) m.sum m.header) (sym same)
     (subst (λ (f : Placed). IsSealable (stamp_at sealed.mark.moment f) (octets_in (blocks_on content) f) sealed.mark.sum sealed.mark.header) here.0
-    (sealed_keeps (blocks_on content) (store_of c.args.self.now.files) c.args.number (c.requires.seals told) sealed))))
+    (sealed_keeps (blocks_on content) (store_of c.args.self.now.files) c.args.number (c.requires.seals told) sealed)))
 
 pub read_header-requires-clause-inside : goal.read_header-requires-clause-inside
 read_header-requires-clause-inside g c =
@@ -63,30 +57,27 @@ read_header-requires-clause-inside g c =
     let sealed = c.requires.there in
     let here = sealed_here c.self.inside.table.runs c.self.inside.files.items c.self.inside.next c.self.inside.table.limit c.self.invariant _ view c.args.number _ c.place_of.result c.unwrap-place.ensures c.place_of.ensures.some c.index-file.result.now c.index-file.ensures sealed c.mark.result c.mark.ensures in
     let same = ap (λ (m : Seal). m.header) (mark_value c.mark.result c.unwrap-mark.result sealed.mark c.unwrap-mark.ensures here.1) in
-    let held = ap (λ (f : Placed). f.held) here.0 ∙ ap (λ (i : Info). i.held) (sym c.info-info.ensures) in
     let inside = sealed_inside (store_of c.args.self.now.files) c.args.number (rules_now c.self.inside.table.runs c.self.inside.files.items c.self.inside.next c.self.inside.table.limit c.self.invariant _ view) sealed in
-    subst (λ (n : ℕ). n ≤ c.info-info.result.held) (sym same) (subst (λ (n : ℕ). sealed.mark.header ≤ n) held inside)
-
-pub returns-clause-header : goal.returns-clause-header
-returns-clause-header g c =
-    let view = ap (λ (s : EntriesState). s.files) c.self.view_is in
-    let content = g.D.Disk.content c.args.disk.now in
-    let P : ℕ → Info → ℕ → Type 0 = λ n i m.
-    IsSealedHeader (stamped (record { number = n; by = i.caller; moment = m }) (octets_on content c.self.inside.table (record { run = c.unwrap-place.result; held = i.held })))
-    c.read_header.new.header.items in
-    on_ok_weaker c.read_header.result
-    (λ given told sealed.
-    let here = sealed_here c.self.inside.table.runs c.self.inside.files.items c.self.inside.next c.self.inside.table.limit c.self.invariant _ view c.args.number _ c.place_of.result c.unwrap-place.ensures c.place_of.ensures.some c.index-file.result.now c.index-file.ensures sealed c.mark.result c.mark.ensures in
-    let moment = ap (λ (m : Seal). m.moment) (mark_value c.mark.result c.unwrap-mark.result sealed.mark c.unwrap-mark.ensures here.1) in
-    subst (λ (f : Placed). IsSealedHeader (stamped (stamp_at sealed.mark.moment f) (octets_in (blocks_on content) f)) c.read_header.new.header.items) (sym here.0)
-    (subst (P c.index-file.result.now.entry.number (placed_info c.index-file.result.now.entry)) moment
-    (subst (λ (n : ℕ). P n (placed_info c.index-file.result.now.entry) c.unwrap-mark.result.moment) (sym (number_x c.self.inside.table.runs c.self.inside.files.items c.self.inside.next c.self.inside.table.limit c.self.invariant _ view c.args.number _ c.place_of.result c.unwrap-place.ensures c.place_of.ensures.some c.index-file.result.now c.index-file.ensures))
-    (subst (λ (i : Info). P c.args.number i c.unwrap-mark.result.moment) c.info-info.ensures (given told)))))
-    c.read_header.ensures.header
+    subst (λ (s : SealedFile). s.header_len ≤ s.blocks.held) (sym c.sealed_in-sealed.ensures)
+    (subst (λ (n : ℕ). n ≤ c.index-file.result.now.entry.held) (sym same)
+    (subst (λ (f : Placed). sealed.mark.header ≤ f.held) here.0 inside))
 
 pub returns-clause-memory : goal.returns-clause-memory
 returns-clause-memory g c = λ err sealed.
     let view = ap (λ (s : EntriesState). s.files) c.self.view_is in
     let here = sealed_here c.self.inside.table.runs c.self.inside.files.items c.self.inside.next c.self.inside.table.limit c.self.invariant _ view c.args.number _ c.place_of.result c.unwrap-place.ensures c.place_of.ensures.some c.index-file.result.now c.index-file.ensures sealed c.mark.result c.mark.ensures in
     let same = ap (λ (m : Seal). m.header) (mark_value c.mark.result c.unwrap-mark.result sealed.mark c.unwrap-mark.ensures here.1) in
-    subst (λ (n : ℕ). vec_capacity c.args.header.now < n) same (c.read_header.ensures.memory err)
+    subst (λ (n : ℕ). vec_capacity c.args.header.now < n) (ap (λ (s : SealedFile). s.header_len) c.sealed_in-sealed.ensures ∙ same) (c.read_header.ensures.memory err)
+
+pub returns-clause-header : goal.returns-clause-header
+returns-clause-header g c =
+    let view = ap (λ (s : EntriesState). s.files) c.self.view_is in
+    let content = g.D.Disk.content c.args.disk.now in
+    on_ok_weaker c.read_header.result
+    (λ given told sealed.
+    let here = sealed_here c.self.inside.table.runs c.self.inside.files.items c.self.inside.next c.self.inside.table.limit c.self.invariant _ view c.args.number _ c.place_of.result c.unwrap-place.ensures c.place_of.ensures.some c.index-file.result.now c.index-file.ensures sealed c.mark.result c.mark.ensures in
+    let same = mark_value c.mark.result c.unwrap-mark.result sealed.mark c.unwrap-mark.ensures here.1 in
+    subst (λ (f : Placed). IsSealedHeader (stamped (stamp_at sealed.mark.moment f) (octets_in (blocks_on content) f)) c.read_header.new.header.items) (sym here.0)
+    (subst (λ (m : Seal). IsSealedHeader (stamped (stamp_at m.moment c.index-file.result.now.entry) (octets_on content c.self.inside.table (record { run = c.unwrap-place.result; held = c.index-file.result.now.entry.held }))) c.read_header.new.header.items) same
+    (subst (λ (s : SealedFile). IsSealedHeader (sealed_octets content c.self.inside.table s) c.read_header.new.header.items) c.sealed_in-sealed.ensures (given told))))
+    c.read_header.ensures.header
