@@ -6,6 +6,7 @@ pub mod IsPlaced
 pub mod KeptLaws
 pub mod Laws
 pub mod Placed
+pub mod Outlined
 pub mod PlacedCommand
 pub mod PlacedCommands
 pub mod PlacedFiles
