@@ -1,38 +1,19 @@
 -- A file that is sealed, or dropped.
-use Rattle.std.proofs.Common.{◌≡◌, ◌==◌, ℕ, List, [], ◌∷◌, ◌++◌, Option, None, Some, true, inl, refl, sym, ◌∙◌, ap, arith}
+use Rattle.std.proofs.Common.{◌≡◌, ◌==◌, ℕ, List, [], ◌∷◌, ◌++◌, Option, None, Some, refl, sym, ◌∙◌, ap, arith}
 use Rattle.std.specs.Prelude.{filter, find, not}
 use Rattle.std.specs.Option.{option_map}
 use Rattle.std.proofs.lemmas.Bool.Decides.{nat_tests}
 use Rattle.file_entries.specs.Faults.{fault_code}
 use Rattle.file_entries.specs.Stamp.{stamped}
-use Rattle.disk_model.specs.declared.disk.Disk.{Ghosts}
-use Rattle.file_journal.proofs.Offered.{puts_among, puts_none}
-use Rattle.pfh_items.specs.Faults.{code_of, first_fault}
-use Rattle.pfh_items.specs.declared.fault.FileFault.{FileFault}
-use Rattle.block_entries.specs.Checking.{IsFaultCode}
-use Rattle.file_entries.specs.Command.{Command, after, after_all, drop_entry, last_grow, seal, sealed}
+use Rattle.file_entries.specs.Command.{after, after_all, drop_entry, last_grow, seal, sealed}
 use Rattle.file_entries.specs.Files.{octets_or_none}
 use Rattle.file_entries.specs.Info.{IsCompleteIn}
 use Rattle.file_entries.specs.Store.{Entry, Store, complete, entry_of, holding_of_number, partial}
 use Rattle.file_entries.proofs.Offered.{after_all-append, find-map-changed, has_number}
 use Rattle.file_store.specs.State.{StoreState, rest_in, store_in}
 use Rattle.file_store.specs.Upload.{Holds, IsWholeWaiting, Upload, came, come_of, ending, entry_for, kept_file, octets_come, sealing, upload_stamp}
-use Rattle.file_store.specs.OnDisk.{Does}
-use Rattle.file_store.specs.Working.{CountsSome, DoesAmongReads, PutsAmongReads}
-use Rattle.file_store.proofs.DoesLemmas.{Does-same, does-among}
 use Rattle.file_store.proofs.EndLemmas.{come-is, whole-entry}
 use Rattle.file_store.proofs.UploadLemmas.{whole-waiting}
-
--- a code that is found is one of a fault
-pub code_found : (octets : List ℕ) (code : ℕ) → fault_code octets ≡ Some code → IsFaultCode code
-code_found octets code found = by (first_fault octets) found
-  where
-    by : (o : Option FileFault) → option_map code_of o ≡ Some code → IsFaultCode code
-    by None is = absurd (none is)
-      where
-        none : None ≡ Some code → ⊥
-        none e = cc
-    by (Some fault) is = (fault, let same : code_of fault ≡ code = cc in sym same)
 
 -- no entry is left of a number that was dropped
 none-left : (number : ℕ) (entries : List Entry) → find (has_number number) (filter (λ e. not (e.number == number)) entries) ≡ None
@@ -73,29 +54,3 @@ dropped-entry self up moment code now made bad =
     after_all-append (last_grow up.number rest) (ending up.number moment (fault_code (come_of (store_in self) self up.number)) ∷ []) (store_in self)
     ∙ ap (λ (o : Option ℕ). after middle (ending up.number moment o)) bad in
     ap (λ (s : Store). entry_of s up.number) (made ∙ end) ∙ none-left up.number middle.entries
-
--- ---- what the call does to its disk
-
-module _ {D : Type 0} (g : Ghosts D) (P : Type 0) (old new : StoreState) (disk disk_now : D) (commands : List Command) (does : Does g P old new disk disk_now commands) where
-  pub ended-among : (Q : Type 0) → (P → Q) → (Q → P) → DoesAmongReads g Q 0 old new disk disk_now commands
-  ended-among Q there back = does-among g Q old new disk disk_now commands (Does-same g P Q old new disk disk_now commands there back does)
-
-  pub ended-puts : (Q : Type 0) → (P → Q) → (Q → P) → PutsAmongReads g Q disk disk_now
-  ended-puts Q there back = (ended-among Q there back).puts
-
-  pub ended-misses : CountsSome (g.read_faults disk) (g.read_faults disk_now) 0
-  ended-misses = (ended-among P (λ p. p) (λ p. p)).reads
-
-  pub ended-well : ¬ P → new.journal.failed ≡ old.journal.failed
-  ended-well fine = (does.done fine).1 ∙ sym does.healthy
-
-  pub ended-failed : P → new.journal.failed ≡ true
-  ended-failed failed = (does.cut failed).failed
-
--- nothing was done
-module _ {D : Type 0} (g : Ghosts D) (disk : D) where
-  pub idle-puts : (Q : Type 0) → ¬ Q → g.lasts disk disk → PutsAmongReads g Q disk disk
-  idle-puts Q fine lasts = puts_among g Q disk disk (puts_none g disk Q fine lasts)
-
-  pub idle-misses : CountsSome (g.read_faults disk) (g.read_faults disk) 0
-  idle-misses = record { no_less = omega arith; rose = inl (omega arith); same = λ none. refl }
