@@ -86,7 +86,7 @@ seal_step held store number moment sum header passes is =
     rw ok (ap (λ (n : ℕ). Some (with_sealed store number (seal_with moment sum n))) same)
 
 -- the blocks of a file are used
-found_uses : (store : PlacedStore) (number : ℕ) (f : Placed) → IsPlaced store → placed_of store number ≡ Some f → (block : ℕ) → 1 ≤ times_at block f
+pub found_uses : (store : PlacedStore) (number : ℕ) (f : Placed) → IsPlaced store → placed_of store number ≡ Some f → (block : ℕ) → 1 ≤ times_at block f
     → Uses store block
 found_uses store number f is found block some =
     omega (
@@ -109,7 +109,7 @@ length_seen : (f : Placed) (octets : List ℕ) (limit : ℕ) (s : Option Seal) �
 length_seen f octets limit None is keeps = refl
 length_seen f octets limit (Some s) is keeps = length-stamped (stamp_at s.moment f) octets is.caller keeps
 
-complete_seen : (f : Placed) (octets : List ℕ) (s : Option Seal) → is_complete (holding_with s f octets) ≡ is_some s
+pub complete_seen : (f : Placed) (octets : List ℕ) (s : Option Seal) → is_complete (holding_with s f octets) ≡ is_some s
 complete_seen f octets None = refl
 complete_seen f octets (Some s) = refl
 
