@@ -1,30 +1,37 @@
 -- The store as far as memory tells: it keeps the rules of a store, and tells of each file what the store does.
-use Rattle.std.proofs.Common.{◌≡◌, ℕ, ◌+◌, ◌≤◌, ◌==◌, Bool, List, [], ◌∷◌, length, map, replicate, Option, None, Some, refl, ap, ap₂, sym, ◌∙◌, subst, arith, inl, inr}
-use Rattle.std.specs.Prelude.{IfSome, IsSome, IsTrue, find, is_some, option_map}
+use Rattle.std.proofs.Common.{◌≡◌, ℕ, ◌+◌, ◌≤◌, Bool, List, [], ◌∷◌, length, map, replicate, Option, None, Some, refl, ap, ap₂, sym, ◌∙◌, subst, arith}
+use Rattle.std.specs.Prelude.{IfSome, IsSome, IsTrue, is_some, option_map}
 use Rattle.std.specs.List.{AllByRecursion}
-use Rattle.std.proofs.lemmas.Bool.Decides.{eqb_tells}
-use Rattle.std.proofs.lemmas.List.{length-map, length-replicate}
+use Rattle.std.proofs.lemmas.List.{length-map, length-replicate, map-append, replicate-append-replicate}
 use Rattle.block_entries.specs.IsPlaced.{ArePlaced, IsPlaced, IsPlacedFile, KeepsSeal, KeepsSeals, Rise}
 use Rattle.block_entries.specs.KeptLaws.{rooms_files, sum_map}
 use Rattle.block_entries.specs.Outlined.{AreLike, IsAsFar, IsEntryLike, IsStoreLike, outlined, outlined_entry}
-use Rattle.block_entries.specs.Placed.{Placed, PlacedStore, Seal, has_number, placed_of, runs_of}
+use Rattle.block_entries.specs.Placed.{Placed, PlacedStore, Seal, new_placed, placed_of, runs_of}
+use Rattle.block_entries.specs.PlacedCommand.{grown, with_grown, with_new, without_file}
 use Rattle.block_entries.specs.PlacedFiles.{IsNextSealed, IsSealedIn, placed_info}
-use Rattle.block_entries.specs.Seen.{holding_with, octets_in, seen, seen_entry, stamp_at}
+use Rattle.block_entries.specs.Seen.{entry_with, holding_with, octets_in, seen, seen_entry, stamp_at}
+use Rattle.block_entries.specs.TestLaws.{Grows, may_grow}
 use Rattle.block_entries.proofs.RulesLemmas.{seal_faultless}
-use Rattle.block_entries.proofs.SeenLemmas.{length_octets}
+use Rattle.block_entries.proofs.SeenLemmas.{changed_shown, find_shown, length_octets, without_shown}
 use Rattle.block_table.specs.Table.{rooms_of}
+use Rattle.file_entries.specs.Command as file
 use Rattle.file_entries.specs.Info.{IsCompleteIn, IsNextComplete, info_of, is_complete}
 use Rattle.file_entries.specs.IsStore.{AreEntries, FitsLength, HaveCallers, IsStore}
 use Rattle.file_entries.specs.Limits.{most_entries}
-use Rattle.file_entries.specs.Store.{Entry, Holding, blocks_for, blocks_of, entry_of, holding_of, octets_of}
+use Rattle.file_entries.specs.Store.{Entry, Holding, blocks_for, blocks_of, entry_of, holding_of, octets_of, partial, store_from}
 use Rattle.file_entries.specs.declared.info.Info.{Info}
 use Rattle.file_journal.specs.Layout.{Blocks}
 use Rattle.pfh_items.specs.Faults.{fault_code}
 use Rattle.pfh_writer.proofs.StampedLemmas.{length-stamped}
+use Rattle.px_base.specs.CallSign.{CallSign}
 
 -- how far a file with this seal has come, with zeros for its octets
 abbrev holding_at : ℕ → Option Seal → Holding
 holding_at count seal = holding_of (replicate count 0) (option_map (λ s. s.moment) seal)
+
+-- the same of a file
+abbrev outlined_holding : Placed → Holding
+outlined_holding f = holding_at f.held f.seal
 
 length_zeros : (count : ℕ) → length {A = ℕ} (replicate count 0) ≡ count
 length_zeros count = length-replicate {A = ℕ} count 0
@@ -51,17 +58,9 @@ outlined_info f =
     } in
     ap₂ told (length_at f.held f.seal) (complete_at f.held f.seal)
 
-find_outlined : (number : ℕ) (files : List Placed) → find (λ (e : Entry). e.number == number) (map outlined_entry files) ≡ option_map outlined_entry (find (has_number number) files)
-find_outlined number [] = refl
-find_outlined number (f ∷ fs) =
-    elim (eqb_tells f.number number) [
-      | inl w ↦ rw w.0 refl
-      | inr w ↦ rw w.0 (find_outlined number fs)
-    ]
-
 -- the entry of a number is the outline of its file
 pub outlined_found : (store : PlacedStore) (number : ℕ) → entry_of (outlined store) number ≡ option_map outlined_entry (placed_of store number)
-outlined_found store number = find_outlined number store.entries
+outlined_found store number = find_shown outlined_holding number store.entries
 
 module _ (store : PlacedStore) (number : ℕ) where
   -- a sealed file is a complete one
@@ -142,3 +141,28 @@ seen_like held store is keeps = record {
   next = refl;
   blocks = refl;
 }
+
+-- ---- changes
+
+pub outlined_new : (store : PlacedStore) (number : ℕ) (caller : CallSign) (file_length moment : ℕ)
+    → outlined (with_new store (new_placed number caller file_length moment)) ≡ file.after (outlined store) (file.begin number caller file_length moment)
+outlined_new store number caller file_length moment =
+    ap (λ (es : List Entry). store_from es (number + 1) store.blocks) (map-append outlined_entry store.entries (new_placed number caller file_length moment ∷ []))
+
+grown_outlined : (f : Placed) (block used : ℕ) → f.seal ≡ None → outlined_entry (grown block used f) ≡ entry_with f (file.grown (replicate used 0) (outlined_entry f))
+grown_outlined f block used none =
+    ap (λ (s : Option Seal). entry_with f (holding_at (f.held + used) s)) none
+    ∙ ap (λ (os : List ℕ). entry_with f (partial os)) (sym (replicate-append-replicate f.held used 0))
+    ∙ sym (ap (λ (s : Option Seal). entry_with f (file.with_more (replicate used 0) (holding_at f.held s))) none)
+
+-- further octets of a file are a Grow of as many zeros
+pub outlined_grown : (store : PlacedStore) (number block used : ℕ) → IsPlaced store → Grows store number block used
+    → outlined (with_grown store number block used) ≡ file.after (outlined store) (file.grow number (replicate used 0))
+outlined_grown store number block used is grows =
+    let one = grows.passes.file in
+    let may = may_grow one used grows.passes.test_is in
+    ap (λ (es : List Entry). store_from es store.next store.blocks)
+    (changed_shown outlined_holding number (grown block used) (file.grown (replicate used 0)) 1 store.next store.entries one is.numbers grows.passes.found (grown_outlined one block used may.partial))
+
+pub outlined_dropped : (store : PlacedStore) (number : ℕ) → outlined (without_file store number) ≡ file.after (outlined store) (file.drop_entry number)
+outlined_dropped store number = ap (λ (es : List Entry). store_from es store.next store.blocks) (without_shown outlined_holding number store.entries)

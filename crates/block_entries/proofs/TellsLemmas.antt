@@ -8,7 +8,7 @@ use Rattle.block_entries.specs.KeptLaws.{blocks_seen, times_at}
 use Rattle.block_entries.specs.Placed.{Decides, Placed, PlacedStore, is_sealed, placed_of, times_sealed}
 use Rattle.block_entries.specs.SameLaws.{octets_same}
 use Rattle.block_entries.specs.Seen.{entry_with, holding_with, octets_in, seen, seen_entry}
-use Rattle.block_entries.proofs.SeenLemmas.{entry_seen, find_seen, length_octets}
+use Rattle.block_entries.proofs.SeenLemmas.{entry_placed, entry_seen, length_octets}
 use Rattle.block_entries.proofs.StoreLemmas.{complete_seen}
 use Rattle.file_entries.specs.Bars.{Bars}
 use Rattle.file_entries.specs.Command.{MayBegin}
@@ -19,10 +19,6 @@ use Rattle.file_entries.specs.declared.entries.BeginBar.TheVariants.{TooLong, To
 use Rattle.file_journal.specs.Layout.{Blocks, HoldSame}
 
 -- ---- the entry of a number
-
--- the entry of a number is what its file is seen as
-pub entry_placed : (held : Blocks) (store : PlacedStore) (number : ℕ) → entry_of (seen held store) number ≡ option_map (seen_entry held) (placed_of store number)
-entry_placed held store number = find_seen held number store.entries
 
 -- the file of which an entry is seen
 pub entry_file : (held : Blocks) (store : PlacedStore) (number : ℕ) (e : Entry) → entry_of (seen held store) number ≡ Some e
