@@ -5,6 +5,7 @@ pub mod FilesLaws
 pub mod IsPlaced
 pub mod KeptLaws
 pub mod Laws
+pub mod Outlined
 pub mod Placed
 pub mod Outlined
 pub mod PlacedCommand

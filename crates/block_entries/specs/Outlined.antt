@@ -1,5 +1,5 @@
 -- Which files the entries are as far as memory tells: with zeros in place of the octets that the blocks hold.
-use Rattle.std.specs.Prelude.{◌≡◌, ℕ, List, [], ◌∷◌, length, map, replicate, Option, ⊤}
+use Rattle.std.specs.Prelude.{◌≡◌, List, [], ◌∷◌, length, map, replicate, ⊤}
 use Rattle.std.specs.Option.{option_map}
 use Rattle.block_entries.specs.Placed.{Placed, PlacedStore}
 use Rattle.block_entries.specs.Seen.{entry_with}
