@@ -120,8 +120,8 @@ pub record PlaceHears {D : Type 0} (g : Ghosts D) (w : Window) (event : List Fai
       Leaves g before.disk now.disk
       (λ _. MakesFirst (store_on g before.it before.disk) (with_reads event parts []).done)
 
--- A frame was heard at this moment, of whichever connection the place stood for: where it is known what octets the files
--- have, it is of that connection what the frame makes.
+-- A frame was heard at this moment, of whichever connection the place stood for: where it is known what octets the
+-- files have, it is of that connection what the frame makes.
 abbrev pub PlaceHearsFrame :
     {D : Type 0} → Ghosts D → ℕ → FrameValue → WorkingOn D → WorkingOn D → Place → Place → Result ⊤ Stop → Type 0
 PlaceHearsFrame g moment frame before now old new result =

@@ -200,7 +200,8 @@ QueuesBy g store disk disk_now old new false =
     (new.link ≡ old.link) × (state_in store new.session ≡ state_in store old.session) × (disk_now ≡ disk)
     × (IsNothingDue g store disk old.session ⊎ AreFree old.link (λ free. free < enough_free))
 
--- So it is where it is known what octets the files have. Whether or not, a packet that is queued takes some of the room.
+-- So it is where it is known what octets the files have. Whether or not, a packet that is queued takes some of the
+-- room.
 pub record QueuesNext {D : Type 0} (g : Ghosts D) (store : StoreState) (disk disk_now : D) (old new : ConnectionState)
     (queued : Bool) : Type 0 where
   pub queues : IsKnown g disk → QueuesBy g store disk disk_now old new queued
