@@ -34,7 +34,11 @@ does-none g store disk ready lasts = does-among g ⊥ store store disk disk [] (
 knows-or-not : (l : Layout) (content : Option (List ℕ)) → ((l ≡ layout.Growing) ⊎ IsTold content) ⊎ ¬ ((l ≡ layout.Growing) ⊎ IsTold content)
 knows-or-not layout.Growing content = inl (inl refl)
 knows-or-not layout.Blocks (Some octets) = inl (inr refl)
-knows-or-not layout.Blocks None = inr (λ known. elim known [ inl growing ↦ cc growing | inr told ↦ cc told ])
+knows-or-not layout.Blocks None = inr neither
+  where
+    neither : (layout.Blocks ≡ layout.Growing) ⊎ IsTold None → ⊥
+    neither (inl growing) = cc growing
+    neither (inr told) = cc told
 
 pub known-or-not : {D : Type 0} (g : Ghosts D) (disk : D) → IsKnown g disk ⊎ ¬ IsKnown g disk
 known-or-not g disk = knows-or-not store_form.layout (g.content disk)

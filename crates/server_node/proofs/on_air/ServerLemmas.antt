@@ -444,7 +444,7 @@ module _ {A C D : Type 0} (seen : Seen D A C) (terms : ServerTerms) (old new : D
         let goes : GoesOver g (party_at old) took.all.events took.text (party_at new) = h.0 in
         let puts = puts-among-same g ⊥ (IsErrOf result stop.Disk) old.disk new.disk (λ never. absurd never) fine goes.puts in
         let l = least_by (but_last took.all.turns).0 (but_last took.all.turns).1 in
-        elim known-or-not g old.disk [
+        elim (known-or-not g old.disk) [
           | inl known ↦ (
               let comes : ComesOn g server (party_at old) took.all.events took.text (party_at new) = goes.comes known server serving in
               let runs = comes.runs in
@@ -472,7 +472,7 @@ module _ {A C D : Type 0} (seen : Seen D A C) (terms : ServerTerms) (old new : D
         let puts = puts-stop g why old.disk new.disk always.puts in
         let causes = counts (λ is. rw (always.kept is) at took.is_unsaid) in
         let l : Least = record { earlier = h.earlier; but_last = h.but_last; before = h.before; behind = h.behind; split = h.split; least = h.least; brought = h.brought } in
-        elim known-or-not g old.disk [
+        elim (known-or-not g old.disk) [
           | inl known ↦ (
         let comes : ComesOn g server (party_at old) h.least h.first from.0 = goes.comes known server serving in
         let halts : HaltsOn g comes.next from.0 h.more why took.unsaid h.last (party_at new) = halts_so.halts (known_on g old.disk from.0.disk goes.puts.told known) comes.next comes.serving in

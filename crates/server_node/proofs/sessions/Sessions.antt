@@ -172,7 +172,7 @@ module _ {A C D : Type 0} (seen : Seen D A C) (terms : SessionTerms) (first : �
           let init = init-of took.all.turns last.0 all_moments events (waiting_behind [] took.all.events) last.1 (brings goes.hears.are_octets) in
           let went : Went = record { replies = goes.replies; text_is = goes.text_is; earlier = last.0; but_last_is = last.1; least = init.0; left = init.1; brought = init.2 } in
           let puts = puts-among-same g ⊥ (IsErrOf result stop.Disk) mid new.disk (λ never. absurd never) fine goes.puts in
-          elim known-or-not g mid [
+          elim (known-or-not g mid) [
             | inl known ↦ (
                 let runs : RunsOn g steps (session_at g (at server mid)) (session_at g (party_at new)) events goes.replies = goes.runs known in
                 did result runs.done [] runs.missed ends counts goes.hears.are_octets
@@ -225,7 +225,7 @@ module _ {A C D : Type 0} (seen : Seen D A C) (terms : SessionTerms) (first : �
                       left = waiting_behind [] h.least;
                       brought = brings-at h.earlier h.before h.behind h.least h.split h.one_each h.brought goes.hears.are_octets;
                     } in
-                    elim known-or-not g mid [
+                    elim (known-or-not g mid) [
                       | inl known ↦ (
                           let runs : RunsOn g steps (session_at g (at server mid)) (session_at g then_is) least goes.replies = goes.runs known in
                           let stops : StopsOn g steps (session_at g then_is) there (events_to then_is.it h.more) why took.unsaid stopped.replies =
