@@ -1,6 +1,6 @@
 -- What a frame makes of a server, by what it makes of one place.
 use Rattle.std.proofs.lemmas.Grind.{common_steps}
-use Rattle.std.proofs.Common.{◌≡◌, ℕ, zero, suc, ◌<◌, List, [], ◌∷◌, length, get_or, set, Bool, true, false, Option, rules, None, Some, sym, ◌∙◌, ap, subst, inr, arith}
+use Rattle.std.proofs.Common.{◌≡◌, ℕ, zero, suc, ◌<◌, List, [], ◌∷◌, length, get_or, set, Bool, true, false, Option, rules, None, Some, refl, sym, ◌∙◌, ap, subst, inl, inr, arith}
 use Rattle.std.specs.Prelude.{slice_get, ⊤, Result, Ok, Err, IsErrOf}
 use Rattle.std.specs.List.{position}
 use Rattle.std.proofs.lemmas.List.Quantifiers.{position-Some}
@@ -166,7 +166,13 @@ module _ {D : Type 0} (g : Ghosts D) (old new : ServerState) (settled : IsSettle
   module _ (server : Server) (is : IsServer (store_on g old.store disk) old server) where
     stranger-by : (result : Result ⊤ Stop) → HearsStranger (λ s. hearing_stranger s frame moment) old new result
         → HearsBy g (λ failures. becoming (hearing_stranger server frame moment)) old new disk disk result
-    stranger-by result heard = grind (arith, common_steps)
+    stranger-by (Ok done) heard = (
+      refl,
+      subst (λ (s : StoreState). IsServer (store_on g s disk) new (hearing_stranger server frame moment)) (sym same.store) (heard (store_on g old.store disk) server is),
+      nothing-done,
+    )
+    stranger-by (Err stop.Disk) heard = absurd heard
+    stranger-by (Err stop.OutOfMemory) heard = inl nothing-done
 
     stranger-hears : (result : Result ⊤ Stop) → HearsStranger (λ s. hearing_stranger s frame moment) old new result
         → Hears g (server_hearing server frame moment) old new disk disk result

@@ -22,7 +22,8 @@ invariant_of-self g c = record {
 pub returns-clause-ticks : goal.returns-clause-ticks
 returns-clause-ticks g c = λ over server is.
     let was = rw (sym c.self.view_is) at is in
-    let all = all-are over (server_state c.self.inside) server was in grind (arith, common_steps, server-ticked)
+    let all = all-are over (server_state c.self.inside) server was in
+    server-ticked over (server_state c.self.inside) server c.tick_all.new.places c.tick_all.new.store was (c.tick_all.ensures.ticks server.window server.slots all)
 
 -- the entries and what they hold are as they were
 pub returns-clause-store : goal.returns-clause-store
