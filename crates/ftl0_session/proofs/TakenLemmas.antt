@@ -82,7 +82,7 @@ module _ {D : Type 0} (g : Ghosts D) where
               (Does-none g ⊥ store disk_now (λ never. never) may.ready lasts);
           puts = puts_none g disk_now (IsErrOf answered stop.Disk) fine lasts;
         };
-        untouched = λ any without. reads.only;
+        untouched = λ without. reads.only;
         failed = λ e. absurd (fine e);
         kept = λ number entry found whole. found;
         others = others-same store (caller_of old);
@@ -96,7 +96,7 @@ module _ {D : Type 0} (g : Ghosts D) where
       }
 
   module _ (moment : ℕ) (item : Item) (uploads : Uploading) (part part_now : DownloadState) (store : StoreState) (lists lists_now : List CallerList) (disk disk_now : D)
-      (none : upload_row uploads.caller moment (store_in store) (state_in store (session_of uploads part)) item ≡ None)
+      (none : (fails : Bool) → upload_row uploads.caller moment (store_in store) (state_in store (session_of uploads part)) item fails ≡ None)
       (may : MayTake g store disk_now lists_now (session_of uploads part_now)) (lasts : g.lasts disk_now disk_now) where
     -- the packet's row of downloading
     pub taken-download : (said replies : List ℕ) → TakesByRow g (download_row_of (session_of uploads part) store lists item) disk disk_now (made part lists said) (made part_now lists_now replies) true
@@ -106,7 +106,7 @@ module _ {D : Type 0} (g : Ghosts D) where
         (made part lists said) (made part_now lists_now replies) takes.is_row in
         let row : Row = by_download has.0 in
         let is : row_over uploads.caller moment (working (session_of uploads part) store lists) item takes.fails ≡ row =
-        row-download uploads.caller moment (store_in store) lists (state_in store (session_of uploads part)) item takes.fails has.0 none has.1 in
+        row-download uploads.caller moment (store_in store) lists (state_in store (session_of uploads part)) item takes.fails has.0 (none takes.fails) has.1 in
         let here : uploads.phase ≡ phase.Command = download-command uploads.caller store lists uploads.phase part item takes.fails has.0 has.1 in
         let state : state_in store (session_of uploads part_now) ≡ downloading part_now = ap (λ (p : Phase). state_by (state_of store p) part_now) here in
         still moment item (session_of uploads part) (session_of uploads part_now) store lists lists_now disk disk_now replies takes.fails row is refl
@@ -122,7 +122,7 @@ module _ {D : Type 0} (g : Ghosts D) where
         (made part lists said) (made part_now lists_now given) takes.is_row in
         let row : Row = error_row lists (state_in store (session_of uploads part)) item in
         let is : row_over uploads.caller moment (working (session_of uploads part) store lists) item takes.fails ≡ row =
-        row-error uploads.caller moment (store_in store) lists (state_in store (session_of uploads part)) item takes.fails none none_of.0 in
+        row-error uploads.caller moment (store_in store) lists (state_in store (session_of uploads part)) item takes.fails (none takes.fails) none_of.0 in
         still moment item (session_of uploads part) (session_of uploads part_now) store lists lists_now disk disk_now replies takes.fails row is refl
         (ap (λ (m : Made). m.lists) none_of.1) (ap (λ (m : Made). state_in store (session_of uploads m.state)) none_of.1)
         (text ∙ ap (λ (b : Bool). packet_text (error_by b)) kind ∙ sym (append-nil (packet_text (error_by (is_upload_kind (kind_of_item item))))))

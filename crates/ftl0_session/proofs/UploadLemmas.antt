@@ -44,15 +44,15 @@ module _ {D : Type 0} (g : Ghosts D) (moment : ℕ) (item : Item) (uploads uploa
   abbrev row : Bool → Row
   row fails = row_over uploads.caller moment before item fails
 
-  -- its row is that of uploading
-  row-is : (given : upload.Row) → upload_session_row uploads.caller moment (store_in store) part item ≡ Some given → (fails : Bool) → row fails ≡ by_upload lists given
-  row-is given is fails =
-      row-upload uploads.caller moment (store_in store) lists (state_by part ready) item fails given (upload-free uploads.caller moment (store_in store) part item ∙ is)
+  -- its row where no read fails is that of uploading
+  row-is : (given : upload.Row) → upload_session_row uploads.caller moment (store_in store) part item ≡ Some given → row false ≡ by_upload lists given
+  row-is given is =
+      row-upload uploads.caller moment (store_in store) lists (state_by part ready) item false given (upload-free uploads.caller moment (store_in store) part item false ∙ is)
 
   answers-by : (given : Result ⊤ Halt) → UploadAnswers (packet_of uploads.caller moment item) store part store_now (state_of store_now uploads_now.phase) replies given
       → Answers before item (row false) now replies given
   answers-by (Ok done) said =
-      let is = row-is said.0 said.1 false in (
+      let is = row-is said.0 said.1 in (
         subst (λ (cs : List Command). DoesAll (store_in store) (store_in store_now) cs) (sym (ap (λ (r : Row). r.commands) is)) said.2.0,
         sym (ap (λ (r : Row). r.lists) is),
         ap (λ (p : upload.State). state_by p ready) said.2.1 ∙ sym (ap (λ (r : Row). r.state) is),
@@ -64,7 +64,7 @@ module _ {D : Type 0} (g : Ghosts D) (moment : ℕ) (item : Item) (uploads uploa
     said.3 ∙ ap (λ (p : upload.State). texts (upload.fault_reply p ∷ [])) (sym (upload_part-free part)),
   )
   answers-by (Err stop.OutOfMemory) said =
-      let is = row-is said.0 said.1 false in (
+      let is = row-is said.0 said.1 in (
         subst (λ (r : Row). IsTrue (takes_memory item r.state)) (sym is)
             (subst (λ (p : upload.State). IsTrue (upload.takes_memory item p)) (sym (upload_part-free said.0.state)) said.2),
         ap₂ (λ (s : StoreState) (p : upload.State). working_at lists s (state_by p ready)) said.3.0 said.3.1,
@@ -74,10 +74,10 @@ module _ {D : Type 0} (g : Ghosts D) (moment : ℕ) (item : Item) (uploads uploa
   on_disk-by : (given : Result ⊤ Halt) → UploadAnswers (packet_of uploads.caller moment item) store part store_now (state_of store_now uploads_now.phase) replies given
       → UploadPuts g store store_now disk disk_now (row_of (packet_of uploads.caller moment item) store part) given → PutsRow g store store_now disk disk_now (row false) given
   on_disk-by (Ok done) said puts =
-      subst (λ (cs : List Command). Does g ⊥ store store_now disk disk_now cs) (sym (ap (λ (r : Row). r.commands) (row-is said.0 said.1 false)))
+      subst (λ (cs : List Command). Does g ⊥ store store_now disk disk_now cs) (sym (ap (λ (r : Row). r.commands) (row-is said.0 said.1)))
       (at_told (λ (r : upload.Row). Does g ⊥ store store_now disk disk_now r.commands) said.0 said.1 puts)
   on_disk-by (Err stop.Disk) said puts =
-      subst (λ (cs : List Command). Does g ⊤ store store_now disk disk_now cs) (sym (ap (λ (r : Row). r.commands) (row-is said.0 said.1 false)))
+      subst (λ (cs : List Command). Does g ⊤ store store_now disk disk_now cs) (sym (ap (λ (r : Row). r.commands) (row-is said.0 said.1)))
       (at_told (λ (r : upload.Row). Does g ⊤ store store_now disk disk_now r.commands) said.0 said.1 puts)
   on_disk-by (Err stop.OutOfMemory) said puts = puts
 
@@ -102,8 +102,8 @@ module _ {D : Type 0} (g : Ghosts D) (moment : ℕ) (item : Item) (uploads uploa
           on_disk = on_disk-by given said on_disk;
           puts = puts;
         };
-        untouched = λ fails without.
-            subst (λ (d : D). ChangesReads g disk d) (sym (same (sym (ap (λ (r : Row). r.commands) (row-is has.0 has.1 fails)) ∙ without))) (reads-none g disk);
+        untouched = λ without.
+            subst (λ (d : D). ChangesReads g disk d) (sym (same (sym (ap (λ (r : Row). r.commands) (row-is has.0 has.1)) ∙ without))) (reads-none g disk);
         failed = failed;
         kept = kept;
         others = others;

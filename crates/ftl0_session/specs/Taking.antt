@@ -80,9 +80,9 @@ pub record TakesPacket {D : Type 0} (g : Ghosts D) (packet : CallerPacket) (befo
   pub on_disk : PutsRow g before.it.store now.it.store disk_then now.disk (packet_row packet before.it fails) result
   pub puts : Puts g (IsErrOf result stop.Disk) disk_then now.disk
 
--- a packet whose row has no command, whether a read fails or none does, leaves the disk as reads do
-abbrev pub ReadsAlone : {D : Type 0} → Ghosts D → (Bool → Row) → D → D → Type 0
-ReadsAlone g row disk disk_now = (fails : Bool) → (row fails).commands ≡ [] → ChangesReads g disk disk_now
+-- a packet whose row has no command leaves the disk as reads do
+abbrev pub ReadsAlone : {D : Type 0} → Ghosts D → Row → D → D → Type 0
+ReadsAlone g row disk disk_now = row.commands ≡ [] → ChangesReads g disk disk_now
 
 -- a session at work, with its disk
 abbrev pub at_work : {D : Type 0} → SessionState → WorkingOn D → AtDisk Working D
@@ -92,7 +92,8 @@ at_work session on = at (working session on.store on.lists) on.disk
 pub record Taken {D : Type 0} (g : Ghosts D) (packet : CallerPacket) (old new : SessionState)
     (before now : WorkingOn D) (replies : List ℕ) (result : Result ⊤ Halt) : Type 0 where
   pub takes : TakesPacket g packet (at_work old before) (at_work new now) replies result
-  pub untouched : ReadsAlone g (packet_row packet (working old before.store before.lists)) before.disk now.disk
+  pub untouched :
+      ReadsAlone g (packet_row packet (working old before.store before.lists) takes.fails) before.disk now.disk
   pub failed : IsErrOf result stop.Disk → now.store.journal.failed ≡ true
   pub kept : KeepsComplete (store_in before.store) (store_in now.store)
   pub others : KeepsOtherCallers before.store now.store packet.caller

@@ -1,6 +1,7 @@
 -- Which packets have a row, the rows of those that have no row of their own, and of those in Aborting.
 use Rattle.std.proofs.Common.{◌≡◌, ℕ, List, [], ◌∷◌, refl, Bool, true, false, true≢false, sym, ap, ◌∙◌, Bor, subst, Option, None, Some}
 use Rattle.std.specs.Prelude.{⊤, Result, Ok, Err, IfSome, IsErr, if◌then◌else◌, is_some}
+use Rattle.std.specs.Option.{option_or}
 use Rattle.px_base.specs.CallSign.{CallSign}
 use Rattle.ftl0_packets.specs.Layout.{Item, data_part, data_end, upload_cmd, ul_error_resp}
 use Rattle.file_store.specs.Store.{Store}
@@ -14,7 +15,7 @@ use Rattle.disk_model.specs.declared.halt.Halt.{Halt}
 use Rattle.ftl0_session.specs.Uploads.Laws.{RowsLaw}
 use Rattle.ftl0_session.specs.Uploads.Others.{KeepsOtherCallers}
 use Rattle.ftl0_packets.specs.Items.{kind_of_item, texts}
-use Rattle.ftl0_session.specs.Uploads.Session.{Row, State, aborting, command, error_row, is_upload_kind, receiving, refused_row, session_row, silent_row}
+use Rattle.ftl0_session.specs.Uploads.Session.{Row, State, aborting, command, error_row, is_upload_kind, receiving, refused_row, row_by_read, row_unread, session_row, silent_row}
 use Rattle.ftl0_session.specs.Uploads.SessionState.{NoOtherOut, PhaseIsHeld, number_of, state_of}
 use Rattle.ftl0_session.specs.Uploads.Taking.{Answers, AnsweredAlone}
 use Rattle.ftl0_session.specs.Uploads.Events.{packet_of}
@@ -51,6 +52,26 @@ row-some caller moment store state item kind = some-of (session_row caller momen
 pub row-none : (caller : CallSign) (moment : ℕ) (store : Store) (state : State) (item : Item) → is_upload_kind (kind_of_item item) ≡ false
     → session_row caller moment store state item ≡ None
 row-none caller moment store state item kind = none-of (session_row caller moment store state item) (rows caller moment store state item ∙ kind)
+
+-- ---- rows where a read of the disk fails or none does
+
+-- a file is read at no packet but DATA_END, which is of uploading
+unread-none : (store : Store) (state : State) (item : Item) → is_upload_kind (kind_of_item item) ≡ false → row_unread store state item ≡ None
+unread-none store (receiving n rest) (Ok data_end) kind = absurd (true≢false kind)
+unread-none store state item kind = refl
+
+-- a packet that isn't of uploading has none
+pub by_read-none : (caller : CallSign) (moment : ℕ) (store : Store) (state : State) (item : Item) (fails : Bool) → is_upload_kind (kind_of_item item) ≡ false
+    → row_by_read caller moment store state item fails ≡ None
+by_read-none caller moment store state item true kind =
+    ap (λ (o : Option Row). option_or o (session_row caller moment store state item)) (unread-none store state item kind) ∙ row-none caller moment store state item kind
+by_read-none caller moment store state item false kind = row-none caller moment store state item kind
+
+-- where no file is read it is the row where no read fails
+pub by_read-unread : (caller : CallSign) (moment : ℕ) (store : Store) (state : State) (item : Item) (fails : Bool) → row_unread store state item ≡ None
+    → row_by_read caller moment store state item fails ≡ session_row caller moment store state item
+by_read-unread caller moment store state item true none = ap (λ (o : Option Row). option_or o (session_row caller moment store state item)) none
+by_read-unread caller moment store state item false none = refl
 
 -- ---- rows
 
