@@ -62,8 +62,8 @@ AcknowledgedLaw =
     → Acknowledges store lists number entry (held ++ rest) moment
     (session_row caller moment store lists (receiving number rest) (Ok data_end) false)
 
--- The row replies UL_NAK_RESP 3, and leaves the lists. After its commands the file of the entry is still under way, with
--- exactly these octets held.
+-- The row replies UL_NAK_RESP 3, and leaves the lists. After its commands the file of the entry is still under way,
+-- with exactly these octets held.
 pub record HoldsAll (store : Store) (lists : List CallerList) (number : ℕ) (entry : Entry) (octets : List ℕ)
     (row : Row) : Type 0 where
   pub state : row.state ≡ command

@@ -156,8 +156,8 @@ in_session next = record { packet = next.packet; state = downloading next.state 
 abbrev pub next_due : Store → State → Bool → Option DuePacket
 next_due store state fails = option_map in_session (due.next_due store (download_part state) fails)
 
--- whether a reply of a row, or a packet that is sent, tells that a read of the disk failed: DL_ERROR_RESP or UL_NAK_RESP
--- with code 3
+-- whether a reply of a row, or a packet that is sent, tells that a read of the disk failed: DL_ERROR_RESP or
+-- UL_NAK_RESP with code 3
 abbrev pub tells_failed_read : PacketValue → Bool
 tells_failed_read (dl_error_resp code) = code == 3
 tells_failed_read (ul_nak_resp code) = code == 3

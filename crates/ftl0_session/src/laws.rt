@@ -40,8 +40,8 @@ pub fn acknowledged_stands_law()
 {}
 
 /// Code 3 says by DL_ERROR_RESP, or by UL_NAK_RESP at the end of a whole file, that a read of the disk failed: where
-/// none does, neither a row nor what is sent next has it. By UL_ERROR_RESP it says that a write or a sync failed: no row
-/// has it at all.
+/// none does, neither a row nor what is sent next has it. By UL_ERROR_RESP it says that a write or a sync failed: no
+/// row has it at all.
 pub fn fault_code_law()
     ensures rows { FaultCodeLaw }
     ensures due { DueFaultLaw }

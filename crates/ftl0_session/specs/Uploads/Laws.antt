@@ -74,14 +74,15 @@ AcknowledgedLaw =
     × (IsCall entry.caller → IsOctets (held ++ rest)
     → KeepsClient (held ++ rest) (stamped (stamp_of moment entry) (held ++ rest)))
 
--- Where a read of the disk fails, a file of which all octets came isn't acknowledged: UL_NAK_RESP 3. It stays under way,
--- with exactly these octets held.
+-- Where a read of the disk fails, a file of which all octets came isn't acknowledged: UL_NAK_RESP 3. It stays under
+-- way, with exactly these octets held.
 abbrev pub UnreadLaw : Type 0
 UnreadLaw =
     (caller : CallSign) (moment : ℕ) (store : Store) (number : ℕ) (entry : Entry) (held rest : List ℕ)
     → IsUnderWay store number entry held → length held + length rest ≡ entry.length
     → (row_by_read caller moment store (receiving number rest) (Ok data_end) true ≡ Some (unread_row number rest))
-    × IsUnderWay (after_all store (unread_row number rest).commands) number (holding entry (held ++ rest)) (held ++ rest)
+    × IsUnderWay (after_all store (unread_row number rest).commands) number (holding entry (held ++ rest))
+    (held ++ rest)
 
 -- All octets of the file under way have come: those that are held and those that wait. It has no fault.
 pub record IsWhole (store : Store) (number : ℕ) (entry : Entry) (held rest : List ℕ) : Type 0 where
