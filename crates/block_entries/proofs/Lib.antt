@@ -4,8 +4,11 @@ mod BlankedLemmas
 mod BlockRunLemmas
 mod ChangeLemmas
 mod HalvingLemmas
+mod LikeLemmas
 mod NextLemmas
+mod NumberLemmas
 pub mod Offered
+mod OutlinedLemmas
 mod PlacesLemmas
 mod ReadLemmas
 mod RecordLemmas
@@ -16,4 +19,5 @@ mod StampedHeaderLemmas
 mod StampedPartLemmas
 mod StandingLemmas
 mod StoreLemmas
+mod TellsLemmas
 mod WholeBlockLemmas

@@ -131,7 +131,7 @@ made_three make first second third reads =
     ∙ ap (λ (n : ℕ). Some (make first n (le16 (three first second third) 8))) reads.second_is
     ∙ ap (λ (n : ℕ). Some (make first second n)) reads.third_is
 
-read_written : (command : PlacedCommand) → IsWritable command → placed_in (record_of_placed command) ≡ Some command
+pub read_written : (command : PlacedCommand) → IsWritable command → placed_in (record_of_placed command) ≡ Some command
 unfolding placed_in
 read_written (begin number caller file_length moment) is = ap (option_and_then placed_as) (read-written (file.begin number caller file_length moment) is)
 read_written (grow number block used) is = made_three grow number block used (reads_three number block used is.0 is.1 is.2)

@@ -77,58 +77,67 @@ sealed_seen held f mark none = ap (λ (h : Holding). entry_with f (kept_with (st
 
 -- ---- all entries
 
-pub find_seen : (held : Blocks) (number : ℕ) (files : List Placed)
-    → find (λ (e : Entry). e.number == number) (map (seen_entry held) files) ≡ option_map (seen_entry held) (find (has_number number) files)
-find_seen held number [] = refl
-find_seen held number (f ∷ fs) =
-    elim (eqb_tells f.number number) [
-      | inl w ↦ rw w.0 refl
-      | inr w ↦ rw w.0 (find_seen held number fs)
-    ]
+-- each file with how far it has come
+module _ (how : Placed → Holding) where
+  abbrev pub shown : Placed → Entry
+  shown f = entry_with f (how f)
+
+  pub find_shown : (number : ℕ) (files : List Placed) → find (λ (e : Entry). e.number == number) (map shown files) ≡ option_map shown (find (has_number number) files)
+  find_shown number [] = refl
+  find_shown number (f ∷ fs) =
+      elim (eqb_tells f.number number) [
+        | inl w ↦ rw w.0 refl
+        | inr w ↦ rw w.0 (find_shown number fs)
+      ]
+
+  shown_past : (number : ℕ) (change : Entry → Holding) (low next : ℕ) (files : List Placed) → Rise low files next → number < low → map (file.changed number change) (map shown files) ≡ map shown files
+  shown_past number change low next [] rise past = refl
+  shown_past number change low next (f ∷ fs) rise past =
+      elim (eqb_tells f.number number) [
+        | inl w ↦ absurd (omega (arith, w.1, rise.0, past))
+        | inr w ↦ rw w.0 (ap (λ (es : List Entry). shown f ∷ es) (shown_past number change (f.number + 1) next fs rise.2 (omega (arith, rise.0, past))))
+      ]
+
+  -- a change of the file that is found is seen as a change of its entry
+  pub changed_shown : (number : ℕ) (change : Placed → Placed) (makes : Entry → Holding) (low next : ℕ) (files : List Placed) (one : Placed)
+      → Rise low files next → find (has_number number) files ≡ Some one → shown (change one) ≡ entry_with one (makes (shown one))
+      → map shown (map (changed number change) files) ≡ map (file.changed number makes) (map shown files)
+  changed_shown number change makes low next [] one rise found here = refl
+  changed_shown number change makes low next (f ∷ fs) one rise found here =
+      elim (eqb_tells f.number number) [
+        | inl w ↦
+            let is : Some f ≡ Some one = rw w.0 at found in
+            let same : one ≡ f = cc in
+            let below : number < f.number + 1 = omega (arith, w.1) in
+            let head : shown (change f) ≡ entry_with f (makes (shown f)) = subst (λ (g : Placed). shown (change g) ≡ entry_with g (makes (shown g))) same here in
+            rw w.0
+            (ap₂ (λ (e : Entry) (es : List Entry). e ∷ es) head
+            (ap (map shown) (changed_past number change (f.number + 1) next fs rise.2 below) ∙ sym (shown_past number makes (f.number + 1) next fs rise.2 below)))
+        | inr w ↦
+            let rest = changed_shown number change makes (f.number + 1) next fs one rise.2 (rw w.0 at found) here in
+            rw w.0 (ap (λ (es : List Entry). shown f ∷ es) rest)
+      ]
+
+  pub without_shown : (number : ℕ) (files : List Placed) → map shown (filter (λ f. not (has_number number f)) files) ≡ filter (λ (e : Entry). not (e.number == number)) (map shown files)
+  without_shown number [] = refl
+  without_shown number (f ∷ fs) =
+      elim (eqb_tells f.number number) [
+        | inl w ↦ rw w.0 (without_shown number fs)
+        | inr w ↦ rw w.0 (ap (λ (es : List Entry). shown f ∷ es) (without_shown number fs))
+      ]
+
+-- how far a file has come, with what the blocks hold
+abbrev pub seen_holding : Blocks → Placed → Holding
+seen_holding held f = holding_with f.seal f (octets_in held f)
+
+-- the entry of a number is what its file is seen as
+pub entry_placed : (held : Blocks) (store : PlacedStore) (number : ℕ) → entry_of (seen held store) number ≡ option_map (seen_entry held) (placed_of store number)
+entry_placed held store number = find_shown (seen_holding held) number store.entries
 
 -- the entry of a file that is found
 pub entry_seen : (held : Blocks) (store : PlacedStore) (number : ℕ) (f : Placed) → placed_of store number ≡ Some f
     → entry_of (seen held store) number ≡ Some (seen_entry held f)
-entry_seen held store number f found = find_seen held number store.entries ∙ ap (option_map (seen_entry held)) found
-
-seen_past : (held : Blocks) (number : ℕ) (change : Entry → Holding) (low next : ℕ) (files : List Placed) → Rise low files next → number < low
-    → map (file.changed number change) (map (seen_entry held) files) ≡ map (seen_entry held) files
-seen_past held number change low next [] rise past = refl
-seen_past held number change low next (f ∷ fs) rise past =
-    elim (eqb_tells f.number number) [
-      | inl w ↦ absurd (omega (arith, w.1, rise.0, past))
-      | inr w ↦ rw w.0 (ap (λ (es : List Entry). seen_entry held f ∷ es) (seen_past held number change (f.number + 1) next fs rise.2 (omega (arith, rise.0, past))))
-    ]
-
--- a change of the file that is found is seen as a change of its entry
-pub changed_seen : (held : Blocks) (number : ℕ) (change : Placed → Placed) (makes : Entry → Holding) (low next : ℕ) (files : List Placed) (one : Placed)
-    → Rise low files next → find (has_number number) files ≡ Some one → seen_entry held (change one) ≡ entry_with one (makes (seen_entry held one))
-    → map (seen_entry held) (map (changed number change) files) ≡ map (file.changed number makes) (map (seen_entry held) files)
-changed_seen held number change makes low next [] one rise found here = refl
-changed_seen held number change makes low next (f ∷ fs) one rise found here =
-    elim (eqb_tells f.number number) [
-      | inl w ↦
-          let is : Some f ≡ Some one = rw w.0 at found in
-          let same : one ≡ f = cc in
-          let below : number < f.number + 1 = omega (arith, w.1) in
-          let head : seen_entry held (change f) ≡ entry_with f (makes (seen_entry held f)) =
-          subst (λ (g : Placed). seen_entry held (change g) ≡ entry_with g (makes (seen_entry held g))) same here in
-          rw w.0
-          (ap₂ (λ (e : Entry) (es : List Entry). e ∷ es) head
-          (ap (map (seen_entry held)) (changed_past number change (f.number + 1) next fs rise.2 below) ∙ sym (seen_past held number makes (f.number + 1) next fs rise.2 below)))
-      | inr w ↦
-          let rest = changed_seen held number change makes (f.number + 1) next fs one rise.2 (rw w.0 at found) here in
-          rw w.0 (ap (λ (es : List Entry). seen_entry held f ∷ es) rest)
-    ]
-
-without_seen : (held : Blocks) (number : ℕ) (files : List Placed)
-    → map (seen_entry held) (filter (λ f. not (has_number number f)) files) ≡ filter (λ (e : Entry). not (e.number == number)) (map (seen_entry held) files)
-without_seen held number [] = refl
-without_seen held number (f ∷ fs) =
-    elim (eqb_tells f.number number) [
-      | inl w ↦ rw w.0 (without_seen held number fs)
-      | inr w ↦ rw w.0 (ap (λ (es : List Entry). seen_entry held f ∷ es) (without_seen held number fs))
-    ]
+entry_seen held store number f found = entry_placed held store number ∙ ap (option_map (seen_entry held)) found
 
 -- ---- the store after a command
 
@@ -140,7 +149,7 @@ seen_grown held store number block used is grows =
     let may = may_grow one used grows.passes.test_is in
     let rules = found_holds (IsPlacedFile store.blocks) number store.entries one is.files grows.passes.found in
     ap (λ (es : List Entry). store_from es store.next store.blocks)
-    (changed_seen held number (grown block used) (file.grown (take used (whole_block held block))) 1 store.next store.entries one is.numbers grows.passes.found
+    (changed_shown (seen_holding held) number (grown block used) (file.grown (take used (whole_block held block))) 1 store.next store.entries one is.numbers grows.passes.found
     (grown_seen held one block used may.partial (grows_full store.blocks one used rules may grows.takes.some)))
 
 -- a seal of a whole file is seen as a Seal, whatever it says of the header
@@ -148,7 +157,7 @@ pub seen_sealed : (held : Blocks) (store : PlacedStore) (number : ℕ) (mark : S
     → seen held (with_sealed store number mark) ≡ file.after (seen held store) (file.seal number mark.moment)
 seen_sealed held store number mark is passes =
     ap (λ (es : List Entry). store_from es store.next store.blocks)
-    (changed_seen held number (sealed mark) (file.sealed mark.moment) 1 store.next store.entries passes.file is.numbers passes.found
+    (changed_shown (seen_holding held) number (sealed mark) (file.sealed mark.moment) 1 store.next store.entries passes.file is.numbers passes.found
     (sealed_seen held passes.file mark (whole_is passes.file passes.test_is).partial))
 
 pub seen_after : (held : Blocks) (store : PlacedStore) (command : PlacedCommand) → IsPlaced store → IsTrue (is_allowed held store command)
@@ -161,7 +170,7 @@ seen_after held store (seal number moment sum) is ok =
     seen_sealed held store number (seal_with moment sum (header_at held store number)) is
     (record { file = passes.file; found = passes.found; test_is = seals_whole held passes.file moment sum passes.test_is })
 seen_after held store (drop_entry number) is ok =
-    ap (λ (es : List Entry). store_from es store.next store.blocks) (without_seen held number store.entries)
+    ap (λ (es : List Entry). store_from es store.next store.blocks) (without_shown (seen_holding held) number store.entries)
 
 -- ---- the condition of a command
 

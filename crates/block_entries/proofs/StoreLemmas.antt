@@ -18,7 +18,7 @@ use Rattle.block_entries.specs.Seen.{holding_with, octets_in, seen, seen_entry, 
 use Rattle.block_entries.specs.TestLaws.{Grows, Passes, may_grow, passes_found}
 use Rattle.block_entries.proofs.AppliedLemmas.{sum_decides}
 use Rattle.block_entries.proofs.RulesLemmas.{seal_faultless}
-use Rattle.block_entries.proofs.SeenLemmas.{entry_seen, find_seen, length_octets, partial_seen, seen_grown}
+use Rattle.block_entries.proofs.SeenLemmas.{entry_placed, entry_seen, length_octets, partial_seen, seen_grown}
 use Rattle.file_entries.specs.Command as file
 use Rattle.file_entries.specs.Info.{IsCompleteIn, IsNextComplete, info_of, is_complete}
 use Rattle.file_entries.specs.Store.{Entry, octets_of}
@@ -86,7 +86,7 @@ seal_step held store number moment sum header passes is =
     rw ok (ap (λ (n : ℕ). Some (with_sealed store number (seal_with moment sum n))) same)
 
 -- the blocks of a file are used
-found_uses : (store : PlacedStore) (number : ℕ) (f : Placed) → IsPlaced store → placed_of store number ≡ Some f → (block : ℕ) → 1 ≤ times_at block f
+pub found_uses : (store : PlacedStore) (number : ℕ) (f : Placed) → IsPlaced store → placed_of store number ≡ Some f → (block : ℕ) → 1 ≤ times_at block f
     → Uses store block
 found_uses store number f is found block some =
     omega (
@@ -109,7 +109,7 @@ length_seen : (f : Placed) (octets : List ℕ) (limit : ℕ) (s : Option Seal) �
 length_seen f octets limit None is keeps = refl
 length_seen f octets limit (Some s) is keeps = length-stamped (stamp_at s.moment f) octets is.caller keeps
 
-complete_seen : (f : Placed) (octets : List ℕ) (s : Option Seal) → is_complete (holding_with s f octets) ≡ is_some s
+pub complete_seen : (f : Placed) (octets : List ℕ) (s : Option Seal) → is_complete (holding_with s f octets) ≡ is_some s
 complete_seen f octets None = refl
 complete_seen f octets (Some s) = refl
 
@@ -138,7 +138,7 @@ module _ (held : Blocks) (store : PlacedStore) (number : ℕ) where
 
   -- and no other file is
   pub complete_sealed : IsCompleteIn (seen held store) number → IsSealedIn store number
-  complete_sealed (e, found, is) = by (placed_of store number) refl (sym (find_seen held number store.entries) ∙ found)
+  complete_sealed (e, found, is) = by (placed_of store number) refl (sym (entry_placed held store number) ∙ found)
     where
       by : (o : Option Placed) → placed_of store number ≡ o → option_map (seen_entry held) o ≡ Some e → IsSealedIn store number
       by None same seen_is = absurd (cc)

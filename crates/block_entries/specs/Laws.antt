@@ -1,20 +1,26 @@
 -- Laws of stores of placed files, over every store and all that blocks may hold.
-use Rattle.std.specs.Prelude.{◌≡◌, ◌↔◌, ℕ, ◌≤◌, List, Some, IsTrue}
+use Rattle.std.specs.Prelude.{◌≡◌, ◌⊎◌, ◌↔◌, ℕ, ◌≤◌, List, map, Option, None, Some, IsTrue}
+use Rattle.std.specs.List.{AllByRecursion}
 use Rattle.block_entries.specs.IsPlaced.{IsPlaced, KeepsSeals}
 use Rattle.block_entries.specs.Placed.{Decides, PlacedStore, no_entries}
 use Rattle.block_entries.specs.PlacedCommand.{PlacedCommand, after, is_allowed, seen_command}
-use Rattle.block_entries.specs.PlacedRecords.{IsWritable, Writes, placed_in, placed_magic, placed_steps}
+use Rattle.block_entries.specs.PlacedRecords.{IsWritable, Writes, placed_form, placed_in, placed_magic, placed_steps}
 use Rattle.block_entries.specs.PlacedRecords.{record_of_placed}
 use Rattle.block_entries.specs.Seen.{seen}
 use Rattle.file_entries.specs.Command as file
 use Rattle.file_entries.specs.Command.{HasCall}
 use Rattle.file_entries.specs.IsStore.{IsStore}
-use Rattle.file_entries.specs.Store.{empty_store}
+use Rattle.file_entries.specs.Store.{Store, empty_store}
+use Rattle.file_journal.specs.Commands as kept
+use Rattle.file_journal.specs.Form.{StandsFor}
+use Rattle.file_journal.specs.Journal as journal
+use Rattle.file_journal.specs.Journal.{journal_of}
 use Rattle.file_journal.specs.Layout.{Blocks, HoldSame, block_in}
-use Rattle.file_journal.specs.Records.{IsRecord, Record}
+use Rattle.file_journal.specs.Records.{IsRecord, Record, whole}
 use Rattle.file_journal.specs.Steps.{walked}
 use Rattle.file_journal.specs.Walk.{state}
 use Rattle.file_journal.specs.declared.layout.Layout.TheVariants as layout
+use Rattle.px_base.specs.Octets.{IsOctets}
 
 -- A store without entries keeps the rules of a store of placed files, and so does each command whose condition holds,
 -- where the caller that it names is a call. It keeps the seals too.
@@ -58,9 +64,39 @@ RecordsLaw =
     → (placed_in entry ≡ Some command) ↔ Writes entry command)
     × ((command : PlacedCommand) → IsWritable command → IsRecord (record_of_placed command))
 
--- A store for which octets stand keeps its rules and its seals.
+-- the condition of each command holds in its turn, with what the blocks hold
+abbrev pub AreAllowed : Blocks → PlacedStore → List PlacedCommand → Type 0
+AreAllowed held store commands =
+    kept.AreAllowed (λ before command. IsTrue (is_allowed held before command)) (after held) store commands
+
+-- the store after these commands, one after another, with what the blocks hold
+abbrev pub after_all : Blocks → PlacedStore → List PlacedCommand → PlacedStore
+after_all held store commands = kept.after_all (after held) store commands
+
+-- The octets are a journal behind so many blocks, or have no block number yet, and its records are these commands, each
+-- of which the store before it allows with what the blocks hold, from no entries on; and this is the store after them.
+pub record IsPlacedAfter (octets : List ℕ) (now : PlacedStore) (commands : List PlacedCommand) : Type 0 where
+  pub number : Option ℕ
+  pub is_number : (number ≡ None) ⊎ (number ≡ Some now.blocks)
+  pub records :
+      journal_of placed_magic layout.Blocks octets ≡ journal.store number (whole (map record_of_placed commands))
+  pub writable : AllByRecursion IsWritable commands
+  pub allowed : AreAllowed (block_in octets) (no_entries now.blocks) commands
+  pub after_is : now ≡ after_all (block_in octets) (no_entries now.blocks) commands
+
+-- Octets stand for a store of files exactly where they are the records of commands that make a store of placed files
+-- which, with what their blocks hold, is seen as that one.
+abbrev pub IsOneStanding : Type 0
+IsOneStanding =
+    (octets : List ℕ) (files : Store) → IsOctets octets
+    → StandsFor placed_form files octets
+    ↔ ((now : PlacedStore) × (commands : List PlacedCommand) × IsPlacedAfter octets now commands
+    × (files ≡ seen (block_in octets) now))
+
+-- The same; and a store of placed files for which octets stand keeps its rules and its seals.
 abbrev pub StandingLaw : Type 0
 StandingLaw =
-    (blocks : ℕ) (octets : List ℕ) (now : PlacedStore)
+    IsOneStanding
+    × ((blocks : ℕ) (octets : List ℕ) (now : PlacedStore)
     → walked placed_steps placed_magic layout.Blocks blocks octets ≡ state now
-    → IsPlaced now × KeepsSeals (block_in octets) now
+    → IsPlaced now × KeepsSeals (block_in octets) now)

@@ -5,7 +5,9 @@ pub mod FilesLaws
 pub mod IsPlaced
 pub mod KeptLaws
 pub mod Laws
+pub mod Outlined
 pub mod Placed
+pub mod Outlined
 pub mod PlacedCommand
 pub mod PlacedCommands
 pub mod PlacedFiles

@@ -188,7 +188,7 @@ seal_decides store number mark f is found none block some =
       sum_changed (times_sealed block) number (sealed mark) f 1 store.next store.entries is.numbers found,
     )
 
-can_begin_same :
+pub can_begin_same :
     (one other : Blocks) (store : PlacedStore) (file_length : ℕ)
     → can_begin (seen other store) file_length ≡ can_begin (seen one store) file_length
 can_begin_same one other store file_length =

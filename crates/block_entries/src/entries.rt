@@ -321,6 +321,7 @@ impl Entries {
         ensures memory { IsErrOf result ReadHeaderFault.OutOfMemory
             → (sealed : Sealed (store_of self.now.files) number)
             → vec_capacity header.old < sealed.mark.header }
+        ensures capacity { vec_capacity header.old ≤ vec_capacity header.new }
         ensures reads { Reads D.Disk (IsErrOf result ReadHeaderFault.Disk) disk.old disk.new }
     {
         let place = self.place_of(number).unwrap();

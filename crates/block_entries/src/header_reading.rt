@@ -32,6 +32,7 @@ pub fn read_header<D: Disk, R: BlockReader<D>>(
     ensures header { OnOk result (IsTold (D.content disk.old)
         → IsSealedHeader (sealed_octets (D.content disk.old) table.now file.now) header.new.items) }
     ensures memory { IsErrOf result ReadHeaderFault.OutOfMemory → vec_capacity header.old < file.now.header_len }
+    ensures capacity { vec_capacity header.old ≤ vec_capacity header.new }
     ensures reads { Reads D.Disk (IsErrOf result ReadHeaderFault.Disk) disk.old disk.new }
 {
     make_room(header, file.header_len)?;
@@ -43,6 +44,7 @@ pub fn read_header<D: Disk, R: BlockReader<D>>(
 fn make_room(header: &mut Vec<u8>, len: u32) -> Result<(), OutOfMemory>
     ensures len { OnOk result (length header.new.items ≡ len) }
     ensures full { OnErr result (vec_capacity header.old < len) }
+    ensures capacity { vec_capacity header.old ≤ vec_capacity header.new }
 {
     header.clear();
     header.resize(len as usize, 0)?;

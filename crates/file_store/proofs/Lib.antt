@@ -1,6 +1,7 @@
 mod DoesLemmas
 mod EndLemmas
 mod HoldLemmas
+mod OnLemmas
 pub mod Offered
 mod ReceiptLemmas
 mod RecoveryLemmas

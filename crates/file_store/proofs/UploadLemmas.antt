@@ -41,8 +41,8 @@ last-of : (number : ℕ) (rest : List ℕ) (command : Command) → number_of com
 last-of number [] command is = (is, tt)
 last-of number (octet ∷ octets) command is = (refl, (is, tt))
 
-pub sealing-of : (self : StoreState) (number moment : ℕ) → AreOf number (sealing_of self number moment)
-sealing-of self number moment = last-of number _ _ (ending-of number moment _)
+pub sealing-of : (store : Store) (self : StoreState) (number moment : ℕ) → AreOf number (sealing_of store self number moment)
+sealing-of store self number moment = last-of number _ _ (ending-of number moment _)
 
 pub take-of : (count number : ℕ) (commands : List Command) → AreOf number commands → AreOf number (take count commands)
 take-of zero number commands are = tt
@@ -88,7 +88,7 @@ module _ {D : Type 0} (g : Ghosts D) (b : Bool) (old new : StoreState) (disk dis
     (does : Does g (b ≡ true) old new disk disk_now commands) where
   does-entries : KeepsEntries (store_in old) (store_in new) up.number
   does-entries other entry ne found =
-      let first = Does-first g b old new disk disk_now commands does in
+      let first = Does-first g b old new disk disk_now commands (inl refl) does in
       ap (λ (s : Store). entry_of s other) first.1 ∙ others-after (take first.0 commands) (store_in old) up.number other entry (take-of first.0 up.number commands are) ne found
 
   pub does-keeps : KeepsRests old.files new.files up.number → KeepsOtherFiles g old new disk_now up.number
