@@ -7,7 +7,6 @@ pub mod KeptLaws
 pub mod Laws
 pub mod Outlined
 pub mod Placed
-pub mod Outlined
 pub mod PlacedCommand
 pub mod PlacedCommands
 pub mod PlacedFiles
