@@ -7,7 +7,7 @@ use Rattle.ftl0_packets.specs.Layout.{Item, PacketValue}
 use Rattle.ftl0_packets.specs.declared.packet.Malformed.{Malformed}
 use Rattle.ftl0_session.specs.Lists.Lists.{CallerList}
 use Rattle.file_store.specs.Store.{Store}
-use Rattle.file_store.specs.State.{StoreState, store_in}
+use Rattle.file_store.specs.State.{StoreState}
 use Rattle.ftl0_session.specs.declared.uploads.phase.Phase.{Phase}
 use Rattle.ftl0_session.specs.declared.uploads.phase.Phase.TheVariants as phase
 use Rattle.ftl0_session.specs.Uploads.Session as upload
@@ -64,18 +64,18 @@ none-beside caller moment store (download.sending number place last) item fails 
 none-beside caller moment store download.waiting item fails busy = refl
 none-beside caller moment store (download.listing dues) item fails busy = refl
 
-none-busy : (caller : CallSign) (moment : ℕ) (files : StoreState) (here : Phase) (part : DownloadState) (item : Item) (fails : Bool) → DoesOne here part → (part ≡ ready → ⊥)
-    → upload_row caller moment (store_in files) (state_by (state_of files here) part) item fails ≡ None
-none-busy caller moment files phase.Command part item fails one busy = none-beside caller moment (store_in files) part item fails busy
-none-busy caller moment files (phase.Receiving up) part item fails one busy = absurd (busy one)
-none-busy caller moment files phase.Aborting part item fails one busy = absurd (busy one)
+none-busy : (caller : CallSign) (moment : ℕ) (store : Store) (files : StoreState) (here : Phase) (part : DownloadState) (item : Item) (fails : Bool) → DoesOne here part → (part ≡ ready → ⊥)
+    → upload_row caller moment store (state_by (state_of files here) part) item fails ≡ None
+none-busy caller moment store files phase.Command part item fails one busy = none-beside caller moment store part item fails busy
+none-busy caller moment store files (phase.Receiving up) part item fails one busy = absurd (busy one)
+none-busy caller moment store files phase.Aborting part item fails one busy = absurd (busy one)
 
 -- a packet that isn't of uploading, or comes while something is done of downloading, whether a read fails or none does
-pub upload-other : (caller : CallSign) (moment : ℕ) (files : StoreState) (here : Phase) (part : DownloadState) (item : Item) (of_uploading : Bool) → DoesOne here part
+pub upload-other : (caller : CallSign) (moment : ℕ) (store : Store) (files : StoreState) (here : Phase) (part : DownloadState) (item : Item) (of_uploading : Bool) → DoesOne here part
     → of_uploading ≡ is_upload_kind (kind_of_item item) → (of_uploading ≡ true → part ≡ ready → ⊥)
-    → (fails : Bool) → upload_row caller moment (store_in files) (state_by (state_of files here) part) item fails ≡ None
-upload-other caller moment files here part item true one kind other fails = none-busy caller moment files here part item fails one (other refl)
-upload-other caller moment files here part item false one kind other fails = none-in caller moment (store_in files) (state_by (state_of files here) part) item fails (sym kind)
+    → (fails : Bool) → upload_row caller moment store (state_by (state_of files here) part) item fails ≡ None
+upload-other caller moment store files here part item true one kind other fails = none-busy caller moment store files here part item fails one (other refl)
+upload-other caller moment store files here part item false one kind other fails = none-in caller moment store (state_by (state_of files here) part) item fails (sym kind)
 
 -- ---- rows of downloading
 
@@ -96,20 +96,20 @@ download-malformed caller store lists waiting malformed fails = refl
 download-malformed caller store lists (listing dues) malformed fails = refl
 
 -- while a file is received, or the end of one is waited for, there is none
-pub download-busy : (caller : CallSign) (files : StoreState) (lists : List CallerList) (here : Phase) (part : DownloadState) (packet : PacketValue) (fails : Bool) → (here ≡ phase.Command → ⊥)
-    → download_row caller (store_in files) lists (state_by (state_of files here) part) (Ok packet) fails ≡ None
-download-busy caller files lists phase.Command part packet fails busy = absurd (busy refl)
-download-busy caller files lists (phase.Receiving up) part packet fails busy = refl
-download-busy caller files lists phase.Aborting part packet fails busy = refl
+pub download-busy : (caller : CallSign) (store : Store) (files : StoreState) (lists : List CallerList) (here : Phase) (part : DownloadState) (packet : PacketValue) (fails : Bool) → (here ≡ phase.Command → ⊥)
+    → download_row caller store lists (state_by (state_of files here) part) (Ok packet) fails ≡ None
+download-busy caller store files lists phase.Command part packet fails busy = absurd (busy refl)
+download-busy caller store files lists (phase.Receiving up) part packet fails busy = refl
+download-busy caller store files lists phase.Aborting part packet fails busy = refl
 
 -- so where there is one the session waits for a command as far as uploading goes
-pub download-command : (caller : CallSign) (files : StoreState) (lists : List CallerList) (here : Phase) (part : DownloadState) (item : Item) (fails : Bool) (row : DownloadRow)
-    → download_row caller (store_in files) lists (state_by (state_of files here) part) item fails ≡ Some row → here ≡ phase.Command
-download-command caller files lists phase.Command part item fails row is = refl
-download-command caller files lists (phase.Receiving up) part (Ok packet) fails row is = absurd (cc)
-download-command caller files lists (phase.Receiving up) part (Err malformed) fails row is = absurd (cc)
-download-command caller files lists phase.Aborting part (Ok packet) fails row is = absurd (cc)
-download-command caller files lists phase.Aborting part (Err malformed) fails row is = absurd (cc)
+pub download-command : (caller : CallSign) (store : Store) (files : StoreState) (lists : List CallerList) (here : Phase) (part : DownloadState) (item : Item) (fails : Bool) (row : DownloadRow)
+    → download_row caller store lists (state_by (state_of files here) part) item fails ≡ Some row → here ≡ phase.Command
+download-command caller store files lists phase.Command part item fails row is = refl
+download-command caller store files lists (phase.Receiving up) part (Ok packet) fails row is = absurd (cc)
+download-command caller store files lists (phase.Receiving up) part (Err malformed) fails row is = absurd (cc)
+download-command caller store files lists phase.Aborting part (Ok packet) fails row is = absurd (cc)
+download-command caller store files lists phase.Aborting part (Err malformed) fails row is = absurd (cc)
 
 -- ---- the row of the whole table
 
