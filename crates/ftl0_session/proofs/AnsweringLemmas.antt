@@ -157,16 +157,16 @@ module _ (caller : CallSign) (start : Session) (event : Heard) where
 
 -- ---- how much is left
 
-left-some : (store : Store) (state : DownloadState) → is_due state ≡ true → octets_left store state ≡ suc (length (octets_due store state))
+pub left-some : (store : Store) (state : DownloadState) → is_due state ≡ true → octets_left store state ≡ suc (length (octets_due store state))
 left-some store state is = ap (λ (b : Bool). if b then suc (length (octets_due store state)) else 0) is
 
-left-end : (store : Store) (state : DownloadState) → octets_left store (state_at_end state) ≡ 0
+pub left-end : (store : Store) (state : DownloadState) → octets_left store (state_at_end state) ≡ 0
 left-end store ready = refl
 left-end store (sending number place last) = refl
 left-end store waiting = refl
 left-end store (listing dues) = refl
 
-left-after : (store : Store) (state : DownloadState) → is_due state ≡ true → IsDueIn store state → (length (octets_due store state) == 0) ≡ false
+pub left-after : (store : Store) (state : DownloadState) → is_due state ≡ true → IsDueIn store state → (length (octets_due store state) == 0) ≡ false
     → octets_left store (state_after 254 state) < suc (length (octets_due store state))
 left-after store state is lies test =
     let some : 0 < length (octets_due store state) = grind (arith, nat_tests, test) in

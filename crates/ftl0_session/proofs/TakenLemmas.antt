@@ -46,19 +46,19 @@ is_some_at : {A : Type 0} {o : Option A} (P : A → Type 0) (x : A) → o ≡ So
 is_some_at P x is holds = subst (λ o. IsSomeAnd o P) is holds
 
 -- what a row without commands gives
-record GivesStill (row : Row) (fails : Bool) (lists : List CallerList) (state : State) (replies : List ℕ) : Type 0 where
+record GivesStill (row : Row) (fails : Bool) (lists_now : List CallerList) (next : State) (replies : List ℕ) : Type 0 where
   none : row.commands ≡ []
-  lists : lists ≡ row.lists
-  state : state ≡ row.state
+  lists_are : lists_now ≡ row.lists
+  state_is : next ≡ row.state
   text : replies ≡ texts row.replies
   told : fails ≡ true → row.replies ≡ dl_error_resp 3 ∷ []
 
-gives-still : (row : Row) (fails : Bool) (lists : List CallerList) (state : State) (replies : List ℕ) (given : Row) → row ≡ given → given.commands ≡ [] → lists ≡ given.lists → state ≡ given.state
-    → replies ≡ texts given.replies → (fails ≡ true → given.replies ≡ dl_error_resp 3 ∷ []) → GivesStill row fails lists state replies
-gives-still row fails lists state replies given is none lists_are state_is text told = record {
+gives-still : (row : Row) (fails : Bool) (lists_now : List CallerList) (next : State) (replies : List ℕ) (given : Row) → row ≡ given → given.commands ≡ [] → lists_now ≡ given.lists → next ≡ given.state
+    → replies ≡ texts given.replies → (fails ≡ true → given.replies ≡ dl_error_resp 3 ∷ []) → GivesStill row fails lists_now next replies
+gives-still row fails lists_now next replies given is none lists_are state_is text told = record {
   none = ap (λ (r : Row). r.commands) is ∙ none;
-  lists = lists_are ∙ sym (ap (λ (r : Row). r.lists) is);
-  state = state_is ∙ sym (ap (λ (r : Row). r.state) is);
+  lists_are = lists_are ∙ sym (ap (λ (r : Row). r.lists) is);
+  state_is = state_is ∙ sym (ap (λ (r : Row). r.state) is);
   text = text ∙ sym (ap (λ (r : Row). texts r.replies) is);
   told = λ failed. ap (λ (r : Row). r.replies) is ∙ told failed;
 }
@@ -92,8 +92,8 @@ module _ {D : Type 0} (g : Ghosts D) where
           answers = λ known.
               let row = gives known in (
                 subst (λ (cs : List Command). DoesAll (store_on g store disk) (store_on g store disk_now) cs) (sym row.none) (tt, on_same g store disk disk_now reads.only.same_content),
-                row.lists,
-                row.state,
+                row.lists_are,
+                row.state_is,
                 row.text,
               );
           on_disk = λ known. among-at g ⊥ (one_if fails) store store disk disk_now [] _ (sym (gives known).none) does;

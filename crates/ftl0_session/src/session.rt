@@ -6,7 +6,7 @@ ghost use Rattle.ftl0_packets.specs.Items.{kind_of_item};
 ghost use Rattle.ftl0_packets.specs.Layout.{packet_text};
 ghost use Rattle.ftl0_packets.specs.Values.{item_of};
 ghost use Rattle.ftl0_session.specs.Lists.Lists.{has_left};
-ghost use Rattle.file_store.specs.State.{store_on};
+ghost use Rattle.file_store.specs.State.{store_in, store_on};
 ghost use Rattle.ftl0_session.specs.Uploads.Others.{KeepsOtherCallers};
 ghost use Rattle.ftl0_session.specs.Uploads.Session.{is_upload_kind};
 ghost use Rattle.ftl0_session.specs.Uploads.SessionState.{IsHeld, IsOnlyOut, NoOtherOut, Parks};
@@ -15,7 +15,8 @@ ghost use Rattle.ftl0_session.specs.Downloads.Table.{ready};
 ghost use Rattle.ftl0_session.specs.Filling.{PutsDue};
 ghost use Rattle.ftl0_session.specs.SessionState.{DoesOne, MayTake, caller_of, new_session, session_of, state_in};
 ghost use Rattle.ftl0_session.specs.SessionState.{working_on};
-ghost use Rattle.ftl0_session.specs.Table.{error_by, flags, greeting};
+ghost use Rattle.ftl0_session.specs.Downloads.Sending.{is_due, octets_left};
+ghost use Rattle.ftl0_session.specs.Table.{download_part, error_by, flags, greeting};
 ghost use Rattle.ftl0_session.specs.Taking.{Taken, TakenOver, TakesDownload, lent};
 ghost use Rattle.ftl0_session.specs.Downloads.Filling.{filled};
 ghost use Rattle.ftl0_session.specs.Uploads.Events.{packet_of};
@@ -136,7 +137,10 @@ impl Session {
         ensures puts { PutsDue D.Disk (store_on D.Disk store.old disk.old)
             (filled disk.old (state_in store.old self.old) out.old.items)
             (filled disk.new (state_in store.new self.new) out.new.items) result }
+        ensures due { result ≡ is_due (download_part (state_in store.old self.old)) }
         ensures some { result ≡ true → 0 < length out.new.items }
+        ensures fewer { result ≡ true → octets_left (store_in store.old) (download_part (state_in store.old self.new))
+            < octets_left (store_in store.old) (download_part (state_in store.old self.old)) }
         ensures uploads { self.new.uploads ≡ self.old.uploads }
         ensures store { store.new ≡ store.old }
         ensures may { MaySend D.Disk store.new disk.new self.new.downloads }

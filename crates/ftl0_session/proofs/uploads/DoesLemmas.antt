@@ -144,4 +144,4 @@ module _ {D : Type 0} (g : Ghosts D) (packet : CallerPacket) (state : State) (be
 -- a list with one at its end isn't empty
 pub some-at_end : (commands : List Command) (last : Command) → commands ++ last ∷ [] ≡ [] → ⊥
 some-at_end [] last none = cc
-some-at_end (command ∷ commands) last none = cc
+some-at_end (first ∷ commands) last none = cc

@@ -1,6 +1,6 @@
 //! Downloads, directories and selections of one session: what each packet gives, and what is sent next.
 
-ghost use Rattle.std.specs.Prelude.{◌≡◌, ◌↔◌, ◌<◌, ◌≤◌, [], length, take as front, IfNone, IfOk, IfSome, IsErr};
+ghost use Rattle.std.specs.Prelude.{◌≡◌, ◌↔◌, ◌<◌, ◌≤◌, [], length, min, take as front, IfNone, IfOk, IfSome, IsErr};
 ghost use Rattle.std.specs.Prelude.{IsErrOf, IsTrue, OnErr};
 ghost use Rattle.std.specs.Prelude.{OnOk, Some, false, true};
 ghost use Rattle.std.specs.List.{list_all};
@@ -8,15 +8,14 @@ ghost use Rattle.std.specs.Option.{ForSome, option_map};
 ghost use Rattle.ftl0_packets.specs.Layout.{dl_error_resp, information, packet_text};
 ghost use Rattle.ftl0_packets.specs.Values.{value_of};
 ghost use Rattle.file_store.specs.Reads.{OnlyReads};
-ghost use Rattle.file_store.specs.Outlined.{IsStoreLike};
 ghost use Rattle.file_store.specs.State.{IsKnown, IsReady, store_in, store_on};
-ghost use Rattle.file_store.specs.Store.{Store};
 ghost use Rattle.selection.specs.Values.{tree_of};
 ghost use Rattle.ftl0_session.specs.Lists.Lists.{left_of};
 ghost use Rattle.ftl0_session.specs.Downloads.Filling.{PutsDue, filled};
 ghost use Rattle.ftl0_session.specs.Downloads.Needs.{AreComplete, IsDueIn, KeepsFiles, LiesIn, MayCommand, MayList};
 ghost use Rattle.ftl0_session.specs.Downloads.Needs.{MaySend, MayTake};
 ghost use Rattle.ftl0_session.specs.Downloads.Sending.{is_due as is_due_in, is_read, most_data, octets_due};
+ghost use Rattle.ftl0_session.specs.Downloads.Sending.{octets_left};
 ghost use Rattle.ftl0_session.specs.Downloads.Sending.{state_after, state_at_end};
 ghost use Rattle.ftl0_session.specs.Downloads.Table.{asked_file, directory_row, download_cmd_row, file_of, has_file};
 ghost use Rattle.ftl0_session.specs.Downloads.Table.{download_row, listed_files};
@@ -173,7 +172,10 @@ impl Downloads {
         requires { MaySend D.Disk store.old disk.old self.old }
         ensures puts { PutsDue D.Disk (store_on D.Disk store.old disk.old) (filled disk.old self.old out.old.items)
             (filled disk.new self.new out.new.items) result }
+        ensures due { result ≡ is_due_in self.old }
         ensures some { result ≡ true → 0 < length out.new.items }
+        ensures fewer { result ≡ true → octets_left (store_in store.old) self.new
+            < octets_left (store_in store.old) self.old }
         ensures store { store.new ≡ store.old }
         ensures may { MaySend D.Disk store.new disk.new self.new }
     {
@@ -224,6 +226,8 @@ impl Downloads {
         requires empty { part.old.items ≡ [] }
         ensures octets { OnOk result (IsKnown D.Disk disk.old
             → part.new.items ≡ front most_data (octets_due (store_on D.Disk store.old disk.old) self.old)) }
+        ensures count { OnOk result
+            (length part.new.items ≡ min most_data (length (octets_due (store_in store.old) self.old))) }
         ensures state { OnOk result (self.new ≡ state_after most_data self.old) }
         ensures some { OnErr result (0 < length (octets_due (store_in store.old) self.old)) }
         ensures read { OnErr result (IsTrue (is_read self.old)) }
@@ -294,9 +298,8 @@ impl Downloads {
     )
         requires ready { self.old ≡ ready }
         requires complete { AreComplete (store_in store.now) lists.old }
-        ensures row { (files : Store) → IsStoreLike (store_in store.now) files
-            → made self.new lists.new replies.new.items ≡ made_by
-            (download_cmd_row caller files lists.old number offset lock) }
+        ensures row { made self.new lists.new replies.new.items ≡ made_by
+            (download_cmd_row caller (store_in store.now) lists.old number offset lock) }
         ensures due { IsDueIn (store_in store.now) self.new }
         ensures complete { AreComplete (store_in store.now) lists.new }
     {
@@ -339,7 +342,7 @@ impl Downloads {
                 take_numbers(number, numbers.len(), caller, lists);
                 replies.clear();
             }
-            Err(HeaderFault::Disk | HeaderFault::NoHeader) => refuse(FILE_SYSTEM, replies),
+            Err(_fault) => refuse(FILE_SYSTEM, replies),
         }
     }
 
@@ -423,8 +426,8 @@ fn asked_span(
     store: &FileStore,
     lists: &Lists,
 ) -> Result<Span, u8>
-    ensures row { (files : Store) → IsStoreLike (store_in store.now) files
-        → download_cmd_row caller files lists.now number offset lock ≡ answer_row caller lists.now number result }
+    ensures row { download_cmd_row caller (store_in store.now) lists.now number offset lock
+        ≡ answer_row caller lists.now number result }
     ensures within { IfOk result (λ span. LiesIn (store_in store.now) span.number span.place span.last) }
     ensures left { OnOk result (number ≡ 0 → 1 ≤ length (left_of lists.now caller)) }
 {
@@ -526,7 +529,7 @@ fn select<D: Disk>(
             lists.select(caller, &numbers);
             write_packet(&Packet::SelectResp(numbers.len() as u16), replies);
         }
-        Err(HeaderFault::Disk | HeaderFault::NoHeader) => refuse(FILE_SYSTEM, replies),
+        Err(_fault) => refuse(FILE_SYSTEM, replies),
     }
 }
 

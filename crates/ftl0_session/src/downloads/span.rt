@@ -78,6 +78,8 @@ pub(crate) fn read_spans<D: Disk>(
     requires empty { part.old.items ≡ [] }
     ensures octets { OnOk result (IsKnown D.Disk disk.old → part.new.items
         ≡ take most_data (joined (store_on D.Disk store.old disk.old) (map due_of spans.now))) }
+    ensures count { OnOk result
+        (length part.new.items ≡ min most_data (length (joined (store_in store.old) (map due_of spans.now)))) }
     ensures left { IfOk result (λ left. map due_of left.items ≡ after_octets most_data (map due_of spans.now)) }
     ensures some { OnErr result (0 < length (joined (store_in store.old) (map due_of spans.now))) }
     ensures reads { OnlyReads D.Disk (IsErr result) store.old store.new disk.old disk.new }

@@ -18,7 +18,7 @@ returns-in-Upload g c = λ item is.
 
 pub returns-in_default : goal.returns-in_default
 returns-in_default g c = λ item is.
-    let row = λ files. error-command c.args.caller c.args.moment files item _ c.in_default.not-Upload is in
     answered-alone g.D.Disk (packet_of c.args.caller c.args.moment item) command c.args.store.now c.args.disk.now c.args.store.now _ _ c.requires.ready
     (g.met.D.Disk.lasts_same c.args.disk.now)
-    (alone-refused c.args.caller c.args.moment command item c.args.store.now phase.Command 1 _ _ row refl c.refuse.ensures.taken c.refuse.ensures.text tt c.requires.only)
+    (alone-refused c.args.caller c.args.moment command item c.args.store.now phase.Command 1 _ _
+    (λ files. error-command c.args.caller c.args.moment files item _ c.in_default.not-Upload is) refl c.refuse.ensures.taken c.refuse.ensures.text tt c.requires.only)

@@ -5,6 +5,7 @@ use Rattle.pfh_items.specs.Faults.{fault_code}
 use Rattle.ftl0_packets.specs.Layout.{Item, data_end, ul_nak_resp}
 use Rattle.file_store.specs.Command.{Command, last_grow}
 use Rattle.file_store.specs.EntriesKept.{KeepsComplete}
+use Rattle.file_store.specs.Files.{KeepsRests}
 use Rattle.file_store.specs.Kept.{ChangesEntry}
 use Rattle.file_store.specs.State.{store_in, store_on}
 use Rattle.file_store.specs.Store.{Store}
@@ -137,7 +138,7 @@ returns-in-Err-Read g c =
     let commands : List Command = last_grow a.up.number (waiting store a.up) in
     let same : store_in now ≡ store_in mid = in_parked mid now parks.store in
     let entries = subst (λ (s : Store). ChangesEntry (store_in store) s a.up.number) (sym same) keeps.entries in
-    let rests = λ other ne. parks.others other ne ∙ keeps.rests other ne in
+    let rests : KeepsRests store.files now.files a.up.number = λ other ne. parks.others other ne ∙ keeps.rests other ne in
     record {
       takes =
           takes-among g.D.Disk (packet_of caller a.moment (Ok data_end)) (receiving_of store a.up) store disk command now disk_now _ _ true commands (λ e. cc e) puts misses
