@@ -36,6 +36,7 @@ use Rattle.ftl0_server.specs.Server.{Server, becoming, heard_at, hearing_at, hea
 use Rattle.ftl0_server.specs.ServerState.{AllPlaces, IsServer, SaysAs, SendsAs, SendsFor, ServerState, any_pending, has_caller, is_empty_place, place_pending}
 use Rattle.ftl0_server.specs.Slots.{Slot, connected, first_empty, is_callers, place_of, slot_after}
 use Rattle.ftl0_server.proofs.AllPlaces.{all-both, all-get, all-set, all-to, never, same-position}
+use Rattle.ftl0_server.proofs.connection.HearLemmas.{gives-nothing, nothing-done as does-nothing}
 use Rattle.ftl0_server.proofs.NextLemmas.{none_first}
 use Rattle.ftl0_server.proofs.TickLemmas.{all-works, own-only}
 
@@ -161,7 +162,8 @@ module _ {D : Type 0} (g : Ghosts D) (old new : ServerState) (server : Server) (
 module _ {D : Type 0} (g : Ghosts D) (old new : ServerState) (settled : IsSettled old.me old.k old.store old.places) (frame : FrameValue) (moment : ℕ) (disk : D)
     (found : position (has_caller frame.src) old.places ≡ None) (ready : IsReady g old.store disk) (lasts : g.lasts disk disk) (same : SameStore old new) where
   nothing-done : DoesAmongReads g ⊥ 0 old.store new.store disk disk []
-  nothing-done = grind (arith, common_steps)
+  nothing-done =
+      subst (λ (s : StoreState). DoesAmongReads g ⊥ 0 old.store s disk disk []) (sym same.store) (does-nothing g old.store old.store disk ready lasts (gives-nothing old.store))
 
   module _ (server : Server) (is : IsServer (store_on g old.store disk) old server) where
     stranger-by : (result : Result ⊤ Stop) → HearsStranger (λ s. hearing_stranger s frame moment) old new result
