@@ -1,5 +1,5 @@
 -- The files that a session or a server acknowledges in a run, and from which moment of its disk on each of them stands.
-use Rattle.std.specs.Prelude.{◌≡◌, ◌⊎◌, ℕ, ◌+◌, ◌≤◌, List, [], ◌∷◌, ◌++◌, length, slice_get, slice_index, Bool}
+use Rattle.std.specs.Prelude.{◌≡◌, ◌⊎◌, ℕ, ◌+◌, ◌≤◌, List, [], ◌∷◌, ◌++◌, length, slice_get, slice_index}
 use Rattle.std.specs.Prelude.{false, None, Some, IfSome, Result, Ok}
 use Rattle.px_base.specs.CallSign.{CallSign}
 use Rattle.px_base.specs.Octets.{IsFront}
@@ -38,8 +38,8 @@ use Rattle.server_node.specs.declared.terms.Served.{Served}
 use Rattle.server_node.specs.declared.terms.ServerTerms.{ServerTerms}
 use Rattle.server_node.specs.declared.terms.SessionTerms.{SessionTerms}
 
--- DATA_END of a file: whose upload it is, which commands were done before, over which store and lists it comes, when it
--- comes, the file's number, and the last of its octets, which aren't held yet.
+-- DATA_END of a file at which no read of the disk fails: whose upload it is, which commands were done before, over
+-- which store and lists it comes, when it comes, the file's number, and the last of its octets, which aren't held yet.
 pub record FileEnd : Type 0 where
   pub caller : CallSign
   pub before : List Command
@@ -49,7 +49,7 @@ pub record FileEnd : Type 0 where
   pub number : ℕ
   pub rest : List ℕ
 
--- its row of the session's table where no read fails
+-- its row of the session's table
 abbrev pub row_of_end : FileEnd → Row
 row_of_end file =
     session_row file.caller file.moment file.store file.lists (receiving file.number file.rest) (Ok data_end) false
