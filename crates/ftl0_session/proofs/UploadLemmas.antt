@@ -23,8 +23,8 @@ use Rattle.ftl0_session.specs.Uploads.Taking.{IsStopped as IsUploadStopped, Make
 use Rattle.ftl0_session.specs.Downloads.Needs.{AreComplete}
 use Rattle.ftl0_session.specs.Downloads.Table.{ready}
 use Rattle.ftl0_session.specs.SessionState.{session_of, working_on}
-use Rattle.ftl0_session.specs.Table.{Row, State, by_upload, state_by, takes_memory}
-use Rattle.ftl0_session.specs.Taking.{Answers, IsStopped, PutsRow, Taken, TakesPacket, TellsRead, Working, at_work, packet_row}
+use Rattle.ftl0_session.specs.Table.{Row, by_upload, state_by, takes_memory}
+use Rattle.ftl0_session.specs.Taking.{Answers, IsStopped, PutsRow, Taken, TakesPacket, TellsRead, Working, packet_row}
 use Rattle.ftl0_session.proofs.RowLemmas.{row-upload, upload-free, upload_part-free}
 
 -- what a session of uploading works on, in a whole session with these lists

@@ -4,7 +4,7 @@ use Rattle.std.specs.Prelude.{⊤, Result, Ok, Err, if◌then◌else◌}
 use Rattle.std.specs.List.{list_any}
 use Rattle.std.specs.Option.{option_map}
 use Rattle.std.proofs.Math.Bool.{and-false, and-true, or-false}
-use Rattle.std.proofs.Math.Nat.{add-zero, add_assoc, zero-add}
+use Rattle.std.proofs.Math.Nat.{add_assoc, zero-add}
 use Rattle.std.proofs.lemmas.List.Folds.{list_any-append}
 use Rattle.px_base.specs.CallSign.{CallSign}
 use Rattle.disk_model.specs.declared.disk.Disk.{Ghosts}

@@ -104,9 +104,9 @@ impl Session {
     ) -> Result<(), Halt>
         requires { MayTake D.Disk store.old disk.old lists.old self.old }
 
-        // Where it is known what the store's files hold, the answer is the packet's row for the reads that were made, and
-        // the row's commands are on the disk; or a write or a sync failed in one of them. It leaves what the next packet
-        // needs.
+        // Where it is known what the store's files hold, the answer is the packet's row for the reads that were made,
+        // and the row's commands are on the disk; or a write or a sync failed in one of them. It leaves what the next
+        // packet needs.
         ensures { Taken D.Disk (packet_of (caller_of self.old) moment (item_of packet.entry)) self.old self.new
             (working_on store.old lists.old disk.old) (working_on store.new lists.new disk.new) replies.new.items
             result }
@@ -138,6 +138,8 @@ impl Session {
             (filled disk.old (state_in store.old self.old) out.old.items)
             (filled disk.new (state_in store.new self.new) out.new.items) result }
         ensures due { result ≡ is_due (download_part (state_in store.old self.old)) }
+        ensures none { result ≡ false → (self.new ≡ self.old) × (disk.new ≡ disk.old)
+            × (out.new.items ≡ out.old.items) }
         ensures some { result ≡ true → 0 < length out.new.items }
         ensures fewer { result ≡ true → octets_left (store_in store.old) (download_part (state_in store.old self.new))
             < octets_left (store_in store.old) (download_part (state_in store.old self.old)) }

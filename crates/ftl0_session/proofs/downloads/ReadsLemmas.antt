@@ -1,5 +1,5 @@
 -- Reads of a disk, one after another.
-use Rattle.std.proofs.Common.{◌≡◌, ℕ, List, true, false, Option, Result, Ok, Err, OnErr, refl, ap, sym, ◌∙◌, subst}
+use Rattle.std.proofs.Common.{◌≡◌, ℕ, List, Option, Result, Ok, Err, OnErr, refl, ap, sym, ◌∙◌, subst}
 use Rattle.disk_model.specs.declared.disk.Disk.{Ghosts}
 use Rattle.file_store.specs.Reads.{OnlyReads}
 use Rattle.file_store.specs.Calls.{TellsAlike}

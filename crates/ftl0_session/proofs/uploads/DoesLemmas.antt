@@ -1,10 +1,9 @@
 -- What a packet does to the store's disk.
 use Rattle.std.proofs.Common.{◌≡◌, ℕ, List, [], ◌∷◌, ◌++◌, refl, sym, ◌∙◌, subst, inl, arith, Bool, true, false, true≢false, Option, Some}
-use Rattle.std.specs.Prelude.{⊤, Result, Ok, Err, IsErrOf, IsTrue}
+use Rattle.std.specs.Prelude.{⊤, Result, Ok, Err, IsTrue}
 use Rattle.disk_model.specs.declared.disk.Disk.{Ghosts}
 use Rattle.ftl0_packets.specs.Items.{texts}
 use Rattle.ftl0_packets.specs.Layout.{ul_nak_resp}
-use Rattle.file_store.specs.Files.{store_of}
 use Rattle.file_store.proofs.Offered.{Does-moved, Does-none, Does-same, does-among, in_parked, on_like, puts_none, puts-among, puts-among-same, stands_parked}
 use Rattle.file_store.specs.Command.{Command, DoesAll}
 use Rattle.file_store.specs.EntriesKept.{KeepsComplete}

@@ -7,7 +7,7 @@ use Rattle.pfh_items.specs.Faults.{fault_code}
 use Rattle.ftl0_packets.specs.Items.{texts}
 use Rattle.ftl0_packets.specs.Layout.{Item, data_end, data_part, ul_nak_resp}
 use Rattle.file_store.specs.Answers.{IsShort, IsTooMuch}
-use Rattle.file_store.specs.Command.{drop_entry, last_grow, seal}
+use Rattle.file_store.specs.Command.{last_grow}
 use Rattle.file_store.specs.Files.{ChangesRest, octets_or_none}
 use Rattle.file_store.specs.Kept.{KeepsOthers}
 use Rattle.file_store.specs.Outlined.{IsStoreLike}

@@ -1,5 +1,5 @@
 -- What a call on one upload leaves of the other entries.
-use Rattle.std.proofs.Common.{◌≡◌, ◌≢◌, ℕ, refl, ap, sym, ◌∙◌, subst, None, Some, inl, inr}
+use Rattle.std.proofs.Common.{◌≡◌, ℕ, ap, sym, ◌∙◌, subst, None, Some, inl, inr}
 use Rattle.std.proofs.lemmas.Bool.Decides.{eqb_tells}
 use Rattle.px_base.specs.CallSign.{CallSign}
 use Rattle.file_store.specs.Files.{KeepsRests}

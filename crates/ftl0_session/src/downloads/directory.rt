@@ -79,11 +79,7 @@ pub(crate) fn read_spans_of_headers<D: Disk>(
 }
 
 /// Reads the header of a complete file, and gives where it lies.
-fn read_span<D: Disk>(
-    disk: &mut D,
-    store: &mut FileStore,
-    number: u32,
-) -> Result<Span, HeaderFault>
+fn read_span<D: Disk>(disk: &mut D, store: &mut FileStore, number: u32) -> Result<Span, HeaderFault>
     requires { MayRead D.Disk store.old disk.old number }
     ensures span { IfOk result (λ span. IsKnown D.Disk disk.old
         → due_of span ≡ header_due (store_on D.Disk store.old disk.old) number) }

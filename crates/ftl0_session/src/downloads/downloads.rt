@@ -173,6 +173,8 @@ impl Downloads {
         ensures puts { PutsDue D.Disk (store_on D.Disk store.old disk.old) (filled disk.old self.old out.old.items)
             (filled disk.new self.new out.new.items) result }
         ensures due { result ≡ is_due_in self.old }
+        ensures none { result ≡ false → (self.new ≡ self.old) × (disk.new ≡ disk.old)
+            × (out.new.items ≡ out.old.items) }
         ensures some { result ≡ true → 0 < length out.new.items }
         ensures fewer { result ≡ true → octets_left (store_in store.old) self.new
             < octets_left (store_in store.old) self.old }

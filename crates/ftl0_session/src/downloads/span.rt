@@ -1,6 +1,7 @@
 //! Octets of complete files that are still to be sent.
 
-ghost use Rattle.std.specs.Prelude.{◌≡◌, ◌+◌, ◌-◌, ◌<◌, ◌≤◌, ◌++◌, [], length, map, min, take, IfOk, IsErr, OnErr, OnOk};
+ghost use Rattle.std.specs.Prelude.{◌≡◌, ◌+◌, ◌-◌, ◌<◌, ◌≤◌, ◌++◌, [], length, map, min, take, IfOk, IsErr, OnErr};
+ghost use Rattle.std.specs.Prelude.{OnOk};
 ghost use Rattle.file_store.specs.Reads.{OnlyReads};
 ghost use Rattle.file_store.specs.State.{IsKnown, IsReady, store_in, store_on};
 ghost use Rattle.ftl0_session.specs.Downloads.Needs.{AreStored, LiesIn};

@@ -46,8 +46,8 @@ returns-clause-takes g c = record {
     puts = grind (arith, common_steps);
     kept = grind (arith, common_steps);
     healthy = grind (arith, common_steps);
-    stands_on = rw (sym c.self.view_is) (stands_parked g.D.Disk c.self.inside.store c.tick_all.new.store c.args._disk.now c.tick_all.ensures.store.entries c.tick_all.ensures.store.journal
-        (rw (sym c.self.view_is) at c.requires.ready).stands_on);
+    stands_on = stands_parked g.D.Disk c.self.inside.store c.tick_all.new.store c.args._disk.now c.tick_all.ensures.store.entries c.tick_all.ensures.store.journal
+        (rw (sym c.self.view_is) at c.requires.ready).stands_on;
   };
   me = ap (λ (s : ServerState). s.me) c.self.view_is;
 }

@@ -1,5 +1,4 @@
-use Rattle.std.proofs.Common.{◌≡◌, ◌==◌, ◌<◌, ℕ, false, length, ap, sym, ◌∙◌, subst, arith, rules, true, Bool}
-use Rattle.std.proofs.lemmas.Bool.Decides.{nat_tests}
+use Rattle.std.proofs.Common.{◌≡◌, ◌==◌, ◌<◌, false, length, sym, subst, arith, rules, true}
 use Rattle.file_store.specs.State.{StoreState, store_in}
 use Rattle.ftl0_session.specs.Downloads.Needs.{IsDueIn}
 use Rattle.ftl0_session.specs.Downloads.Table.{DownloadState}
