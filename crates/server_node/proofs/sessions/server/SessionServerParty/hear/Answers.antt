@@ -1,5 +1,5 @@
 -- A whole packet is taken, and less than one waits.
-use Rattle.std.proofs.Common.{ap, ◌∙◌}
+use Rattle.std.proofs.Common.{ap, sym, ◌∙◌}
 use Rattle.disk_model.proofs.Writes.{octets_from_fits}
 use Rattle.ftl0_packets.specs.Reading.{under_way}
 use Rattle.ftl0_packets.specs.Values.{item_of}
