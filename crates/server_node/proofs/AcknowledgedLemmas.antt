@@ -47,7 +47,7 @@ use Rattle.ftl0_server.proofs.Offered.{serves}
 use Rattle.node.specs.Events.{NodeEvent}
 use Rattle.node.specs.Lent.{Seen}
 use Rattle.server_node.specs.Acknowledged.{AcknowledgedSince, FileEnd, IsServerServed, IsSessionServed, MeetsEvent, ServerAcknowledgesLaw, ServerTakes, SessionAcknowledgesLaw, TakesPacket, row_of_end, taken_first}
-use Rattle.server_node.specs.OnAir.Served.{ServerRan, server_from}
+use Rattle.server_node.specs.OnAir.Served.{server_from}
 use Rattle.server_node.specs.Served.{IsUnrecovered, Run}
 use Rattle.server_node.specs.Sessions.Running.{IsSaid, RunsAs, StopsAs, first_session, session_steps}
 use Rattle.server_node.specs.Sessions.SessionRan.{IsGreeted, IsUngreeted, SessionRan, login_text}

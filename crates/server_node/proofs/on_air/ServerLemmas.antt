@@ -7,7 +7,7 @@ use Rattle.px_base.specs.Octets.{IsFront}
 use Rattle.disk_model.specs.declared.disk.Disk.{Ghosts}
 use Rattle.ax25_frames.specs.FrameText.{FrameValue, canonical}
 use Rattle.file_store.specs.Command.{Command}
-use Rattle.file_store.specs.State.{IsKnown, IsReady, StoreState, store_in, store_on}
+use Rattle.file_store.specs.State.{IsKnown, IsReady, StoreState, store_on}
 use Rattle.file_store.specs.Working.{CutsOffAmongReads, DoesAmongReads, PutsAmongReads}
 use Rattle.file_store.proofs.Offered.{cuts-among-none, cuts-among-same, known_on, puts-among-same, puts-among-then}
 use Rattle.node.specs.Course.{AtDisk, GaveAll, GivesNext, IsLawful, at, stop_at_put}
@@ -17,7 +17,7 @@ use Rattle.node.specs.declared.stop.NodeStop.{NodeStop}
 use Rattle.ftl0_server.specs.Failures.{failed_reads}
 use Rattle.ftl0_server.specs.Connection.ConnectionState.{with_reads}
 use Rattle.ftl0_server.specs.AtPlace.{KeepsStore}
-use Rattle.ftl0_server.specs.Calls.{HandsOutNext, Hears, HearsBy, HearsEvent}
+use Rattle.ftl0_server.specs.Calls.{HandsOutNext, HearsBy, HearsEvent}
 use Rattle.ftl0_server.specs.Server.{IsSilent, Server, ServerHappened, ServerSends, server_next, settled}
 use Rattle.ftl0_server.specs.ServerState.{IsServer, SendsFor, ServerState, server_pending}
 use Rattle.ftl0_server.specs.ServerStep.{Empties, happening}
@@ -25,7 +25,7 @@ use Rattle.ftl0_server.specs.Serving.{TakesEvent}
 use Rattle.ftl0_server.proofs.Offered.{empties-silent, serves-append, serves-one, silent-settled, uncut}
 use Rattle.server_node.specs.Sessions.Running.{IsSaid}
 use Rattle.server_node.specs.OnAir.Serving.{StopsAt, failing, server_steps, text_of}
-use Rattle.server_node.specs.OnAir.Station.{ComesOn, GoesOver, HaltsOn, HaltsOver, IsOwing, IsServing, IsUp, OwesBy, OwesOver, OwesRest, ServesAt, StandsBy, WholeBy, files_at, server_course, serving_at, with_server}
+use Rattle.server_node.specs.OnAir.Station.{ComesOn, GoesOver, HaltsOn, HaltsOver, IsOwing, IsUp, OwesBy, OwesRest, ServesAt, StandsBy, WholeBy, files_at, server_course, serving_at, with_server}
 use Rattle.server_node.specs.Steps.{made, EndsOver, Made, StopsAlways, StopsBehind}
 use Rattle.server_node.specs.declared.on_air.station.ServerStation.{ServerStation}
 use Rattle.std.proofs.lemmas.List.Concat.{flat_map-append}
@@ -474,16 +474,16 @@ module _ {A C D : Type 0} (seen : Seen D A C) (terms : ServerTerms) (old new : D
         let l : Least = record { earlier = h.earlier; but_last = h.but_last; before = h.before; behind = h.behind; split = h.split; least = h.least; brought = h.brought } in
         elim (known-or-not g old.disk) [
           | inl known ↦ (
-        let comes : ComesOn g server (party_at old) h.least h.first from.0 = goes.comes known server serving in
-        let halts : HaltsOn g comes.next from.0 h.more why took.unsaid h.last (party_at new) = halts_so.halts (known_on g old.disk from.0.disk goes.puts.told known) comes.next comes.serving in
-        let all : Made = made (h.first ++ h.last) (comes.runs.done ++ halts.done) (comes.runs.missed + halts.missed) in
-        let then_is = serving_at comes.next from.0 in let end = at new.party.server.store new.disk in
-        let behind = behind-all server_steps are_steps why took.unsaid g on (serving_at server (party_at old)) then_is end h.least h.more h.first h.last comes.runs halts in
-        did (Err why) all.done halts.cut all.missed ends causes l puts
-        (λ _. subst (λ (t : List ℕ). EndsOver (Err why) h.least server_steps server took.all.events took.unsaid (made t all.done all.missed) halts.cut) (sym h.text_is)
-        (over h.least all halts.cut (subst (λ (es : List NodeEvent). StopsBehind h.least server_steps server es why took.unsaid all halts.cut) (sym h.events_are) behind)))
-        (λ _. disk-stop g why all.missed (store_at (party_at old)) (store_at (party_at new)) all.done halts.cut
-        (cuts-all server_steps are_steps why took.unsaid g on (serving_at server (party_at old)) then_is end h.least h.more h.first h.last comes.runs halts))
+              let comes : ComesOn g server (party_at old) h.least h.first from.0 = goes.comes known server serving in
+              let halts : HaltsOn g comes.next from.0 h.more why took.unsaid h.last (party_at new) = halts_so.halts (known_on g old.disk from.0.disk goes.puts.told known) comes.next comes.serving in
+              let all : Made = made (h.first ++ h.last) (comes.runs.done ++ halts.done) (comes.runs.missed + halts.missed) in
+              let then_is = serving_at comes.next from.0 in let end = at new.party.server.store new.disk in
+              let behind = behind-all server_steps are_steps why took.unsaid g on (serving_at server (party_at old)) then_is end h.least h.more h.first h.last comes.runs halts in
+              did (Err why) all.done halts.cut all.missed ends causes l puts
+              (λ _. subst (λ (t : List ℕ). EndsOver (Err why) h.least server_steps server took.all.events took.unsaid (made t all.done all.missed) halts.cut) (sym h.text_is)
+              (over h.least all halts.cut (subst (λ (es : List NodeEvent). StopsBehind h.least server_steps server es why took.unsaid all halts.cut) (sym h.events_are) behind)))
+              (λ _. disk-stop g why all.missed (store_at (party_at old)) (store_at (party_at new)) all.done halts.cut
+              (cuts-all server_steps are_steps why took.unsaid g on (serving_at server (party_at old)) then_is end h.least h.more h.first h.last comes.runs halts))
               )
           | inr unknown ↦ did-unknown unknown (Err why) ends causes l puts
         ]
