@@ -14,6 +14,7 @@ mod ReadLemmas
 mod RecordLemmas
 mod RulesLemmas
 mod RunsLemmas
+mod SealedLemmas
 mod SeenLemmas
 mod StampedHeaderLemmas
 mod StampedPartLemmas
