@@ -8,7 +8,7 @@ use Rattle.block_entries.specs.Seen.{octets_in, stamp_at}
 use Rattle.block_entries.specs.declared.sealed_file.SealedFile.{SealedFile}
 use Rattle.block_entries.specs.declared.stored_file.SealMark.{SealMark}
 use Rattle.block_table.specs.Table.{Table}
-use Rattle.file_entries.specs.Headers.{IsWholeHeader, header_octets}
+use Rattle.file_entries.specs.Headers.{IsHeaderOf, IsWholeHeader}
 use Rattle.file_journal.specs.Layout.{Blocks, blocks_on}
 use Rattle.pfh_items.specs.Stamp.{stamped}
 
@@ -41,9 +41,9 @@ pub record Sealed (store : PlacedStore) (number : ℕ) : Type 0 where
 abbrev pub octets_given : {store : PlacedStore} → {number : ℕ} → Blocks → Sealed store number → List ℕ
 octets_given held sealed = stamped (stamp_at sealed.mark.moment sealed.file) (octets_in held sealed.file)
 
--- these octets are the header that the file begins with, and nothing else, and are read as one
+-- The file keeps all rules; these octets are the header that it begins with, and nothing else, and are read as one.
 pub record IsSealedHeader (file octets : List ℕ) : Type 0 where
-  pub header : octets ≡ header_octets file
+  pub header : IsHeaderOf file octets
   pub whole : IsWholeHeader octets
 
 -- the runs of the table are those of the store's files
