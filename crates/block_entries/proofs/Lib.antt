@@ -4,6 +4,7 @@ mod BlankedLemmas
 mod BlockRunLemmas
 mod ChangeLemmas
 mod HalvingLemmas
+mod LengthLemmas
 mod LikeLemmas
 mod NextLemmas
 mod NumberLemmas

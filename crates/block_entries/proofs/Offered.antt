@@ -1,6 +1,7 @@
 -- The lemmas that crates above may use.
 pub use Rattle.block_entries.specs.FilesLaws.{found_holds, found_number}
 pub use Rattle.block_entries.specs.SameLaws.{can_begin_same, seen_same}
+pub use Rattle.block_entries.proofs.LengthLemmas.{given_length, kept_short}
 pub use Rattle.block_entries.proofs.LikeLemmas.{like_back, like_bars, like_blocks_of, like_can_begin, like_complete, like_count, like_entry, like_entry_back, like_free, like_info, like_is_complete, like_may_begin, like_next, like_none, like_octets_length, like_partial, like_whole}
 pub use Rattle.block_entries.proofs.NumberLemmas.{KeepsNumber, after_leaves, changed_is, changed_leaves, found_below, gone_stays, new_is_found, new_leaves, next_stays, none_past, number_in, sealed_stays, without_is, without_leaves}
 pub use Rattle.block_entries.proofs.OutlinedLemmas.{outlined_dropped, outlined_found, outlined_grown, outlined_info, outlined_new, outlined_next, outlined_rules, outlined_sealed, sealed_outlined, seen_like}

@@ -1,12 +1,12 @@
 -- The header of a sealed file, by what is read of its blocks.
-use Rattle.std.proofs.Common.{◌≡◌, ℕ, ◌<◌, ◌==◌, Bool, true, false, cond, List, [], ◌∷◌, ◌++◌, Option, None, length, get_or, take, sym, ap, ◌∙◌, subst, arith, length-append}
+use Rattle.std.proofs.Common.{◌≡◌, ℕ, ◌<◌, ◌≤◌, ◌==◌, Bool, true, false, cond, List, [], ◌∷◌, ◌++◌, Option, None, length, get_or, take, sym, ap, ◌∙◌, subst, arith, length-append}
 use Rattle.std.proofs.lemmas.List.{take_at}
 use Rattle.file_entries.specs.Headers.{body_octets, header_items, header_octets, parts_or_none}
 use Rattle.file_journal.proofs.Offered.{octet_at}
 use Rattle.pfh_items.specs.Faults.{FitsFile, IsFaultless, content_of, fault_code, items_with}
 use Rattle.pfh_items.specs.Layout.{AreItems, FileText, HeaderText, HeaderValue, IsItem, ItemValue, header_text}
 use Rattle.pfh_items.specs.Stamp.{StampValue, stamped}
-use Rattle.pfh_items.proofs.Offered.{HeaderText-FileText, file_parts-text, first_fault-text, item_at}
+use Rattle.pfh_items.proofs.Offered.{HeaderText-FileText, file_parts-text, first_fault-text, item_at, no_fault}
 use Rattle.pfh_reader.proofs.ClaimsLemmas.{content_of-items_with}
 use Rattle.pfh_reader.proofs.FaultLemmas.{faultless}
 use Rattle.pfh_writer.specs.Short.{HasEachOnce}
@@ -43,6 +43,15 @@ header_below items body are fits =
     let item : IsItem (item_at 0x0B once.0) = (subst AreItems once.1 (are_with 0x0B items are)).0 in
     let says : le16 (content_of 0x0B items) 0 ≡ le16 once.0 0 = ap (λ (c : List ℕ). le16 c 0) (content_of-items_with 0x0B items once.0 [] once.1) in
     subst (λ (n : ℕ). n < 65536) (sym says ∙ fits.body_offset) (two_below once.0 item.octets once.2)
+
+-- that of a file without fault
+pub header_short : (octets : List ℕ) → IsOctets octets → fault_code octets ≡ None → length (header_octets octets) ≤ 65535
+header_short octets are none =
+    let good = (no_fault octets are).1 (no_fault-code octets none) in
+    let below = header_below good.0 good.1 good.2.file_text.are_items good.2.fits in
+    let same : length (header_octets octets) ≡ length (header_text good.0) =
+    ap (λ (l : List ItemValue). length (header_text l)) (parts_items good.0 good.1 octets good.2.file_text) in
+    omega (arith, below, same)
 
 -- ---- what stands before the body of a file without fault is its header
 
