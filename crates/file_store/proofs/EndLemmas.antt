@@ -42,11 +42,11 @@ module _ (self : StoreState) (number : ℕ) (whole : IsWholeWaiting self number)
       let sum : length (whole.waits.held ++ rest) ≡ length whole.waits.held + length rest = length-append whole.waits.held rest in
       omega arith
 
-  pub come-is : come_of self number ≡ whole.waits.held ++ rest
+  pub come-is : come_of (store_in self) self number ≡ whole.waits.held ++ rest
   come-is = ap (λ (o : Option Entry). octets_at o ++ rest) whole.waits.is_entry ∙ ap (λ (h : Holding). octets_of h ++ rest) whole.waits.partial_is
 
   -- the fault of what is held then is that of what came
-  pub whole-fault : (store : Store) → store ≡ after_all (store_in self) (last_grow number rest) → fault_at store number ≡ fault_code (come_of self number)
+  pub whole-fault : (store : Store) → store ≡ after_all (store_in self) (last_grow number rest) → fault_at store number ≡ fault_code (come_of (store_in self) self number)
   whole-fault store is =
       ap (λ (o : Option Entry). fault_code (octets_at o)) (whole-entry store is) ∙ ap (λ (h : Holding). fault_code (octets_of h)) whole-partial ∙ ap fault_code (sym come-is)
 
@@ -54,14 +54,14 @@ module _ (self : StoreState) (number : ℕ) (whole : IsWholeWaiting self number)
   held-whole mid is = record { entry = record entry { holding = grown rest entry }; is_entry = whole-entry (store_in mid) is; held = whole.waits.held ++ rest; partial_is = whole-partial; all = whole-length }
 
   -- the condition of each command holds
-  pub sealing-allowed : (moment : ℕ) → AreAllowed (store_in self) (sealing_of self number moment)
+  pub sealing-allowed : (moment : ℕ) → AreAllowed (store_in self) (sealing_of (store_in self) self number moment)
   sealing-allowed moment =
       let long : length rest ≡ length whole.waits.rest = ap length (waits-is self number whole.waits) in
       let few = whole.few in
       let all = whole.all in
-      AreAllowed-append (last_grow number rest) (ending number moment (fault_code (come_of self number)) ∷ []) (store_in self)
+      AreAllowed-append (last_grow number rest) (ending number moment (fault_code (come_of (store_in self) self number)) ∷ []) (store_in self)
       (last_grow-allowed number rest (store_in self) entry whole.waits.held whole.waits.is_entry whole.waits.partial_is (omega arith) (omega arith)) (
-        ending-allowed (after_all (store_in self) (last_grow number rest)) number moment (record entry { holding = grown rest entry }) (whole.waits.held ++ rest) (fault_code (come_of self number))
+        ending-allowed (after_all (store_in self) (last_grow number rest)) number moment (record entry { holding = grown rest entry }) (whole.waits.held ++ rest) (fault_code (come_of (store_in self) self number))
             (whole-entry (after_all (store_in self) (last_grow number rest)) refl) whole-partial whole-length (ap fault_code (sym come-is)),
         tt,
       )

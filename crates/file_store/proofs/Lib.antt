@@ -1,6 +1,8 @@
 mod DoesLemmas
 mod EndLemmas
+mod EntryLemmas
 mod HoldLemmas
+mod OnLemmas
 pub mod Offered
 mod ReceiptLemmas
 mod RecoveryLemmas

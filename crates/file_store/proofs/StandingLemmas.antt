@@ -5,20 +5,19 @@ use Rattle.disk_model.specs.AtDisk.{at}
 use Rattle.disk_model.specs.declared.disk.Disk.{Ghosts}
 use Rattle.file_journal.specs.AmongReads.{among_reads}
 use Rattle.file_journal.specs.Calls.{Leaves, TellsAlike}
-use Rattle.file_journal.specs.Kept.{alone}
 use Rattle.file_journal.specs.Recovery.{IsSyncedFirst}
 use Rattle.file_journal.specs.Through.{StandsThrough}
 use Rattle.file_journal.specs.Walk.{number_or, state}
 use Rattle.file_journal.proofs.Offered.{Written, after_stands, stands_after, stands_through, stepped, steps}
 use Rattle.file_entries.specs.Command.{AreAllowed, Command, after, after_all, begin, drop_entry, grow, is_allowed, seal}
-use Rattle.file_entries.specs.Records.{IsWritable, command_of, record_of_command, store_form, store_step}
+use Rattle.file_entries.specs.Records.{IsWritable, command_of, record_of_command, store_step}
 use Rattle.file_entries.specs.Store.{Store, empty_store}
 use Rattle.file_entries.specs.StoreLaws.{store_number}
 use Rattle.file_entries.proofs.Offered.{read-written, records}
 use Rattle.file_store.specs.Laws.{IsStoreAfter}
 use Rattle.file_store.specs.OnDisk.{kept_at}
 use Rattle.file_store.specs.Recovery.{StandsAlike}
-use Rattle.file_store.specs.State.{StandsFor, StoreState, standing_of, store_in}
+use Rattle.file_store.specs.State.{StandsFor, StoreState, standing_of, store_form, store_on}
 use Rattle.file_store.specs.Working.{CutsOffAmongReads}
 use Rattle.file_store.proofs.DoesLemmas.{cuts-among-all}
 
@@ -95,10 +94,10 @@ standing-forth octets files are stands =
 -- last.
 module _ {D : Type 0} (g : Ghosts D) (on : (first second third : D) → g.lasts first second → g.lasts second third → g.lasts first third) (failed : Type 0) (blocks : ℕ) (old mid now : D)
     (start new : StoreState) (done cut : List Command) (missed : ℕ) (alike : TellsAlike (g.content old) (g.content mid))
-    (stood : IfSome (g.content old) (λ before. standing_of blocks before ≡ state (store_in start)))
+    (stood : IfSome (g.content old) (λ before. standing_of blocks before ≡ state (store_on g start mid)))
     (since_start : Leaves g old mid (StandsAlike blocks)) (since_sync : IfSome (g.content old) (λ before. IsSyncedFirst g old mid (StandsAlike blocks before)))
     (cuts : CutsOffAmongReads g failed missed (at start mid) (at new now) done cut) where
-  pub stands-through : (stands : StandsThrough g store_form failed (store_in start) done cut old now) × (stands.ready ≡ g.moment mid)
+  pub stands-through : (stands : StandsThrough g store_form failed (store_on g start mid) done cut old now) × (stands.ready ≡ g.moment mid)
   stands-through =
-      stands_through g store_form store_number blocks failed old (kept_at start mid) (kept_at cuts.then_is.it cuts.then_is.disk) (kept_at new now) done cut alike stood since_start since_sync
-      (among_reads g failed missed) (among_reads g ⊥ missed) (alone g failed) (cuts-among-all g on failed missed (at start mid) (at new now) done cut cuts) cuts.first cuts.second cuts.first.puts.told cuts.second.puts.told
+      stands_through g store_form store_number blocks failed old (kept_at g start mid) (kept_at g cuts.then_is.it cuts.then_is.disk) (kept_at g new now) done cut alike stood since_start since_sync
+      (among_reads g failed missed) (among_reads g ⊥ missed) (among_reads g failed 0) (cuts-among-all g on failed missed (at start mid) (at new now) done cut cuts) cuts.first cuts.second cuts.first.puts.told cuts.second.puts.told

@@ -1,14 +1,19 @@
 -- The answers of the store's calls, and where each comes.
-use Rattle.std.specs.Prelude.{◌≡◌, ℕ, ◌+◌, ◌<◌, List, length, Bool, true, false, Option, None, Some, Result, Ok, Err}
+use Rattle.std.specs.Prelude.{◌≡◌, ℕ, ◌+◌, ◌<◌, List, length, Bool, true, false, if◌then◌else◌, Option, None, Some, Result, Ok, Err}
+use Rattle.disk_model.specs.declared.disk.Disk.{Ghosts}
+use Rattle.block_entries.specs.Checking.{IsFaultCode}
 use Rattle.px_base.specs.CallSign.{CallSign}
 use Rattle.file_entries.specs.Faults.{fault_code}
 use Rattle.file_entries.specs.Bars.{Bars}
 use Rattle.file_entries.specs.Command.{MayBegin}
 use Rattle.file_entries.specs.Info.{is_complete}
-use Rattle.file_entries.specs.Store.{Entry, entry_of}
+use Rattle.file_entries.specs.Store.{Entry, Store, entry_of}
 use Rattle.file_entries.specs.declared.entries.BeginBar.TheVariants as bar
-use Rattle.file_store.specs.State.{HasFailed, StoreState, store_in}
-use Rattle.file_store.specs.Upload.{Upload, came, octets_come}
+use Rattle.file_entries.specs.Command.{Command, last_grow}
+use Rattle.file_entries.specs.Files.{octets_or_none}
+use Rattle.file_journal.specs.AmongReads.{one_if}
+use Rattle.file_store.specs.State.{HasFailed, IsKnown, StoreState, rest_in, store_in, store_on}
+use Rattle.file_store.specs.Upload.{Upload, came, held_whole, octets_come, sealing}
 use Rattle.file_store.specs.declared.refusals.BeginRefusal.{BeginRefusal}
 use Rattle.file_store.specs.declared.refusals.BeginRefusal.TheVariants as begin_refusal
 use Rattle.file_store.specs.declared.refusals.ResumeRefusal.{ResumeRefusal}
@@ -74,13 +79,24 @@ RefusesAppend self up bytes (append_refusal.OutOfMemory back) =
 abbrev pub IsShort : StoreState → Upload → Type 0
 IsShort self up = came self up < up.length
 
--- Where a refusal to seal comes; the upload that comes back is this one, and the code is that of the file's first fault.
-abbrev pub RefusesSeal : StoreState → Upload → SealRefusal → Type 0
-RefusesSeal self up (seal_refusal.Short back) = IsShort self up × (back ≡ up)
-RefusesSeal self up (seal_refusal.Header code) =
-    ¬ IsShort self up × ¬ HasFailed self × (fault_code (octets_come self up) ≡ Some code)
-RefusesSeal self up seal_refusal.Failed = ¬ IsShort self up × HasFailed self
-RefusesSeal self up seal_refusal.Disk = ¬ IsShort self up × ¬ HasFailed self
+-- all octets of the upload's file came, and the store hasn't failed
+abbrev pub MaySeal : StoreState → Upload → Type 0
+MaySeal self up = ¬ IsShort self up × ¬ HasFailed self
+
+-- the code is that of the first fault of the upload's file, where it is known which octets are held of it
+abbrev pub HasFault : {D : Type 0} → Ghosts D → StoreState → D → Upload → ℕ → Type 0
+HasFault g self disk up code =
+    IsFaultCode code
+    × (IsKnown g disk → fault_code (octets_come (store_on g self disk) self up) ≡ Some code)
+
+-- Where a refusal to seal comes; the upload that comes back is this one, where a read failed with all of its octets
+-- held; and the code is that of the file's first fault.
+abbrev pub RefusesSeal : {D : Type 0} → Ghosts D → StoreState → D → Upload → SealRefusal → Type 0
+RefusesSeal g self disk up (seal_refusal.Short back) = IsShort self up × (back ≡ up)
+RefusesSeal g self disk up (seal_refusal.Header code) = MaySeal self up × HasFault g self disk up code
+RefusesSeal g self disk up (seal_refusal.Read back) = MaySeal self up × (back ≡ held_whole up)
+RefusesSeal g self disk up seal_refusal.Failed = ¬ IsShort self up × HasFailed self
+RefusesSeal g self disk up seal_refusal.Disk = MaySeal self up
 
 -- A call of the store reached the disk: it did its commands, or the disk failed in one.
 abbrev pub begin_reaches : {T : Type 0} → Result T BeginRefusal → Bool
@@ -103,6 +119,7 @@ append_reaches (Err (append_refusal.OutOfMemory back)) = false
 abbrev pub seal_reaches : {T : Type 0} → Result T SealRefusal → Bool
 seal_reaches (Ok receipt) = true
 seal_reaches (Err (seal_refusal.Header code)) = true
+seal_reaches (Err (seal_refusal.Read back)) = true
 seal_reaches (Err seal_refusal.Disk) = true
 seal_reaches (Err (seal_refusal.Short back)) = false
 seal_reaches (Err seal_refusal.Failed) = false
@@ -117,5 +134,26 @@ back_of_append (append_refusal.OutOfMemory back) = Some back
 abbrev pub back_of_seal : SealRefusal → Option Upload
 back_of_seal (seal_refusal.Short back) = Some back
 back_of_seal (seal_refusal.Header code) = None
+back_of_seal (seal_refusal.Read back) = Some back
 back_of_seal seal_refusal.Failed = None
 back_of_seal seal_refusal.Disk = None
+
+-- whether a read failed
+abbrev pub seal_misses : {T : Type 0} → Result T SealRefusal → Bool
+seal_misses (Ok receipt) = false
+seal_misses (Err (seal_refusal.Short back)) = false
+seal_misses (Err (seal_refusal.Header code)) = false
+seal_misses (Err (seal_refusal.Read back)) = true
+seal_misses (Err seal_refusal.Failed) = false
+seal_misses (Err seal_refusal.Disk) = false
+
+-- how many reads failed at least
+abbrev pub seal_missed : {T : Type 0} → Result T SealRefusal → ℕ
+seal_missed result = one_if (seal_misses result)
+
+-- the commands of a call that seals the upload's file: those that wait become held, and where no read fails the file is
+-- sealed, or dropped where it has a fault
+abbrev pub seal_commands : {T : Type 0} → Result T SealRefusal → Store → StoreState → Upload → ℕ → List Command
+seal_commands result store self up moment =
+    if seal_misses result then last_grow up.number (octets_or_none (rest_in self up.number))
+    else sealing store self up moment

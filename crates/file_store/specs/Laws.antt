@@ -7,21 +7,22 @@ use Rattle.disk_model.specs.declared.disk.Disk.{Ghosts}
 use Rattle.file_journal.specs.Calls.{images_now}
 use Rattle.file_journal.specs.Journal.{journal_of, store}
 use Rattle.file_journal.specs.Records.{whole}
-use Rattle.file_journal.specs.declared.layout.Layout.TheVariants as layout
 use Rattle.file_entries.specs.Command.{AreAllowed, Command, after_all}
 use Rattle.file_entries.specs.Info.{is_complete}
-use Rattle.file_entries.specs.Records.{IsWritable, record_of_command, store_magic}
-use Rattle.file_entries.specs.Store.{Entry, Store, complete, empty_store, entry_of, partial}
+use Rattle.file_entries.specs.IsStore.{IsStore}
+use Rattle.file_entries.specs.Records.{IsWritable, record_of_command}
+use Rattle.file_entries.specs.Store.{Entry, Store, complete, empty_store, entry_of, holding_of_number, partial}
+use Rattle.block_entries.specs.Outlined.{IsStoreLike}
 use Rattle.file_store.specs.OnDisk.{MakesBetween}
-use Rattle.file_store.specs.State.{StandsFor, StandsOn, StoreState}
-use Rattle.file_store.specs.Upload.{Upload, entry_for}
+use Rattle.file_store.specs.State.{IsKnown, IsReady, StandsFor, StandsOn, StoreState, store_in, store_layout, store_magic, store_on}
+use Rattle.file_store.specs.Upload.{Upload, entry_for, kept_file}
 
 -- The octets are a journal of this block number, or have none yet, and its records are these commands, each of which the
 -- store before it allows, from the empty store on; and this is the store after them.
 pub record IsStoreAfter (octets : List ℕ) (files : Store) (commands : List Command) : Type 0 where
   pub number : Option ℕ
   pub is_number : (number ≡ None) ⊎ (number ≡ Some files.blocks)
-  pub records : journal_of store_magic layout.Growing octets ≡ store number (whole (map record_of_command commands))
+  pub records : journal_of store_magic store_layout octets ≡ store number (whole (map record_of_command commands))
   pub writable : AllByRecursion IsWritable commands
   pub allowed : AreAllowed (empty_store files.blocks) commands
   pub after : files ≡ after_all (empty_store files.blocks) commands
@@ -69,3 +70,15 @@ abbrev pub ArmedLaw : {D : Type 0} → Ghosts D → Type 0
 ArmedLaw {D} g =
     (self : StoreState) (old new : D) → ChangesNothing g.content g.images g.moment g.images_since old new
     → StandsOn g self old → StandsOn g self new
+
+-- on the disk the upload's file is complete now: the octets that came, stamped
+abbrev pub IsKeptOn : {D : Type 0} → Ghosts D → StoreState → StoreState → D → D → Upload → ℕ → Type 0
+IsKeptOn g old new disk disk_now up moment =
+    holding_of_number (store_on g new disk_now) up.number
+    ≡ Some (complete (kept_file (store_on g old disk) old up moment) moment)
+
+-- Where it is known what its files hold, a store that hasn't failed is on its disk what memory tells, but for the octets
+-- of its files, and keeps the rules of a store.
+pub record ToldLaw {D : Type 0} (g : Ghosts D) (self : StoreState) (disk : D) : Type 0 where
+  pub like : IsReady g self disk → IsKnown g disk → IsStoreLike (store_in self) (store_on g self disk)
+  pub rules : IsReady g self disk → IsKnown g disk → IsStore (store_on g self disk)

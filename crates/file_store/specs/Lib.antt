@@ -12,11 +12,11 @@ pub mod Working
 pub use Rattle.file_entries.specs.Bars
 pub use Rattle.file_entries.specs.Command
 pub use Rattle.file_entries.specs.Files
+pub use Rattle.block_entries.specs.Outlined
 pub use Rattle.file_entries.specs.Headers
 pub use Rattle.file_entries.specs.Info
 pub use Rattle.file_entries.specs.IsStore
 pub use Rattle.file_entries.specs.Kept as EntriesKept
-pub use Rattle.file_entries.specs.Records
 pub use Rattle.file_entries.specs.Store
 pub use Rattle.file_entries.specs.declared.entries.BeginBar
 pub use Rattle.file_entries.specs.declared.info.Info as EntriesInfo

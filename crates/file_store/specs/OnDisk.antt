@@ -7,9 +7,8 @@ use Rattle.file_journal.specs.Kept as kept
 use Rattle.file_journal.specs.Kept.{KeptOn, kept_on}
 use Rattle.file_entries.specs.Command.{Command}
 use Rattle.file_entries.specs.Files.{KeepsRests}
-use Rattle.file_entries.specs.Records.{store_form}
 use Rattle.file_entries.specs.Store.{Store}
-use Rattle.file_store.specs.State.{StoreState, rest_in, store_in}
+use Rattle.file_store.specs.State.{StoreState, rest_in, store_form, store_on}
 
 -- the store after the first so many of these commands
 abbrev pub after_first : ℕ → Store → List Command → Store
@@ -29,17 +28,18 @@ abbrev pub StayDone : {D : Type 0} → Ghosts D → ℕ → ℕ → Store → Li
 StayDone g start done store commands disk_now =
     kept_commands.StayDone g store_form (done_at store_form start commands) done store commands disk_now
 
--- the store, the journal of its commands, and the disk on which that stands
-abbrev pub kept_at : {D : Type 0} → StoreState → D → KeptOn D Store
-kept_at self disk = kept_on (store_in self) self.journal disk
+-- the store on its disk, and the journal of its commands
+abbrev pub kept_at : {D : Type 0} → Ghosts D → StoreState → D → KeptOn D Store
+kept_at g self disk = kept_on (store_on g self disk) self.journal disk
 
 -- A call of a store that hasn't failed did these commands, each in the calls of the disk that the form of a store says,
 -- or the disk failed in one of them. A crash since the call began leaves the store after the first of them, for some
--- number of them, and no fewer than were done when it came. Without commands the disk is untouched.
+-- number of them, and no fewer than were done when it came. Without commands the disk is untouched. Where it is known
+-- what the store's files hold, each command was allowed, and the store is the one after them.
 abbrev pub Does :
     {D : Type 0} → Ghosts D → Type 0 → StoreState → StoreState → D → D → List Command → Type 0
 Does g failed old new disk disk_now commands =
-    kept.Does g store_form failed commands (kept_at old disk) (kept_at new disk_now)
+    kept.Does g store_form failed commands (kept_at g old disk) (kept_at g new disk_now)
 
 -- So a call on the file of this number: what waits of other files stays.
 pub record DoesTo {D : Type 0} (g : Ghosts D) (failed : Type 0) (old new : StoreState) (disk disk_now : D)

@@ -2,13 +2,27 @@
 use Rattle.std.specs.Prelude.{◌≡◌, ℕ, List, Option, false, true}
 use Rattle.disk_model.specs.declared.disk.Disk.{Ghosts}
 use Rattle.file_entries.specs.Files.{Files, rest_of, store_of}
-use Rattle.file_entries.specs.Records.{store_form, store_magic}
+use Rattle.file_entries.specs.Command.{Command}
+use Rattle.file_entries.specs.Records as records
 use Rattle.file_entries.specs.Store.{Store}
 use Rattle.file_journal.specs.Form as form
+use Rattle.file_journal.specs.Form.{Form}
 use Rattle.file_journal.specs.Kept.{IsKept, kept_on}
 use Rattle.file_journal.specs.Position.{Position}
+use Rattle.file_journal.specs.Steps.{Knows}
 use Rattle.file_journal.specs.Walk.{Stands}
+use Rattle.file_journal.specs.declared.layout.Layout.{Layout}
 use Rattle.file_journal.specs.declared.layout.Layout.TheVariants as layout
+
+-- what a journal of the store keeps, its first eight octets, and where the parts of such a disk stand
+abbrev pub store_form : Form Store Command
+store_form = records.store_form
+
+abbrev pub store_magic : List ℕ
+store_magic = records.store_magic
+
+abbrev pub store_layout : Layout
+store_layout = layout.Growing
 
 -- the entries with the uploads that are out, and the journal of their commands
 pub record StoreState : Type 0 where
@@ -22,6 +36,14 @@ state_from files journal = record { files = files; journal = journal }
 -- the store that it is
 abbrev pub store_in : StoreState → Store
 store_in self = store_of self.files
+
+-- the store that it is on this disk
+abbrev pub store_on : {D : Type 0} → Ghosts D → StoreState → D → Store
+store_on g self disk = store_in self
+
+-- what octets the store's files have on this disk is known: they stand in no block, or the disk tells its content
+abbrev pub IsKnown : {D : Type 0} → Ghosts D → D → Type 0
+IsKnown g disk = Knows store_form (g.content disk)
 
 -- the octets that came of the entry of this number and aren't held yet, where an upload of it is out
 abbrev pub rest_in : StoreState → ℕ → Option (List ℕ)
@@ -54,5 +76,5 @@ pub record IsReady {D : Type 0} (g : Ghosts D) (self : StoreState) (disk : D) : 
 -- The journal has the store's magic and no blocks, and was read to its end.
 pub record IsRead (journal : Position) : Type 0 where
   pub magic_is : journal.magic ≡ store_magic
-  pub layout_is : journal.layout ≡ layout.Growing
+  pub layout_is : journal.layout ≡ store_layout
   pub ended : journal.ended ≡ true

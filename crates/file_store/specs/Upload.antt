@@ -6,7 +6,7 @@ use Rattle.file_entries.specs.Stamp.{StampValue, stamped}
 use Rattle.file_entries.specs.Limits.{longest_file}
 use Rattle.file_entries.specs.Command.{Command, seal, drop_entry, last_grow, whole_grows}
 use Rattle.file_entries.specs.Files.{octets_or_none}
-use Rattle.file_entries.specs.Store.{partial, entry_of, octets_at, Entry, Holding}
+use Rattle.file_entries.specs.Store.{partial, entry_of, octets_at, Entry, Holding, Store}
 use Rattle.file_store.specs.State.{StoreState, rest_in, store_in}
 
 pub record Upload : Type 0 where
@@ -64,13 +64,13 @@ came self up = up.held + length (waiting self up)
 abbrev pub WaitFew : StoreState → Upload → Type 0
 WaitFew self up = (length (waiting self up) < 512) × (came self up ≤ up.length)
 
--- the octets that came of the file of this number: those held, then those that wait
-abbrev pub come_of : StoreState → ℕ → List ℕ
-come_of self number = octets_at (entry_of (store_in self) number) ++ octets_or_none (rest_in self number)
+-- the octets that came of the file of this number: those held of it in this store, then those that wait
+abbrev pub come_of : Store → StoreState → ℕ → List ℕ
+come_of store self number = octets_at (entry_of store number) ++ octets_or_none (rest_in self number)
 
--- the octets that came of the upload's file
-abbrev pub octets_come : StoreState → Upload → List ℕ
-octets_come self up = come_of self up.number
+-- the octets that came of the upload's file, of which this store holds the first
+abbrev pub octets_come : Store → StoreState → Upload → List ℕ
+octets_come store self up = come_of store self up.number
 
 -- those that wait and these
 abbrev pub with_bytes : StoreState → Upload → List ℕ → List ℕ
@@ -89,8 +89,8 @@ abbrev pub upload_stamp : Upload → ℕ → StampValue
 upload_stamp up moment = record { number = up.number; by = up.caller; moment = moment }
 
 -- the upload's file as it is kept: the octets that came of it, stamped
-abbrev pub kept_file : StoreState → Upload → ℕ → List ℕ
-kept_file self up moment = stamped (upload_stamp up moment) (octets_come self up)
+abbrev pub kept_file : Store → StoreState → Upload → ℕ → List ℕ
+kept_file store self up moment = stamped (upload_stamp up moment) (octets_come store self up)
 
 -- the command that ends the file of this number, of which all octets came: Seal, or Drop where it has a fault
 abbrev pub ending : ℕ → ℕ → Option ℕ → Command
@@ -99,14 +99,18 @@ ending number moment (Some code) = drop_entry number
 
 -- the commands that end the file of this number: those that wait become held, and it is sealed, or dropped where it has a
 -- fault
-abbrev pub sealing_of : StoreState → ℕ → ℕ → List Command
-sealing_of self number moment =
+abbrev pub sealing_of : Store → StoreState → ℕ → ℕ → List Command
+sealing_of store self number moment =
     last_grow number (octets_or_none (rest_in self number))
-    ++ ending number moment (fault_code (come_of self number)) ∷ []
+    ++ ending number moment (fault_code (come_of store self number)) ∷ []
 
 -- the same of the upload's file
-abbrev pub sealing : StoreState → Upload → ℕ → List Command
-sealing self up moment = sealing_of self up.number moment
+abbrev pub sealing : Store → StoreState → Upload → ℕ → List Command
+sealing store self up moment = sealing_of store self up.number moment
+
+-- the upload once those that wait are held too, where all of its file's octets came
+abbrev pub held_whole : Upload → Upload
+held_whole up = record up { held = up.length }
 
 -- an upload of the entry of this number isn't out where this caller could go on with it
 abbrev pub MayResume : StoreState → ℕ → CallSign → Type 0

@@ -4,9 +4,8 @@ use Rattle.disk_model.specs.AtDisk.{AtDisk}
 use Rattle.disk_model.specs.declared.disk.Disk.{Ghosts}
 use Rattle.file_journal.specs.AmongReads as among
 use Rattle.file_entries.specs.Command.{Command}
-use Rattle.file_entries.specs.Records.{store_form}
-use Rattle.file_store.specs.OnDisk.{Does, kept_at}
-use Rattle.file_store.specs.State.{StoreState}
+use Rattle.file_store.specs.OnDisk.{kept_at}
+use Rattle.file_store.specs.State.{StoreState, store_form}
 pub use Rattle.file_journal.specs.AmongReads.{CountsSome, PutsAmongReads, StopsAtFailedWrite, one_if}
 
 -- A store that hadn't failed did these commands, each in the calls of the disk that the form of a store says, or the disk
@@ -16,12 +15,12 @@ pub use Rattle.file_journal.specs.AmongReads.{CountsSome, PutsAmongReads, StopsA
 abbrev pub DoesAmongReads :
     {D : Type 0} → Ghosts D → Type 0 → ℕ → StoreState → StoreState → D → D → List Command → Type 0
 DoesAmongReads g failed missed old new disk disk_now commands =
-    among.DoesAmongReads g store_form failed missed commands (kept_at old disk) (kept_at new disk_now)
+    among.DoesAmongReads g store_form failed missed commands (kept_at g old disk) (kept_at g new disk_now)
 
 -- The store did the first of these commands on its disk, and then the others, or the disk failed in one of these. Reads
--- came among the first, of which so many failed at least, or none did.
+-- came among the first, of which so many failed at least, or none did, and among the others, of which none failed.
 pub record CutsOffAmongReads {D : Type 0} (g : Ghosts D) (failed : Type 0) (missed : ℕ)
     (before now : AtDisk StoreState D) (done cut : List Command) : Type 0 where
   pub then_is : AtDisk StoreState D
   pub first : DoesAmongReads g ⊥ missed before.it then_is.it before.disk then_is.disk done
-  pub second : Does g failed then_is.it now.it then_is.disk now.disk cut
+  pub second : DoesAmongReads g failed 0 then_is.it now.it then_is.disk now.disk cut

@@ -9,30 +9,29 @@ ghost use Rattle.disk_model.specs.Disk.{FillsRoom};
 ghost use Rattle.file_entries.specs.Faults.{fault_code};
 ghost use Rattle.file_journal.specs.Calls.{Leaves, Reads, Runs, TakesStep};
 ghost use Rattle.file_journal.specs.Journal.{IsAfterRecovery};
-ghost use Rattle.file_journal.specs.declared.layout.Layout.TheVariants as Layout;
-ghost use Rattle.file_entries.specs.Command.{begin, drop_entry, fault_at, grow, grows, is_allowed, last_grow, seal, unfilled_block};
+ghost use Rattle.file_entries.specs.Command.{after, begin, drop_entry, fault_at, grow, grows, is_allowed, last_grow, seal, unfilled_block};
 ghost use Rattle.file_entries.specs.Files.{ChangesRest, IsOut, KeepsRests, octets_or_none};
 ghost use Rattle.file_entries.specs.Headers.{IsHeaderOf, IsWholeHeader};
-ghost use Rattle.file_entries.specs.Info.{IsNextComplete, info_of};
+ghost use Rattle.file_entries.specs.Info.{IsCompleteIn, IsNextComplete, info_of};
 ghost use Rattle.file_entries.specs.IsStore.{IsStore};
 ghost use Rattle.file_entries.specs.Kept.{KeepsComplete};
-ghost use Rattle.file_entries.specs.Records.{store_magic};
 ghost use Rattle.file_entries.specs.Store.{complete, entry_of, holding_of_number, octets_at};
-ghost use Rattle.file_store.specs.Answers.{RefusesAppend, RefusesBegin, RefusesResume, RefusesSeal, Resumes};
-ghost use Rattle.file_store.specs.Answers.{append_reaches, back_of_append, back_of_seal, begin_reaches, seal_reaches};
+ghost use Rattle.file_store.specs.Answers.{MaySeal, RefusesAppend, RefusesBegin, RefusesResume, RefusesSeal, Resumes};
+ghost use Rattle.file_store.specs.Answers.{append_reaches, back_of_append, back_of_seal, begin_reaches, seal_commands, seal_missed, seal_reaches};
 ghost use Rattle.file_store.specs.Kept.{KeepsOtherFiles, KeepsOthers, KeepsUploads};
-ghost use Rattle.file_store.specs.Laws.{HoldsInEach, IsKeptInEach};
+ghost use Rattle.file_store.specs.Laws.{HoldsInEach, IsKeptInEach, IsKeptOn};
 ghost use Rattle.file_store.specs.OnDisk.{Does, DoesTo, EndsFile};
 ghost use Rattle.file_store.specs.Reads.{MayRead, OnlyReads};
 ghost use Rattle.file_store.specs.Recovery.{IsRecovered, LeavesAlikeSinceSync, RefusesRecovery, StandsAlike};
-ghost use Rattle.file_store.specs.State.{IsRead, IsReady, StandsOn, rest_in, store_in};
-ghost use Rattle.file_store.specs.Upload.{FitsWaiting, HasEntry, Holds, IsHeldWhole, IsWholeWaiting, MayResume, Upload, WaitFew, appended, appending, came, come_of, ending, kept_file, new_upload, octets_come, sealing, sealing_of, upload_of, with_bytes};
+ghost use Rattle.file_store.specs.State.{IsKnown, IsRead, IsReady, StandsOn, rest_in, store_in, store_layout, store_magic, store_on};
+ghost use Rattle.file_store.specs.Upload.{FitsWaiting, HasEntry, Holds, IsHeldWhole, IsWholeWaiting, MayResume, Upload, WaitFew, appended, appending, came, come_of, ending, kept_file, new_upload, octets_come, sealing_of, upload_of, with_bytes};
+ghost use Rattle.file_store.specs.Working.{CountsSome, DoesAmongReads, PutsAmongReads};
 
 use crate::change::EntriesChange;
 use crate::put::put_change;
 use crate::{
-    AppendRefusal, BeginRefusal, Info, Limits, OpenUpload, Receipt, ResumeRefusal, SealRefusal,
-    StoreFault,
+    AppendRefusal, BeginRefusal, HeaderFault, Info, Limits, OpenUpload, Receipt, ResumeRefusal,
+    SealRefusal, StoreFault,
 };
 use disk_model::{Disk, DiskFault};
 use file_entries::Entries;
@@ -83,7 +82,7 @@ impl FileStore {
 
         // It changes no octet of a formatted store, and makes a formatted one of any other.
         ensures octets { OnOk result
-            (TakesStep D.Disk disk.old disk.new (IsAfterRecovery store_magic Layout.Growing limits.blocks)) }
+            (TakesStep D.Disk disk.old disk.new (IsAfterRecovery store_magic store_layout limits.blocks)) }
 
         // But for a fault of the disk and want of memory, each refusal comes exactly where the content stands for it.
         ensures refuses { RefusesRecovery limits.blocks (D.content disk.old) result }
@@ -126,6 +125,11 @@ impl FileStore {
         ensures holds { IfOk result (λ up. Holds self.new up × (rest_in self.new up.number ≡ Some [])) }
         ensures every_image { IfOk result (λ up. HoldsInEach D.Disk up disk.new) }
         ensures fresh { IfOk result (λ up. rest_in self.old up.number ≡ None) }
+
+        // As far as memory tells, it was begun, or nothing changed.
+        ensures made { OnOk result (store_in self.new
+            ≡ after (store_in self.old) (begin (store_in self.old).next caller length moment)) }
+        ensures unmade { IsErr result → store_in self.new ≡ store_in self.old }
 
         ensures stands_on { StandsOn D.Disk self.new disk.new }
         ensures uploads { KeepsUploads self.old self.new }
@@ -244,7 +248,8 @@ impl FileStore {
     /// 1990). A file without fault is complete from then on, and kept with its stamp: its number, its caller and this
     /// moment. The entry of one with a fault is dropped, and the answer is the code of its first fault. Takes no memory.
     ///
-    /// `Short`, where fewer octets came than the file has, is looked at first, then `Failed`.
+    /// `Short`, where fewer octets came than the file has, is looked at first, then `Failed`. `Read`: a read failed, and
+    /// the file stays under way.
     pub fn seal<D: Disk>(
         &mut self,
         disk: &mut D,
@@ -253,25 +258,37 @@ impl FileStore {
     ) -> Result<Receipt, SealRefusal>
         requires holds { Holds self.old up }
         requires stands_on { StandsOn D.Disk self.old disk.old }
-        ensures refused { IfErr result (RefusesSeal self.old up) }
-        ensures can { IfOk result (λ _. RefusesSeal self.old up SealRefusal.Disk) }
+        ensures refused { IfErr result (RefusesSeal D.Disk self.old disk.old up) }
+        ensures can { IfOk result (λ _. MaySeal self.old up) }
         ensures untouched { IsTrue (seal_reaches result) ⊎ (disk.new ≡ disk.old) }
-        ensures back { IfErr result (λ refusal. IfSome (back_of_seal refusal) (λ _. self.new ≡ self.old)) }
+        ensures back { IfErr result (λ refusal. IfSome (back_of_seal refusal) (Holds self.new)) }
+        ensures short { (back : Upload) → IsErrOf result (SealRefusal.Short back) → self.new ≡ self.old }
         ensures spent { IfErr result (λ refusal. back_of_seal refusal ≡ None → rest_in self.new up.number ≡ None) }
         ensures failed { IsErrOf result SealRefusal.Failed
             → ChangesRest self.old.files self.new.files up.number None × (self.new.journal ≡ self.old.journal) }
 
-        // The commands are on the disk before the answer; a crash at any moment leaves the first of them.
-        ensures does { IsTrue (seal_reaches result) → Does D.Disk (IsErrOf result SealRefusal.Disk)
-            self.old self.new disk.old disk.new (sealing self.old up moment) }
+        // The commands are on the disk before the answer; a crash at any moment leaves the first of them. Which they are
+        // the octets of the file decide, where they are known.
+        ensures does { IsTrue (seal_reaches result) → IsKnown D.Disk disk.old
+            → DoesAmongReads D.Disk (IsErrOf result SealRefusal.Disk) (seal_missed result) self.old self.new
+            disk.old disk.new (seal_commands result (store_on D.Disk self.old disk.old) self.old up moment) }
+        ensures puts { PutsAmongReads D.Disk (IsErrOf result SealRefusal.Disk) disk.old disk.new }
+        ensures misses { CountsSome (D.read_faults disk.old) (D.read_faults disk.new) (seal_missed result) }
+        ensures stops { IsErrOf result SealRefusal.Disk → self.new.journal.failed ≡ true }
+        ensures goes_on { ¬ IsErrOf result SealRefusal.Disk → self.new.journal.failed ≡ self.old.journal.failed }
 
         // A file without fault is complete: the octets that came, stamped. In every image it stands so.
-        ensures good { OnOk result (fault_code (octets_come self.old up) ≡ None) }
+        ensures good { OnOk result (IsKnown D.Disk disk.old
+            → fault_code (octets_come (store_on D.Disk self.old disk.old) self.old up) ≡ None) }
         ensures receipt { IfOk result (λ receipt. receipt ≡ up.number) }
-        ensures complete { OnOk result
-            (holding_of_number (store_in self.new) up.number ≡ Some (complete (kept_file self.old up moment) moment)) }
-        ensures every_image { OnOk result (IsKeptInEach D.Disk up (kept_file self.old up moment) moment disk.new) }
+        ensures sealed { OnOk result (IsCompleteIn (store_in self.new) up.number) }
+        ensures complete { OnOk result (IsKnown D.Disk disk.old
+            → IsKeptOn D.Disk self.old self.new disk.old disk.new up moment) }
+        ensures every_image { OnOk result (IsKeptInEach D.Disk up
+            (kept_file (store_on D.Disk self.old disk.old) self.old up moment) moment disk.new) }
         ensures ended { OnOk result (rest_in self.new up.number ≡ None) }
+        ensures dropped { (code : ℕ) → IsErrOf result (SealRefusal.Header code)
+            → entry_of (store_in self.new) up.number ≡ None }
 
         ensures keeps { KeepsOtherFiles D.Disk self.old self.new disk.new up.number }
     {
@@ -382,8 +399,8 @@ impl FileStore {
     ) -> Result<(), DiskFault>
         requires may { MayRead D.Disk self.old disk.old number }
         requires there { offset + length room.old ≤ length (octets_at (entry_of (store_in self.old) number)) }
-        ensures room { OnOk result
-            (FillsRoom (octets_at (entry_of (store_in self.old) number)) offset (length room.old) room.new) }
+        ensures room { OnOk result (IsKnown D.Disk disk.old → FillsRoom
+            (octets_at (entry_of (store_on D.Disk self.old disk.old) number)) offset (length room.old) room.new) }
 
         ensures reads { OnlyReads D.Disk (IsErr result) self.old self.new disk.old disk.new }
     {
@@ -394,19 +411,25 @@ impl FileStore {
     }
 
     /// Lends the header of a complete file: its octets up to and with the end item (PFH 1990), which [`header_in`] reads.
-    /// The header is read, and never the body. The fault comes only where a read of the disk failed, and leaves the store
-    /// and the disk's content as they were. Takes no memory.
+    /// The header is read, and never the body. Takes no memory.
+    ///
+    /// `Disk`: a read of the disk failed. `NoHeader`: what the file's blocks hold is no header any more, which never comes
+    /// where it is known what they hold. Both leave the store and the disk's content as they were.
     ///
     /// [`header_in`]: crate::header_in
-    pub fn header<D: Disk>(&mut self, disk: &mut D, number: u32) -> Result<&[u8], DiskFault>
+    pub fn header<D: Disk>(&mut self, disk: &mut D, number: u32) -> Result<&[u8], HeaderFault>
         requires { MayRead D.Disk self.old disk.old number }
-        ensures header { IfOk result (λ octets.
-            IsHeaderOf (octets_at (entry_of (store_in self.old) number)) octets.now) }
+        ensures header { IfOk result (λ octets. IsKnown D.Disk disk.old
+            → IsHeaderOf (octets_at (entry_of (store_on D.Disk self.old disk.old) number)) octets.now) }
         ensures whole { IfOk result (λ octets. IsWholeHeader octets.now) }
+        ensures inside { IfOk result (λ octets.
+            length octets.now ≤ length (octets_at (entry_of (store_in self.old) number))) }
+        ensures short { IfOk result (λ octets. length octets.now ≤ 65535) }
+        ensures there { IsErrOf result HeaderFault.NoHeader → ¬ IsKnown D.Disk disk.old }
 
         // It makes no write and no sync: but for the count of failed reads the disk is as it was. So is the store, once
         // the header is given back.
-        ensures reads { Reads D.Disk (IsErr result) disk.old disk.new }
+        ensures reads { Reads D.Disk (IsErrOf result HeaderFault.Disk) disk.old disk.new }
         ensures ready { IsReady D.Disk self.old disk.new }
         ensures* store { sem 𝓛 (Rests the_row self.entry (λ new. new ≡ self.old)) }
     {
@@ -476,8 +499,8 @@ impl FileStore {
         requires ready { IsReady D.Disk self.old disk.old }
         requires whole { IsWholeWaiting self.old number }
         ensures ends { EndsFile D.Disk (IsErr result) self.old self.new disk.old disk.new
-            (sealing_of self.old number moment) number }
-        ensures fault { IfOk result (λ fault. fault ≡ fault_code (come_of self.old number)) }
+            (sealing_of (store_in self.old) self.old number moment) number }
+        ensures fault { IfOk result (λ fault. fault ≡ fault_code (come_of (store_in self.old) self.old number)) }
     {
         self.hold_rest(disk, number)?;
         self.kept.ledger.park(number);

@@ -4,8 +4,8 @@ ghost use Rattle.std.specs.Prelude.{◌≡◌, ℕ, Some, IsTrue};
 ghost use Rattle.file_entries.specs.Info.{is_complete};
 ghost use Rattle.file_entries.specs.IsStore.{IsStore};
 ghost use Rattle.file_entries.specs.Store.{Entry, entry_of};
-ghost use Rattle.file_store.specs.Laws.{ArmedLaw, HoldsInEach, ReceiptLaw, StandingLaw, StandsInEach};
-ghost use Rattle.file_store.specs.State.{IsRead, IsReady, store_in};
+ghost use Rattle.file_store.specs.Laws.{ArmedLaw, HoldsInEach, ReceiptLaw, StandingLaw, StandsInEach, ToldLaw};
+ghost use Rattle.file_store.specs.State.{IsRead, IsReady, store_in, store_on};
 ghost use Rattle.file_store.specs.Upload.{Holds};
 
 use crate::{FileStore, OpenUpload};
@@ -25,6 +25,14 @@ pub fn state_law(store: &FileStore)
     let _info = store.info(0);
 }
 
+/// What a store is on a disk where it is known what its files hold: what memory tells of it, with the octets of its
+/// files. Takes no memory.
+pub fn told_law<D: Disk>(store: &FileStore, disk: &D)
+    ensures { ToldLaw D.Disk store.now disk.now }
+{
+    state_law(store);
+}
+
 /// What an upload that is out knows: in every image of a disk on which the store stands, its entry is under way and holds
 /// at least the octets that the upload says. The store hasn't failed. Takes no memory.
 pub fn token_law<D: Disk>(store: &FileStore, up: &OpenUpload, disk: &D)
@@ -39,7 +47,7 @@ pub fn token_law<D: Disk>(store: &FileStore, up: &OpenUpload, disk: &D)
 /// The store hasn't failed; each of its calls keeps each complete entry. Takes no memory.
 pub fn complete_law<D: Disk>(store: &FileStore, disk: &D)
     requires { IsReady D.Disk store.now disk.now }
-    ensures { (number : ℕ) (entry : Entry) → entry_of (store_in store.now) number ≡ Some entry
+    ensures { (number : ℕ) (entry : Entry) → entry_of (store_on D.Disk store.now disk.now) number ≡ Some entry
         → IsTrue (is_complete entry.holding) → StandsInEach D.Disk number entry disk.now }
 {
     store.read_law();

@@ -20,4 +20,4 @@ pub use file_store::FileStore;
 pub use limits::Limits;
 pub use open_upload::OpenUpload;
 pub use receipt::Receipt;
-pub use refusals::{AppendRefusal, BeginRefusal, ResumeRefusal, SealRefusal};
+pub use refusals::{AppendRefusal, BeginRefusal, HeaderFault, ResumeRefusal, SealRefusal};

@@ -109,9 +109,22 @@ pub enum SealRefusal {
         /// The code of the first rule that it breaks: 6, 7, 14, 15 or 16 (FTL0 1990, error codes).
         code: u8,
     },
+    /// A read of the disk failed, and its count of read faults rose. All octets of the file are held, and it is under way.
+    Read(OpenUpload),
     /// This store answered `Disk` before; it is to be recovered anew. The upload is spent.
     Failed,
     /// A write or a sync of the disk failed, and its count of write faults rose. The file may be complete, dropped or under
     /// way. The upload is spent.
     Disk,
+}
+
+/// Why the header of a complete file was not read. Neither the store nor the disk's content was touched.
+#[derive(Clone, Copy, Debug, PartialEq, Eq, Error)]
+pub enum HeaderFault {
+    /// A read of the disk failed, and its count of read faults rose.
+    #[error("the disk failed")]
+    Disk,
+    /// What the blocks of the file hold is no header any more: something else wrote on the disk.
+    #[error("the file has no header any more")]
+    NoHeader,
 }

@@ -14,7 +14,7 @@ returns-in_err-hold_rest-clause-ends g c =
     let D = g.D.Disk in
     let self = c.args.self.now in
     let first = last_grow c.args.number (octets_or_none (rest_in self c.args.number)) in
-    let last = ending c.args.number c.args.moment (fault_code (come_of self c.args.number)) ∷ [] in
+    let last = ending c.args.number c.args.moment (fault_code (come_of (store_in self) self c.args.number)) ∷ [] in
     let does = Does-longer D (IsErr c.from_residual.result) self c.hold_rest.new.self c.args.disk.now c.hold_rest.new.disk first last (search rules) (sealing-allowed self c.args.number c.requires.whole c.args.moment)
     (Does-same D (true ≡ true) (IsErr c.from_residual.result) self c.hold_rest.new.self c.args.disk.now c.hold_rest.new.disk first (λ is. search rules) (λ is. refl) c.in_err-hold_rest.ensures.does.does) in
     record { does_to = record { does = does; rests = search rules }; rest = search rules }
