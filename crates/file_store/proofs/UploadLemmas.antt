@@ -6,7 +6,7 @@ use Rattle.std.proofs.lemmas.Bool.Decides.{eqb_tells, nat_tests}
 use Rattle.std.proofs.lemmas.List.{length-take-le}
 use Rattle.disk_model.specs.declared.disk.Disk.{Ghosts}
 use Rattle.px_base.specs.CallSign.{CallSign}
-use Rattle.file_entries.specs.Command.{Command, after, after_all, begin, drop_entry, grow, grown, last_grow, seal}
+use Rattle.file_entries.specs.Command.{Command, after, after_all, begin, drop_entry, grow, grown, grows, last_grow, seal}
 use Rattle.file_entries.specs.Files.{ChangesRest, File, Files, KeepsRests, file_of, octets_or_none, rest_of, store_of}
 use Rattle.file_entries.specs.Info.{is_complete}
 use Rattle.file_entries.specs.IsStore.{IsStore}
