@@ -1,6 +1,6 @@
 -- What a frame makes of a server, by what it makes of one place.
 use Rattle.std.proofs.lemmas.Grind.{common_steps}
-use Rattle.std.proofs.Common.{◌≡◌, ℕ, zero, suc, ◌<◌, List, [], ◌∷◌, length, get_or, set, Bool, true, false, Option, rules, None, Some, sym, ◌∙◌, ap, subst, inr, arith}
+use Rattle.std.proofs.Common.{◌≡◌, ℕ, zero, suc, ◌<◌, List, [], ◌∷◌, length, get_or, set, Bool, true, false, Option, rules, None, Some, refl, sym, ◌∙◌, ap, subst, inl, inr, arith}
 use Rattle.std.specs.Prelude.{slice_get, ⊤, Result, Ok, Err, IsErrOf}
 use Rattle.std.specs.List.{position}
 use Rattle.std.proofs.lemmas.List.Quantifiers.{position-Some}
@@ -13,9 +13,10 @@ use Rattle.ax25_link.specs.Kept.{is_pending}
 use Rattle.ax25_link.specs.Window.{Window}
 use Rattle.ftl0_session.specs.Lists.Lists.{CallerList}
 use Rattle.file_store.specs.Store.{Store}
-use Rattle.file_store.specs.State.{IsReady, StoreState, store_in}
+use Rattle.file_store.specs.State.{IsKnown, IsReady, StoreState, store_on}
 use Rattle.file_store.specs.Working.{DoesAmongReads}
-use Rattle.file_store.proofs.Offered.{puts-among, puts_none}
+use Rattle.file_store.proofs.Offered.{among-store, puts-among, puts_none}
+use Rattle.file_store.specs.Command.{after_all}
 use Rattle.ftl0_session.specs.Uploads.Failures.{Failure}
 use Rattle.ftl0_session.proofs.uploads.UploadRows.{same_call-decides}
 use Rattle.ftl0_session.specs.SessionState.{caller_of, working_on}
@@ -33,8 +34,9 @@ use Rattle.ftl0_server.specs.declared.place.Place.TheVariants.{Free, Talking}
 use Rattle.ftl0_server.specs.Kept.{IsAt, IsSettled}
 use Rattle.ftl0_server.specs.Server.{Server, becoming, heard_at, hearing_at, hearing_by, hearing_stranger, server_hearing}
 use Rattle.ftl0_server.specs.ServerState.{AllPlaces, IsServer, SaysAs, SendsAs, SendsFor, ServerState, any_pending, has_caller, is_empty_place, place_pending}
-use Rattle.ftl0_server.specs.Slots.{Slot, connected, first_empty, is_callers, place_of}
+use Rattle.ftl0_server.specs.Slots.{Slot, connected, first_empty, is_callers, place_of, slot_after}
 use Rattle.ftl0_server.proofs.AllPlaces.{all-both, all-get, all-set, all-to, never, same-position}
+use Rattle.ftl0_server.proofs.connection.HearLemmas.{gives-nothing, nothing-done as does-nothing}
 use Rattle.ftl0_server.proofs.NextLemmas.{none_first}
 use Rattle.ftl0_server.proofs.TickLemmas.{all-works, own-only}
 
@@ -82,7 +84,7 @@ may-hear me k store places i d frame found settled none is_for numbers =
 
 -- ---- places and slots
 
-module _ (self : ServerState) (server : Server) (is : IsServer self server) where
+module _ (over : Store) (self : ServerState) (server : Server) (is : IsServer over self server) where
   pub all-are : AllPlaces (IsPlace server.window self.store) self.places server.slots
   all-are = all-both (SendsAs server.window) (SaysAs self.store) self.places server.slots is.sends.links is.says
 
@@ -105,8 +107,8 @@ module _ (self : ServerState) (server : Server) (is : IsServer self server) wher
 
 -- ---- a frame of a connected caller
 
-module _ {D : Type 0} (g : Ghosts D) (old new : ServerState) (server : Server) (is : IsServer old server)
-    (settled : IsSettled old.me old.k old.store old.places) (frame : FrameValue) (moment : ℕ) (disk disk_now : D) (place : ℕ)
+module _ {D : Type 0} (g : Ghosts D) (old new : ServerState) (server : Server) (disk disk_now : D) (known : IsKnown g disk) (is : IsServer (store_on g old.store disk) old server)
+    (settled : IsSettled old.me old.k old.store old.places) (frame : FrameValue) (moment : ℕ) (place : ℕ)
     (found : position (has_caller frame.src) old.places ≡ Some place) (c : ConnectionState) (is_at : IsAt old.places place c) (p : Place)
     (works : Works old.store new.store (Talking c) p) (me : new.me ≡ old.me) (k : new.k ≡ old.k) (stray : new.stray ≡ old.stray)
     (places : new.places ≡ set old.places place p) where
@@ -115,17 +117,20 @@ module _ {D : Type 0} (g : Ghosts D) (old new : ServerState) (server : Server) (
       → SendsFor new (record server { slots = set server.slots place s; store = store; lists = lists })
   now-sends s store lists here = grind (arith, common_steps, all-set)
 
-  now-is : (s : Slot) (store : Store) (lists : List CallerList) → IsPlace server.window new.store p s → store_in new.store ≡ store → new.lists ≡ lists
-      → IsServer new (record server { slots = set server.slots place s; store = store; lists = lists })
-  now-is s store lists here same same_lists =
-      let all = all-works server.window old.me old.k old.store new.store old.places server.slots place (Talking c) p s is_at settled works (all-are old server is) here in
+  now-is : (s : Slot) (over store : Store) (lists : List CallerList) → IsPlace server.window new.store p s → over ≡ store → new.lists ≡ lists
+      → IsServer over new (record server { slots = set server.slots place s; store = store; lists = lists })
+  now-is s over store lists here same same_lists =
+      let all = all-works server.window old.me old.k old.store new.store old.places server.slots place (Talking c) p s is_at settled works (all-are _ old server is) here in
       let says = all-to (IsPlace server.window new.store) (SaysAs new.store) (set old.places place p) (set server.slots place s) (λ i q t there it both. both.1) all in
       let sends = now-sends s store lists here.0 in grind (arith, common_steps)
 
   module _ (event : List Failure → Happened) where
     heard-by : (result : Result ⊤ Stop) → PlaceHearsBy g server.window event (at old.store disk) (working_on new.store new.lists disk_now) p result
         → HearsBy g (λ failures. heard_at server place (event failures)) old new disk disk_now result
-    heard-by (Ok done) by = grind (arith, common_steps, now-is, never)
+    heard-by (Ok done) by =
+        let same : store_on g new.store disk_now ≡ after_all server.store (event []).done =
+        among-store g (event []).missed old.store new.store disk disk_now (event []).done known by.3 ∙ ap (λ (s : Store). after_all s (event []).done) is.store in
+        (by.0, now-is (slot_after (event [])) (store_on g new.store disk_now) (after_all server.store (event []).done) (event []).lists by.2 same by.1, by.3)
     heard-by (Err stop.Disk) by = search (rules, arith, now-sends)
     heard-by (Err stop.OutOfMemory) by = inr by
 
@@ -135,34 +140,41 @@ module _ {D : Type 0} (g : Ghosts D) (old new : ServerState) (server : Server) (
 
   pub server-hears : (result : Result ⊤ Stop)
       → ((w : Window) (d : Connected) → IsPlace w old.store (Talking c) (connected d)
-      → PlaceHears g w (hearing w moment (store_in old.store) old.lists d frame) (at old.store disk) (working_on new.store new.lists disk_now) p result)
+      → PlaceHears g w (hearing w moment (store_on g old.store disk) old.lists d frame) (at old.store disk) (working_on new.store new.lists disk_now) p result)
       → Hears g (server_hearing server frame moment) old new disk disk_now result
   server-hears result hears =
       let slot = slot_is in
       let heard = hears server.window slot.0 slot.2 in
-      let by : Hears g (λ failures. heard_at server place (hearing server.window moment (store_in old.store) old.lists slot.0 frame failures)) old new disk disk_now result =
+      let by : Hears g (λ failures. heard_at server place (hearing server.window moment (store_on g old.store disk) old.lists slot.0 frame failures)) old new disk disk_now result =
       record {
         parts = heard.parts;
-        by = heard-by (with_reads (hearing server.window moment (store_in old.store) old.lists slot.0 frame) heard.parts) result heard.by;
+        by = heard-by (with_reads (hearing server.window moment (store_on g old.store disk) old.lists slot.0 frame) heard.parts) result heard.by;
         since = heard.since;
       } in
       let over = subst (λ (s : Store). Hears g (λ failures. heard_at server place (hearing server.window moment s old.lists slot.0 frame failures)) old new disk disk_now result) is.store by in
       let among = subst (λ (l : List CallerList). Hears g (λ failures. heard_at server place (hearing server.window moment server.store l slot.0 frame failures)) old new disk disk_now result) is.lists over in
       let at_slot = subst (λ (o : Option Slot). Hears g (λ failures. hearing_at server frame moment failures place o) old new disk disk_now result) (sym slot.1) among in
       subst (λ (o : Option ℕ). Hears g (λ failures. hearing_by server frame moment failures o) old new disk disk_now result)
-      (sym found ∙ same-place_of old server is old.me old.k settled frame.src) at_slot
+      (sym found ∙ same-place_of _ old server is old.me old.k settled frame.src) at_slot
 
 -- ---- a frame of a station without a connection
 
 module _ {D : Type 0} (g : Ghosts D) (old new : ServerState) (settled : IsSettled old.me old.k old.store old.places) (frame : FrameValue) (moment : ℕ) (disk : D)
     (found : position (has_caller frame.src) old.places ≡ None) (ready : IsReady g old.store disk) (lasts : g.lasts disk disk) (same : SameStore old new) where
   nothing-done : DoesAmongReads g ⊥ 0 old.store new.store disk disk []
-  nothing-done = grind (arith, common_steps)
+  nothing-done =
+      subst (λ (s : StoreState). DoesAmongReads g ⊥ 0 old.store s disk disk []) (sym same.store) (does-nothing g old.store old.store disk ready lasts (gives-nothing old.store))
 
-  module _ (server : Server) (is : IsServer old server) where
+  module _ (server : Server) (is : IsServer (store_on g old.store disk) old server) where
     stranger-by : (result : Result ⊤ Stop) → HearsStranger (λ s. hearing_stranger s frame moment) old new result
         → HearsBy g (λ failures. becoming (hearing_stranger server frame moment)) old new disk disk result
-    stranger-by result heard = grind (arith, common_steps)
+    stranger-by (Ok done) heard = (
+      refl,
+      subst (λ (s : StoreState). IsServer (store_on g s disk) new (hearing_stranger server frame moment)) (sym same.store) (heard (store_on g old.store disk) server is),
+      nothing-done,
+    )
+    stranger-by (Err stop.Disk) heard = absurd heard
+    stranger-by (Err stop.OutOfMemory) heard = inl nothing-done
 
     stranger-hears : (result : Result ⊤ Stop) → HearsStranger (λ s. hearing_stranger s frame moment) old new result
         → Hears g (server_hearing server frame moment) old new disk disk result
@@ -170,7 +182,7 @@ module _ {D : Type 0} (g : Ghosts D) (old new : ServerState) (settled : IsSettle
         let by : Hears g (λ failures. becoming (hearing_stranger server frame moment)) old new disk disk result =
         record { parts = []; by = stranger-by result heard; since = nothing-done.since } in
         subst (λ (o : Option ℕ). Hears g (λ failures. hearing_by server frame moment failures o) old new disk disk result)
-        (sym found ∙ same-place_of old server is old.me old.k settled frame.src) by
+        (sym found ∙ same-place_of _ old server is old.me old.k settled frame.src) by
 
   no-disk : (result : Result ⊤ Stop) → HearsStranger (λ s. hearing_stranger s frame moment) old new result → ¬ IsErrOf result stop.Disk
   no-disk (Ok done) heard is = absurd cc
@@ -188,11 +200,11 @@ module _ {D : Type 0} (g : Ghosts D) (old new : ServerState) (settled : IsSettle
   -- what it does to the server
   pub stranger-event : (result : Result ⊤ Stop) → HearsStranger (λ s. hearing_stranger s frame moment) old new result
       → HearsEvent g (λ server. server_hearing server frame moment) old new disk disk result
-  stranger-event result heard = record { hears = λ server is. stranger-hears server is result heard; keeps = stranger-keeps result heard; me = same.me }
+  stranger-event result heard = record { hears = λ known server is. stranger-hears server is result heard; keeps = stranger-keeps result heard; me = same.me }
 
 -- what a frame of a station without a connection makes of a server, said otherwise
 pub stranger-at : (step other : Server → Server) (old new : ServerState) (result : Result ⊤ Stop) → ((s : Server) → step s ≡ other s)
     → HearsStranger step old new result → HearsStranger other old new result
-stranger-at step other old new (Ok done) same heard = λ server is. subst (λ (s : Server). IsServer new s) (same server) (heard server is)
+stranger-at step other old new (Ok done) same heard = λ store server is. subst (λ (s : Server). IsServer store new s) (same server) (heard store server is)
 stranger-at step other old new (Err stop.Disk) same heard = heard
 stranger-at step other old new (Err stop.OutOfMemory) same heard = heard

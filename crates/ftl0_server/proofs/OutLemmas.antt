@@ -8,6 +8,7 @@ use Rattle.ax25_frames.specs.FrameText.{FrameText, canonical}
 use Rattle.ax25_link.specs.Refusals.{refusal_frame}
 use Rattle.ax25_link.specs.Window.{Window}
 use Rattle.file_store.specs.State.{StoreState}
+use Rattle.file_store.specs.Store.{Store}
 use Rattle.ftl0_server.specs.Connection.ConnectionState.{ConnectionState}
 use Rattle.ftl0_server.specs.declared.place.Place.{Place}
 use Rattle.ftl0_server.specs.declared.place.Place.TheVariants.{Talking}
@@ -75,25 +76,25 @@ module _ (old new : ServerState) (server : Server) (before now : List ℕ) (answ
       → HandsOut SendsFor (sends_of_places server o) old new before now answer
   places-sends o is gives = grind (arith, common_steps)
 
-  places-next : (o : Option PlacesSend) → IsServer old server → AllSay old.store old.places o → PlacesGive o server.window new.places now answer
-      → HandsOut IsServer (sends_of_places server o) old new before now answer
-  places-next None is say gives = (gives, (none gives).0, (none gives).1)
-  places-next (Some sends) is say gives =
+  places-next : (over : Store) (o : Option PlacesSend) → IsServer over old server → AllSay old.store old.places o → PlacesGive o server.window new.places now answer
+      → HandsOut (IsServer over) (sends_of_places server o) old new before now answer
+  places-next over None is say gives = (gives, (none gives).0, (none gives).1)
+  places-next over (Some sends) is say gives =
       let all = all-same-say old.store old.places new.places sends.after same say in
       let after = sends-after sends.after is.sends gives.1 in
-      let stands : IsServer new (record server { slots = sends.after }) =
-      record { sends = after; says = rw store all; store = rw store is.store; lists = lists ∙ is.lists } in
+      let stands : IsServer over new (record server { slots = sends.after }) =
+      record { sends = after; says = rw store all; store = is.store; lists = lists ∙ is.lists } in
       (gives.0, stands, gives.2, gives.3)
 
   pub places-out-sends : SendsFor old server → PlacesGive (places_next server.window server.slots) server.window new.places now answer
       → HandsOut SendsFor (server_next server) old new before now answer
   places-out-sends is gives = grind (arith, common_steps, places-sends)
 
-  pub places-out-next : IsServer old server → PlacesGive (places_next server.window server.slots) server.window new.places now answer
-      → HandsOut IsServer (server_next server) old new before now answer
-  places-out-next is gives =
-      subst (λ (o : Option Refused). HandsOut IsServer (sends_by server o) old new before now answer) (sym no_stray ∙ is.sends.stray)
-      (places-next (places_next server.window server.slots) is (places-say old.store server.window old.places server.slots is.says) gives)
+  pub places-out-next : (over : Store) → IsServer over old server → PlacesGive (places_next server.window server.slots) server.window new.places now answer
+      → HandsOut (IsServer over) (server_next server) old new before now answer
+  places-out-next over is gives =
+      subst (λ (o : Option Refused). HandsOut (IsServer over) (sends_by server o) old new before now answer) (sym no_stray ∙ is.sends.stray)
+      (places-next over (places_next server.window server.slots) is (places-say old.store server.window old.places server.slots is.says) gives)
 
 -- ---- nothing is pending
 
@@ -118,8 +119,8 @@ all-freed-says store [] (s ∷ ss) all = absurd all
 all-freed-says store (p ∷ ps) [] all = absurd all
 all-freed-says store (p ∷ ps) (s ∷ ss) all = (freed-says store p s all.0, all-freed-says store ps ss all.1)
 
-pub settles : (self : ServerState) (server : Server) → any_pending self.places ≡ false → IsServer self server → IsServer self (settled server)
-settles self server none is = search (rules, arith, all-freed-sends, all-freed-says)
+pub settles : (over : Store) (self : ServerState) (server : Server) → any_pending self.places ≡ false → IsServer over self server → IsServer over self (settled server)
+settles over self server none is = search (rules, arith, all-freed-sends, all-freed-says)
 
 -- ---- what holds of a server holds after frames are given out
 

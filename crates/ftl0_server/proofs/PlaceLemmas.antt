@@ -1,26 +1,25 @@
 -- What an event at one place leaves.
 use Rattle.std.proofs.lemmas.Grind.{common_steps}
-use Rattle.std.proofs.Common.{◌≡◌, List, Bool, true, false, refl, sym, subst, arith}
+use Rattle.std.proofs.Common.{◌≡◌, List, [], Bool, true, false, sym, subst, arith}
 use Rattle.std.specs.Prelude.{⊤, Result, Ok, Err}
 use Rattle.px_base.specs.CallSign.{CallSign}
 use Rattle.disk_model.specs.declared.disk.Disk.{Ghosts}
 use Rattle.ax25_link.specs.Kept.{StandsFor}
 use Rattle.ax25_link.specs.Window.{Window}
-use Rattle.file_store.specs.State.{StoreState, store_in}
+use Rattle.file_store.specs.State.{StoreState}
 use Rattle.ftl0_session.specs.Lists.Lists.{CallerList}
-use Rattle.file_store.proofs.Offered.{Does-moved}
+use Rattle.file_store.proofs.Offered.{among-parked}
 use Rattle.ftl0_session.specs.Uploads.Failures.{Failure, failed_write}
 use Rattle.ftl0_session.specs.Uploads.Others.{KeepsOtherCallers}
 use Rattle.disk_model.specs.AtDisk.{AtDisk, at}
-use Rattle.ftl0_session.specs.Uploads.SessionState.{IsOnlyOut, Parks}
-use Rattle.ftl0_session.specs.declared.uploads.phase.Phase.{Phase}
+use Rattle.ftl0_session.specs.Uploads.SessionState.{IsOnlyOut}
 use Rattle.ftl0_session.specs.SessionState.{caller_of, working_on}
 use Rattle.disk_model.specs.declared.halt.Halt.{Halt as Stop}
 use Rattle.disk_model.specs.declared.halt.Halt.TheVariants as stop
 use Rattle.ftl0_server.specs.Connection.ConnectionState.{ConnectionState, HearsBy, IsConnection}
 use Rattle.ftl0_server.specs.declared.connection.fate.Fate.TheVariants.{Ends}
 use Rattle.ftl0_server.specs.Connection.Hearing.{Happened}
-use Rattle.ftl0_server.specs.AtPlace.{IsOver, IsPlace, PlaceHearsBy, Works}
+use Rattle.ftl0_server.specs.AtPlace.{GivesUp, IsOver, IsPlace, PlaceHearsBy, Works}
 use Rattle.ftl0_server.specs.declared.place.Place.TheVariants.{Leaving, Talking}
 use Rattle.ftl0_server.specs.ServerState.{SendsAs}
 use Rattle.ftl0_server.specs.Slots.{left_by, slot_after}
@@ -32,20 +31,25 @@ others-then before mid now caller first second = grind (arith, common_steps)
 
 -- Where the session is over its upload is parked, and the link left.
 module _ {D : Type 0} (g : Ghosts D) (w : Window) (event : List Failure → Happened) (store mid now : StoreState) (lists : List CallerList) (disk disk_now : D)
-    (connection : ConnectionState) (same : store_in now ≡ store_in mid) (journal : now.journal ≡ mid.journal) where
+    (connection : ConnectionState) (gives_up : GivesUp mid now) where
   left : (happened : Happened) → happened.over ≡ true → StandsFor w connection.link happened.after.end
       → SendsAs w (Leaving connection.link) (slot_after happened)
   left happened over stands = subst (λ (b : Bool). SendsAs w (Leaving connection.link) (left_by b happened.after)) (sym over) stands
 
   pub heard-over : (result : Result ⊤ Stop) → HearsBy g w event (at store disk) (working_on mid lists disk_now) connection Ends result
       → PlaceHearsBy g w event (at store disk) (working_on now lists disk_now) (Leaving connection.link) result
-  heard-over (Ok done) by = grind (arith, common_steps)
+  heard-over (Ok done) by = (
+    by.0,
+    by.1.0,
+    (left (event []) by.1.1.0 by.1.1.1, tt),
+    among-parked g ⊥ (event []).missed store mid now disk disk_now (event []).done gives_up.entries gives_up.journal by.2,
+  )
   heard-over (Err stop.Disk) by =
       let then_is : AtDisk StoreState D = by.3.then_is in (
         by.0,
         by.1,
         left (event (failed_write by.0)) by.2.1.0 by.2.1.1,
-        record { then_is = then_is; first = by.3.first; second = Does-moved g ⊤ then_is.it mid then_is.it now then_is.disk disk_now (event (failed_write by.0)).cut refl refl same journal by.3.second },
+        record { then_is = then_is; first = by.3.first; second = among-parked g ⊤ 0 then_is.it mid now then_is.disk disk_now (event (failed_write by.0)).cut gives_up.entries gives_up.journal by.3.second },
       )
   heard-over (Err stop.OutOfMemory) by = grind (arith, common_steps)
 
@@ -55,13 +59,6 @@ module _ {D : Type 0} (g : Ghosts D) (w : Window) (event : List Failure → Happ
   going : (happened : Happened) → happened.over ≡ false → IsConnection w now connection happened.after
       → IsPlace w now (Talking connection) (slot_after happened)
   going happened over is = grind (arith, common_steps)
-
--- What is parked leaves the store and its journal.
-pub parks-store : (before now : StoreState) (p : Phase) → Parks before now p → store_in now ≡ store_in before
-parks-store before now p parks = grind (arith, common_steps)
-
-pub parks-journal : (before now : StoreState) (p : Phase) → Parks before now p → now.journal ≡ before.journal
-parks-journal before now p parks = grind (arith, common_steps)
 
 -- an event ends the session at a place
 pub works-over : (before mid now : StoreState) (old then : ConnectionState) → caller_of then.session ≡ caller_of old.session

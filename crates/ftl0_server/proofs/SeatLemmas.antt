@@ -7,6 +7,7 @@ use Rattle.std.proofs.lemmas.Bool.{lt-ltb}
 use Rattle.px_base.specs.CallSign.{CallSign}
 use Rattle.ax25_link.proofs.Offered.{slice_get-set_other, slice_get-set_same}
 use Rattle.file_store.specs.State.{StoreState}
+use Rattle.file_store.specs.Store.{Store}
 use Rattle.ftl0_session.specs.Uploads.SessionState.{NoOtherOut, number_of}
 use Rattle.ftl0_session.proofs.uploads.UploadRows.{same_call-decides}
 use Rattle.ftl0_session.specs.SessionState.{caller_of}
@@ -86,7 +87,7 @@ pub new-seated : (self : ServerState) (c : ConnectionState) → IsNew self c →
 new-seated self c new = grind (arith, common_steps)
 
 -- the server with a new connection at this place
-pub server-seated : (old : ServerState) (server : Server) (place : ℕ) (c : ConnectionState) (d : Connected) → IsServer old server
+pub server-seated : (over : Store) (old : ServerState) (server : Server) (place : ℕ) (c : ConnectionState) (d : Connected) → IsServer over old server
     → IsConnection server.window old.store c d
-    → IsServer (record old { places = set old.places place (Talking c) }) (with_slot server place (connected d))
-server-seated old server place c d is talks = grind (arith, common_steps, all-set)
+    → IsServer over (record old { places = set old.places place (Talking c) }) (with_slot server place (connected d))
+server-seated over old server place c d is talks = grind (arith, common_steps, all-set)

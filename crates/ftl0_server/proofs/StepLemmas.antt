@@ -4,7 +4,8 @@ use Rattle.std.proofs.Common.{◌≡◌, ℕ, List, map, Bool, true, false, sym,
 use Rattle.std.specs.Prelude.{if◌then◌else◌, ◌&&◌}
 use Rattle.ax25_frames.specs.FrameText.{FrameValue}
 use Rattle.ax25_link.specs.Rows.{is_call}
-use Rattle.file_store.specs.State.{StoreState, store_in}
+use Rattle.file_store.specs.State.{StoreState}
+use Rattle.file_store.specs.Store.{Store}
 use Rattle.ftl0_server.specs.AtPlace.{IsPlace}
 use Rattle.ftl0_server.specs.declared.place.Place.{Place}
 use Rattle.ftl0_server.specs.Server.{Server, called_by, hearing_stranger, refusing, server_ticking}
@@ -12,10 +13,10 @@ use Rattle.ftl0_server.specs.ServerState.{AllPlaces, IsServer, ServerState}
 use Rattle.ftl0_server.specs.Slots.{first_empty, slot_ticking}
 use Rattle.ftl0_server.proofs.AllPlaces.{all-to}
 
-pub server-ticked : (old : ServerState) (server : Server) (places : List Place) (store : StoreState) → IsServer old server
-    → AllPlaces (IsPlace server.window store) places (map slot_ticking server.slots) → store_in store ≡ store_in old.store
-    → IsServer (record old { places = places; store = store }) (server_ticking server)
-server-ticked old server places store is all same = grind (arith, common_steps, all-to)
+pub server-ticked : (over : Store) (old : ServerState) (server : Server) (places : List Place) (store : StoreState) → IsServer over old server
+    → AllPlaces (IsPlace server.window store) places (map slot_ticking server.slots)
+    → IsServer over (record old { places = places; store = store }) (server_ticking server)
+server-ticked over old server places store is all = grind (arith, common_steps, all-to)
 
 -- the frame is SABM, or is refused, or passed over
 module _ (server : Server) (frame : FrameValue) (moment : ℕ) where

@@ -8,7 +8,8 @@ use Rattle.ax25_link.specs.declared.state.LinkState.TheVariants.{Up}
 use Rattle.file_store.specs.Calls.{Leaves}
 use Rattle.file_store.specs.EntriesKept.{KeepsComplete}
 use Rattle.file_store.specs.OnDisk.{MakesFirst}
-use Rattle.file_store.specs.State.{StandsOn, StoreState, store_in}
+use Rattle.file_store.specs.Files.{store_of}
+use Rattle.file_store.specs.State.{IsKnown, StandsOn, StoreState, store_in, store_on}
 use Rattle.file_store.specs.Working.{CutsOffAmongReads, DoesAmongReads, PutsAmongReads}
 use Rattle.ftl0_session.specs.Uploads.Failures.{Failure, failed_write}
 use Rattle.ftl0_session.specs.Uploads.Others.{KeepsOtherCallers}
@@ -116,15 +117,22 @@ pub record PlaceHears {D : Type 0} (g : Ghosts D) (w : Window) (event : List Fai
   pub parts : List ℕ
   pub by : PlaceHearsBy g w (with_reads event parts) before now place result
   pub since :
-      Leaves g before.disk now.disk (λ _. MakesFirst (store_in before.it) (with_reads event parts []).done)
+      Leaves g before.disk now.disk
+      (λ _. MakesFirst (store_on g before.it before.disk) (with_reads event parts []).done)
 
--- A frame was heard at this moment, of whichever connection the place stood for: of that it is what the frame makes.
+-- A frame was heard at this moment, of whichever connection the place stood for: where it is known what octets the
+-- files have, it is of that connection what the frame makes.
 abbrev pub PlaceHearsFrame :
     {D : Type 0} → Ghosts D → ℕ → FrameValue → WorkingOn D → WorkingOn D → Place → Place → Result ⊤ Stop → Type 0
 PlaceHearsFrame g moment frame before now old new result =
-    (w : Window) (c : Connected) → IsPlace w before.store old (connected c)
-    → PlaceHears g w (hearing w moment (store_in before.store) before.lists c frame) (at before.store before.disk) now
-    new result
+    IsKnown g before.disk → (w : Window) (c : Connected) → IsPlace w before.store old (connected c)
+    → PlaceHears g w (hearing w moment (store_on g before.store before.disk) before.lists c frame)
+    (at before.store before.disk) now new result
+
+-- An upload may have been given up, and nothing else changed of the store.
+pub record GivesUp (before now : StoreState) : Type 0 where
+  pub entries : store_of now.files ≡ store_of before.files
+  pub journal : now.journal ≡ before.journal
 
 -- whatever end the place's link stands for, it is one that frames can bring about
 abbrev pub PlaceFits : Place → Type 0

@@ -9,7 +9,8 @@ use Rattle.ax25_link.specs.Kept.{HasStations}
 use Rattle.ax25_link.specs.declared.state.LinkState.TheVariants.{Up}
 use Rattle.file_store.specs.Calls.{Leaves}
 use Rattle.file_store.specs.OnDisk.{MakesFirst}
-use Rattle.file_store.specs.State.{IsReady, store_in}
+use Rattle.file_store.specs.State.{IsKnown, IsReady, store_on}
+use Rattle.file_store.specs.Store.{Store}
 use Rattle.file_store.specs.Working.{CutsOffAmongReads, DoesAmongReads}
 use Rattle.ftl0_session.specs.Uploads.Failures.{Failure, failed_write}
 use Rattle.ftl0_session.specs.SessionState.{caller_of, new_session}
@@ -34,7 +35,7 @@ abbrev pub HearsBy :
     {D : Type 0} → Ghosts D → (List Failure → ServerHappened) → ServerState → ServerState → D → D → Result ⊤ Stop
     → Type 0
 HearsBy g event old new disk disk_now (Ok done) =
-    ((event []).halt ≡ goes_on) × IsServer new (event []).after
+    ((event []).halt ≡ goes_on) × IsServer (store_on g new.store disk_now) new (event []).after
     × DoesAmongReads g ⊥ (event []).missed old.store new.store disk disk_now (event []).done
 HearsBy g event old new disk disk_now (Err stop.Disk) =
     (part : ℕ) × ((event (failed_write part)).halt ≡ fails) × SendsFor new (event (failed_write part)).after
@@ -53,7 +54,7 @@ pub record Hears {D : Type 0} (g : Ghosts D) (event : List Failure → ServerHap
     (disk disk_now : D) (result : Result ⊤ Stop) : Type 0 where
   pub parts : List ℕ
   pub by : HearsBy g (with_reads event parts) old new disk disk_now result
-  pub since : Leaves g disk disk_now (λ _. MakesFirst (store_in old.store) (with_reads event parts []).done)
+  pub since : Leaves g disk disk_now (λ _. MakesFirst (store_on g old.store disk) (with_reads event parts []).done)
 
 -- What an event needs of a server: nothing is to be given out, and the store is ready.
 pub record AwaitsEvent {D : Type 0} (g : Ghosts D) (self : ServerState) (disk : D) : Type 0 where
@@ -66,11 +67,14 @@ pub record AwaitsFrame {D : Type 0} (g : Ghosts D) (self : ServerState) (disk : 
   pub numbers : FitsControl frame.kind.control
   pub awaits : AwaitsEvent g self disk
 
--- What an event does, which makes this of a server by the failures of the disk: of whichever server it stood for, it is
--- what the event makes of that, or it stops. It keeps its store and its call.
+-- What an event does, which makes this of a server by the failures of the disk: of whichever server it stood for, over
+-- the store of files that the disk holds, it is what the event makes of that, or it stops; this where it is known what
+-- octets the files have. It keeps its store and its call.
 pub record HearsEvent {D : Type 0} (g : Ghosts D) (event : Server → List Failure → ServerHappened)
     (old new : ServerState) (disk disk_now : D) (result : Result ⊤ Stop) : Type 0 where
-  pub hears : (server : Server) → IsServer old server → Hears g (event server) old new disk disk_now result
+  pub hears :
+      IsKnown g disk → (server : Server) → IsServer (store_on g old.store disk) old server
+      → Hears g (event server) old new disk disk_now result
   pub keeps : KeepsStore g (IsErrOf result stop.Disk) old.store new.store disk disk_now
   pub me : new.me ≡ old.me
 
@@ -108,10 +112,11 @@ pub record SameStore (old new : ServerState) : Type 0 where
   pub store : new.store ≡ old.store
   pub me : new.me ≡ old.me
 
--- A frame of a station without a connection makes this of whichever server it was, or there is no memory, and nothing
--- changes.
+-- A frame of a station without a connection makes this of whichever server it was, over whichever store, or there is no
+-- memory, and nothing changes.
 abbrev pub HearsStranger : (Server → Server) → ServerState → ServerState → Result ⊤ Stop → Type 0
-HearsStranger step old new (Ok done) = (server : Server) → IsServer old server → IsServer new (step server)
+HearsStranger step old new (Ok done) =
+    (store : Store) (server : Server) → IsServer store old server → IsServer store new (step server)
 HearsStranger step old new (Err stop.Disk) = ⊥
 HearsStranger step old new (Err stop.OutOfMemory) = new ≡ old
 

@@ -6,7 +6,8 @@ use Rattle.ax25_link.specs.Kept.{StandsFor, count_of, is_pending, is_there, most
 use Rattle.ax25_link.specs.Window.{Window, window_of}
 use Rattle.ftl0_session.specs.Uploads.Session.{is_same_call}
 use Rattle.ftl0_session.specs.Lists.Lists.{CallerList}
-use Rattle.file_store.specs.State.{StoreState, store_in}
+use Rattle.file_store.specs.State.{StoreState}
+use Rattle.file_store.specs.Store.{Store}
 use Rattle.ftl0_session.specs.SessionState.{caller_of, state_in}
 use Rattle.ftl0_server.specs.Connection.Connected.{Connected}
 use Rattle.ftl0_server.specs.Connection.ConnectionState.{ConnectionState}
@@ -63,11 +64,11 @@ pub record SendsFor (self : ServerState) (server : Server) : Type 0 where
   pub stray : self.stray ≡ server.stray
   pub links : AllPlaces (SendsAs server.window) self.places server.slots
 
--- The server stands for that one: it may stand for many, since its links keep no history.
-pub record IsServer (self : ServerState) (server : Server) : Type 0 where
+-- The server stands for that one, over this store of files: it may stand for many, since its links keep no history.
+pub record IsServer (files : Store) (self : ServerState) (server : Server) : Type 0 where
   pub sends : SendsFor self server
   pub says : AllPlaces (SaysAs self.store) self.places server.slots
-  pub store : store_in self.store ≡ server.store
+  pub store : files ≡ server.store
   pub lists : self.lists ≡ server.lists
 
 -- a frame is to be sent

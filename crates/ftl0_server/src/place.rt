@@ -7,8 +7,8 @@ ghost use Rattle.file_store.specs.State.{IsReady, store_in};
 ghost use Rattle.ftl0_session.specs.Downloads.Needs.{AreComplete};
 ghost use Rattle.disk_model.specs.AtDisk.{at};
 ghost use Rattle.ftl0_session.specs.SessionState.{working_on};
-ghost use Rattle.ftl0_server.specs.AtPlace.{HasEnded, HasLeft, IsPlace, KeepsStore, MayEnd, MayHear, MayLeave, MayTick};
-ghost use Rattle.ftl0_server.specs.AtPlace.{PlaceFits, PlaceHearsFrame, Works};
+ghost use Rattle.ftl0_server.specs.AtPlace.{GivesUp, HasEnded, HasLeft, IsPlace, KeepsStore, MayEnd, MayHear, MayLeave};
+ghost use Rattle.ftl0_server.specs.AtPlace.{MayTick, PlaceFits, PlaceHearsFrame, Works};
 ghost use Rattle.ftl0_server.specs.Slots.{Slot, slot_ticking};
 ghost use Rattle.ftl0_server.specs.Places.{PlaceGives, SamePlace};
 ghost use Rattle.ftl0_server.specs.ServerState.{has_caller, is_empty_place, place_most, place_pending};
@@ -133,8 +133,7 @@ impl Place {
         ensures ticks { (w : Window) (slot : Slot) → IsPlace w store.old self.old slot →
             IsPlace w store.new self.new (slot_ticking slot) }
         ensures works { Works store.old store.new self.old self.new }
-        ensures store { store_in store.new ≡ store_in store.old }
-        ensures journal { store.new.journal ≡ store.old.journal }
+        ensures store { GivesUp store.old store.new }
     {
         match self {
             Place::Talking(connection) => {

@@ -4,8 +4,7 @@ ghost use Rattle.std.specs.Prelude.{◌≡◌, ◌<◌, ℕ, List, map, false, t
 ghost use Rattle.std.specs.List.{position};
 ghost use Rattle.px_base.specs.CallSign.{CallSign};
 ghost use Rattle.ax25_link.specs.Window.{Window};
-ghost use Rattle.file_store.specs.State.{store_in};
-ghost use Rattle.ftl0_server.specs.AtPlace.{AllFit, IsPlace, MayAllEnd};
+ghost use Rattle.ftl0_server.specs.AtPlace.{AllFit, GivesUp, IsPlace, MayAllEnd};
 ghost use Rattle.ftl0_server.specs.Calls.{SamePlaces};
 ghost use Rattle.ftl0_server.specs.Kept.{IsSettled, IsWorking};
 ghost use Rattle.ftl0_server.specs.Places.{PlacesGive};
@@ -74,8 +73,7 @@ pub(crate) fn tick_all(places: &mut [Place], store: &mut FileStore)
         AllPlaces (IsPlace w store.new) places.new (map slot_ticking slots) }
     ensures settled { (me : CallSign) (k : ℕ) → IsSettled me k store.old places.old →
         IsSettled me k store.new places.new }
-    ensures store { store_in store.new ≡ store_in store.old }
-    ensures journal { store.new.journal ≡ store.old.journal }
+    ensures store { GivesUp store.old store.new }
 {
     for i in 0..places.len() {
         let place = &mut places[i];

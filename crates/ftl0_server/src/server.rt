@@ -5,12 +5,11 @@ ghost use Rattle.std.specs.List.{position};
 ghost use Rattle.ax25_frames.specs.Values.{value_of};
 ghost use Rattle.ax25_link.specs.Window.{IsGoodK, window_of};
 ghost use Rattle.file_store.specs.IsStore.{IsStore};
-ghost use Rattle.file_store.specs.Records.{store_magic};
 ghost use Rattle.file_store.specs.Calls.{Leaves, Runs, TakesStep};
 ghost use Rattle.file_store.specs.Journal.{IsAfterRecovery};
-ghost use Rattle.file_store.specs.Layout.TheVariants as Layout;
 ghost use Rattle.file_store.specs.Recovery.{IsRecovered, LeavesAlikeSinceSync, RefusesRecovery, StandsAlike};
-ghost use Rattle.file_store.specs.State.{IsRead, IsReady, store_in};
+ghost use Rattle.file_store.specs.State.{IsKnown, IsRead, IsReady, store_in, store_layout, store_magic, store_on};
+ghost use Rattle.file_store.specs.Store.{Store};
 ghost use Rattle.ftl0_session.specs.SessionState.{caller_of};
 ghost use Rattle.node.specs.Events.{ticks};
 ghost use Rattle.ftl0_server.specs.ServerStep.{happening};
@@ -32,7 +31,7 @@ use arrayvec::ArrayVec;
 use ax25_frames::Frame;
 use ax25_link::{Refusal, is_call};
 use disk_model::{Disk, Halt};
-use file_store::laws::state_law;
+use file_store::laws::{state_law, told_law};
 use file_store::{FileStore, Limits, StoreFault};
 use ftl0_session::lists::Lists;
 use px_base::{Call, OutOfMemory};
@@ -85,10 +84,12 @@ impl Server {
         requires most { limits.blocks ≤ 65536 }
         requires window { IsGoodK k }
         ensures recovered { IfOk result (λ server. IsRecovered D.Disk limits.blocks disk.old disk.new server.store) }
-        ensures server { IfOk result (λ server.
-            IsServer server (new_server me (window_of k) (store_in server.store))) }
+        ensures server { IfOk result (λ server. (store : Store) →
+            IsServer store server (new_server me (window_of k) store)) }
         ensures magic { IfOk result (λ server. server.store.journal.magic ≡ store_magic) }
         ensures rules { IfOk result (λ server. IsStore (store_in server.store)) }
+        ensures known_rules { IfOk result (λ server. IsKnown D.Disk disk.new →
+            IsStore (store_on D.Disk server.store disk.new)) }
         ensures silent { IfOk result (λ server. server_pending server ≡ false) }
         ensures me { IfOk result (λ server. server.me ≡ me) }
 
@@ -102,10 +103,11 @@ impl Server {
         ensures since_start { Leaves D.Disk disk.old disk.new (StandsAlike limits.blocks) }
         ensures since_sync { LeavesAlikeSinceSync D.Disk limits.blocks result disk.old disk.new }
         ensures octets { OnOk result
-            (TakesStep D.Disk disk.old disk.new (IsAfterRecovery store_magic Layout.Growing limits.blocks)) }
+            (TakesStep D.Disk disk.old disk.new (IsAfterRecovery store_magic store_layout limits.blocks)) }
     {
         let store = FileStore::recover(alloc, disk, limits)?;
         state_law(&store);
+        told_law(&store, disk);
         let lists = new_lists(alloc)?;
         Ok(Server {
             alloc,
@@ -145,8 +147,8 @@ impl Server {
     ) -> Result<(), Halt>
         requires { AwaitsFrame D.Disk self.old disk.old (value_of frame.now) }
 
-        // Of whichever server it stands for, it is what the frame makes of that, or it stops. It keeps what the next
-        // event needs.
+        // Of whichever server it stands for, over the store that the disk holds, it is what the frame makes of that, or
+        // it stops, where it is known what octets the files have. It keeps what the next event needs.
         ensures { HearsEvent D.Disk (λ server. server_hearing server (value_of frame.now) moment)
             self.old self.new disk.old disk.new result }
     {
@@ -166,10 +168,12 @@ impl Server {
         // What a power cut inside it leaves, said as of a frame.
         ensures takes { HearsEvent D.Disk (λ server. happening server (ticks _moment))
             self.old self.new _disk.old _disk.new result }
-        ensures ticks { (server : ServerValue) → IsServer self.old server → IsServer self.new (server_ticking server) }
+        ensures ticks { (store : Store) → (server : ServerValue) → IsServer store self.old server →
+            IsServer store self.new (server_ticking server) }
         ensures untouched { _disk.new ≡ _disk.old }
         ensures ready { IsReady D.Disk self.new.store _disk.new }
         ensures store { store_in self.new.store ≡ store_in self.old.store }
+        ensures on_disk { store_on D.Disk self.new.store _disk.new ≡ store_on D.Disk self.old.store _disk.old }
         ensures lists { self.new.lists ≡ self.old.lists }
     {
         tick_all(&mut self.places, &mut self.store);
@@ -181,13 +185,15 @@ impl Server {
     /// exactly where nothing is pending. Takes no memory.
     pub fn next_out(&mut self, out: &mut ArrayVec<u8, 400>) -> bool
         ensures pending { result ≡ server_pending self.old }
+        ensures none { result ≡ false → self.new ≡ self.old }
         ensures fewer { result ≡ true → server_most self.new < server_most self.old }
         ensures sends { HandsOutNext SendsFor self.old self.new out.old.items out.new.items result }
-        ensures next { HandsOutNext IsServer self.old self.new out.old.items out.new.items result }
+        ensures next { (store : Store) →
+            HandsOutNext (IsServer store) self.old self.new out.old.items out.new.items result }
 
         // Once all is given out, places whose sessions are over are free.
-        ensures settles { result ≡ false → (server : ServerValue) → IsServer self.old server →
-            IsServer self.new (settled server) }
+        ensures settles { (store : Store) → result ≡ false → (server : ServerValue) → IsServer store self.old server →
+            IsServer store self.new (settled server) }
         ensures same { SameButLinks self.old self.new }
     {
         match self.stray {
@@ -312,8 +318,8 @@ impl Server {
 
     /// The DM to this station is to be given out, with this F bit.
     fn refuse(&mut self, to: Call, poll: bool)
-        ensures refuses { (server : ServerValue) → IsServer self.old server →
-            IsServer self.new (refusing server to poll) }
+        ensures refuses { (store : Store) → (server : ServerValue) → IsServer store self.old server →
+            IsServer store self.new (refusing server to poll) }
         ensures same { SameStore self.old self.new }
     {
         self.stray = Some(Refusal { to, poll });

@@ -9,9 +9,10 @@ use Rattle.ax25_link.specs.Ends.{free_octets}
 use Rattle.ax25_link.specs.Kept.{Kept, StandsFor}
 use Rattle.ax25_link.specs.Window.{Window}
 use Rattle.file_store.specs.Command.{after_all}
-use Rattle.file_store.specs.State.{IsReady, StoreState, store_in}
+use Rattle.file_store.specs.State.{IsKnown, IsReady, StoreState, store_on}
+use Rattle.file_store.specs.Store.{Store}
 use Rattle.file_store.specs.Working.{DoesAmongReads, one_if}
-use Rattle.file_store.proofs.Offered.{among-same, among-then, does-among, Does-none, puts-among-then}
+use Rattle.file_store.proofs.Offered.{among-same, among-store, among-then, does-among, Does-none, known_on, puts-among-then}
 use Rattle.ftl0_session.specs.Uploads.Failures.{Failure, failed_reads, read_fails}
 use Rattle.disk_model.specs.declared.halt.Halt.{Halt as Stop}
 use Rattle.ftl0_session.specs.SessionState.{WorkingOn, state_in}
@@ -20,7 +21,7 @@ use Rattle.disk_model.specs.AtDisk.{AtDisk}
 use Rattle.ftl0_server.specs.declared.connection.fate.Fate.{Fate}
 use Rattle.ftl0_server.specs.declared.connection.fate.Fate.TheVariants.{Stays}
 use Rattle.ftl0_server.specs.Connection.ConnectionState.{ConnectionState, Hears, HearsBy}
-use Rattle.ftl0_server.specs.Connection.Feeding.{AreFree, HearsParts, IsNothingDue, KeepsFit, Queued, QueuesDue, QueuesPacket}
+use Rattle.ftl0_server.specs.Connection.Feeding.{AreFree, HearsParts, IsNothingDue, KeepsFit, Queued, QueuesBy, QueuesDue, QueuesPacket}
 use Rattle.ftl0_server.specs.Connection.Hearing.{progressed}
 use Rattle.ftl0_server.specs.Connection.Taking.{Progress, after_due, enough_free, fails, queued, queuing}
 use Rattle.ftl0_server.proofs.connection.FailureLemmas.{alike-second, All-at, among-at as among-one, among-first, at_part, none-writes, reads-among}
@@ -38,7 +39,7 @@ module _ {D : Type 0} (g : Ghosts D) (lasts : (disk : D) → g.lasts disk disk) 
       (state : state_in store new.session ≡ state_in store old.session) (untouched : disk_n ≡ disk) where
     -- it stands as it stood
     still : (w : Window) (progress : Progress) → StandsFor w old.link progress.end → state_in store old.session ≡ progress.state
-        → progress ≡ queuing (free_octets progress.end) (store_in store) (failed_reads []) progress → Queued g w store disk disk_n new progress
+        → progress ≡ queuing (free_octets progress.end) (store_on g store disk) (failed_reads []) progress → Queued g w store disk disk_n new progress
     still w progress stands stood is = record {
       parts = [];
       behind = All-nil (λ part. progress.part ≤ part);
@@ -51,15 +52,25 @@ module _ {D : Type 0} (g : Ghosts D) (lasts : (disk : D) → g.lasts disk disk) 
       reads = subst (λ (d : D). DoesAmongReads g ⊥ 0 store store disk d []) (sym untouched) (does-none store disk ready);
     }
 
-    pub queues-none : IsNothingDue store old.session ⊎ AreFree old.link (λ free. free < enough_free) → QueuesDue g store disk disk_n old new
-    queues-none (inl none) w progress stands stood =
+    queues-none : IsNothingDue g store disk old.session ⊎ AreFree old.link (λ free. free < enough_free) → QueuesDue g store disk disk_n old new
+    queues-none (inl none) known w progress stands stood =
         still w progress stands stood
-        (sym (queuing-none (store_in store) (failed_reads []) (free_octets progress.end) progress (ap (λ (s : State). next_due (store_in store) s false) (sym stood) ∙ none false)))
-    queues-none (inr few) w progress stands stood = grind (arith, common_steps, still, queuing-fewer)
+        (sym (queuing-none (store_on g store disk) (failed_reads []) (free_octets progress.end) progress (ap (λ (s : State). next_due (store_on g store disk) s false) (sym stood) ∙ none false)))
+    queues-none (inr few) known w progress stands stood = grind (arith, common_steps, still, queuing-fewer)
+
+  pub queues-last : (store : StoreState) (disk disk_n : D) (old new : ConnectionState) → IsReady g store disk → (IsKnown g disk → QueuesBy g store disk disk_n old new false) → QueuesDue g store disk disk_n old new
+  queues-last store disk disk_n old new ready last known = let is = last known in queues-none store disk disk_n old new ready is.0 is.1 is.2 is.3 known
 
   -- ---- one packet, and then the others
 
-  module _ (store : StoreState) (disk disk_m disk_n : D) (old mid new : ConnectionState) (one : QueuesPacket g store disk disk_m old mid) where
+  module _ (store : StoreState) (disk disk_m disk_n : D) (old mid new : ConnectionState) (known : IsKnown g disk) (one : QueuesPacket g store disk disk_m old mid) where
+    -- it is known still, and the store is the same
+    known-then : IsKnown g disk_m
+    known-then = known_on g disk disk_m one.reads.puts.told known
+
+    same-store : store_on g store disk_m ≡ store_on g store disk
+    same-store = among-store g (one_if (tells_failed_read one.due.packet)) store store disk disk_m [] known one.reads
+
     module _ (w : Window) (progress : Progress) (stands : StandsFor w old.link progress.end) (state : state_in store old.session ≡ progress.state) where
       -- behind it
       abbrev next : Progress
@@ -77,15 +88,16 @@ module _ {D : Type 0} (g : Ghosts D) (lasts : (disk : D) → g.lasts disk disk) 
             reads-among [] parts progress.part none-writes
             ∙ among-first (suc progress.part) progress.part (at_part one.fails progress.part) more.parts more.behind (omega arith) ∙ among-one one.fails progress.part
 
-        is-due : due_at (store_in store) progress.state (failed_reads parts) progress.part ≡ Some one.due
-        is-due = ap (λ (b : Bool). next_due (store_in store) progress.state b) fails-here ∙ ap (λ (s : State). next_due (store_in store) s one.fails) (sym state) ∙ one.is_due
+        is-due : due_at (store_on g store disk) progress.state (failed_reads parts) progress.part ≡ Some one.due
+        is-due = ap (λ (b : Bool). next_due (store_on g store disk) progress.state b) fails-here ∙ ap (λ (s : State). next_due (store_on g store disk) s one.fails) (sym state) ∙ one.is_due
 
-        now-is : more.now ≡ queuing (free_octets progress.end) (store_in store) (failed_reads parts) progress
+        now-is : more.now ≡ queuing (free_octets progress.end) (store_on g store disk) (failed_reads parts) progress
         now-is =
             let alike : (part : ℕ) → next.part ≤ part → read_fails (failed_reads more.parts) part ≡ read_fails (failed_reads parts) part =
             λ part later. sym (alike-second [] (at_part one.fails progress.part) more.parts next.part (suc part) none-writes here part later (omega arith)).0 in
-            more.is_now ∙ queuing-alike (store_in store) (failed_reads more.parts) (free_octets next.end) (failed_reads parts) next alike
-            ∙ queuing-next (store_in store) (failed_reads parts) progress one.due is-due (one.enough w progress.end stands)
+            more.is_now ∙ ap (λ (s : Store). queuing (free_octets next.end) s (failed_reads more.parts) next) same-store
+            ∙ queuing-alike (store_on g store disk) (failed_reads more.parts) (free_octets next.end) (failed_reads parts) next alike
+            ∙ queuing-next (store_on g store disk) (failed_reads parts) progress one.due is-due (one.enough w progress.end stands)
 
         queued-one : Queued g w store disk disk_n new progress
         queued-one = record {
@@ -100,8 +112,12 @@ module _ {D : Type 0} (g : Ghosts D) (lasts : (disk : D) → g.lasts disk disk) 
           reads = among-then g on ⊥ ⊥ (one_if (tells_failed_read one.due.packet)) more.missed store store store disk disk_m disk_n [] [] (λ never. never) one.reads more.reads;
         }
 
-    pub queues-then : QueuesDue g store disk_m disk_n mid new → QueuesDue g store disk disk_n old new
-    queues-then more w progress stands state = grind (arith, queued-one)
+  pub queues-then : (store : StoreState) (disk disk_m disk_n : D) (old mid new : ConnectionState) → (IsKnown g disk → QueuesPacket g store disk disk_m old mid) → QueuesDue g store disk_m disk_n mid new
+      → QueuesDue g store disk disk_n old new
+  queues-then store disk disk_m disk_n old mid new one more known w progress stands state =
+      let packet = one known in
+      queued-one store disk disk_m disk_n old mid new known packet w progress stands state
+      (more (known-then store disk disk_m disk_n old mid new known packet) w (after_due packet.due progress) (packet.queued w progress.end stands) packet.state)
 
   -- ---- what is left for the next event
 
@@ -113,25 +129,26 @@ module _ {D : Type 0} (g : Ghosts D) (lasts : (disk : D) → g.lasts disk disk) 
   module _ (w : Window) (left : List ℕ) (event : List Failure → Progress) (before : AtDisk StoreState D) where
     -- with what is due behind it
     abbrev whole : List Failure → Progress
-    whole failures = queued (store_in before.it) failures (event failures)
+    whole failures = queued (store_on g before.it before.disk) failures (event failures)
 
     -- the connection goes on
-    pub hears-going : (between now : WorkingOn D) (mid new : ConnectionState) → HearsParts g w left event before between mid (Stays, Ok tt) → now.store ≡ between.store → now.lists ≡ between.lists
+    pub hears-going : (between now : WorkingOn D) (mid new : ConnectionState) → IsKnown g before.disk → HearsParts g w left event before between mid (Stays, Ok tt) → now.store ≡ between.store → now.lists ≡ between.lists
         → new.octets ≡ mid.octets → QueuesDue g between.store between.disk now.disk mid new → Hears g w (λ failures. progressed left (whole failures)) before now new (Stays, Ok tt)
-    hears-going between now mid new heard same lists octets queues =
+    hears-going between now mid new known heard same lists octets queues =
         let h = heard.hears.by in
         let settled = heard.settled refl in
         let made : Progress = event ([] ++ failed_reads heard.hears.parts) in
         let is = h.1.1.1 in
-        let q : Queued g w between.store between.disk now.disk new made = queues w made is.link is.state in
+        let q : Queued g w between.store between.disk now.disk new made =
+        queues (known_on g before.disk between.disk h.2.puts.told known) w made is.link is.state in
         let all : List Failure = [] ++ failed_reads (heard.hears.parts ++ q.parts) in
-        let stores : after_all (store_in before.it) made.done ≡ store_in between.store = sym ((h.2.done (λ never. never)).0 (inl refl)) in
+        let stores : after_all (store_on g before.it before.disk) made.done ≡ store_on g between.store between.disk = sym ((h.2.done (λ never. never)).0 known) in
         let alike : (part : ℕ) → made.part ≤ part → read_fails all part ≡ read_fails (failed_reads q.parts) part =
         λ part later. (alike-second [] heard.hears.parts q.parts made.part (suc part) none-writes settled.before part later (omega arith)).0 in
         let now_is : whole all ≡ q.now =
-        rw (settled.later q.parts q.behind, queued-on (store_in before.it) all made h.1.1.0, stores, q.is_now)
-        (queuing-alike (store_in between.store) all (free_octets made.end) (failed_reads q.parts) made alike) in
-        let rest : KeepsRest made q.now = rw q.is_now (queuing-keeps (store_in between.store) (failed_reads q.parts) (free_octets made.end) made) in
+        rw (settled.later q.parts q.behind, queued-on (store_on g before.it before.disk) all made h.1.1.0, stores, q.is_now)
+        (queuing-alike (store_on g between.store between.disk) all (free_octets made.end) (failed_reads q.parts) made alike) in
+        let rest : KeepsRest made q.now = rw q.is_now (queuing-keeps (store_on g between.store between.disk) (failed_reads q.parts) (free_octets made.end) made) in
         let does : DoesAmongReads g ⊥ q.now.missed before.it now.store before.disk now.disk q.now.done = grind (arith, among-same, among-then, append-nil) in
         let by =
         subst (λ p. HearsBy g w (λ writes. progressed left p) before now new Stays (Ok tt)) (sym now_is) (grind arith) in
@@ -151,5 +168,5 @@ module _ {D : Type 0} (g : Ghosts D) (lasts : (disk : D) → g.lasts disk disk) 
     hears-stop now new told stops heard = record {
       parts = heard.hears.parts;
       by = by-stopped now new heard.over heard.hears.parts told.0 told.1 stops heard.hears.by;
-      since = rw (queued-keeps (store_in before.it) ([] ++ failed_reads heard.hears.parts) (event ([] ++ failed_reads heard.hears.parts))).done heard.hears.since;
+      since = rw (queued-keeps (store_on g before.it before.disk) ([] ++ failed_reads heard.hears.parts) (event ([] ++ failed_reads heard.hears.parts))).done heard.hears.since;
     }

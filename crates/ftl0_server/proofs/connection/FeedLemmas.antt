@@ -11,7 +11,7 @@ use Rattle.packet_link.specs.PacketLink.{HasFront}
 use Rattle.packet_link.proofs.Fronts.{front-none, front-then, stations-same, stations-then}
 use Rattle.file_store.specs.Store.{Store, entry_of}
 use Rattle.file_store.specs.Position.{Position}
-use Rattle.file_store.proofs.Offered.{does-among, Does-none, puts-among, puts-among-same, puts-among-then, puts_none}
+use Rattle.file_store.proofs.Offered.{does-among, Does-none, in_parked, known_on, puts-among, puts-among-same, puts-among-then, puts_none, stands_parked}
 use Rattle.file_store.specs.State.{StoreState, store_in}
 use Rattle.ftl0_session.specs.Uploads.Others.{KeepsOtherCallers}
 use Rattle.disk_model.specs.AtDisk.{AtDisk, at}
@@ -22,6 +22,7 @@ use Rattle.disk_model.specs.declared.halt.Halt.TheVariants as stop
 use Rattle.ftl0_session.specs.SessionState.{MayTake as SessionMayTake, SessionState, caller_of, new_session, WorkingOn, working_on}
 use Rattle.ftl0_server.specs.declared.connection.fate.Fate.{Fate}
 use Rattle.ftl0_server.specs.declared.connection.fate.Fate.TheVariants.{Stays}
+use Rattle.ftl0_server.specs.AtPlace.{GivesUp}
 use Rattle.ftl0_server.specs.Connection.ConnectionState.{ConnectionState}
 use Rattle.ftl0_server.specs.Connection.Feeding.{Feeds, FeedsAll, IsAmong, IsGoing, KeepsFit, LeavesFit, MayQueue, MayTake, TakesSome, carrying}
 use Rattle.ftl0_server.proofs.connection.HearsLemmas.{IsStop, takes-then}
@@ -44,17 +45,18 @@ module _ {D : Type 0} (g : Ghosts D) where
 
   -- a session began anew, over a store that has only given up the upload of the one before
   pub fit-anew : (on : WorkingOn D) (store_n : StoreState) (link link_n : Kept) (session session_n : SessionState) → g.lasts on.disk on.disk → SessionMayTake g on.store on.disk on.lists session
-      → store_in store_n ≡ store_in on.store → store_n.journal ≡ on.store.journal → session_n ≡ new_session (caller_of session) → NoOtherOut store_n (caller_of session) None
+      → GivesUp on.store store_n → session_n ≡ new_session (caller_of session) → NoOtherOut store_n (caller_of session) None
       → KeepsOtherCallers on.store store_n (caller_of session) → link_n.state ≡ Up → SameStations link link_n
       → LeavesFit g (at on.store on.disk) (working_on store_n on.lists on.disk) link link_n session session_n (Stays, Ok tt)
-  fit-anew on store_n link link_n session session_n lasts may same journal anew only others up stations =
+  fit-anew on store_n link link_n session session_n lasts may gives_up anew only others up stations =
+      let same : store_in store_n ≡ store_in on.store = in_parked on.store store_n gives_up.entries in
       rw anew (record {
         puts = puts-among g (fine ≡ Err stop.Disk) on.disk on.disk (puts_none g on.disk (fine ≡ Err stop.Disk) no-fault lasts);
         kept = λ number e found complete. ap (λ (s : Store). entry_of s number) same ∙ found;
         others = others;
-        healthy = λ fine. ap (λ (p : Position). p.failed) journal ∙ may.ready.healthy;
+        healthy = λ fine. ap (λ (p : Position). p.failed) gives_up.journal ∙ may.ready.healthy;
         fit = record {
-          stands_on = grind arith;
+          stands_on = stands_parked g on.store store_n on.disk gives_up.entries gives_up.journal may.ready.stands_on;
           held = tt;
           only = only;
           due = tt;
@@ -101,7 +103,7 @@ module _ {D : Type 0} (g : Ghosts D) where
         feeds = record {
           items = [];
           front = front-none old.octets;
-          takes = λ w end first stands. record {
+          takes = λ known w end first stands. record {
             parts = [];
             among = All-nil (IsAmong first 0);
             by = (refl, (refl, (refl, record { link = stands; rest = refl; state = refl })), does-among g ⊥ _ _ _ _ [] (Does-none g ⊥ _ _ (λ never. never) may.may.ready lasts));
@@ -117,9 +119,9 @@ module _ {D : Type 0} (g : Ghosts D) where
         feeds-one = record {
           items = h.feeds.items ++ item ∷ [];
           front = front-then old.octets mid.octets new.octets h.feeds.items (item ∷ []) h.feeds.front front;
-          takes = λ w end from stands.
-              takes-then g on w moment old mid new before between now end h.feeds.items (item ∷ []) from h.fit.caller (h.feeds.takes w end from stands) told
-              (λ next there. takes w next (from + length h.feeds.items) there);
+          takes = λ known w end from stands.
+              takes-then g on w moment old mid new before between now end h.feeds.items (item ∷ []) from h.fit.caller known (h.feeds.takes known w end from stands) told
+              (λ next there. takes (known_on g before.disk between.disk h.fit.puts.told known) w next (from + length h.feeds.items) there);
         }
 
         module _ (fit : LeavesFit g (at between.store between.disk) now mid.link new.link mid.session new.session told) where

@@ -14,7 +14,7 @@ use Rattle.ax25_link.specs.Rows.{after_frame, heard_of}
 use Rattle.ax25_link.specs.Window.{Window}
 use Rattle.ftl0_packets.specs.Reading.{packets_of, rest_of}
 use Rattle.ftl0_session.specs.Lists.Lists.{CallerList, has_left}
-use Rattle.file_store.specs.State.{IsReady, StoreState, store_in}
+use Rattle.file_store.specs.State.{IsReady, StoreState, store_on}
 use Rattle.file_store.specs.Working.{DoesAmongReads}
 use Rattle.file_store.proofs.Offered.{among-parked, does-among, Does-none}
 use Rattle.ftl0_session.specs.declared.uploads.phase.Phase.{Phase}
@@ -26,21 +26,30 @@ use Rattle.ftl0_session.specs.SessionState.{WorkingOn, working_on}
 use Rattle.ftl0_session.specs.Run.{session_over}
 use Rattle.ftl0_server.specs.declared.connection.fate.Fate.{Fate}
 use Rattle.ftl0_server.specs.declared.connection.fate.Fate.TheVariants.{Stays, Ends}
+use Rattle.ftl0_server.specs.AtPlace.{GivesUp}
 use Rattle.ftl0_server.specs.Connection.Connected.{Connected, beginning}
 use Rattle.ftl0_server.specs.Connection.ConnectionState.{ConnectionState, IsConnection}
 use Rattle.ftl0_server.specs.Connection.Feeding.{HearsParts}
 use Rattle.ftl0_server.specs.Connection.Hearing.{parts_as, rest_as, with_end}
 use Rattle.ftl0_server.specs.Connection.Taking.{resting, taking}
 
--- the session's upload was given up, and the store and its journal are as they were
-pub parks-same : (store store_n : StoreState) (of : Phase) → Parks store store_n of → (store_in store_n ≡ store_in store) × (store_n.journal ≡ store.journal)
+-- the session's upload was given up
+pub parks-same : (store store_n : StoreState) (of : Phase) → Parks store store_n of → GivesUp store store_n
 parks-same store store_n of parks = grind (arith, common_steps)
 
+pub gives-nothing : (store : StoreState) → GivesUp store store
+gives-nothing store = record { entries = refl; journal = refl }
+
+-- nothing else was done to it, and nothing to the disk
+pub nothing-done : {D : Type 0} (g : Ghosts D) (before now : StoreState) (disk : D) → IsReady g before disk → g.lasts disk disk → GivesUp before now → DoesAmongReads g ⊥ 0 before now disk disk []
+nothing-done g before now disk ready lasts gives_up =
+    among-parked g ⊥ 0 before before now disk disk [] gives_up.entries gives_up.journal (does-among g ⊥ before before disk disk [] (Does-none g ⊥ before disk (λ never. never) ready lasts))
+
 module _ {D : Type 0} (g : Ghosts D) (lasts : (disk : D) → g.lasts disk disk) (w : Window) (left : List ℕ) (end : LinkEnd) (state : State) (on : WorkingOn D) (store_n : StoreState)
-    (connection : ConnectionState) (ready : IsReady g on.store on.disk) (same : store_in store_n ≡ store_in on.store) (journal : store_n.journal ≡ on.store.journal) where
+    (connection : ConnectionState) (ready : IsReady g on.store on.disk) (gives_up : GivesUp on.store store_n) where
   -- nothing was done to the store
   does-nothing : DoesAmongReads g ⊥ 0 on.store store_n on.disk on.disk []
-  does-nothing = grind (arith, common_steps, among-parked, does-among, Does-none)
+  does-nothing = nothing-done g on.store store_n on.disk ready (lasts on.disk) gives_up
 
   -- no packet was taken, and the session goes on
   pub parts-on : IsConnection w store_n connection (record { end = end; rest = left; state = state })
@@ -60,7 +69,7 @@ module _ {D : Type 0} (g : Ghosts D) (w : Window) (moment : ℕ) (frame : FrameV
   -- what was heard of these octets, by what the link told
   abbrev Told : Heard → Connected → LinkEnd → List ℕ → Type 0
   Told told c end octets =
-      HearsParts g w (rest_as told c octets) (parts_as told moment (store_in before.store) before.lists c end octets) (at before.store before.disk) now new result
+      HearsParts g w (rest_as told c octets) (parts_as told moment (store_on g before.store before.disk) before.lists c end octets) (at before.store before.disk) now new result
 
   -- what the link told decides
   pub parts-told : (old : ConnectionState) (told : Heard) → Tells old.link (λ w end. heard_of w end frame) told → (c : Connected) → IsConnection w before.store old c
@@ -76,7 +85,7 @@ module _ {D : Type 0} (g : Ghosts D) (w : Window) (moment : ℕ) (frame : FrameV
   pub parts-bytes : (c : Connected) (end : LinkEnd) (octets information : List ℕ) → end.peer ≡ c.end.peer → octets ≡ information → Told Bytes (with_end c end) end octets → Told Bytes c end information
   parts-bytes c end octets information peer same h =
       let P : CallSign → List ℕ → Type 0 =
-      λ caller o. HearsParts g w (rest_of (c.rest ++ o)) (λ failures. taking caller moment (session_over (store_in before.store) before.lists c.state) end (packets_of (c.rest ++ o)) failures 0)
+      λ caller o. HearsParts g w (rest_of (c.rest ++ o)) (λ failures. taking caller moment (session_over (store_on g before.store before.disk) before.lists c.state) end (packets_of (c.rest ++ o)) failures 0)
       (at before.store before.disk) now new result in
       subst (P c.end.peer) same (subst (λ (caller : CallSign). P caller octets) peer h)
 

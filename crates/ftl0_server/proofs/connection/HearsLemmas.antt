@@ -1,6 +1,6 @@
 -- How what packets make of a connection is put together.
 use Rattle.std.proofs.lemmas.Grind.{common_steps}
-use Rattle.std.proofs.Common.{inl, ◌≡◌, ℕ, ◌+◌, ◌<◌, ◌≤◌, Bool, true, false, not, ◌&&◌, List, [], ◌++◌, length, refl, ap, sym, ◌∙◌, subst, arith, length-append}
+use Rattle.std.proofs.Common.{◌≡◌, ℕ, ◌+◌, ◌<◌, ◌≤◌, Bool, true, false, not, ◌&&◌, List, [], ◌++◌, length, refl, ap, sym, ◌∙◌, subst, arith, length-append}
 use Rattle.std.specs.Prelude.{All, Result, Ok, Err, ⊤}
 use Rattle.std.proofs.lemmas.List.Elements.{All-append, All-weaker}
 use Rattle.px_base.specs.CallSign.{CallSign}
@@ -13,7 +13,7 @@ use Rattle.file_store.specs.Calls.{Leaves}
 use Rattle.file_store.specs.Command.{Command, after_all}
 use Rattle.file_store.specs.Store.{Store}
 use Rattle.file_store.specs.OnDisk.{MakesFirst}
-use Rattle.file_store.specs.State.{StoreState, store_in}
+use Rattle.file_store.specs.State.{IsKnown, StoreState, store_on}
 use Rattle.file_store.proofs.Offered.{among-then, cuts-among-all, cuts-among-then, makes-first, makes-within, told_weaker, weaker}
 use Rattle.ftl0_session.specs.Uploads.Failures.{Failure, failed_reads, failed_write, write_fails}
 use Rattle.disk_model.specs.declared.halt.Halt.{Halt as Stop}
@@ -61,13 +61,13 @@ module _ {D : Type 0} (g : Ghosts D) (on : (first second third : D) → g.lasts 
   BeginsWhole event = (part : ℕ) → IsFront ((event (failed_write part)).done ++ (event (failed_write part)).cut) (event []).done
 
   pub by-since : (event : List Failure → Happened) (before : AtDisk StoreState D) (now : WorkingOn D) (connection : ConnectionState) (fate : Fate) (result : Result ⊤ Stop)
-      → BeginsWhole event → HearsBy g w event before now connection fate result → Leaves g before.disk now.disk (λ _. MakesFirst (store_in before.it) (event []).done)
+      → BeginsWhole event → HearsBy g w event before now connection fate result → Leaves g before.disk now.disk (λ _. MakesFirst (store_on g before.it before.disk) (event []).done)
   by-since event before now connection fate (Ok done) begins h = h.2.since
   by-since event before now connection fate (Err stop.Disk) begins h =
-      leaves-front g (store_in before.it) before.disk now.disk _ _ (begins h.0)
+      leaves-front g (store_on g before.it before.disk) before.disk now.disk _ _ (begins h.0)
       (cuts-among-all g on ⊤ (event (failed_write h.0)).missed before (at now.store now.disk) (event (failed_write h.0)).done (event (failed_write h.0)).cut h.3).since
   by-since event before now connection fate (Err stop.OutOfMemory) begins h =
-      leaves-front g (store_in before.it) before.disk now.disk _ _ (front-part (event (failed_write h.0)).done (event (failed_write h.0)).cut (event []).done (begins h.0)) h.3.since
+      leaves-front g (store_on g before.it before.disk) before.disk now.disk _ _ (front-part (event (failed_write h.0)).done (event (failed_write h.0)).cut (event []).done (begins h.0)) h.3.since
 
   -- so it is of packets
   pub taking-whole : (left : List ℕ) (caller : CallSign) (moment : ℕ) (session : Session) (end : LinkEnd) (items : List Item) (parts : List ℕ) (first : ℕ)
@@ -77,50 +77,50 @@ module _ {D : Type 0} (g : Ghosts D) (on : (first second third : D) → g.lasts 
   -- ---- packets, and then others
 
   module _ (moment : ℕ) (old mid new : ConnectionState) (before between now : WorkingOn D) (end : LinkEnd) (items others : List Item) (first : ℕ) (callers : caller_of mid.session ≡ caller_of old.session)
-      (one : TakesPackets g w (taking_some moment old.session before end items first) (IsAmong first (length items)) (at before.store before.disk) between (none_left mid.link mid.session) (Stays, Ok tt)) where
+      (known : IsKnown g before.disk) (one : TakesPackets g w (taking_some g moment old.session before end items first) (IsAmong first (length items)) (at before.store before.disk) between (none_left mid.link mid.session) (Stays, Ok tt)) where
     -- the parts behind them begin here
     abbrev next : ℕ
     next = first + length items
 
     -- what they made
     abbrev made : Progress
-    made = taking (caller_of old.session) moment (session_on old.session before) end items ([] ++ failed_reads one.parts) first
+    made = taking (caller_of old.session) moment (session_on g old.session before) end items ([] ++ failed_reads one.parts) first
 
     goes : going made ≡ true
     goes = going-on made one.by.1.1.0 one.by.0
 
     number : made.part ≡ next
-    number = taking-part (caller_of old.session) moment (session_on old.session before) end items ([] ++ failed_reads one.parts) first goes
+    number = taking-part (caller_of old.session) moment (session_on g old.session before) end items ([] ++ failed_reads one.parts) first goes
 
     ahead : All (λ part. part < next) one.parts
     ahead = All-weaker (IsAmong first (length items)) (λ part. part < next) (λ part among. among.1) one.parts one.among
 
     abbrev whole : List Failure → Progress
-    whole failures = taking (caller_of old.session) moment (session_on old.session before) end (items ++ others) failures first
+    whole failures = taking (caller_of old.session) moment (session_on g old.session before) end (items ++ others) failures first
 
     abbrev part_of : List Failure → Progress
-    part_of failures = taking (caller_of mid.session) moment (session_on mid.session between) made.end others failures next
+    part_of failures = taking (caller_of mid.session) moment (session_on g mid.session between) made.end others failures next
 
     -- the whole is what they made, and what the others make from there
     same : (writes : List Failure) (parts : List ℕ) → AreWrites writes → ((part : ℕ) → part < next → write_fails writes part ≡ false) → All (λ part. next ≤ part) parts
         → whole (writes ++ failed_reads (one.parts ++ parts)) ≡ behind made.missed made.done (part_of (writes ++ failed_reads parts))
     same writes parts are none later =
         let all : List Failure = writes ++ failed_reads (one.parts ++ parts) in
-        let these : taking (caller_of old.session) moment (session_on old.session before) end items all first ≡ made =
-        taking-alike (caller_of old.session) moment (session_on old.session before) end items all ([] ++ failed_reads one.parts) first
+        let these : taking (caller_of old.session) moment (session_on g old.session before) end items all first ≡ made =
+        taking-alike (caller_of old.session) moment (session_on g old.session before) end items all ([] ++ failed_reads one.parts) first
         (alike-first writes one.parts parts first next are none later) in
-        let stores : after_all (store_in before.store) made.done ≡ store_in between.store = sym ((one.by.2.done (λ never. never)).0 (inl refl)) in
-        let here : on_from (store_in before.store) made ≡ session_on mid.session between = rw (stores, sym one.by.1.0, sym one.by.1.1.1.state) refl in
-        rw (taking-on (caller_of old.session) moment (session_on old.session before) end items others all first (rw these goes), these, number, here, callers)
+        let stores : after_all (store_on g before.store before.disk) made.done ≡ store_on g between.store between.disk = sym ((one.by.2.done (λ never. never)).0 known) in
+        let here : on_from (store_on g before.store before.disk) made ≡ session_on g mid.session between = rw (stores, sym one.by.1.0, sym one.by.1.1.1.state) refl in
+        rw (taking-on (caller_of old.session) moment (session_on g old.session before) end items others all first (rw these goes), these, number, here, callers)
         (ap (behind made.missed made.done)
-        (taking-alike (caller_of old.session) moment (session_on mid.session between) made.end others all (writes ++ failed_reads parts) next
+        (taking-alike (caller_of old.session) moment (session_on g mid.session between) made.end others all (writes ++ failed_reads parts) next
         (alike-second writes one.parts parts next (next + length others) are ahead)))
 
     -- so it is where a write of the others fails
     same-fault : (part : ℕ) (parts : List ℕ) → All (λ part. next ≤ part) parts → (part_of (failed_write part ++ failed_reads parts)).halt ≡ fails
         → whole (failed_write part ++ failed_reads (one.parts ++ parts)) ≡ behind made.missed made.done (part_of (failed_write part ++ failed_reads parts))
     same-fault part parts later halts =
-        let there = taking-fails (caller_of mid.session) moment (session_on mid.session between) made.end others (failed_write part ++ failed_reads parts) next halts in
+        let there = taking-fails (caller_of mid.session) moment (session_on g mid.session between) made.end others (failed_write part ++ failed_reads parts) next halts in
         same (failed_write part) parts (one-writes part) (λ n low. other-part part n (λ here. omega (arith, same-part part there.0 parts there.2, here, there.1))) later
 
     abbrev By : Fate → Result ⊤ Stop → Progress → Type 0
@@ -150,8 +150,8 @@ module _ {D : Type 0} (g : Ghosts D) (on : (first second third : D) → g.lasts 
 
     -- packets were taken, and then the others
     pub takes-then : (told : Fate × Result ⊤ Stop)
-        → ((there : LinkEnd) → StandsFor w mid.link there → TakesPackets g w (taking_some moment mid.session between there others next) (IsAmong next (length others)) (at between.store between.disk) now (none_left new.link new.session) told)
-        → TakesPackets g w (taking_some moment old.session before end (items ++ others) first) (IsAmong first (length (items ++ others))) (at before.store before.disk) now (none_left new.link new.session) told
+        → ((there : LinkEnd) → StandsFor w mid.link there → TakesPackets g w (taking_some g moment mid.session between there others next) (IsAmong next (length others)) (at between.store between.disk) now (none_left new.link new.session) told)
+        → TakesPackets g w (taking_some g moment old.session before end (items ++ others) first) (IsAmong first (length (items ++ others))) (at before.store before.disk) now (none_left new.link new.session) told
     takes-then told more =
         let two = more made.end one.by.1.1.1.link in
         let sum : length (items ++ others) ≡ length items + length others = length-append items others in
@@ -169,14 +169,14 @@ module _ {D : Type 0} (g : Ghosts D) (on : (first second third : D) → g.lasts 
 
   module _ (moment : ℕ) (session : SessionState) (before now : WorkingOn D) (new : ConnectionState) (end : LinkEnd) (items : List Item) (left : List ℕ) where
     abbrev of_items : List Failure → Progress
-    of_items failures = taking (caller_of session) moment (session_on session before) end items failures 0
+    of_items failures = taking (caller_of session) moment (session_on g session before) end items failures 0
 
     module _ (others : List Item) where
       abbrev of_all : List Failure → Progress
-      of_all failures = taking (caller_of session) moment (session_on session before) end (items ++ others) failures 0
+      of_all failures = taking (caller_of session) moment (session_on g session before) end (items ++ others) failures 0
 
       ended : (failures : List Failure) → going (of_items failures) ≡ false → of_all failures ≡ of_items failures
-      ended failures stops = taking-ended (caller_of session) moment (session_on session before) end items others failures 0 stops
+      ended failures stops = taking-ended (caller_of session) moment (session_on g session before) end items others failures 0 stops
 
       abbrev To : Fate → Result ⊤ Stop → Progress → Type 0
       To fate result p = HearsBy g w (λ failures. progressed left p) (at before.store before.disk) now new fate result
@@ -193,14 +193,14 @@ module _ {D : Type 0} (g : Ghosts D) (on : (first second third : D) → g.lasts 
       by-ended parts fate (Ok done) stops h = grind (arith, common_steps, ended, going-over, taking-failed, going-halted)
       by-ended parts fate (Err stop.Disk) stops h =
           let failures : List Failure = failed_write h.0 ++ failed_reads parts in
-          let over : (of_items failures).over ≡ true = taking-failed (caller_of session) moment (session_on session before) end items failures 0 h.1 in
+          let over : (of_items failures).over ≡ true = taking-failed (caller_of session) moment (session_on g session before) end items failures 0 h.1 in
           let is = subst (To fate (Err stop.Disk)) (sym (ended failures (going-over (of_items failures) over))) (h.0, h.1, (h.2.0, after-over fate _ _ _ over h.2.1), h.3) in
           (h.0, is.1, is.2, is.3)
       by-ended parts fate (Err stop.OutOfMemory) stops h = grind (arith, common_steps, ended, going-over, taking-failed, going-halted)
 
       -- whatever comes behind packets that stopped the connection isn't taken
       pub parts-stopped : (told : Fate × Result ⊤ Stop) → IsStop told
-          → TakesPackets g w (taking_some moment session before end items 0) (IsAmong 0 (length items)) (at before.store before.disk) now (none_left new.link new.session) told
+          → TakesPackets g w (taking_some g moment session before end items 0) (IsAmong 0 (length items)) (at before.store before.disk) now (none_left new.link new.session) told
           → HearsParts g w left of_all (at before.store before.disk) now new told
       parts-stopped told stops takes =
           let by = by-ended takes.parts told.0 told.1 stops takes.by in
@@ -211,27 +211,27 @@ module _ {D : Type 0} (g : Ghosts D) (on : (first second third : D) → g.lasts 
                   by = by;
                   since =
                       by-since (with_reads (λ failures. progressed left (of_all failures)) takes.parts) (at before.store before.disk) now new told.0 told.1
-                      (taking-whole left (caller_of session) moment (session_on session before) end (items ++ others) takes.parts 0) by;
+                      (taking-whole left (caller_of session) moment (session_on g session before) end (items ++ others) takes.parts 0) by;
                 };
-            over = λ failures. taking-failed (caller_of session) moment (session_on session before) end (items ++ others) failures 0;
+            over = λ failures. taking-failed (caller_of session) moment (session_on g session before) end (items ++ others) failures 0;
             settled = λ goes. absurd (stops goes);
           }
 
     -- all packets were taken, and these octets are left
-    pub parts-whole : new.octets ≡ left → TakesPackets g w (taking_some moment session before end items 0) (IsAmong 0 (length items)) (at before.store before.disk) now (none_left new.link new.session) (Stays, Ok tt)
+    pub parts-whole : new.octets ≡ left → TakesPackets g w (taking_some g moment session before end items 0) (IsAmong 0 (length items)) (at before.store before.disk) now (none_left new.link new.session) (Stays, Ok tt)
         → HearsParts g w left of_items (at before.store before.disk) now new (Stays, Ok tt)
     parts-whole octets takes =
         let h = takes.by in
         let failures : List Failure = [] ++ failed_reads takes.parts in
         let number : (of_items failures).part ≡ length items =
-        (let there = taking-part (caller_of session) moment (session_on session before) end items failures 0 (going-on (of_items failures) h.1.1.0 h.0) in omega arith) in
+        (let there = taking-part (caller_of session) moment (session_on g session before) end items failures 0 (going-on (of_items failures) h.1.1.0 h.0) in omega arith) in
         record {
           hears = grind (arith, common_steps);
-          over = λ writes. taking-failed (caller_of session) moment (session_on session before) end items writes 0;
+          over = λ writes. taking-failed (caller_of session) moment (session_on g session before) end items writes 0;
           settled = λ goes. record {
             before = grind (arith, All-weaker, number);
             later = λ more later.
-                taking-alike (caller_of session) moment (session_on session before) end items ([] ++ failed_reads (takes.parts ++ more)) failures 0
+                taking-alike (caller_of session) moment (session_on g session before) end items ([] ++ failed_reads (takes.parts ++ more)) failures 0
                 (λ n low high. alike-first [] takes.parts more 0 (length items) none-writes (λ m before. refl)
                 (All-weaker (λ part. (of_items failures).part ≤ part) (λ part. length items ≤ part) (λ part behind. omega (arith, behind, number)) more later) n low (omega (arith, high)));
           };

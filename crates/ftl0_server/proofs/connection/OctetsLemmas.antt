@@ -8,7 +8,7 @@ use Rattle.ax25_link.specs.Window.{Window}
 use Rattle.ftl0_packets.specs.Layout.{Item}
 use Rattle.ftl0_packets.specs.Reading.{packets_of, rest_of}
 use Rattle.packet_link.proofs.Fronts.{front-whole}
-use Rattle.file_store.specs.State.{store_in}
+use Rattle.file_store.specs.State.{IsKnown, store_on}
 use Rattle.disk_model.specs.declared.halt.Halt.{Halt as Stop}
 use Rattle.ftl0_session.specs.SessionState.{WorkingOn, caller_of, state_in}
 use Rattle.ftl0_session.specs.Table.{State}
@@ -26,11 +26,11 @@ going-or : (told : Fate × Result ⊤ Stop) → IsGoing told ⊎ IsStop told
 going-or told = grind (arith, common_steps)
 
 module _ {D : Type 0} (g : Ghosts D) (on : (first second third : D) → g.lasts first second → g.lasts second third → g.lasts first third) (moment : ℕ) (old new : ConnectionState) (octets : List ℕ)
-    (before now : WorkingOn D) (told : Fate × Result ⊤ Stop) (peer : old.link.peer ≡ caller_of old.session) (w : Window) (c : Connected) (is : IsConnection w before.store old c) where
+    (before now : WorkingOn D) (told : Fate × Result ⊤ Stop) (peer : old.link.peer ≡ caller_of old.session) (known : IsKnown g before.disk) (w : Window) (c : Connected) (is : IsConnection w before.store old c) where
   -- what was heard, where these packets of these octets came, and others waited before
   abbrev Heard : CallSign → State → List ℕ → List Item → Type 0
   Heard caller state waiting items =
-      HearsParts g w (rest_of (waiting ++ octets)) (λ failures. taking caller moment (session_over (store_in before.store) before.lists state) c.end items failures 0)
+      HearsParts g w (rest_of (waiting ++ octets)) (λ failures. taking caller moment (session_over (store_on g before.store before.disk) before.lists state) c.end items failures 0)
       (at before.store before.disk) now new told
 
   -- by the octets, the state and the caller of the definitions' connection
@@ -46,9 +46,9 @@ module _ {D : Type 0} (g : Ghosts D) (on : (first second third : D) → g.lasts 
             let whole = front-whole (old.octets ++ octets) h.left new.octets h.feeds.items h.feeds.front (h.none going) (h.rest going) in
             at-connected
             (subst P whole.0
-            (rw going (parts-whole g on w moment old.session before now new c.end h.feeds.items (rest_of (old.octets ++ octets)) whole.1 (rw going at h.feeds.takes w c.end 0 is.link))))
+            (rw going (parts-whole g on w moment old.session before now new c.end h.feeds.items (rest_of (old.octets ++ octets)) whole.1 (rw going at h.feeds.takes known w c.end 0 is.link))))
         | inr stops ↦
             at-connected
             (subst P (sym h.feeds.front.packets)
-            (parts-stopped g on w moment old.session before now new c.end h.feeds.items (rest_of (old.octets ++ octets)) (packets_of h.left) told stops (h.feeds.takes w c.end 0 is.link)))
+            (parts-stopped g on w moment old.session before now new c.end h.feeds.items (rest_of (old.octets ++ octets)) (packets_of h.left) told stops (h.feeds.takes known w c.end 0 is.link)))
       ]

@@ -6,7 +6,7 @@ use Rattle.ax25_link.specs.Window.{Window}
 use Rattle.ftl0_session.specs.Lists.Lists.{CallerList}
 use Rattle.file_store.specs.Calls.{Leaves}
 use Rattle.file_store.specs.OnDisk.{MakesFirst}
-use Rattle.file_store.specs.State.{StoreState, store_in}
+use Rattle.file_store.specs.State.{StoreState, store_on}
 use Rattle.file_store.specs.Working.{CutsOffAmongReads, DoesAmongReads}
 use Rattle.ftl0_session.specs.Uploads.Failures.{Failure, failed_reads, failed_write}
 use Rattle.disk_model.specs.declared.halt.Halt.{Halt as Stop}
@@ -81,7 +81,8 @@ pub record Hears {D : Type 0} (g : Ghosts D) (w : Window) (event : List Failure 
   pub parts : List ℕ
   pub by : HearsBy g w (with_reads event parts) before now connection heard.0 heard.1
   pub since :
-      Leaves g before.disk now.disk (λ _. MakesFirst (store_in before.it) (with_reads event parts []).done)
+      Leaves g before.disk now.disk
+      (λ _. MakesFirst (store_on g before.it before.disk) (with_reads event parts []).done)
 
 -- the connection of this link and session, with no octets left
 abbrev pub none_left : Kept → SessionState → ConnectionState

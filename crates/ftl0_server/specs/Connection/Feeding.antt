@@ -16,7 +16,7 @@ use Rattle.packet_link.specs.PacketLink.{HasFront, PacketLinkState, octets_in}
 use Rattle.packet_link.specs.Queuing.{enough_free}
 use Rattle.file_store.specs.EntriesKept.{KeepsComplete}
 use Rattle.ftl0_session.specs.Lists.Lists.{CallerList}
-use Rattle.file_store.specs.State.{IsReady, StoreState, store_in}
+use Rattle.file_store.specs.State.{IsKnown, IsReady, StoreState, store_in, store_on}
 use Rattle.file_store.specs.Working.{DoesAmongReads, PutsAmongReads, one_if}
 use Rattle.ftl0_session.specs.Uploads.Failures.{Failure, failed_reads}
 use Rattle.ftl0_session.specs.Uploads.Others.{KeepsOtherCallers}
@@ -82,14 +82,14 @@ abbrev pub IsAmong : ℕ → ℕ → ℕ → Type 0
 IsAmong first count part = (first ≤ part) × (part < first + count)
 
 -- the session over these, as the definitions have it
-abbrev pub session_on : {D : Type 0} → SessionState → WorkingOn D → Session
-session_on session on = session_over (store_in on.store) on.lists (state_in on.store session)
+abbrev pub session_on : {D : Type 0} → Ghosts D → SessionState → WorkingOn D → Session
+session_on g session on = session_over (store_on g on.store on.disk) on.lists (state_in on.store session)
 
 -- what these packets make of a connection with this session, where the first of them is the event's part of this number
 abbrev pub taking_some :
-    {D : Type 0} → ℕ → SessionState → WorkingOn D → LinkEnd → List Item → ℕ → List Failure → Happened
-taking_some moment session on end items first failures =
-    progressed [] (taking (caller_of session) moment (session_on session on) end items failures first)
+    {D : Type 0} → Ghosts D → ℕ → SessionState → WorkingOn D → LinkEnd → List Item → ℕ → List Failure → Happened
+taking_some g moment session on end items first failures =
+    progressed [] (taking (caller_of session) moment (session_on g session on) end items failures first)
 
 -- Packets were taken, of which this event is what they make, and reads failed at these of their parts.
 pub record TakesPackets {D : Type 0} (g : Ghosts D) (w : Window) (event : List Failure → Happened)
@@ -99,13 +99,14 @@ pub record TakesPackets {D : Type 0} (g : Ghosts D) (w : Window) (event : List F
   pub among : All IsPart parts
   pub by : HearsBy g w (with_reads event parts) before now connection told.0 told.1
 
--- So these packets of a connection were taken, whichever end its link stands for, and whichever part the first is.
+-- So these packets of a connection were taken, whichever end its link stands for, and whichever part the first is,
+-- where it is known what octets the files have.
 abbrev pub TakesSome :
     {D : Type 0} → Ghosts D → ℕ → ConnectionState → WorkingOn D → List Item → WorkingOn D → ConnectionState
     → (Fate × Result ⊤ Stop) → Type 0
 TakesSome g moment old before items now new told =
-    (w : Window) (end : LinkEnd) (first : ℕ) → StandsFor w old.link end
-    → TakesPackets g w (taking_some moment old.session before end items first) (IsAmong first (length items))
+    IsKnown g before.disk → (w : Window) (end : LinkEnd) (first : ℕ) → StandsFor w old.link end
+    → TakesPackets g w (taking_some g moment old.session before end items first) (IsAmong first (length items))
     (at before.store before.disk) now (none_left new.link new.session) told
 
 -- So this one was.
@@ -151,14 +152,15 @@ pub record HearsParts {D : Type 0} (g : Ghosts D) (w : Window) (left : List ℕ)
   pub over : (failures : List Failure) → (event failures).halt ≡ fails → (event failures).over ≡ true
   pub settled : IsGoing told → IsSettled event hears.parts
 
--- A frame was heard at this moment, of whichever connection this stood for: of that it is what the frame makes before
--- what is due is queued.
+-- A frame was heard at this moment, of whichever connection this stood for: where it is known what octets the files
+-- have, it is of that connection what the frame makes before what is due is queued.
 abbrev pub HearsFrameParts :
     {D : Type 0} → Ghosts D → ℕ → FrameValue → WorkingOn D → WorkingOn D → ConnectionState → ConnectionState
     → Fate × Result ⊤ Stop → Type 0
 HearsFrameParts g moment frame before now old new told =
-    (w : Window) (c : Connected) → IsConnection w before.store old c
-    → HearsParts g w (rest_of_frame w c frame) (parts_of_frame w moment (store_in before.store) before.lists c frame)
+    IsKnown g before.disk → (w : Window) (c : Connected) → IsConnection w before.store old c
+    → HearsParts g w (rest_of_frame w c frame)
+    (parts_of_frame w moment (store_on g before.store before.disk) before.lists c frame)
     (at before.store before.disk) now new told
 
 -- So it is of the whole frame.
@@ -166,13 +168,14 @@ abbrev pub HearsFrame :
     {D : Type 0} → Ghosts D → ℕ → FrameValue → WorkingOn D → WorkingOn D → ConnectionState → ConnectionState
     → Fate × Result ⊤ Stop → Type 0
 HearsFrame g moment frame before now old new told =
-    (w : Window) (c : Connected) → IsConnection w before.store old c
-    → Hears g w (hearing w moment (store_in before.store) before.lists c frame) (at before.store before.disk) now new
-    told
+    IsKnown g before.disk → (w : Window) (c : Connected) → IsConnection w before.store old c
+    → Hears g w (hearing w moment (store_on g before.store before.disk) before.lists c frame)
+    (at before.store before.disk) now new told
 
 -- nothing is due, whatever reads fail
-abbrev pub IsNothingDue : StoreState → SessionState → Type 0
-IsNothingDue store session = (fails : Bool) → next_due (store_in store) (state_in store session) fails ≡ None
+abbrev pub IsNothingDue : {D : Type 0} → Ghosts D → StoreState → D → SessionState → Type 0
+IsNothingDue g store disk session =
+    (fails : Bool) → next_due (store_on g store disk) (state_in store session) fails ≡ None
 
 -- whatever end the link stands for, this is so of how many octets are free
 abbrev pub AreFree : Kept → (ℕ → Type 0) → Type 0
@@ -183,20 +186,26 @@ pub record QueuesPacket {D : Type 0} (g : Ghosts D) (store : StoreState) (disk d
     : Type 0 where
   pub fails : Bool
   pub due : DuePacket
-  pub is_due : next_due (store_in store) (state_in store old.session) fails ≡ Some due
+  pub is_due : next_due (store_on g store disk) (state_in store old.session) fails ≡ Some due
   pub enough : AreFree old.link (λ free. enough_free ≤ free)
   pub queued : Steps old.link new.link (λ w end. after_push end (packet_text due.packet))
   pub state : state_in store new.session ≡ due.state
   pub reads : DoesAmongReads g ⊥ (one_if (tells_failed_read due.packet)) store store disk disk_now []
-  pub fewer : room_of new.link.queue < room_of old.link.queue
 
 -- the same; or nothing is due, or fewer octets are free, and it stands as it stood
-abbrev pub QueuesNext :
+abbrev pub QueuesBy :
     {D : Type 0} → Ghosts D → StoreState → D → D → ConnectionState → ConnectionState → Bool → Type 0
-QueuesNext g store disk disk_now old new true = QueuesPacket g store disk disk_now old new
-QueuesNext g store disk disk_now old new false =
+QueuesBy g store disk disk_now old new true = QueuesPacket g store disk disk_now old new
+QueuesBy g store disk disk_now old new false =
     (new.link ≡ old.link) × (state_in store new.session ≡ state_in store old.session) × (disk_now ≡ disk)
-    × (IsNothingDue store old.session ⊎ AreFree old.link (λ free. free < enough_free))
+    × (IsNothingDue g store disk old.session ⊎ AreFree old.link (λ free. free < enough_free))
+
+-- So it is where it is known what octets the files have. Whether or not, a packet that is queued takes some of the
+-- room.
+pub record QueuesNext {D : Type 0} (g : Ghosts D) (store : StoreState) (disk disk_now : D) (old new : ConnectionState)
+    (queued : Bool) : Type 0 where
+  pub queues : IsKnown g disk → QueuesBy g store disk disk_now old new queued
+  pub fewer : queued ≡ true → room_of new.link.queue < room_of old.link.queue
 
 -- Behind these parts of an event, at which the session goes on, what is due was queued: reads failed at these later
 -- parts, and the count of failed reads rose by at least as many as the packets tell of, and not where they tell of
@@ -206,18 +215,18 @@ pub record Queued {D : Type 0} (g : Ghosts D) (w : Window) (store : StoreState) 
   pub parts : List ℕ
   pub behind : All (λ part. progress.part ≤ part) parts
   pub now : Progress
-  pub is_now : now ≡ queuing (free_octets progress.end) (store_in store) (failed_reads parts) progress
+  pub is_now : now ≡ queuing (free_octets progress.end) (store_on g store disk) (failed_reads parts) progress
   pub link : StandsFor w new.link now.end
   pub state : state_in store new.session ≡ now.state
   pub missed : ℕ
   pub missed_is : now.missed ≡ (progress.missed + missed)
   pub reads : DoesAmongReads g ⊥ missed store store disk disk_now []
 
--- the same behind whichever parts
+-- the same behind whichever parts, where it is known what octets the files have
 abbrev pub QueuesDue : {D : Type 0} → Ghosts D → StoreState → D → D → ConnectionState → ConnectionState → Type 0
 QueuesDue g store disk disk_now old new =
-    (w : Window) (progress : Progress) → StandsFor w old.link progress.end → state_in store old.session ≡ progress.state
-    → Queued g w store disk disk_now new progress
+    IsKnown g disk → (w : Window) (progress : Progress) → StandsFor w old.link progress.end
+    → state_in store old.session ≡ progress.state → Queued g w store disk disk_now new progress
 
 -- What queuing what is due leaves for the next event.
 pub record KeepsFit {D : Type 0} (g : Ghosts D) (store store_now : StoreState) (disk disk_now : D)

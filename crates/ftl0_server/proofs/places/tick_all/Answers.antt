@@ -2,6 +2,7 @@
 use Rattle.std.proofs.Common.{◌≡◌, ℕ, suc, ◌+◌, ◌<◌, List, length, get_or, Some, sym, ◌∙◌, ap, subst, arith, add-one, rules}
 use Rattle.std.specs.Prelude.{slice_get}
 use Rattle.std.proofs.lemmas.Option.{slice_get-get_or}
+use Rattle.file_store.proofs.Offered.{in_parked}
 use Rattle.file_store.specs.EntriesKept.{KeepsComplete}
 use Rattle.file_store.specs.Store.{Store}
 use Rattle.file_store.specs.State.{store_in}
@@ -25,7 +26,7 @@ loop-i-preserved c =
     let at = slice_get-get_or c.loop-i.places c.loop-i.i c.index-places-i.result lt in
     let working = c.loop-i.invariant.working in
     let works = c.tick.ensures.works in
-    let kept = subst (λ (s : Store). KeepsComplete (store_in c.loop-i.store) s) (sym c.tick.ensures.store) (λ number entry found whole. found) in
+    let kept = subst (λ (s : Store). KeepsComplete (store_in c.loop-i.store) s) (sym (in_parked c.loop-i.store c.tick.new.store c.tick.ensures.store.entries)) (λ number entry found whole. found) in
     let settles = λ (me : CallSign) (k : ℕ) (h : IsSettled me k c.loop-i.store c.loop-i.places).
     settled-works me k c.loop-i.store c.tick.new.store c.loop-i.places c.loop-i.i old c.tick.new.self at h works kept in
     let step : c.loop-i.i + 1 ≡ suc c.loop-i.i = add-one c.loop-i.i in
@@ -41,8 +42,7 @@ loop-i-preserved c =
           all-works w working.0 working.1 c.loop-i.store c.tick.new.store c.loop-i.places (ticked c.loop-i.i slots) c.loop-i.i old c.tick.new.self (slot_ticking got.0) at working.2 works was
           (c.tick.ensures.ticks w got.0 got.2) in
           rw (step, sym (ticked-set c.loop-i.i slots got.0 here)) next;
-      store = c.tick.ensures.store ∙ c.loop-i.invariant.store;
-      journal = c.tick.ensures.journal ∙ c.loop-i.invariant.journal;
+      store = record { entries = c.tick.ensures.store.entries ∙ c.loop-i.invariant.store.entries; journal = c.tick.ensures.store.journal ∙ c.loop-i.invariant.store.journal };
     }
 
 pub returns-clause-ticks : goal.returns-clause-ticks

@@ -2,8 +2,7 @@
 use Rattle.std.proofs.Common.{◌≡◌, ℕ, List, drop, false}
 use Rattle.px_base.specs.CallSign.{CallSign}
 use Rattle.ax25_link.specs.Window.{Window}
-use Rattle.file_store.specs.State.{store_in}
-use Rattle.ftl0_server.specs.AtPlace.{IsPlace}
+use Rattle.ftl0_server.specs.AtPlace.{GivesUp, IsPlace}
 use Rattle.ftl0_server.specs.Kept.{IsSettled, IsWorking}
 use Rattle.ftl0_server.specs.ServerState.{AllPlaces, any_pending}
 use Rattle.ftl0_server.specs.Slots.{Slot}
@@ -18,6 +17,5 @@ invariant-loop-i l = record {
   ticks :
       (w : Window) (slots : List Slot) → AllPlaces (IsPlace w l.initial.store) l.initial.places slots
       → AllPlaces (IsPlace w l.store) l.places (ticked l.i slots);
-  store : store_in l.store ≡ store_in l.initial.store;
-  journal : l.store.journal ≡ l.initial.store.journal;
+  store : GivesUp l.initial.store l.store;
 }

@@ -1,21 +1,21 @@
 -- A packet that is taken is answered by its replies, and one that stops the server by code 3, or not at all.
 use Rattle.std.proofs.lemmas.Grind.{common_steps}
 use Rattle.std.proofs.Common.{arith, refl, sym}
-use Rattle.ftl0_server.proofs.connection.AnswerLemmas.{said-done, said-fault, said-none, taken-puts}
+use Rattle.ftl0_server.proofs.connection.AnswerLemmas.{said-done, said-fault, said-none}
 use Rattle.packet_link.proofs.Fronts.{stations-same}
 use Rattle.ftl0_server.proofs.connection.connection.answer.Goals as goal
 use Rattle.ftl0_server.specs.Connection.ConnectionState.{none_left}
 
 pub returns-in-Ok-clause-takes : goal.returns-in-Ok-clause-takes
-returns-in-Ok-clause-takes g c w end first stands =
+returns-in-Ok-clause-takes g c known w end first stands =
     rw (sym c.packet.ensures)
-    (said-done g.D.Disk g.met.D.Disk.lasts_on w end _ _ (none_left c.reply.new.link.link c.take.new.self) _ _ _ first c.requires.may.may.ready
-    _ _ _ c.as_slice.ensures.value (c.reply.ensures.over w end stands) (c.reply.ensures.queued w end stands) c.in-Ok.ensures.takes)
+    (said-done g.D.Disk g.met.D.Disk.lasts_on w end _ _ (none_left c.reply.new.link.link c.take.new.self) _ _ _ first c.requires.may.may.ready known
+    (g.met.D.Disk.lasts_same c.args.disk.now) _ _ _ c.as_slice.ensures.value (c.reply.ensures.over w end stands) (c.reply.ensures.queued w end stands) c.in-Ok.ensures.takes)
 
 pub returns-in-Ok-clause-fit : goal.returns-in-Ok-clause-fit
 returns-in-Ok-clause-fit g c =
     record {
-      puts = taken-puts g.D.Disk g.met.D.Disk.lasts_on _ _ _ _ _ _ _ _ _ c.in-Ok.ensures.takes;
+      puts = c.in-Ok.ensures.takes.puts;
       kept = c.in-Ok.ensures.kept;
       others = c.in-Ok.ensures.others;
       healthy = c.in-Ok.ensures.healthy;
@@ -26,15 +26,15 @@ returns-in-Ok-clause-fit g c =
     }
 
 pub returns-in-Err-Disk-clause-takes : goal.returns-in-Err-Disk-clause-takes
-returns-in-Err-Disk-clause-takes g c w end first stands =
+returns-in-Err-Disk-clause-takes g c known w end first stands =
     rw (sym c.packet.ensures)
-    (said-fault g.D.Disk g.met.D.Disk.lasts_on w end _ _ (none_left c.reply-in-Err-Disk.new.link.link c.take.new.self) _ _ _ first c.requires.may.may.ready _ _
-    c.as_slice-in-Err-Disk.ensures.value (c.reply-in-Err-Disk.ensures.queued w end stands) (rw c.in-Err-Disk.field-0-is at c.in-Err-Disk.ensures.takes))
+    (said-fault g.D.Disk g.met.D.Disk.lasts_on w end _ _ (none_left c.reply-in-Err-Disk.new.link.link c.take.new.self) _ _ _ first c.requires.may.may.ready known
+    (g.met.D.Disk.lasts_same c.args.disk.now) _ _ c.as_slice-in-Err-Disk.ensures.value (c.reply-in-Err-Disk.ensures.queued w end stands) (rw c.in-Err-Disk.field-0-is at c.in-Err-Disk.ensures.takes))
 
 pub returns-in-Err-Disk-clause-fit : goal.returns-in-Err-Disk-clause-fit
 returns-in-Err-Disk-clause-fit g c =
     record {
-      puts = taken-puts g.D.Disk g.met.D.Disk.lasts_on _ _ _ _ _ _ _ _ _ (rw c.in-Err-Disk.field-0-is at c.in-Err-Disk.ensures.takes);
+      puts = (rw c.in-Err-Disk.field-0-is at c.in-Err-Disk.ensures.takes).puts;
       kept = c.in-Err-Disk.ensures.kept;
       others = c.in-Err-Disk.ensures.others;
       healthy = λ fine. absurd (fine refl);
@@ -45,10 +45,10 @@ returns-in-Err-Disk-clause-fit g c =
     }
 
 pub returns-in-Err-OutOfMemory-clause-takes : goal.returns-in-Err-OutOfMemory-clause-takes
-returns-in-Err-OutOfMemory-clause-takes g c w end first stands =
+returns-in-Err-OutOfMemory-clause-takes g c known w end first stands =
     rw (sym c.packet.ensures)
-    (said-none g.D.Disk g.met.D.Disk.lasts_on w end _ _ (none_left c.args.link.now.link c.take.new.self) _ _ _ first c.requires.may.may.ready _
-    (rw c.in-Err-OutOfMemory.field-0-is at c.in-Err-OutOfMemory.ensures.takes))
+    (said-none g.D.Disk g.met.D.Disk.lasts_on w end _ _ (none_left c.args.link.now.link c.take.new.self) _ _ _ first c.requires.may.may.ready known
+    (g.met.D.Disk.lasts_same c.args.disk.now) _ (rw c.in-Err-OutOfMemory.field-0-is at c.in-Err-OutOfMemory.ensures.takes))
 
 pub returns-in-Err-OutOfMemory-clause-fit : goal.returns-in-Err-OutOfMemory-clause-fit
-returns-in-Err-OutOfMemory-clause-fit g c = grind (arith, common_steps, taken-puts, stations-same)
+returns-in-Err-OutOfMemory-clause-fit g c = grind (arith, common_steps, stations-same)

@@ -1,21 +1,23 @@
 -- Where the session is over its upload is parked; else the connection goes on.
 use Rattle.std.proofs.lemmas.Grind.{common_steps}
 use Rattle.std.proofs.Common.{subst, sym, arith}
+use Rattle.file_store.proofs.Offered.{in_parked}
 use Rattle.file_store.specs.Store.{Store}
 use Rattle.ftl0_session.specs.Downloads.Needs.{AreComplete}
-use Rattle.ftl0_server.proofs.PlaceLemmas.{heard-over, parks-journal, parks-store, works-over}
+use Rattle.ftl0_server.proofs.PlaceLemmas.{heard-over, works-over}
+use Rattle.ftl0_server.proofs.connection.HearLemmas.{parks-same}
 use Rattle.ftl0_server.proofs.place.Place.hear.Goals as goal
 
 pub returns-in-Ends-clause-hears : goal.returns-in-Ends-clause-hears
-returns-in-Ends-clause-hears g c = grind (arith, common_steps, heard-over, parks-store, parks-journal)
+returns-in-Ends-clause-hears g c = grind (arith, common_steps, heard-over, parks-same)
 
 pub returns-in-Ends-clause-works : goal.returns-in-Ends-clause-works
 returns-in-Ends-clause-works g c = grind (arith, common_steps, works-over)
 
 pub returns-in-Ends-clause-complete : goal.returns-in-Ends-clause-complete
 returns-in-Ends-clause-complete g c =
-    let same = parks-store c.hear-fate.new.store c.leave.new.store c.hear-fate.new.self.session.uploads.phase c.leave.ensures.0.parks in
-    subst (λ (s : Store). AreComplete s c.hear-fate.new.lists) (sym same) c.hear-fate.ensures.fit.fit.complete
+    let gives_up = parks-same c.hear-fate.new.store c.leave.new.store c.hear-fate.new.self.session.uploads.phase c.leave.ensures.0.parks in
+    subst (λ (s : Store). AreComplete s c.hear-fate.new.lists) (sym (in_parked c.hear-fate.new.store c.leave.new.store gives_up.entries)) c.hear-fate.ensures.fit.fit.complete
 
 pub returns-in_default-clause-hears : goal.returns-in_default-clause-hears
 returns-in_default-clause-hears g c = grind (arith, common_steps)

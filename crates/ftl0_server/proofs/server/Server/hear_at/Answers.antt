@@ -28,7 +28,7 @@ invariant_of-self g c =
 
 pub returns : goal.returns
 returns g c = record {
-  hears = λ server is.
+  hears = λ known server is.
       let new : ServerState = record (server_state c.self.inside) { places = set c.self.inside.places c.args.place c.hear.new.self; store = c.hear.new.store; lists = c.hear.new.lists } in
       let was = rw (sym c.self.view_is) at is in
       let frame = value_of c.args.frame.now in
@@ -36,9 +36,9 @@ returns g c = record {
       let talks = found-talks frame.src c.self.inside.places c.args.place c.index-places-place.result found in
       let at = found-at frame.src c.self.inside.places c.args.place c.index-places-place.result talks.0 found talks.1 in
       rw (sym c.self.view_is)
-      (server-hears g.D.Disk (server_state c.self.inside) new server was c.self.invariant.settled frame c.args.moment c.args.disk.now c.hear.new.disk c.args.place found talks.0 at c.hear.new.self
+      (server-hears g.D.Disk (server_state c.self.inside) new server c.args.disk.now c.hear.new.disk known was c.self.invariant.settled frame c.args.moment c.args.place found talks.0 at c.hear.new.self
       (rw talks.1 at c.hear.ensures.works) refl refl refl refl c.hear.result
-      (λ w d at_d. c.hear.ensures.hears w d (subst (λ (p : Place). IsPlace w c.self.inside.store p (connected d)) (sym talks.1) at_d)));
+      (λ w d at_d. c.hear.ensures.hears known w d (subst (λ (p : Place). IsPlace w c.self.inside.store p (connected d)) (sym talks.1) at_d)));
   keeps = rw (sym c.self.view_is) c.hear.ensures.keeps;
   me = ap (λ (s : ServerState). s.me) c.self.view_is;
 }

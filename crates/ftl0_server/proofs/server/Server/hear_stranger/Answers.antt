@@ -14,18 +14,18 @@ pub returns-then-is_call-clause-heard : goal.returns-then-is_call-clause-heard
 returns-then-is_call-clause-heard c = grind (arith, common_steps, stranger-at, stranger-calls)
 
 pub returns-then-frame-2-clause-heard : goal.returns-then-frame-2-clause-heard
-returns-then-frame-2-clause-heard c = λ server is.
+returns-then-frame-2-clause-heard c = λ store server is.
     let frame = value_of c.args.frame.now in
-    subst (λ (s : Server). IsServer c.refuse.new.self s)
+    subst (λ (s : Server). IsServer store c.refuse.new.self s)
     (stranger-asks server frame c.args.moment (sym c.is_call.ensures ∙ c.if-is_call.false) (both-true frame.command frame.poll c.if-frame.true c.if-frame-2.true))
-    (c.refuse.ensures.refuses server is)
+    (c.refuse.ensures.refuses store server is)
 
 pub returns-else-frame-clause-heard : goal.returns-else-frame-clause-heard
-returns-else-frame-clause-heard c = λ server is.
+returns-else-frame-clause-heard c = λ store server is.
     let frame = value_of c.args.frame.now in
     let none : (frame.command && frame.poll) ≡ false = elim c.else-frame.branch [
       | else-frame-via-then-frame+else-frame-2 w ↦ second-false frame.command frame.poll w.if-frame-2.false
       | else-frame-via-else-frame w ↦ first-false frame.command frame.poll w.if-frame.false
     ] in
-    subst (λ (s : Server). IsServer c.args.self.now s)
+    subst (λ (s : Server). IsServer store c.args.self.now s)
     (stranger-passed server frame c.args.moment (sym c.is_call.ensures ∙ c.if-is_call.false) none) is

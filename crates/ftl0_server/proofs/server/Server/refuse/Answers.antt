@@ -4,4 +4,4 @@ use Rattle.std.proofs.Common.{sym, arith}
 use Rattle.ftl0_server.proofs.server.Server.refuse.Goals as goal
 
 pub returns-clause-refuses : goal.returns-clause-refuses
-returns-clause-refuses c = λ server is. let was = rw (sym c.self.view_is) at is in grind (arith, common_steps)
+returns-clause-refuses c = λ store server is. let was = rw (sym c.self.view_is) at is in grind (arith, common_steps)

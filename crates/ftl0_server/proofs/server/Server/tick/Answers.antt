@@ -1,37 +1,53 @@
 -- A tick came at each place, and the disk stays.
 use Rattle.std.proofs.lemmas.Grind.{common_steps}
 use Rattle.std.proofs.Common.{refl, subst, sym, [], arith, ap}
+use Rattle.file_store.proofs.Offered.{in_parked, on_parked, stands_parked}
+use Rattle.file_store.specs.State.{store_on}
 use Rattle.file_store.specs.Store.{Store}
 use Rattle.file_store.specs.Working.{DoesAmongReads}
-use Rattle.ftl0_session.proofs.uploads.DoesLemmas.{does-none}
 use Rattle.ftl0_session.specs.Downloads.Needs.{AreComplete}
 use Rattle.ftl0_server.specs.Kept.{server_state}
 use Rattle.ftl0_server.specs.ServerState.{ServerState}
 use Rattle.ftl0_server.proofs.HearLemmas.{all-are}
+use Rattle.ftl0_server.proofs.connection.HearLemmas.{nothing-done}
 use Rattle.ftl0_server.proofs.StepLemmas.{server-ticked}
 use Rattle.ftl0_server.proofs.server.Server.tick.Goals as goal
 
 pub invariant_of-self : goal.invariant_of-self
 invariant_of-self g c = record {
   settled = c.tick_all.ensures.settled c.self.inside.me c.self.inside.k c.self.invariant.settled;
-  complete = subst (λ (s : Store). AreComplete s c.self.inside.lists) (sym c.tick_all.ensures.store) c.self.invariant.complete;
+  complete = subst (λ (s : Store). AreComplete s c.self.inside.lists) (sym (in_parked c.self.inside.store c.tick_all.new.store c.tick_all.ensures.store.entries)) c.self.invariant.complete;
 }
 
 pub returns-clause-ticks : goal.returns-clause-ticks
-returns-clause-ticks g c = λ server is.
+returns-clause-ticks g c = λ over server is.
     let was = rw (sym c.self.view_is) at is in
-    let all = all-are (server_state c.self.inside) server was in grind (arith, common_steps, server-ticked)
+    let all = all-are over (server_state c.self.inside) server was in
+    server-ticked over (server_state c.self.inside) server c.tick_all.new.places c.tick_all.new.store was (c.tick_all.ensures.ticks server.window server.slots all)
+
+-- the entries and what they hold are as they were
+pub returns-clause-store : goal.returns-clause-store
+returns-clause-store g c = rw (sym c.self.view_is) (in_parked c.self.inside.store c.tick_all.new.store c.tick_all.ensures.store.entries)
+
+pub returns-clause-on_disk : goal.returns-clause-on_disk
+returns-clause-on_disk g c = rw (sym c.self.view_is) (on_parked g.D.Disk c.self.inside.store c.tick_all.new.store c.args._disk.now c.tick_all.ensures.store.entries)
 
 pub returns-clause-takes : goal.returns-clause-takes
 returns-clause-takes g c = record {
-  hears = λ server is.
-      let was = rw (sym c.self.view_is) at is in
-      let ticked = returns-clause-ticks g c server is in
+  hears = λ known server is.
+      let ticked = rw (sym (returns-clause-on_disk g c)) at (returns-clause-ticks g c (store_on g.D.Disk c.args.self.now.store c.args._disk.now) server is) in
       let ready = rw (sym c.self.view_is) at c.requires.ready in
       let lasts = g.met.D.Disk.lasts_same c.args._disk.now in
-      let does : DoesAmongReads g.D.Disk ⊥ 0 c.self.inside.store c.tick_all.new.store c.args._disk.now c.args._disk.now [] = grind (arith, common_steps, does-none) in
+      let does : DoesAmongReads g.D.Disk ⊥ 0 c.self.inside.store c.tick_all.new.store c.args._disk.now c.args._disk.now [] =
+      nothing-done g.D.Disk c.self.inside.store c.tick_all.new.store c.args._disk.now ready lasts c.tick_all.ensures.store in
       rw (sym c.self.view_is)
       (record { parts = []; by = (refl, ticked, does); since = does.since });
-  keeps = record { puts = grind (arith, common_steps); kept = grind (arith, common_steps); healthy = grind (arith, common_steps); stands_on = grind (arith, common_steps) };
+  keeps = record {
+    puts = grind (arith, common_steps);
+    kept = grind (arith, common_steps);
+    healthy = grind (arith, common_steps);
+    stands_on = stands_parked g.D.Disk c.self.inside.store c.tick_all.new.store c.args._disk.now c.tick_all.ensures.store.entries c.tick_all.ensures.store.journal
+        (rw (sym c.self.view_is) at c.requires.ready).stands_on;
+  };
   me = ap (λ (s : ServerState). s.me) c.self.view_is;
 }

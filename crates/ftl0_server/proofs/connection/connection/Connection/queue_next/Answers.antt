@@ -1,42 +1,48 @@
 -- What is due was queued, or it stands as it stood.
 use Rattle.std.proofs.lemmas.Grind.{common_steps}
-use Rattle.std.proofs.Common.{◌≡◌, ◌≤◌, ℕ, ap, sym, ◌∙◌, subst, arith}
+use Rattle.std.proofs.Common.{◌≡◌, ◌<◌, ◌≤◌, ℕ, length, ap, sym, ◌∙◌, subst, arith}
 use Rattle.ax25_link.specs.Kept.{Kept}
 use Rattle.ax25_link.specs.Queue.{room_of}
 use Rattle.ftl0_packets.specs.Layout.{packet_text}
+use Rattle.file_store.proofs.Offered.{puts-among-reads}
 use Rattle.file_store.specs.State.{StoreState}
 use Rattle.ftl0_session.specs.SessionState.{state_in}
 use Rattle.ftl0_session.proofs.WorkingLemmas.{due-among, due-none}
 use Rattle.ftl0_server.specs.Connection.Feeding.{AreFree}
 use Rattle.ftl0_server.specs.Connection.Taking.{enough_free}
-use Rattle.ftl0_server.proofs.connection.DueLemmas.{does-none}
 use Rattle.packet_link.proofs.Fronts.{stations-same}
-use Rattle.packet_link.proofs.Queuing.{packet-some}
 use Rattle.ftl0_server.proofs.connection.connection.Connection.queue_next.Goals as goal
 
 pub returns-then-not-fill-clause-next : goal.returns-then-not-fill-clause-next
-returns-then-not-fill-clause-next g c = grind (arith, common_steps, due-none)
+returns-then-not-fill-clause-next g c = record {
+  queues = λ known. grind (arith, common_steps, due-none);
+  fewer = λ queued. absurd (cc queued);
+}
 
 pub returns-clause-next : goal.returns-clause-next
 returns-clause-next g c =
     let a = c.self.inside in
-    let sent = due-among g.D.Disk c.args.store.now _ _ _ _ _ _ c.if-not-fill.ensures.puts c.requires.may.ready in
     let room : enough_free ≤ room_of a.link.link.queue = c.has_room.ensures.enough c.if-not-has_room.false in
     let enough : AreFree a.link.link (λ free. enough_free ≤ free) = λ w end stands. subst (λ (n : ℕ). enough_free ≤ n) (ap (λ (k : Kept). room_of k.queue) stands.kept) room in
-    let text : c.deref.result.now ≡ packet_text sent.next.packet = c.deref.ensures.0 ∙ sent.text_is in
+    let some : 0 < length c.deref.result.now = rw c.deref.ensures.0 (c.fill.ensures.some c.if-not-fill.false) in
     rw (sym c.self.view_is) (record {
-      fails = c.if-not-fill.ensures.puts.fails;
-      due = sent.next;
-      is_due = sent.is_next;
-      enough = enough;
-      queued = rw text at c.push.ensures.after;
-      state = ap (λ (s : StoreState). state_in s c.fill.new.self) (sym c.fill.ensures.store) ∙ sent.state_is;
-      reads = sent.does;
-      fewer = c.push.ensures.fewer (rw text (packet-some sent.next.packet)) (omega (arith, room));
+      queues = λ known.
+          let sent = due-among g.D.Disk c.args.store.now _ _ _ _ _ _ c.if-not-fill.ensures.puts c.requires.may.ready known in
+          let text : c.deref.result.now ≡ packet_text sent.next.packet = c.deref.ensures.0 ∙ sent.text_is in
+          record {
+            fails = c.if-not-fill.ensures.puts.fails;
+            due = sent.next;
+            is_due = sent.is_next;
+            enough = enough;
+            queued = rw text at c.push.ensures.after;
+            state = ap (λ (s : StoreState). state_in s c.fill.new.self) (sym c.fill.ensures.store) ∙ sent.state_is;
+            reads = sent.does;
+          };
+      fewer = λ queued. c.push.ensures.fewer some (omega (arith, room));
     })
 
 pub returns-then-not-fill-clause-keeps : goal.returns-then-not-fill-clause-keeps
-returns-then-not-fill-clause-keeps g c = grind (arith, common_steps, due-none, does-none, stations-same)
+returns-then-not-fill-clause-keeps g c = grind (arith, common_steps, puts-among-reads, stations-same)
 
 pub returns-clause-keeps : goal.returns-clause-keeps
-returns-clause-keeps g c = grind (arith, common_steps, due-among)
+returns-clause-keeps g c = grind (arith, common_steps, puts-among-reads)

@@ -13,17 +13,17 @@ use Rattle.ftl0_server.specs.Connection.Connected.{greeted}
 use Rattle.ftl0_server.specs.Connection.Hearing.{with_end}
 use Rattle.ftl0_server.specs.Connection.Inside.{connection_state}
 use Rattle.ftl0_server.proofs.connection.FeedLemmas.{fit-anew, fit-heard}
-use Rattle.ftl0_server.proofs.connection.HearLemmas.{anew-at, parks-same, parts-bytes, parts-on, parts-over, parts-quiet, parts-told, same-peer}
+use Rattle.ftl0_server.proofs.connection.HearLemmas.{anew-at, gives-nothing, parks-same, parts-bytes, parts-on, parts-over, parts-quiet, parts-told, same-peer}
 use Rattle.packet_link.proofs.Fronts.{stations-then}
 use Rattle.ftl0_server.proofs.connection.OctetsLemmas.{hears-all}
 use Rattle.ftl0_server.proofs.connection.connection.Connection.take_frame.Goals as goal
 
 pub returns-in-Nothing-clause-hears : goal.returns-in-Nothing-clause-hears
 returns-in-Nothing-clause-hears g c =
-    rw (sym c.self.view_is) (λ w d is.
+    rw (sym c.self.view_is) (λ known w d is.
     parts-told g.D.Disk w _ _ _ _ _ _ _ c.take.result c.take.ensures.heard d is
     (parts-quiet g.D.Disk w _ (value_of c.args.frame.now) _ _ _ _ c.take.result d _ _ c.in-Nothing.is
-    (parts-on g.D.Disk g.met.D.Disk.lasts_same w d.rest _ d.state _ _ _ c.requires.may.ready refl refl
+    (parts-on g.D.Disk g.met.D.Disk.lasts_same w d.rest _ d.state _ _ _ c.requires.may.ready (gives-nothing c.args.store.now)
     (record { link = c.take.ensures.after w d.end is.link; rest = ap under_way c.take.ensures.keeps.reader ∙ is.rest; state = is.state }))))
 
 pub returns-in-Nothing-clause-fit : goal.returns-in-Nothing-clause-fit
@@ -33,11 +33,11 @@ pub returns-in-Reopened-clause-hears : goal.returns-in-Reopened-clause-hears
 returns-in-Reopened-clause-hears g c =
     let a = c.self.inside in
     let parked = parks-same c.args.store.now c.begin_anew.new.store a.session.uploads.phase c.begin_anew.ensures.parks in
-    rw (sym c.self.view_is) (λ w d is.
+    rw (sym c.self.view_is) (λ known w d is.
     let end = after_frame w d.end (value_of c.args.frame.now) in
     parts-told g.D.Disk w _ _ _ _ _ _ _ Reopened c.in-Reopened.ensures.heard d is
     (parts-on g.D.Disk g.met.D.Disk.lasts_same w [] (greeted end c.args.moment (has_left c.args.lists.now d.end.peer)) command _ _ _
-    c.requires.may.ready parked.0 parked.1
+    c.requires.may.ready parked
     (anew-at w c.begin_anew.new.store c.begin_anew.new.self end c.args.moment c.args.lists.now (caller_of a.session) d.end.peer
     (sym c.self.invariant.peer ∙ ap (λ (k : Kept). k.peer) is.link.kept) (c.begin_anew.ensures.begins w end (c.in-Reopened.ensures.after w d.end is.link)))))
 
@@ -46,7 +46,7 @@ returns-in-Reopened-clause-fit g c =
     let a = c.self.inside in
     let parked = parks-same c.args.store.now c.begin_anew.new.store a.session.uploads.phase c.begin_anew.ensures.parks in
     rw (sym c.self.view_is)
-    (fit-anew g.D.Disk _ _ _ _ _ _ (g.met.D.Disk.lasts_same c.args.disk.now) (rw (sym c.self.view_is) at c.requires.may) parked.0 parked.1 c.begin_anew.ensures.session c.begin_anew.ensures.only
+    (fit-anew g.D.Disk _ _ _ _ _ _ (g.met.D.Disk.lasts_same c.args.disk.now) (rw (sym c.self.view_is) at c.requires.may) parked c.begin_anew.ensures.session c.begin_anew.ensures.only
     c.begin_anew.ensures.others c.begin_anew.ensures.up (stations-then a.link.link c.take.new.self.link c.begin_anew.new.self.link c.take.ensures.keeps.stations c.begin_anew.ensures.stations))
 
 pub returns-in-Bytes-clause-hears : goal.returns-in-Bytes-clause-hears
@@ -54,13 +54,13 @@ returns-in-Bytes-clause-hears g c =
     let a = c.self.inside in
     let frame = value_of c.args.frame.now in
     let mid = connection_state (record { link = c.take.new.self; session = a.session }) in
-    rw (sym c.self.view_is) (λ w d is.
+    rw (sym c.self.view_is) (λ known w d is.
     let end = after_frame w d.end frame in
     let stands = c.in-Bytes.ensures.after w d.end is.link in
     parts-told g.D.Disk w _ _ _ _ _ _ _ Bytes c.in-Bytes.ensures.heard d is
     (parts-bytes g.D.Disk w _ frame _ _ _ _ d end c.information.result.now frame.kind.information
     (same-peer w a.link.link c.take.new.self.link d.end end is.link stands c.take.ensures.keeps.stations.peer) (c.information.ensures (c.in-Bytes.ensures.bytes refl))
-    (hears-all g.D.Disk g.met.D.Disk.lasts_on _ mid _ c.information.result.now _ _ _ (c.take.ensures.keeps.stations.peer ∙ c.self.invariant.peer) w (with_end d end)
+    (hears-all g.D.Disk g.met.D.Disk.lasts_on _ mid _ c.information.result.now _ _ _ (c.take.ensures.keeps.stations.peer ∙ c.self.invariant.peer) known w (with_end d end)
     (record { link = stands; rest = ap under_way c.in-Bytes.ensures.keeps.reader ∙ is.rest; state = is.state }) c.take_packets.ensures.feeds)))
 
 pub returns-in-Bytes-clause-fit : goal.returns-in-Bytes-clause-fit
@@ -68,9 +68,9 @@ returns-in-Bytes-clause-fit g c = grind (arith, common_steps, stations-then)
 
 pub returns-in-Closed-clause-hears : goal.returns-in-Closed-clause-hears
 returns-in-Closed-clause-hears g c =
-    rw (sym c.self.view_is) (λ w d is.
+    rw (sym c.self.view_is) (λ known w d is.
     parts-told g.D.Disk w _ _ _ _ _ _ _ (Closed c.in-Closed._why) c.in-Closed.ensures.heard d is
-    (parts-over g.D.Disk g.met.D.Disk.lasts_same w d.rest _ d.state _ _ _ c.requires.may.ready refl refl (c.in-Closed.ensures.after w d.end is.link)))
+    (parts-over g.D.Disk g.met.D.Disk.lasts_same w d.rest _ d.state _ _ _ c.requires.may.ready (gives-nothing c.args.store.now) (c.in-Closed.ensures.after w d.end is.link)))
 
 pub returns-in-Closed-clause-fit : goal.returns-in-Closed-clause-fit
 returns-in-Closed-clause-fit g c = grind (arith, common_steps, fit-heard)
