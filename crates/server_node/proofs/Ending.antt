@@ -7,10 +7,9 @@ use Rattle.disk_model.specs.declared.disk.Disk.{Ghosts}
 use Rattle.file_journal.specs.Through.{StandsThrough}
 use Rattle.file_store.specs.Calls.{Runs, Leaves, TakesStep}
 use Rattle.file_store.specs.Command.{Command}
-use Rattle.file_store.specs.Records.{store_form, store_magic}
 use Rattle.file_store.specs.Store.{Store}
-use Rattle.file_store.specs.Working.{PutsAmongReads, CutsOffAmongReads}
-use Rattle.file_store.proofs.Offered.{told_weaker, cuts-among-all, cuts-among-puts, cuts-among-same, stands-through}
+use Rattle.file_store.specs.Working.{CutsOffAmongReads, DoesAmongReads, PutsAmongReads}
+use Rattle.file_store.proofs.Offered.{told_weaker, cuts-among-all, cuts-among-same, known_on, puts-among-same, stands-through}
 use Rattle.server_node.specs.OnDisk.{NodeRuns}
 use Rattle.node.specs.declared.stop.NodeStop.{NodeStop}
 use Rattle.server_node.specs.declared.terms.Served.{Served}
@@ -20,7 +19,7 @@ use Rattle.px_base.specs.Polling.{HearsAll, IsButLast}
 use Rattle.px_base.specs.declared.air.Air.{Ghosts as AirGhosts}
 use Rattle.px_base.specs.declared.air.Turn.{Turn}
 use Rattle.file_store.specs.Recovery.{StandsAlike, IsRecovered, LeavesAlikeSinceSync, RefusesRecovery}
-use Rattle.file_store.specs.State.{StoreState, store_in}
+use Rattle.file_store.specs.State.{IsKnown, StoreState, store_form, store_layout, store_magic, store_on}
 use Rattle.node.specs.Course.{AtDisk, Course}
 use Rattle.node.specs.Lent.{Lent, Seen, lent}
 use Rattle.node.specs.Turns.{HasAirCause as NodeHasCause, IsUnsaid, RanBy, StoppedInLast, TookAll, TurnsBy as NodeTurnsBy, Brought}
@@ -33,7 +32,6 @@ use Rattle.server_node.specs.Stops.{HasAirCause, served_by, RefusesSession}
 use Rattle.std.proofs.lemmas.Result.{err_from_is_err_and}
 use Rattle.file_store.specs.IsStore.{IsStore}
 use Rattle.file_store.specs.Journal.{IsAfterRecovery}
-use Rattle.file_store.specs.Layout.TheVariants as layout
 use Rattle.file_store.specs.StoreFault.{StoreFault}
 use Rattle.node.specs.declared.stop.NodeStop.TheVariants as stop
 use Rattle.file_store.specs.StoreFault.TheVariants as fault
@@ -121,9 +119,9 @@ module _ {A C D T : Type 0} (seen : Seen D A C) (blocks : ℕ) (given : Option �
 -- The recovery gave this, with this store on the disk.
 pub record Recovers {D T : Type 0} (g : Ghosts D) (blocks : ℕ) (old mid : D) (value : T) (start : StoreState) : Type 0 where
   pub recovered : IsRecovered g blocks old mid start
-  pub rules : IsStore (store_in start)
+  pub rules : IsKnown g mid → IsStore (store_on g start mid)
   pub runs : Runs g (IsErrOf {T = T} (Ok value) fault.Disk) old mid
-  pub octets : TakesStep g old mid (IsAfterRecovery store_magic layout.Growing blocks)
+  pub octets : TakesStep g old mid (IsAfterRecovery store_magic store_layout blocks)
   pub since_start : Leaves g old mid (StandsAlike blocks)
   pub since_sync : LeavesAlikeSinceSync {T = T} g blocks (Ok value) old mid
 
@@ -140,6 +138,9 @@ but_last (next ∷ turns) = by (but_last turns).0 (but_last turns).1
 pub disk-stop : {D : Type 0} (g : Ghosts D) (why : NodeStop) (missed : ℕ) (old now : AtDisk StoreState D) (done cut : List Command) → CutsOffAmongReads g (why ≡ stop.Disk) missed old now done cut
     → CutsOffAmongReads g (IsErrOf {T = Served} (Err why) stop.Disk) missed old now done cut
 disk-stop g why missed old now done cut cuts = cuts-among-same g _ _ missed missed old now done cut (ap Err) (error_of why stop.Disk) refl cuts
+
+pub puts-stop : {D : Type 0} (g : Ghosts D) (why : NodeStop) (old now : D) → PutsAmongReads g (why ≡ stop.Disk) old now → PutsAmongReads g (IsErrOf {T = Served} (Err why) stop.Disk) old now
+puts-stop g why old now puts = puts-among-same g (why ≡ stop.Disk) (IsErrOf {T = Served} (Err why) stop.Disk) old now (ap Err) (error_of why stop.Disk) puts
 
 -- ---- by how the turns ended: all that they bring was taken, or it stopped at an event of the last one
 
@@ -188,10 +189,11 @@ pub record Did {A C D : Type 0} (seen : Seen D A C) (given : Option ℕ) (Ran : 
   pub moments_given : MomentsOf given (seen.given old.clock) (seen.given new.clock) run.moments
   pub text_said : Gains (seen.air.said old.air) (seen.air.said new.air) run.all.text
   pub is_unsaid : IsUnsaid run.unsaid (seen.air.write_faults old.air) (seen.air.write_faults new.air)
-  pub ran : Ran (store_in start) run
+  pub ran : Ran (store_on seen.disk start mid) run
   pub ends : TurnsBy result polls run.turns
   pub counts : HasAirCause seen.air.read_faults seen.air.write_faults old.air new.air result
-  pub cuts : CutsOffAmongReads seen.disk (IsErrOf result stop.Disk) run.all.missed (at start mid) (at store new.disk) run.all.done run.cut
+  pub puts : PutsAmongReads seen.disk (IsErrOf result stop.Disk) mid new.disk
+  pub cuts : IsKnown seen.disk mid → CutsOffAmongReads seen.disk (IsErrOf result stop.Disk) run.all.missed (at start mid) (at store new.disk) run.all.done run.cut
 
 module _ {A C D T : Type 0} (seen : Seen D A C) (on : (first second third : D) → seen.disk.lasts first second → seen.disk.lasts second third → seen.disk.lasts first third) (blocks : ℕ) (given : Option ℕ)
     (Ran : Result Served NodeStop → Store → Run → Type 0) (old new : Lent D A C) (mid : D) (value : T) (start store : StoreState) (polls : ℕ) (result : Result Served NodeStop)
@@ -208,19 +210,27 @@ module _ {A C D T : Type 0} (seen : Seen D A C) (on : (first second third : D) �
   fine : ¬ IsErrOf {T = T} (Ok value) fault.Disk
   fine is = cc is
 
-  standing : (stands : StandsThrough g store_form Failed (store_in start) run.all.done run.cut old.disk new.disk) × (stands.ready ≡ g.moment mid)
-  standing = stands-through g on Failed blocks old.disk mid new.disk start store run.all.done run.cut run.all.missed h.runs.told h.recovered.content h.since_start
-      (told_weaker (g.content old.disk) _ _ (λ octets told left. grind (arith, common_steps, left, fine)) h.since_sync) did.cuts
+  -- what is known at the start is known behind the recovery
+  cuts : IsKnown g old.disk → CutsOffAmongReads g Failed run.all.missed (at start mid) (at store new.disk) run.all.done run.cut
+  cuts known = did.cuts (known_on g old.disk mid h.runs.told known)
+
+  standing : IsKnown g old.disk → (stands : StandsThrough g store_form Failed (store_on g start mid) run.all.done run.cut old.disk new.disk) × (stands.ready ≡ g.moment mid)
+  standing known = stands-through g on Failed blocks old.disk mid new.disk start store run.all.done run.cut run.all.missed h.runs.told h.recovered.content h.since_start
+      (told_weaker (g.content old.disk) _ _ (λ octets told left. grind (arith, common_steps, left, fine)) h.since_sync) (cuts known)
 
   puts : PutsAmongReads g Failed old.disk new.disk
-  puts = runs_among g on _ Failed old.disk mid new.disk fine h.runs (cuts-among-puts g on Failed run.all.missed (at start mid) (at store new.disk) run.all.done run.cut did.cuts)
+  puts = runs_among g on _ Failed old.disk mid new.disk fine h.runs did.puts
+
+  -- all that it did
+  did-all : IsKnown g old.disk → DoesAmongReads g Failed run.all.missed start store mid new.disk (run.all.done ++ run.cut)
+  did-all known = cuts-among-all g on Failed run.all.missed (at start mid) (at store new.disk) run.all.done run.cut (cuts known)
 
   pub served : Serves seen blocks given Ran old new result
   served = record {
     refuses = λ no_disk no_memory. told_weaker (g.content old.disk) _ _ (λ octets told stood. grind (arith, common_steps, did.ends, stood)) h.recovered.content;
     ends = inr (record {
-      start = store_in start;
-      rules = h.rules;
+      start = store_on g start mid;
+      rules = λ known. h.rules (known_on g old.disk mid h.runs.told known);
       stood = h.recovered.content;
       recovered = mid;
       octets = h.octets;
@@ -231,10 +241,10 @@ module _ {A C D T : Type 0} (seen : Seen D A C) (on : (first second third : D) �
       is_unsaid = did.is_unsaid;
       ran = did.ran;
       puts = puts;
-      reads = runs_missed g on _ Failed old.disk mid new.disk fine h.runs run.all.missed (cuts-among-all g on Failed run.all.missed (at start mid) (at store new.disk) run.all.done run.cut did.cuts).reads;
-      stands = standing.0;
-      ready = standing.1;
-      none = λ none. let both = append-none run.all.done run.cut none in rw (did.cuts.second.none both.1) (did.cuts.first.none both.0);
+      reads = λ known. runs_missed g on _ Failed old.disk mid new.disk fine h.runs run.all.missed (did-all known).reads;
+      stands = λ known. (standing known).0;
+      ready = λ known. (standing known).1;
+      none = λ known none. (did-all known).none none;
     });
     counts = did.counts;
     runs = node_runs g Failed old.disk new.disk puts;

@@ -1,16 +1,20 @@
--- Events one after another, and a stop at one of them, whatever serves them.
+-- Events one after another, and a stop at one of them, whatever serves them; and whether it is known what octets the
+-- store's files have.
 use Rattle.std.proofs.lemmas.Grind.{common_steps}
-use Rattle.std.proofs.Common.{◌≡◌, ℕ, ◌+◌, List, [], ◌∷◌, ◌++◌, Bool, refl, ap, sym, ◌∙◌, append_assoc, arith}
+use Rattle.std.proofs.Common.{◌≡◌, ◌⊎◌, inl, inr, ℕ, ◌+◌, List, [], ◌∷◌, ◌++◌, Bool, Option, None, Some, refl, ap, sym, ◌∙◌, append_assoc, arith}
 use Rattle.std.proofs.Math.Nat.{add_assoc}
+use Rattle.disk_model.specs.Disk.{IsTold}
 use Rattle.disk_model.specs.declared.disk.Disk.{Ghosts}
 use Rattle.file_store.specs.Command.{Command}
-use Rattle.file_store.specs.State.{IsReady, StoreState}
-use Rattle.file_store.specs.Working.{CutsOffAmongReads, DoesAmongReads}
-use Rattle.file_store.proofs.Offered.{Does-none, among-then, cuts-among-then, does-among}
+use Rattle.file_store.specs.Layout.{Layout}
+use Rattle.file_store.specs.Layout.TheVariants as layout
+use Rattle.file_store.specs.State.{IsKnown, IsReady, StoreState, store_form}
+use Rattle.file_store.specs.Working.{CutsOffAmongReads, DoesAmongReads, PutsAmongReads}
+use Rattle.file_store.proofs.Offered.{Does-none, among-then, cuts-among-then, does-among, puts_none, puts-among, puts-among-then}
 use Rattle.node.specs.Course.{AtDisk, at}
 use Rattle.node.specs.declared.stop.NodeStop.{NodeStop}
 use Rattle.node.specs.declared.stop.NodeStop.TheVariants as stop
-use Rattle.server_node.specs.Steps.{Made, RunsOn, Steps, StopsBehind, StopsOn, StopsOver, WithStore, both, made, with_store}
+use Rattle.server_node.specs.Steps.{Made, RunsOn, Steps, StopsAlways, StopsBehind, StopsOn, StopsOver, WithStore, both, made, with_store}
 
 -- no events make nothing, and events and others behind them what both make
 pub record AreSteps {S E : Type 0} (steps : Steps S E) : Type 0 where
@@ -23,6 +27,30 @@ both-assoc a b c = grind (arith, common_steps, add_assoc)
 -- nothing is done
 pub does-none : {D : Type 0} (g : Ghosts D) (store : StoreState) (disk : D) → IsReady g store disk → g.lasts disk disk → DoesAmongReads g ⊥ 0 store store disk disk []
 does-none g store disk ready lasts = does-among g ⊥ store store disk disk [] (Does-none g ⊥ store disk (λ never. never) ready lasts)
+
+-- ---- whatever the disk tells
+
+-- what octets the files have is known, or it isn't
+knows-or-not : (l : Layout) (content : Option (List ℕ)) → ((l ≡ layout.Growing) ⊎ IsTold content) ⊎ ¬ ((l ≡ layout.Growing) ⊎ IsTold content)
+knows-or-not layout.Growing content = inl (inl refl)
+knows-or-not layout.Blocks (Some octets) = inl (inr refl)
+knows-or-not layout.Blocks None = inr neither
+  where
+    neither : (layout.Blocks ≡ layout.Growing) ⊎ IsTold None → ⊥
+    neither (inl growing) = cc growing
+    neither (inr told) = cc told
+
+pub known-or-not : {D : Type 0} (g : Ghosts D) (disk : D) → IsKnown g disk ⊎ ¬ IsKnown g disk
+known-or-not g disk = knows-or-not store_form.layout (g.content disk)
+
+-- no call
+pub puts-still : {D : Type 0} (g : Ghosts D) (P : Type 0) (disk : D) → ¬ P → g.lasts disk disk → PutsAmongReads g P disk disk
+puts-still g P disk fine lasts = puts-among g P disk disk (puts_none g disk P fine lasts)
+
+-- a stop behind writes and syncs of which none failed
+pub always-behind : {D : Type 0} (g : Ghosts D) (on : (first second third : D) → g.lasts first second → g.lasts second third → g.lasts first third) (why : NodeStop) (unsaid : Bool) (a b c : D)
+    → PutsAmongReads g ⊥ a b → StopsAlways g why unsaid b c → StopsAlways g why unsaid a c
+always-behind g on why unsaid a b c first last = record { puts = puts-among-then g on ⊥ (why ≡ stop.Disk) a b c (λ never. never) first last.puts; kept = last.kept }
 
 module _ {S E : Type 0} (steps : Steps S E) (laws : AreSteps steps) (why : NodeStop) (unsaid : Bool) where
   -- a stop at the one event
@@ -61,7 +89,7 @@ module _ {S E : Type 0} (steps : Steps S E) (laws : AreSteps steps) (why : NodeS
       cuts-all = cuts-among-then g on (why ≡ stop.Disk) h.missed k.missed (at a.store a.disk) (at b.store b.disk) c h.done k.done k.cut h.does k.cuts
 
       pub stops-on : StopsOn g steps a c (xs ++ ys) why unsaid (text ++ more)
-      stops-on = record { done = h.done ++ k.done; cut = k.cut; missed = h.missed + k.missed; stops = behind-all.stops; cuts = cuts-all; kept = k.kept }
+      stops-on = record { done = h.done ++ k.done; cut = k.cut; missed = h.missed + k.missed; stops = behind-all.stops; cuts = cuts-all }
 
 module _ {S E D : Type 0} (steps : Steps S E) (laws : AreSteps steps) (g : Ghosts D) where
   pub runs-none : (s : S) (store : StoreState) (disk : D) → IsReady g store disk → g.lasts disk disk → RunsOn g steps (with_store s store disk) (with_store s store disk) [] []

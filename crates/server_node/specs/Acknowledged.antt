@@ -1,5 +1,5 @@
 -- The files that a session or a server acknowledges in a run, and from which moment of its disk on each of them stands.
-use Rattle.std.specs.Prelude.{◌≡◌, ◌⊎◌, ℕ, ◌+◌, ◌≤◌, List, [], ◌∷◌, ◌++◌, length, slice_get, slice_index, Bool}
+use Rattle.std.specs.Prelude.{◌≡◌, ◌⊎◌, ℕ, ◌+◌, ◌≤◌, List, [], ◌∷◌, ◌++◌, length, slice_get, slice_index}
 use Rattle.std.specs.Prelude.{false, None, Some, IfSome, Result, Ok}
 use Rattle.px_base.specs.CallSign.{CallSign}
 use Rattle.px_base.specs.Octets.{IsFront}
@@ -13,7 +13,7 @@ use Rattle.ftl0_packets.specs.Layout.{Item, PacketValue, data_end, ul_ack_resp}
 use Rattle.ftl0_packets.specs.Reading.{packets_of}
 use Rattle.file_journal.specs.Commands.{calls_of}
 use Rattle.file_store.specs.Command.{Command, after_all}
-use Rattle.file_store.specs.Records.{store_form}
+use Rattle.file_store.specs.State.{IsKnown, store_form}
 use Rattle.file_store.specs.Store.{Entry, Store}
 use Rattle.ftl0_session.specs.Lists.Lists.{CallerList}
 use Rattle.ftl0_session.specs.Run.{Event, RunsOver, session_over}
@@ -38,14 +38,13 @@ use Rattle.server_node.specs.declared.terms.Served.{Served}
 use Rattle.server_node.specs.declared.terms.ServerTerms.{ServerTerms}
 use Rattle.server_node.specs.declared.terms.SessionTerms.{SessionTerms}
 
--- DATA_END of a file: whose upload it is, which commands were done before, over which store and lists it comes, whether
--- a read fails, when it comes, the file's number, and the last of its octets, which aren't held yet.
+-- DATA_END of a file at which no read of the disk fails: whose upload it is, which commands were done before, over
+-- which store and lists it comes, when it comes, the file's number, and the last of its octets, which aren't held yet.
 pub record FileEnd : Type 0 where
   pub caller : CallSign
   pub before : List Command
   pub store : Store
   pub lists : List CallerList
-  pub fails : Bool
   pub moment : ℕ
   pub number : ℕ
   pub rest : List ℕ
@@ -53,7 +52,7 @@ pub record FileEnd : Type 0 where
 -- its row of the session's table
 abbrev pub row_of_end : FileEnd → Row
 row_of_end file =
-    session_row file.caller file.moment file.store file.lists (receiving file.number file.rest) (Ok data_end) file.fails
+    session_row file.caller file.moment file.store file.lists (receiving file.number file.rest) (Ok data_end) false
 
 -- All octets of the file came, over the store to which the commands before lead, and its row replies UL_ACK_RESP. Since
 -- the last call of the disk for the row's commands, which is in this run, the file's entry is complete with the octets
@@ -83,19 +82,32 @@ pub record IsReceived (caller : CallSign) (start : Store) (said : List PacketVal
       RunsOver caller (first_session start) events said file.before
       (session_over file.store file.lists (receiving file.number file.rest))
 
--- A session of these terms was served, and said LOGIN_RESP and these packets, or a front of them. For each UL_ACK_RESP
--- among them a file stands on the disk: the one that the session was receiving when it had said the packets before.
-pub record SessionAcknowledges {D A C : Type 0} (seen : Seen D A C) (old new : Lent D A C) (terms : SessionTerms) :
-    Type 0 where
-  pub ended : Result Served NodeStop
-  pub served :
-      IsServed seen terms.limits.blocks terms.moment (λ start run. SessionRan terms start run ended) old new ended
+-- what a session of these terms came to, and how it ended
+abbrev pub IsSessionServed :
+    {D A C : Type 0} → Seen D A C → Lent D A C → Lent D A C → SessionTerms → Result Served NodeStop → Type 0
+IsSessionServed seen old new terms ended =
+    IsServed seen terms.limits.blocks terms.moment
+    (λ start run. SessionRan (IsKnown seen.disk old.disk) terms start run ended) old new ended
+
+-- The session that was served said LOGIN_RESP and these packets, or a front of them. For each UL_ACK_RESP among them a
+-- file stands on the disk: the one that the session was receiving when it had said the packets before.
+pub record SessionSays {D A C : Type 0} (seen : Seen D A C) (old new : Lent D A C) (terms : SessionTerms)
+    (ended : Result Served NodeStop) (served : IsSessionServed seen old new terms ended)
+    (known : IsKnown seen.disk old.disk) : Type 0 where
   pub said : List PacketValue
   pub front : IsFront served.run.all.text (login_text (slice_index served.run.moments 0) ++ texts said)
   pub each :
       (before later : List PacketValue) → said ≡ before ++ ul_ack_resp ∷ later
       → (file : FileEnd) × IsReceived terms.caller served.start before file
-      × AcknowledgedSince seen.disk file served.start served.stands.ready old.disk new.disk
+      × AcknowledgedSince seen.disk file served.start (served.stands known).ready old.disk new.disk
+
+-- A session of these terms was served. Where it is known what octets the store's files have, a file stands on the disk
+-- for each UL_ACK_RESP that it said.
+pub record SessionAcknowledges {D A C : Type 0} (seen : Seen D A C) (old new : Lent D A C) (terms : SessionTerms) :
+    Type 0 where
+  pub ended : Result Served NodeStop
+  pub served : IsSessionServed seen old new terms ended
+  pub says : (known : IsKnown seen.disk old.disk) → SessionSays seen old new terms ended served known
 
 -- ---- a server
 
@@ -156,15 +168,19 @@ pub record IsEndOf (server : Server) (event : NodeEvent) (failures : List Failur
   pub before_is :
       file.before ≡ before ++ (taken_first server taken.frame taken.moment failures taken.c taken.items).done
 
--- A server of these terms was served, and took the first of its events: all of them, or, where it stopped, those that
--- all turns but the last one brought, and some more. It met each of these. For each packet that it takes at an event
--- that it meets, and to which UL_ACK_RESP is a reply, a file stands on the disk: the one that the packet ends.
-pub record ServerAcknowledges {D A C : Type 0} (seen : Seen D A C) (old new : Lent D A C) (terms : ServerTerms) :
-    Type 0 where
-  pub ended : Result Served NodeStop
-  pub served :
-      IsServed seen terms.limits.blocks None (λ start run. ServerRan (server_from terms start) terms.polls run ended)
-      old new ended
+-- what a server of these terms came to, and how it ended
+abbrev pub IsServerServed :
+    {D A C : Type 0} → Seen D A C → Lent D A C → Lent D A C → ServerTerms → Result Served NodeStop → Type 0
+IsServerServed seen old new terms ended =
+    IsServed seen terms.limits.blocks None
+    (λ start run. ServerRan (IsKnown seen.disk old.disk) (server_from terms start) terms.polls run ended) old new ended
+
+-- The server that served took the first of its events: all of them, or, where it stopped, those that all turns but the
+-- last one brought, and some more. It met each of these. For each packet that it takes at an event that it meets, and
+-- to which UL_ACK_RESP is a reply, a file stands on the disk: the one that the packet ends.
+pub record ServerTakes {D A C : Type 0} (seen : Seen D A C) (old new : Lent D A C) (terms : ServerTerms)
+    (ended : Result Served NodeStop) (served : IsServerServed seen old new terms ended)
+    (known : IsKnown seen.disk old.disk) : Type 0 where
   pub taken : List NodeEvent
   pub others : List NodeEvent
   pub in_order : served.ran.events ≡ taken ++ others
@@ -178,7 +194,15 @@ pub record ServerAcknowledges {D A C : Type 0} (seen : Seen D A C) (old new : Le
       (taken : TakesPacket meets.now meets.event meets.failures) (before later : List PacketValue)
       → taken.row.replies ≡ before ++ ul_ack_resp ∷ later
       → (file : FileEnd) × IsEndOf meets.now meets.event meets.failures meets.before taken file
-      × AcknowledgedSince seen.disk file served.start served.stands.ready old.disk new.disk
+      × AcknowledgedSince seen.disk file served.start (served.stands known).ready old.disk new.disk
+
+-- A server of these terms was served. Where it is known what octets the store's files have, a file stands on the disk
+-- for each packet to which it replied UL_ACK_RESP.
+pub record ServerAcknowledges {D A C : Type 0} (seen : Seen D A C) (old new : Lent D A C) (terms : ServerTerms) :
+    Type 0 where
+  pub ended : Result Served NodeStop
+  pub served : IsServerServed seen old new terms ended
+  pub takes : (known : IsKnown seen.disk old.disk) → ServerTakes seen old new terms ended served known
 
 -- ---- as laws
 

@@ -12,9 +12,7 @@ use Rattle.file_store.specs.Calls.{ChangesReads, Runs, TakesStep}
 use Rattle.file_store.specs.Command.{Command}
 use Rattle.file_store.specs.IsStore.{IsStore}
 use Rattle.file_store.specs.Journal.{IsAfterRecovery}
-use Rattle.file_store.specs.Layout.TheVariants as layout
-use Rattle.file_store.specs.Records.{store_form, store_magic}
-use Rattle.file_store.specs.State.{standing_of}
+use Rattle.file_store.specs.State.{IsKnown, standing_of, store_form, store_layout, store_magic}
 use Rattle.file_store.specs.Store.{Store}
 use Rattle.file_store.specs.Walk.{state}
 use Rattle.file_store.specs.Working.{CountsSome, PutsAmongReads}
@@ -60,16 +58,17 @@ pub record IsUnrecovered {A C D : Type 0} (seen : Seen D A C) (blocks : ℕ) (ol
   pub runs : Runs seen.disk (IsErrOf result stop.Disk) old.disk new.disk
 
 -- It was served over the store for which the disk's content stood. Its recovery changed no octet of a formatted store,
--- and made a formatted one of any other content; without commands that is what the disk has at the end. Only a write or
--- a sync that failed ends it by the disk; a read that failed is told by DL_ERROR_RESP with code 3, and the count of
--- failed reads rose by at least as many as were told, and not where none was.
+-- and made a formatted one of any other content. Only a write or a sync that failed ends it by the disk. What was heard
+-- at which moments and what was said is told always. Where it is known what octets the store's files have, these
+-- commands were done, and without any the disk has at the end what the recovery left; a read that failed is told by
+-- code 3, and the count of failed reads rose by at least as many as were told, and not where none was.
 pub record IsServed {A C D : Type 0} (seen : Seen D A C) (blocks : ℕ) (given : Option ℕ)
     (Ran : Store → Run → Type 0) (old new : Lent D A C) (result : Result Served NodeStop) : Type 0 where
   pub start : Store
-  pub rules : IsStore start
+  pub rules : IsKnown seen.disk old.disk → IsStore start
   pub stood : IfSome (seen.disk.content old.disk) (λ octets. standing_of blocks octets ≡ state start)
   pub recovered : D
-  pub octets : TakesStep seen.disk old.disk recovered (IsAfterRecovery store_magic layout.Growing blocks)
+  pub octets : TakesStep seen.disk old.disk recovered (IsAfterRecovery store_magic store_layout blocks)
   pub run : Run
   pub turns_heard : HearsAll (seen.air.heard old.air) (seen.air.heard new.air) run.turns
   pub moments_given : MomentsOf given (seen.given old.clock) (seen.given new.clock) run.moments
@@ -77,11 +76,15 @@ pub record IsServed {A C D : Type 0} (seen : Seen D A C) (blocks : ℕ) (given :
   pub is_unsaid : IsUnsaid run.unsaid (seen.air.write_faults old.air) (seen.air.write_faults new.air)
   pub ran : Ran start run
   pub puts : PutsAmongReads seen.disk (IsErrOf result stop.Disk) old.disk new.disk
-  pub reads : CountsSome (seen.disk.read_faults old.disk) (seen.disk.read_faults new.disk) run.all.missed
+  pub reads :
+      IsKnown seen.disk old.disk
+      → CountsSome (seen.disk.read_faults old.disk) (seen.disk.read_faults new.disk) run.all.missed
   pub stands :
-      StandsThrough seen.disk store_form (IsErrOf result stop.Disk) start run.all.done run.cut old.disk new.disk
-  pub ready : stands.ready ≡ seen.disk.moment recovered
-  pub none : run.all.done ++ run.cut ≡ [] → ChangesReads seen.disk recovered new.disk
+      IsKnown seen.disk old.disk
+      → StandsThrough seen.disk store_form (IsErrOf result stop.Disk) start run.all.done run.cut old.disk new.disk
+  pub ready : (known : IsKnown seen.disk old.disk) → (stands known).ready ≡ seen.disk.moment recovered
+  pub none :
+      IsKnown seen.disk old.disk → run.all.done ++ run.cut ≡ [] → ChangesReads seen.disk recovered new.disk
 
 -- Either of the two.
 abbrev pub Ends :

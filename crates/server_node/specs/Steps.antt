@@ -3,7 +3,7 @@ use Rattle.std.specs.Prelude.{◌≡◌, ℕ, ◌+◌, List, [], ◌∷◌, ◌+
 use Rattle.disk_model.specs.declared.disk.Disk.{Ghosts}
 use Rattle.file_store.specs.Command.{Command}
 use Rattle.file_store.specs.State.{StoreState}
-use Rattle.file_store.specs.Working.{CutsOffAmongReads, DoesAmongReads}
+use Rattle.file_store.specs.Working.{CutsOffAmongReads, DoesAmongReads, PutsAmongReads}
 use Rattle.node.specs.Course.{AtDisk, at}
 use Rattle.node.specs.declared.stop.NodeStop.{NodeStop}
 use Rattle.node.specs.declared.stop.NodeStop.TheVariants as stop
@@ -75,6 +75,12 @@ EndsOver (Err (stop.Damaged place)) least steps start events unsaid all cut = �
 
 -- ---- on the disk
 
+-- What a stop leaves, whatever the disk tells: no write and no sync came behind one that failed, and one did where that
+-- is the reason. After want of memory no put fails.
+pub record StopsAlways {D : Type 0} (g : Ghosts D) (why : NodeStop) (unsaid : Bool) (disk disk_now : D) : Type 0 where
+  pub puts : PutsAmongReads g (why ≡ stop.Disk) disk disk_now
+  pub kept : why ≡ stop.OutOfMemory → unsaid ≡ false
+
 -- something with its store at a disk
 pub record WithStore (S D : Type 0) : Type 0 where
   pub it : S
@@ -93,8 +99,7 @@ pub record RunsOn {S E D : Type 0} (g : Ghosts D) (steps : Steps S E) (old new :
   pub goes : steps.goes old.it events (made text done missed) new.it
   pub does : DoesAmongReads g ⊥ missed old.store new.store old.disk new.disk done
 
--- It stopped at one of these events, and its commands up to there are done on the disk. After want of memory no put
--- fails.
+-- It stopped at one of these events, and its commands up to there are done on the disk.
 pub record StopsOn {S E D : Type 0} (g : Ghosts D) (steps : Steps S E) (old : WithStore S D) (new : AtDisk StoreState D)
     (events : List E) (why : NodeStop) (unsaid : Bool) (text : List ℕ) : Type 0 where
   pub done : List Command
@@ -102,4 +107,3 @@ pub record StopsOn {S E D : Type 0} (g : Ghosts D) (steps : Steps S E) (old : Wi
   pub missed : ℕ
   pub stops : StopsOver steps old.it events why unsaid (made text done missed) cut
   pub cuts : CutsOffAmongReads g (why ≡ stop.Disk) missed (at old.store old.disk) new done cut
-  pub kept : why ≡ stop.OutOfMemory → unsaid ≡ false

@@ -20,10 +20,10 @@ pub fn serves_law()
     ensures { ServesLaw }
 {}
 
-/// What a session acknowledges stands: for each UL_ACK_RESP that it said a file is complete, with exactly the octets
-/// that came, stamped, in every image that a crash leaves since the last call of the disk for the commands of that
-/// reply's row, however the session goes on and ends. `Session::take` of `ftl0_session` makes that call before it gives
-/// the reply.
+/// What a session acknowledges stands, where it is known what octets the store's files have: for each UL_ACK_RESP that
+/// it said a file is complete, with exactly the octets that came, stamped, in every image that a crash leaves since the
+/// last call of the disk for the commands of that reply's row, however the session goes on and ends. `Session::take`
+/// of `ftl0_session` makes that call before it gives the reply.
 pub fn session_acknowledges_law<D: Disk, A: Air, C: Clock>()
     ensures { SessionAcknowledgesLaw (seen D.Disk A.Air C.given) }
 {

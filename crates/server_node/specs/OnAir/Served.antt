@@ -1,6 +1,7 @@
 -- What a server says over its turns, and why it ends.
 use Rattle.std.specs.Prelude.{◌≡◌, ℕ, ◌≤◌, List, ◌++◌, length, None, Result}
 use Rattle.px_base.specs.declared.air.Turn.{Turn}
+use Rattle.file_store.specs.State.{IsKnown}
 use Rattle.file_store.specs.Store.{Store}
 use Rattle.ftl0_server.specs.Server.{Server, new_server}
 use Rattle.ftl0_server.specs.Window.{window_of}
@@ -18,9 +19,11 @@ use Rattle.server_node.specs.OnAir.Serving.{server_steps}
 abbrev pub server_from : ServerTerms → Store → Server
 server_from terms start = new_server terms.me (window_of terms.k) start
 
--- A server came to this run, of at most so many turns, and ended so. Nothing was heard after what ended it: a stop is
--- at an event that only the last turn brings, behind all those that the others bring.
-pub record ServerRan (server : Server) (polls : ℕ) (run : Run) (result : Result Served NodeStop) : Type 0 where
+-- A server came to this run, of at most so many turns, and ended so. Where it is known what octets the store's files
+-- have, what it said and did is what its events give, and nothing was heard after what ended it: a stop is at an event
+-- that only the last turn brings, behind all those that the others bring.
+pub record ServerRan (known : Type 0) (server : Server) (polls : ℕ) (run : Run) (result : Result Served NodeStop) :
+    Type 0 where
   pub one_each : length run.moments ≡ length run.turns
   pub events : List NodeEvent
   pub brings : NodeEvents server.me run.turns run.moments events
@@ -33,11 +36,12 @@ pub record ServerRan (server : Server) (polls : ℕ) (run : Run) (result : Resul
   pub split : run.moments ≡ before ++ behind
   pub least : List NodeEvent
   pub brought : NodeEvents server.me earlier before least
-  pub ends_over : EndsOver result least server_steps server events run.unsaid run.all run.cut
+  pub ends_over : known → EndsOver result least server_steps server events run.unsaid run.all run.cut
 
 -- how a server of these terms ends
 abbrev pub ServerEnds :
     {A C D : Type 0} → Seen D A C → Lent D A C → Lent D A C → ServerTerms → Result Served NodeStop → Type 0
 ServerEnds seen old new terms result =
-    Ends seen terms.limits.blocks None (λ start run. ServerRan (server_from terms start) terms.polls run result) old new
+    Ends seen terms.limits.blocks None
+    (λ start run. ServerRan (IsKnown seen.disk old.disk) (server_from terms start) terms.polls run result) old new
     result

@@ -7,13 +7,13 @@ use Rattle.ftl0_packets.specs.Items.{texts}
 use Rattle.ftl0_packets.specs.Layout.{PacketValue}
 use Rattle.ftl0_session.specs.Lists.Lists.{CallerList}
 use Rattle.file_store.specs.Command.{Command}
-use Rattle.file_store.specs.State.{IsReady, StoreState, store_in}
-use Rattle.file_store.specs.Working.{CutsOffAmongReads, DoesAmongReads}
+use Rattle.file_store.specs.State.{IsKnown, IsReady, store_in, store_on}
+use Rattle.file_store.specs.Working.{CutsOffAmongReads, DoesAmongReads, PutsAmongReads}
 use Rattle.ftl0_session.specs.Uploads.Events.{Event}
 use Rattle.ftl0_session.specs.Run.{Event as MetEvent, Session, event_row}
 use Rattle.ftl0_session.specs.Answering.{IsAnswering, met_with, octets_left}
-use Rattle.ftl0_session.specs.Table.{Row, State, download_part, failed_reads_told, fault_reply, next_due}
-use Rattle.ftl0_session.specs.Table.{takes_memory}
+use Rattle.ftl0_session.specs.Downloads.Sending.{is_due}
+use Rattle.ftl0_session.specs.Table.{Row, State, download_part, failed_reads_told, fault_reply, takes_memory}
 use Rattle.node.specs.Course.{AtDisk, Course, at}
 use Rattle.node.specs.Inputs.{Input, octets_in}
 use Rattle.disk_model.specs.declared.halt.Halt.{Halt}
@@ -22,72 +22,113 @@ use Rattle.node.specs.declared.stop.NodeStop.{NodeStop}
 use Rattle.node.specs.declared.stop.NodeStop.TheVariants as stop
 use Rattle.server_node.specs.Sessions.Packets.{Hears, events_to}
 use Rattle.server_node.specs.Sessions.Running.{session_steps}
-use Rattle.server_node.specs.Steps.{RunsOn, StopsOn, WithStore, with_store}
+use Rattle.server_node.specs.Steps.{RunsOn, StopsAlways, StopsOn, WithStore, with_store}
 use Rattle.server_node.specs.Sessions.ServerState.{ServerState}
 
 -- the server, with how much it has still to say: of the replies, and of what is due behind them
 abbrev pub most_left : ServerState → ℕ
 most_left server = length server.replies + octets_left (store_in server.store) (download_part server.state)
 
+-- nothing is due in this state
+abbrev pub NoneDue : State → Type 0
+NoneDue state = is_due (download_part state) ≡ false
+
 -- Its store is ready, it goes on, and it has nothing to say.
 pub record AwaitsInput {D : Type 0} (g : Ghosts D) (now : AtDisk ServerState D) : Type 0 where
   pub up : IsReady g now.it.store now.disk
   pub goes_on : now.it.halted ≡ false
   pub silent : now.it.replies ≡ []
-  pub none_due : (fails : Bool) → next_due (store_in now.it.store) now.it.state fails ≡ None
+  pub none_due : NoneDue now.it.state
 
--- its session, with its store at its disk
-abbrev pub session_in : ServerState → Session
-session_in server = record { store = store_in server.store; lists = server.lists; state = server.state }
+-- its session, over the store on its disk
+abbrev pub session_in : {D : Type 0} → Ghosts D → AtDisk ServerState D → Session
+session_in g now =
+    record { store = store_on g now.it.store now.disk; lists = now.it.lists; state = now.it.state }
 
-abbrev pub session_at : {D : Type 0} → AtDisk ServerState D → WithStore Session D
-session_at now = with_store (session_in now.it) now.it.store now.disk
+-- with that store
+abbrev pub session_at : {D : Type 0} → Ghosts D → AtDisk ServerState D → WithStore Session D
+session_at g now = with_store (session_in g now) now.it.store now.disk
 
--- It went over the packets that these inputs bring, behind what it had to say at the start, and all was said.
+-- It went over the packets that these inputs bring, behind what it had to say at the start, and all was said. Where it
+-- is known what octets the files have, what was said and done is what the table gives.
 pub record GoesOver {D : Type 0} (g : Ghosts D) (old : AtDisk ServerState D) (inputs : List Input) (text : List ℕ)
     (new : AtDisk ServerState D) : Type 0 where
   pub hears : Hears old.it inputs new.it
   pub silent : new.it.replies ≡ []
   pub replies : List ℕ
   pub text_is : text ≡ old.it.replies ++ replies
-  pub runs : RunsOn g (session_steps old.it.caller) (session_at old) (session_at new) (events_to old.it inputs) replies
+  pub puts : PutsAmongReads g ⊥ old.disk new.disk
+  pub runs :
+      IsKnown g old.disk
+      → RunsOn g (session_steps old.it.caller) (session_at g old) (session_at g new) (events_to old.it inputs) replies
 
 -- ---- what it has still to say
 
 -- the row of an event's packet
-abbrev pub IsRowOf : ServerState → MetEvent → Row → Type 0
-IsRowOf server met row = event_row server.caller (store_in server.store) server.lists server.state met ≡ row
+abbrev pub IsRowOf : {D : Type 0} → Ghosts D → AtDisk ServerState D → MetEvent → Row → Type 0
+IsRowOf g old met row =
+    event_row old.it.caller (store_on g old.it.store old.disk) old.it.lists old.it.state met ≡ row
 
--- No packet was taken, and nothing is due; or one was, where nothing else was to be said, and this is its answer so
--- far.
+-- No packet was taken, and nothing more is said than at the start; or one was, where nothing else was to be said.
+abbrev pub TakesAtMostOne : ServerState → ServerState → List Event → List ℕ → Type 0
+TakesAtMostOne old new [] replies = (replies ≡ []) × NoneDue new.state
+TakesAtMostOne old new (event ∷ []) replies = old.replies ≡ []
+TakesAtMostOne old new (event ∷ next ∷ events) replies = ⊥
+
+-- the same, and this is the answer to the packet so far
 abbrev pub IsAnswered :
-    ServerState → StoreState → List CallerList → State → List Event → List PacketValue → List Command → Type 0
-IsAnswered old store lists state [] said commands =
-    (said ≡ []) × (commands ≡ []) × (store ≡ old.store) × (lists ≡ old.lists) × (state ≡ old.state)
-    × ((fails : Bool) → next_due (store_in old.store) old.state fails ≡ None)
-IsAnswered old store lists state (event ∷ []) said commands =
-    (old.replies ≡ []) × IsAnswering old.caller (session_in old) event said commands lists state
-IsAnswered old store lists state (event ∷ next ∷ events) said commands = ⊥
+    {D : Type 0} → Ghosts D → AtDisk ServerState D → List CallerList → State → List Event → List PacketValue
+    → List Command → Type 0
+IsAnswered g old lists state [] said commands =
+    (said ≡ []) × (commands ≡ []) × (lists ≡ old.it.lists) × (state ≡ old.it.state)
+IsAnswered g old lists state (event ∷ []) said commands =
+    IsAnswering old.it.caller (session_in g old) event said commands lists state
+IsAnswered g old lists state (event ∷ next ∷ events) said commands = ⊥
+
+-- This is the text of the answer so far to the packet that was taken, if one was, and its commands are done.
+pub record Answers {D : Type 0} (g : Ghosts D) (old new : AtDisk ServerState D) (events : List Event)
+    (replies : List ℕ) : Type 0 where
+  pub said : List PacketValue
+  pub replies_are : replies ≡ texts said
+  pub commands : List Command
+  pub answered : IsAnswered g old new.it.lists new.it.state events said commands
+  pub does : DoesAmongReads g ⊥ (failed_reads_told said) old.it.store new.it.store old.disk new.disk commands
 
 -- It took the packet that these inputs bring, if they bring one. This is the text of what it had to say at the start
--- and of the answer so far; maybe more is due behind it.
+-- and of the answer so far; maybe more is due behind it. The answer is the table's where it is known what octets the
+-- files have.
 pub record IsUnderWay {D : Type 0} (g : Ghosts D) (old : AtDisk ServerState D) (inputs : List Input) (text : List ℕ)
     (new : AtDisk ServerState D) : Type 0 where
   pub hears : Hears old.it inputs new.it
   pub goes_on : new.it.halted ≡ false
-  pub said : List PacketValue
-  pub text_is : text ≡ old.it.replies ++ texts said
-  pub commands : List Command
-  pub answered :
-      IsAnswered old.it new.it.store new.it.lists new.it.state (events_to old.it inputs) said commands
-  pub does :
-      DoesAmongReads g ⊥ (failed_reads_told said) old.it.store new.it.store old.disk new.disk commands
+  pub ready : IsReady g new.it.store new.disk
+  pub replies : List ℕ
+  pub text_is : text ≡ old.it.replies ++ replies
+  pub one : TakesAtMostOne old.it new.it (events_to old.it inputs) replies
+  pub puts : PutsAmongReads g ⊥ old.disk new.disk
+  pub answers : IsKnown g old.disk → Answers g old new (events_to old.it inputs) replies
 
--- what is said by a packet at which the session halts, and the commands in one of which the disk failed
-abbrev pub LastOf : Halt → State → MetEvent → Row → List ℕ → List Command → Type 0
-LastOf halt.Disk state met row text cut = (text ≡ texts (fault_reply state ∷ [])) × (cut ≡ row.commands)
-LastOf halt.OutOfMemory state met row text cut =
-    IsTrue (takes_memory met.packet row.state) × (text ≡ []) × (cut ≡ [])
+-- what is said by a packet at which the session halts
+abbrev pub IsLastText : Halt → State → List ℕ → Type 0
+IsLastText halt.Disk state text = text ≡ texts (fault_reply state ∷ [])
+IsLastText halt.OutOfMemory state text = text ≡ []
+
+-- the commands in one of which the disk failed; where there was no memory the packet takes some
+abbrev pub IsLastCut : Halt → MetEvent → Row → List Command → Type 0
+IsLastCut halt.Disk met row cut = cut ≡ row.commands
+IsLastCut halt.OutOfMemory met row cut = IsTrue (takes_memory met.packet row.state) × (cut ≡ [])
+
+-- It halted at this event by its row of the table.
+pub record HaltsAt {D : Type 0} (g : Ghosts D) (old : AtDisk ServerState D) (event : Event) (why : Halt)
+    (new : AtDisk ServerState D) : Type 0 where
+  pub parts : List ℕ
+  pub row : Row
+  pub is_row : IsRowOf g old (met_with event parts) row
+  pub cut : List Command
+  pub last : IsLastCut why (met_with event parts) row cut
+  pub cuts :
+      CutsOffAmongReads g (why ≡ halt.Disk) (failed_reads_told row.replies) (at old.it.store old.disk)
+      (at new.it.store new.disk) [] cut
 
 -- It halted at the packet that these inputs bring, of whose answer this is the text.
 pub record IsHalting {D : Type 0} (g : Ghosts D) (old : AtDisk ServerState D) (inputs : List Input) (why : Halt)
@@ -97,14 +138,9 @@ pub record IsHalting {D : Type 0} (g : Ghosts D) (old : AtDisk ServerState D) (i
   pub silent : old.it.replies ≡ []
   pub event : Event
   pub only : events_to old.it inputs ≡ event ∷ []
-  pub parts : List ℕ
-  pub row : Row
-  pub is_row : IsRowOf old.it (met_with event parts) row
-  pub cut : List Command
-  pub last : LastOf why old.it.state (met_with event parts) row text cut
-  pub cuts :
-      CutsOffAmongReads g (why ≡ halt.Disk) (failed_reads_told row.replies) (at old.it.store old.disk)
-      (at new.it.store new.disk) [] cut
+  pub text_is : IsLastText why old.it.state text
+  pub puts : PutsAmongReads g (why ≡ halt.Disk) old.disk new.disk
+  pub halts : IsKnown g old.disk → HaltsAt g old event why new
 
 -- the server at its disk, with nothing to say but what is due
 abbrev pub silenced : {D : Type 0} → AtDisk ServerState D → AtDisk ServerState D
@@ -129,22 +165,26 @@ pub record IsUnsaidFirst {D : Type 0} (g : Ghosts D) (old : AtDisk ServerState D
   pub some : old.it.replies ≢ []
   pub front : IsFront text old.it.replies
   pub why_is : why ≡ stop.AirWrite
-  pub does : DoesAmongReads g ⊥ 0 old.it.store new.it.store old.disk new.disk []
+  pub does : IsKnown g old.disk → DoesAmongReads g ⊥ 0 old.it.store new.it.store old.disk new.disk []
 
--- It stopped at one of the packets that these inputs bring, behind what it had to say at the start.
+-- It stopped at one of the packets that these inputs bring, behind what it had to say at the start; at its row of the
+-- table where it is known what octets the files have.
 pub record IsStopped {D : Type 0} (g : Ghosts D) (old : AtDisk ServerState D) (inputs : List Input) (why : NodeStop)
     (unsaid : Bool) (text : List ℕ) (new : AtDisk ServerState D) : Type 0 where
+  pub some : events_to old.it inputs ≢ []
   pub replies : List ℕ
   pub text_is : text ≡ old.it.replies ++ replies
   pub stops :
-      StopsOn g (session_steps old.it.caller) (session_at old) (at new.it.store new.disk) (events_to old.it inputs) why
-      unsaid replies
+      IsKnown g old.disk
+      → StopsOn g (session_steps old.it.caller) (session_at g old) (at new.it.store new.disk)
+      (events_to old.it inputs) why unsaid replies
 
-abbrev pub HaltsOver :
-    {D : Type 0} → Ghosts D → AtDisk ServerState D → List Input → NodeStop → Bool → List ℕ → AtDisk ServerState D
-    → Type 0
-HaltsOver g old inputs why unsaid text new =
-    IsOctets (octets_in inputs) × (IsUnsaidFirst g old why text new ⊎ IsStopped g old inputs why unsaid text new)
+-- Either of the two; and what any stop leaves.
+pub record HaltsOver {D : Type 0} (g : Ghosts D) (old : AtDisk ServerState D) (inputs : List Input) (why : NodeStop)
+    (unsaid : Bool) (text : List ℕ) (new : AtDisk ServerState D) : Type 0 where
+  pub are_octets : IsOctets (octets_in inputs)
+  pub always : StopsAlways g why unsaid old.disk new.disk
+  pub stops : IsUnsaidFirst g old why text new ⊎ IsStopped g old inputs why unsaid text new
 
 -- the course of a session's server
 abbrev pub session_course : {D : Type 0} → Ghosts D → Course ServerState D Input

@@ -40,8 +40,9 @@ pub fn session<D: Disk, A: Air, C: Clock>(
     // for it.
     ensures refuses { RefusesSession terms.now.limits.blocks (D.content disk.old) result }
 
-    // It was refused, or the session was served: what was said to what was heard, and what stands on the disk at each
-    // moment.
+    // It was refused, or the session was served: what was heard, at which moments, and what was said behind LOGIN_RESP;
+    // and, where it is known what octets the store's files have, that this is said to that, and what stands on the disk
+    // at each moment.
     ensures ends { SessionEnds (seen D.Disk A.Air C.given) (lent disk.old air.old clock.old)
         (lent disk.new air.new clock.new) terms.now result }
     ensures clock { IsSome terms.now.moment → clock.new ≡ clock.old }

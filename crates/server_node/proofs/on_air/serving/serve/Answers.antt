@@ -1,6 +1,8 @@
 -- The recovery is refused, or the server serves over what it gives.
 use Rattle.std.proofs.lemmas.Grind.{common_steps}
 use Rattle.std.proofs.Common.{None, arith}
+use Rattle.file_store.specs.State.{IsKnown}
+use Rattle.file_store.proofs.Offered.{known_on}
 use Rattle.ftl0_server.specs.ServerState.{ServerState}
 use Rattle.node.specs.Course.{at}
 use Rattle.node.specs.Lent.{lent as lent_so, seen}
@@ -29,9 +31,9 @@ returns g c =
     let old = lent_so c.args.disk.now c.args.air.now c.args.clock.now in
     let now = lent_so new.disk new.air new.clock in
     let up = started g.D.Disk terms blocks c.args.disk.now mid station c.in_ok-server.server c.new-station.ensures.server c.new-station.ensures.memory h.recovered h.server h.silent in
-    let recovers : Recovers g.D.Disk blocks c.args.disk.now mid c.in_ok-server.server station.server.store = grind (arith, common_steps, h, c.new-station.ensures.server) in
-    let did = server-did all terms (lent station mid c.args.air.now c.args.clock.now) (lent last new.disk new.air new.clock) c.drive-station.result.1 c.drive-station.ensures.turns g.met.D.Disk.lasts_same g.met.D.Disk.lasts_on up.0 c.args.disk.now up.1 in
-    let serves = served all g.met.D.Disk.lasts_on blocks None (Ran terms) old now mid c.in_ok-server.server station.server.store last.server.store terms.polls c.answer_of.result recovers
+    let recovers : Recovers g.D.Disk blocks c.args.disk.now mid c.in_ok-server.server station.server.store = rw c.new-station.ensures.server (record { recovered = h.recovered; rules = h.known_rules; runs = h.runs; octets = h.octets; since_start = h.since_start; since_sync = h.since_sync }) in
+    let did = server-did all terms (lent station mid c.args.air.now c.args.clock.now) (lent last new.disk new.air new.clock) c.drive-station.result.1 c.drive-station.ensures.turns g.met.D.Disk.lasts_same g.met.D.Disk.lasts_on up.0 c.args.disk.now (λ known. known_on g.D.Disk c.args.disk.now mid h.runs.told known) up.1 in
+    let serves = served all g.met.D.Disk.lasts_on blocks None (Ran (IsKnown g.D.Disk c.args.disk.now) terms) old now mid c.in_ok-server.server station.server.store last.server.store terms.polls c.answer_of.result recovers
     (rw c.answer_of.ensures did) in
     grind (arith, common_steps, serves)
 
@@ -39,5 +41,5 @@ pub returns-in_err-server : goal.returns-in_err-server
 returns-in_err-server g c =
     let h = c.in_err-server.ensures in
     let terms = c.args.terms.now in
-    let serves = refused {T = ServerState} (seen g.D.Disk g.A.Air g.C.Clock.given) terms.limits.blocks None (Ran terms) (lent_so c.args.disk.now c.args.air.now c.args.clock.now) c.start.new.disk c.in_err-server.field-0.0
+    let serves = refused {T = ServerState} (seen g.D.Disk g.A.Air g.C.Clock.given) terms.limits.blocks None (Ran (IsKnown g.D.Disk c.args.disk.now) terms) (lent_so c.args.disk.now c.args.air.now c.args.clock.now) c.start.new.disk c.in_err-server.field-0.0
     c.from_residual.result c.from_residual.ensures.1 h.refuses h.runs h.since_start h.since_sync h.untouched h.untouched_damage in grind (arith, common_steps, serves)

@@ -10,7 +10,7 @@ pub returns-then-not-next_out-clause-all : goal.returns-then-not-next_out-clause
 returns-then-not-next_out-clause-all g c is =
     let out = c.next_out.ensures in
     gave-all g.D.Disk g.met.D.Disk.lasts_same (at c.args.self.now c.args._disk.now) c.next_out.new.self _ _ c.next_out.result out.pending c.if-self.false out.sends out.next out.same.store c.if-not-next_out.true
-    (out.settles c.if-not-next_out.true)
+    (out.none c.if-not-next_out.true) (λ files. out.settles files c.if-not-next_out.true)
 
 pub returns-clause-next : goal.returns-clause-next
 returns-clause-next g c is =

@@ -35,6 +35,7 @@ returns-in_default-answer-clause-takes g c =
     owes-taken g.D.Disk g.met.D.Disk.lasts_same g.met.D.Disk.lasts_on c.args.moment c.self.inside _ c.self.view_is c.args.disk.now c.requires.fit c.self.invariant
     piece (octets_from_fits piece c.type_inv.piece) c.feed-taken.result.0 c.feed-taken.new.self c.feed-taken.ensures.octets (item_of c.packet.result) c.packet.ensures.text (c.feed-taken.ensures.readable.0 c.in-Whole.is)
     now new.disk new.replies.items (caller_of new.self) c.self.inside.halted c.take-answer.ensures.caller (ap (λ (s : ServerState). s.halted) c.self.view_is ∙ c.requires.fit.goes_on)
+    (record { healthy = c.take-answer.ensures.healthy (λ e. let ok = sym c.in_default-answer.is ∙ e in cc ok); stands_on = c.take-answer.ensures.stands_on })
     (rw c.in_default-answer.is at c.take-answer.ensures.takes)
 
 pub returns-in-Err-clause-halts : goal.returns-in-Err-clause-halts
