@@ -657,7 +657,37 @@ module _ (server : Server) (events least : List NodeEvent) where
 pub server_acknowledges : {D A C : Type 0} (seen : Seen D A C) → AcknowledgedStandsLaw → TakingLaw → ServerAcknowledgesLaw seen
 server_acknowledges {D} {A} {C} seen law taking old new terms ended ends =
     ⊎_elim (λ (none : IsUnrecovered seen terms.limits.blocks old new ended). inl none.air)
-    (λ (served : IsServerServed seen old new terms ended). inr (record { ended = ended; served = served; takes = λ known. takes_so served known })) ends
+    (λ (served : IsServed seen terms.limits.blocks None (λ start run. ServerRan (server_from terms start) terms.polls run ended) old new ended).
+    let t = took (server_from terms served.start) served.ran.events served.ran.least served.run.unsaid served.run.all served.run.cut ended served.ran.ends_over in
+    inr (record {
+      ended = ended;
+      served = served;
+      taken = t.taken;
+      others = t.others;
+      in_order = t.in_order;
+      whole = t.whole;
+      met = t.met;
+      each = λ meets taken before later is.
+          let done : Progress = progress meets.now meets.event meets.failures taken in
+          let store : Store = after_all meets.now.store done.done in
+          let fails : Bool = read_fails meets.failures (length taken.items) in
+          let of : State → Item → Bool → Row = λ state item read. session_row (caller_of taken.c) taken.moment store done.lists state item read in
+          let a = row-acks (caller_of taken.c) taken.moment store done.lists done.state taken.packet fails (ap (λ (r : Row). acks r.replies) taken.row_is ∙ ap acks is ∙ acks-at before later) in
+          let same : taken.row ≡ of (receiving a.number a.rest) (Ok data_end) false =
+          sym taken.row_is ∙ ap (λ (s : State). of s taken.packet fails) a.state_is ∙ ap (λ (i : Item). of (receiving a.number a.rest) i fails) a.item_is
+          ∙ ap (of (receiving a.number a.rest) (Ok data_end)) a.read in
+          let up = taking-up_to meets.now meets.event meets.failures taken taking in
+          let file : FileEnd =
+          record { caller = caller_of taken.c; before = meets.before ++ done.done; store = store; lists = done.lists; moment = taken.moment; number = a.number; rest = a.rest } in (
+            file,
+            record { caller_is = refl; moment_is = refl; receives = a.state_is; before_is = refl },
+            acknowledged seen.disk law _ (by_disk ended) served.start served.run.all.done served.run.cut old.disk new.disk served.stands file
+                (ap (λ (s : Store). after_all s done.done) (serves.store _ meets.earlier meets.frames meets.before meets.missed meets.now meets.serves) ∙ sym (after_all-append meets.before done.done served.start)) a.good
+                (up.others ++ meets.others)
+                (meets.done_are ∙ ap (λ (cs : List Command). meets.before ++ (cs ++ meets.others)) up.done_is ∙ regroup meets.before done.done _ up.others meets.others
+                ∙ ap (λ (r : Row). (meets.before ++ done.done) ++ (r.commands ++ (up.others ++ meets.others))) same),
+          );
+    })) ends
   where
     regroup : (before front row others more : List Command) → before ++ ((front ++ (row ++ others)) ++ more) ≡ (before ++ front) ++ (row ++ (others ++ more))
     regroup before front row others more = simp append_assoc
