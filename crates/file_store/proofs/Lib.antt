@@ -1,5 +1,6 @@
 mod DoesLemmas
 mod EndLemmas
+mod EntryLemmas
 mod HoldLemmas
 mod OnLemmas
 pub mod Offered

@@ -1,13 +1,15 @@
 -- A store on its disk, and the same as far as memory tells.
-use Rattle.std.proofs.Common.{◌≡◌, List, [], ◌∷◌, refl, ap, subst}
+use Rattle.std.proofs.Common.{◌≡◌, List, [], ◌∷◌, refl, sym, subst}
 use Rattle.disk_model.specs.declared.disk.Disk.{Ghosts}
 use Rattle.block_entries.specs.Outlined.{AreLike, IsAsFar, IsEntryLike, IsStoreLike}
 use Rattle.file_journal.specs.Calls.{TellsAlike}
 use Rattle.file_journal.proofs.Offered.{knew, knows_on}
+use Rattle.file_journal.specs.Kept.{IsKept, kept_on}
+use Rattle.file_journal.specs.Position.{Position}
 use Rattle.file_entries.specs.Files.{store_of}
 use Rattle.file_entries.specs.IsStore.{IsStore}
 use Rattle.file_entries.specs.Store.{Entry, Holding, Store, complete, partial}
-use Rattle.file_store.specs.State.{IsKnown, IsReady, StoreState, store_form, store_in, store_on}
+use Rattle.file_store.specs.State.{IsKnown, IsReady, StandsOn, StoreState, store_form, store_in, store_on}
 
 as-far : (holding : Holding) → IsAsFar holding holding
 as-far (partial held) = refl
@@ -38,6 +40,12 @@ module _ {D : Type 0} (g : Ghosts D) where
   -- entries that are the same
   pub on_parked : (old new : StoreState) (disk : D) → store_of new.files ≡ store_of old.files → store_on g new disk ≡ store_on g old disk
   on_parked old new disk same = same
+
+  -- it stands on its disk as before
+  pub stands_parked : (old new : StoreState) (disk : D) → store_of new.files ≡ store_of old.files → new.journal ≡ old.journal → StandsOn g old disk → StandsOn g new disk
+  stands_parked old new disk same journal stands =
+      subst (λ (s : Store). IsKept g store_form (kept_on s new.journal disk)) (sym same)
+      (subst (λ (j : Position). IsKept g store_form (kept_on (store_of old.files) j disk)) (sym journal) stands)
 
   -- what memory tells, but for the octets
   pub on_like : (self : StoreState) (disk : D) → IsReady g self disk → IsKnown g disk → IsStoreLike (store_in self) (store_on g self disk)

@@ -1,60 +1,55 @@
 -- What the commands of one upload keep of the others, and what becomes of it.
-use Rattle.std.proofs.Common.{◌≡◌, ◌≢◌, ℕ, zero, suc, ◌+◌, ◌-◌, ◌*◌, ◌/◌, ◌≤◌, Bool, true, List, [], ◌∷◌, ◌++◌, length, take, drop, Option, None, Some, inl, inr, refl, sym, ◌∙◌, ap, subst, arith, length-append, length-drop}
+use Rattle.std.proofs.Common.{◌≡◌, ◌≢◌, ℕ, ◌+◌, ◌-◌, ◌*◌, ◌/◌, ◌≤◌, Bool, true, List, [], ◌∷◌, ◌++◌, length, take, drop, Option, None, Some, inl, inr, refl, sym, ◌∙◌, ap, subst, arith, length-append, length-drop}
 use Rattle.std.specs.Prelude.{IsTrue}
-use Rattle.std.specs.List.{AllByRecursion}
 use Rattle.std.specs.Option.{option_and_then, option_map}
 use Rattle.std.proofs.lemmas.Bool.Decides.{eqb_tells, nat_tests}
 use Rattle.std.proofs.lemmas.List.{length-take-le}
 use Rattle.disk_model.specs.declared.disk.Disk.{Ghosts}
 use Rattle.px_base.specs.CallSign.{CallSign}
-use Rattle.file_entries.specs.Command.{Command, after, after_all, begin, grown, grows, last_grow}
-use Rattle.file_entries.specs.Files.{File, Files, KeepsRests, file_of, octets_or_none, rest_of, store_of}
+use Rattle.file_entries.specs.Command.{Command, after, after_all, begin, drop_entry, grow, grown, last_grow, seal}
+use Rattle.file_entries.specs.Files.{ChangesRest, File, Files, KeepsRests, file_of, octets_or_none, rest_of, store_of}
 use Rattle.file_entries.specs.Info.{is_complete}
 use Rattle.file_entries.specs.IsStore.{IsStore}
 use Rattle.file_entries.specs.Kept.{KeepsComplete}
 use Rattle.file_entries.specs.Store.{Entry, Store, entry_of, new_entry, partial}
 use Rattle.file_entries.proofs.Offered.{after-other, entry-of-file, find-append_found, find-map-changed, find-push, find_past, grows-after, has_number, never-both, number_of}
-use Rattle.file_store.specs.Kept.{KeepsOtherFiles, KeepsOthers, KeepsUploads}
+use Rattle.file_store.specs.Kept.{ChangesEntry, KeepsOtherFiles, KeepsOthers, KeepsUploads}
 use Rattle.file_store.specs.OnDisk.{Does}
-use Rattle.file_store.specs.State.{StoreState, rest_in, store_in}
+use Rattle.file_store.specs.State.{StandsOn, StoreState, rest_in, store_in}
 use Rattle.file_store.specs.Upload.{FitsWaiting, Holds, IsWholeWaiting, Upload, appended, appending, came, ending, entry_for, new_upload, sealing_of, waiting, with_bytes}
 use Rattle.file_store.proofs.DoesLemmas.{Does-first}
+use Rattle.file_store.proofs.EntryLemmas.{AreOf, IsOf, are-grows, are-take, changes-all, changes-same}
+use Rattle.file_store.proofs.OnLemmas.{in_parked, stands_parked}
 
 -- ---- commands of one number
 
--- each command is of this number
-abbrev pub AreOf : ℕ → List Command → Type 0
-AreOf number commands = AllByRecursion (λ command. number_of command ≡ number) commands
-
-pub grows-of : (number n : ℕ) (octets : List ℕ) → AreOf number (grows number n octets)
-grows-of number zero octets = tt
-grows-of number (suc n) octets = (refl, grows-of number n (drop 512 octets))
-
 pub appending-of : (self : StoreState) (up : Upload) (bytes : List ℕ) → AreOf up.number (appending self up bytes)
-appending-of self up bytes = grows-of up.number (length (with_bytes self up bytes) / 512) (with_bytes self up bytes)
+appending-of self up bytes = are-grows up.number (length (with_bytes self up bytes) / 512) (with_bytes self up bytes)
 
-ending-of : (number moment : ℕ) (code : Option ℕ) → number_of (ending number moment code) ≡ number
+ending-of : (number moment : ℕ) (code : Option ℕ) → IsOf number (ending number moment code)
 ending-of number moment None = refl
 ending-of number moment (Some code) = refl
 
-last-of : (number : ℕ) (rest : List ℕ) (command : Command) → number_of command ≡ number → AreOf number (last_grow number rest ++ command ∷ [])
+last-of : (number : ℕ) (rest : List ℕ) (command : Command) → IsOf number command → AreOf number (last_grow number rest ++ command ∷ [])
 last-of number [] command is = (is, tt)
 last-of number (octet ∷ octets) command is = (refl, (is, tt))
 
 pub sealing-of : (store : Store) (self : StoreState) (number moment : ℕ) → AreOf number (sealing_of store self number moment)
 sealing-of store self number moment = last-of number _ _ (ending-of number moment _)
 
-pub take-of : (count number : ℕ) (commands : List Command) → AreOf number commands → AreOf number (take count commands)
-take-of zero number commands are = tt
-take-of (suc count) number [] are = tt
-take-of (suc count) number (command ∷ commands) are = (are.0, take-of count number commands are.1)
+-- such a command has the number
+is-number : (number : ℕ) (command : Command) → IsOf number command → number_of command ≡ number
+is-number number (begin other caller file_length moment) is = absurd is
+is-number number (grow other octets) is = is
+is-number number (seal other moment) is = is
+is-number number (drop_entry other) is = is
 
 -- they leave each other entry
 pub others-after : (commands : List Command) (store : Store) (number other : ℕ) (entry : Entry) → AreOf number commands → other ≢ number → entry_of store other ≡ Some entry
     → entry_of (after_all store commands) other ≡ Some entry
 others-after [] store number other entry are ne found = found
 others-after (command ∷ commands) store number other entry are ne found =
-    others-after commands (after store command) number other entry are.1 ne (after-other store command other entry (subst (λ (n : ℕ). other ≢ n) (sym are.0) ne) found)
+    others-after commands (after store command) number other entry are.1 ne (after-other store command other entry (subst (λ (n : ℕ). other ≢ n) (sym (is-number number command are.0)) ne) found)
 
 -- ---- what a call keeps
 
@@ -89,7 +84,13 @@ module _ {D : Type 0} (g : Ghosts D) (b : Bool) (old new : StoreState) (disk dis
   does-entries : KeepsEntries (store_in old) (store_in new) up.number
   does-entries other entry ne found =
       let first = Does-first g b old new disk disk_now commands (inl refl) does in
-      ap (λ (s : Store). entry_of s other) first.1 ∙ others-after (take first.0 commands) (store_in old) up.number other entry (take-of first.0 up.number commands are) ne found
+      ap (λ (s : Store). entry_of s other) first.1 ∙ others-after (take first.0 commands) (store_in old) up.number other entry (are-take up.number first.0 commands are) ne found
+
+  changes-entries : ChangesEntry (store_in old) (store_in new) up.number
+  changes-entries =
+      let first = Does-first g b old new disk disk_now commands (inl refl) does in
+      subst (λ (s : Store). ChangesEntry (store_in old) s up.number) (sym first.1)
+      (changes-all up.number (store_in old) (take first.0 commands) (are-take up.number first.0 commands are))
 
   pub does-keeps : KeepsRests old.files new.files up.number → KeepsOtherFiles g old new disk_now up.number
   does-keeps rests = record {
@@ -97,7 +98,29 @@ module _ {D : Type 0} (g : Ghosts D) (b : Bool) (old new : StoreState) (disk dis
     uploads = entries-uploads old new up.number does-entries rests;
     rests = rests;
     kept = entries-complete (store_in old) (store_in new) up.number _ h.held h.entry refl does-entries;
+    entries = changes-entries;
   }
+
+-- what a call keeps that changes nothing
+pub same-keeps : {D : Type 0} (g : Ghosts D) (self : StoreState) (disk : D) (number : ℕ) → StandsOn g self disk → KeepsOtherFiles g self self disk number
+same-keeps g self disk number stands = record {
+  stands_on = stands;
+  uploads = λ other ne holds. holds;
+  rests = λ other ne. refl;
+  kept = λ other entry found whole. found;
+  entries = changes-same number (store_in self) (store_in self) refl;
+}
+
+-- and one by which an upload is given up
+pub parked-keeps : {D : Type 0} (g : Ghosts D) (old new : StoreState) (disk : D) (number : ℕ) → StandsOn g old disk → ChangesRest old.files new.files number None → new.journal ≡ old.journal → KeepsOthers old new number
+    → KeepsOtherFiles g old new disk number
+parked-keeps g old new disk number stands changes journal uploads = record {
+  stands_on = stands_parked g old new disk changes.store journal stands;
+  uploads = uploads;
+  rests = changes.others;
+  kept = subst (λ (s : Store). KeepsComplete (store_in old) s) (sym (in_parked old new changes.store)) (λ other entry found whole. found);
+  entries = changes-same number (store_in old) (store_in new) (in_parked old new changes.store);
+}
 
 -- ---- octets that come
 

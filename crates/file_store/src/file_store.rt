@@ -9,7 +9,7 @@ ghost use Rattle.disk_model.specs.Disk.{FillsRoom};
 ghost use Rattle.file_entries.specs.Faults.{fault_code};
 ghost use Rattle.file_journal.specs.Calls.{Leaves, Reads, Runs, TakesStep};
 ghost use Rattle.file_journal.specs.Journal.{IsAfterRecovery};
-ghost use Rattle.file_entries.specs.Command.{begin, drop_entry, fault_at, grow, grows, is_allowed, last_grow, seal, unfilled_block};
+ghost use Rattle.file_entries.specs.Command.{after, begin, drop_entry, fault_at, grow, grows, is_allowed, last_grow, seal, unfilled_block};
 ghost use Rattle.file_entries.specs.Files.{ChangesRest, IsOut, KeepsRests, octets_or_none};
 ghost use Rattle.file_entries.specs.Headers.{IsHeaderOf, IsWholeHeader};
 ghost use Rattle.file_entries.specs.Info.{IsCompleteIn, IsNextComplete, info_of};
@@ -125,6 +125,11 @@ impl FileStore {
         ensures holds { IfOk result (λ up. Holds self.new up × (rest_in self.new up.number ≡ Some [])) }
         ensures every_image { IfOk result (λ up. HoldsInEach D.Disk up disk.new) }
         ensures fresh { IfOk result (λ up. rest_in self.old up.number ≡ None) }
+
+        // As far as memory tells, it was begun, or nothing changed.
+        ensures made { OnOk result (store_in self.new
+            ≡ after (store_in self.old) (begin (store_in self.old).next caller length moment)) }
+        ensures unmade { IsErr result → store_in self.new ≡ store_in self.old }
 
         ensures stands_on { StandsOn D.Disk self.new disk.new }
         ensures uploads { KeepsUploads self.old self.new }

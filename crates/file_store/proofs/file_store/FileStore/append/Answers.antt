@@ -2,12 +2,13 @@ use Rattle.std.proofs.Common.{inl, ◌≡◌, ℕ, ◌/◌, ◌++◌, true, fals
 use Rattle.std.specs.Option.{option_map}
 use Rattle.file_entries.specs.Command.{Command, grows, unfilled_block, whole_grows}
 use Rattle.file_entries.specs.Files.{octets_or_none}
+use Rattle.file_store.specs.Kept.{KeepsOtherFiles}
 use Rattle.file_store.specs.OnDisk.{Does}
 use Rattle.file_store.specs.State.{StoreState, rest_in, store_in}
 use Rattle.file_store.specs.Upload.{Holds, Upload, appended, appending, with_bytes}
 use Rattle.file_store.proofs.DoesLemmas.{Does-moved}
 use Rattle.file_store.proofs.TokenLemmas.{holds-each}
-use Rattle.file_store.proofs.UploadLemmas.{appended-holds, appending-of, brought-fits, brought-waits, does-keeps}
+use Rattle.file_store.proofs.UploadLemmas.{appended-holds, appending-of, brought-fits, brought-waits, does-keeps, parked-keeps, same-keeps}
 use Rattle.file_store.proofs.file_store.FileStore.append.Goals as goal
 
 pub hold_blocks-requires-clause-fits : goal.hold_blocks-requires-clause-fits
@@ -40,6 +41,17 @@ returns-in-Ok-clause-keeps g c =
     let bytes = c.args.bytes.now in
     let does : Does D (false ≡ true) self new c.args.disk.now c.hold_blocks.new.disk (appending self up bytes) = search rules in
     does-keeps D false self new c.args.disk.now c.hold_blocks.new.disk (appending self up bytes) up c.requires.holds (appending-of self up bytes) does (search rules)
+
+pub returns-then-failed-clause-keeps : goal.returns-then-failed-clause-keeps
+returns-then-failed-clause-keeps g c =
+    parked-keeps g.D.Disk c.args.self.now c.park.new.self c.args.disk.now c.args.up.number c.requires.stands_on c.park.ensures.rest c.park.ensures.journal c.park.ensures.uploads
+
+pub returns-in-Err-clause-keeps : goal.returns-in-Err-clause-keeps
+returns-in-Err-clause-keeps g c =
+    let self = c.args.self.now in
+    let new : StoreState = record { files = c.bring.new.self.files; journal = c.self.inside.kept.journal } in
+    let same : new ≡ self = search rules in
+    subst (λ (s : StoreState). KeepsOtherFiles g.D.Disk self s c.args.disk.now c.args.up.number) (sym same) (same-keeps g.D.Disk self c.args.disk.now c.args.up.number c.requires.stands_on)
 
 pub returns-in-Err-hold_blocks-clause-does : goal.returns-in-Err-hold_blocks-clause-does
 returns-in-Err-hold_blocks-clause-does g c reaches =

@@ -6,7 +6,7 @@ use Rattle.file_entries.specs.IsStore.{IsStore}
 use Rattle.file_entries.specs.Kept.{KeepsComplete}
 use Rattle.file_entries.specs.Store.{Store, entry_of}
 use Rattle.file_entries.proofs.Offered.{begin-KeepsComplete, find_past}
-use Rattle.file_store.specs.OnDisk.{Does}
+use Rattle.file_store.specs.OnDisk.{Does, after_first}
 use Rattle.file_store.specs.State.{StoreState, rest_in, state_from, store_in}
 use Rattle.file_store.specs.Upload.{Holds, Upload, new_upload}
 use Rattle.file_store.proofs.DoesLemmas.{Does-moved, Does-same}
@@ -25,6 +25,12 @@ returns-in_err-put_change-clause-does g c reaches =
     subst (λ (s : StoreState). Does D P s new c.args.disk.now c.put_change.new.disk (command s.files.next ∷ [])) c.self.view_is
     (subst (λ (f : Files). Does D P (state_from f journal) new c.args.disk.now c.put_change.new.disk (command f.next ∷ [])) c.reserve.ensures.files
     (Does-same D (true ≡ true) P reserved new c.args.disk.now c.put_change.new.disk (command reserved.files.next ∷ []) (λ is. search rules) (λ is. refl) c.in_err-put_change.ensures.does))
+
+pub returns-in_err-put_change-clause-unmade : goal.returns-in_err-put_change-clause-unmade
+returns-in_err-put_change-clause-unmade g c failed =
+    let cut = (returns-in_err-put_change-clause-does g c (search rules)).cut failed in
+    let none : cut.count ≡ 0 = omega (arith, cut.fewer) in
+    cut.state (inl refl) ∙ ap (λ (count : ℕ). after_first count (store_in c.args.self.now) (begin c.args.self.now.files.next c.args.caller c.args.length c.args.moment ∷ [])) none
 
 pub take_out-requires-clause-there : goal.take_out-requires-clause-there
 take_out-requires-clause-there g c =
@@ -79,6 +85,9 @@ returns-clause-uploads g c =
     let kept : IsStore (store_in self) = subst (λ (s : StoreState). IsStore (store_in s)) c.self.view_is c.begin_bar.ensures.rules in
     let rests : KeepsRests self.files new.files (store_in self).next = search rules in
     begun-uploads self new c.args.caller c.args.length c.args.moment kept (((returns-clause-does g c refl).done (λ e. cc e)).0 (inl refl)) rests
+
+pub returns-clause-made : goal.returns-clause-made
+returns-clause-made g c = ((returns-clause-does g c refl).done (λ e. cc e)).0 (inl refl)
 
 pub returns-clause-kept : goal.returns-clause-kept
 returns-clause-kept g c =

@@ -5,12 +5,16 @@ use Rattle.file_store.specs.State.{StoreState, store_in}
 use Rattle.file_store.specs.Upload.{kept_file, octets_come, sealing}
 use Rattle.file_store.proofs.SealedLemmas.{dropped-entry, sealed-complete, sealed-entry, sealed-holding}
 use Rattle.file_store.proofs.TokenLemmas.{kept-each}
-use Rattle.file_store.proofs.UploadLemmas.{does-keeps, sealing-of, whole-waiting}
+use Rattle.file_store.proofs.UploadLemmas.{does-keeps, parked-keeps, sealing-of, whole-waiting}
 use Rattle.file_store.proofs.file_store.FileStore.seal.Goals as goal
 
 pub end_file-requires-clause-whole : goal.end_file-requires-clause-whole
 end_file-requires-clause-whole g c =
     whole-waiting c.args.self.now c.args.up c.end-number.result c.end-number.ensures c.requires.holds (omega (arith, c.missing.ensures.missing, c.if-missing-gt0.false))
+
+pub returns-then-failed-clause-keeps : goal.returns-then-failed-clause-keeps
+returns-then-failed-clause-keeps g c =
+    parked-keeps g.D.Disk c.args.self.now c.park.new.self c.args.disk.now c.args.up.number c.requires.stands_on c.park.ensures.rest c.park.ensures.journal c.park.ensures.uploads
 
 pub returns-in-Ok-None-clause-complete : goal.returns-in-Ok-None-clause-complete
 returns-in-Ok-None-clause-complete g c known =
