@@ -1,6 +1,6 @@
 -- What a frame makes of a server, by what it makes of one place.
 use Rattle.std.proofs.lemmas.Grind.{common_steps}
-use Rattle.std.proofs.Common.{◌≡◌, ℕ, zero, suc, ◌<◌, List, [], ◌∷◌, length, get_or, set, Bool, true, false, Option, rules, None, Some, sym, ◌∙◌, ap, subst, inr, arith}
+use Rattle.std.proofs.Common.{◌≡◌, ℕ, zero, suc, ◌<◌, List, [], ◌∷◌, length, get_or, set, Bool, true, false, Option, rules, None, Some, refl, sym, ◌∙◌, ap, subst, inl, inr, arith}
 use Rattle.std.specs.Prelude.{slice_get, ⊤, Result, Ok, Err, IsErrOf}
 use Rattle.std.specs.List.{position}
 use Rattle.std.proofs.lemmas.List.Quantifiers.{position-Some}
@@ -36,6 +36,7 @@ use Rattle.ftl0_server.specs.Server.{Server, becoming, heard_at, hearing_at, hea
 use Rattle.ftl0_server.specs.ServerState.{AllPlaces, IsServer, SaysAs, SendsAs, SendsFor, ServerState, any_pending, has_caller, is_empty_place, place_pending}
 use Rattle.ftl0_server.specs.Slots.{Slot, connected, first_empty, is_callers, place_of, slot_after}
 use Rattle.ftl0_server.proofs.AllPlaces.{all-both, all-get, all-set, all-to, never, same-position}
+use Rattle.ftl0_server.proofs.connection.HearLemmas.{gives-nothing, nothing-done as does-nothing}
 use Rattle.ftl0_server.proofs.NextLemmas.{none_first}
 use Rattle.ftl0_server.proofs.TickLemmas.{all-works, own-only}
 
@@ -161,12 +162,19 @@ module _ {D : Type 0} (g : Ghosts D) (old new : ServerState) (server : Server) (
 module _ {D : Type 0} (g : Ghosts D) (old new : ServerState) (settled : IsSettled old.me old.k old.store old.places) (frame : FrameValue) (moment : ℕ) (disk : D)
     (found : position (has_caller frame.src) old.places ≡ None) (ready : IsReady g old.store disk) (lasts : g.lasts disk disk) (same : SameStore old new) where
   nothing-done : DoesAmongReads g ⊥ 0 old.store new.store disk disk []
-  nothing-done = grind (arith, common_steps)
+  nothing-done =
+      subst (λ (s : StoreState). DoesAmongReads g ⊥ 0 old.store s disk disk []) (sym same.store) (does-nothing g old.store old.store disk ready lasts (gives-nothing old.store))
 
   module _ (server : Server) (is : IsServer (store_on g old.store disk) old server) where
     stranger-by : (result : Result ⊤ Stop) → HearsStranger (λ s. hearing_stranger s frame moment) old new result
         → HearsBy g (λ failures. becoming (hearing_stranger server frame moment)) old new disk disk result
-    stranger-by result heard = grind (arith, common_steps)
+    stranger-by (Ok done) heard = (
+      refl,
+      subst (λ (s : StoreState). IsServer (store_on g s disk) new (hearing_stranger server frame moment)) (sym same.store) (heard (store_on g old.store disk) server is),
+      nothing-done,
+    )
+    stranger-by (Err stop.Disk) heard = absurd heard
+    stranger-by (Err stop.OutOfMemory) heard = inl nothing-done
 
     stranger-hears : (result : Result ⊤ Stop) → HearsStranger (λ s. hearing_stranger s frame moment) old new result
         → Hears g (server_hearing server frame moment) old new disk disk result

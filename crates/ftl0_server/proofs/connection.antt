@@ -2,7 +2,7 @@ mod AnswerLemmas
 mod DueLemmas
 mod FailureLemmas
 mod FeedLemmas
-mod HearLemmas
+pub mod HearLemmas
 mod HearsLemmas
 mod Invariants
 mod OctetsLemmas

@@ -65,10 +65,10 @@ pub record SendsFor (self : ServerState) (server : Server) : Type 0 where
   pub links : AllPlaces (SendsAs server.window) self.places server.slots
 
 -- The server stands for that one, over this store of files: it may stand for many, since its links keep no history.
-pub record IsServer (store : Store) (self : ServerState) (server : Server) : Type 0 where
+pub record IsServer (files : Store) (self : ServerState) (server : Server) : Type 0 where
   pub sends : SendsFor self server
   pub says : AllPlaces (SaysAs self.store) self.places server.slots
-  pub store : store ≡ server.store
+  pub store : files ≡ server.store
   pub lists : self.lists ≡ server.lists
 
 -- a frame is to be sent

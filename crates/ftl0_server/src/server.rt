@@ -185,6 +185,7 @@ impl Server {
     /// exactly where nothing is pending. Takes no memory.
     pub fn next_out(&mut self, out: &mut ArrayVec<u8, 400>) -> bool
         ensures pending { result ≡ server_pending self.old }
+        ensures none { result ≡ false → self.new ≡ self.old }
         ensures fewer { result ≡ true → server_most self.new < server_most self.old }
         ensures sends { HandsOutNext SendsFor self.old self.new out.old.items out.new.items result }
         ensures next { (store : Store) →

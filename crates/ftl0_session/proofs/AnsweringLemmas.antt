@@ -6,7 +6,7 @@ use Rattle.std.proofs.lemmas.Bool.Decides.{nat_tests}
 use Rattle.px_base.specs.CallSign.{CallSign}
 use Rattle.ftl0_packets.specs.Layout.{PacketValue, data_end, data_part, dl_error_resp}
 use Rattle.file_store.specs.Command.{Command, after_all}
-use Rattle.file_store.specs.State.{StoreState, store_in}
+use Rattle.file_store.specs.State.{StoreState}
 use Rattle.file_store.specs.Store.{Store}
 use Rattle.ftl0_session.specs.declared.uploads.phase.Phase.{Phase}
 use Rattle.ftl0_session.specs.declared.uploads.phase.Phase.TheVariants as phase
@@ -157,16 +157,16 @@ module _ (caller : CallSign) (start : Session) (event : Heard) where
 
 -- ---- how much is left
 
-left-some : (store : Store) (state : DownloadState) → is_due state ≡ true → octets_left store state ≡ suc (length (octets_due store state))
+pub left-some : (store : Store) (state : DownloadState) → is_due state ≡ true → octets_left store state ≡ suc (length (octets_due store state))
 left-some store state is = ap (λ (b : Bool). if b then suc (length (octets_due store state)) else 0) is
 
-left-end : (store : Store) (state : DownloadState) → octets_left store (state_at_end state) ≡ 0
+pub left-end : (store : Store) (state : DownloadState) → octets_left store (state_at_end state) ≡ 0
 left-end store ready = refl
 left-end store (sending number place last) = refl
 left-end store waiting = refl
 left-end store (listing dues) = refl
 
-left-after : (store : Store) (state : DownloadState) → is_due state ≡ true → IsDueIn store state → (length (octets_due store state) == 0) ≡ false
+pub left-after : (store : Store) (state : DownloadState) → is_due state ≡ true → IsDueIn store state → (length (octets_due store state) == 0) ≡ false
     → octets_left store (state_after 254 state) < suc (length (octets_due store state))
 left-after store state is lies test =
     let some : 0 < length (octets_due store state) = grind (arith, nat_tests, test) in
@@ -205,12 +205,11 @@ due-smaller store state fails next lies is = by (is_due state) refl is
         subst P same (subst Q (sym (download_part-is (due.due_packet store state fails).state)) (packet-smaller store state fails here lies))
 
 -- what is due of a session lies within complete files
-lies-in : (files : StoreState) (here : Phase) (downloads : DownloadState) → IsDueIn (store_in files) downloads → IsDueIn (store_in files) (download_part (state_by (state_of files here) downloads))
-lies-in files phase.Command downloads lies = subst (λ (d : DownloadState). IsDueIn (store_in files) d) (sym (download_part-is downloads)) lies
-lies-in files (phase.Receiving up) downloads lies = tt
-lies-in files phase.Aborting downloads lies = tt
+lies-in : (store : Store) (files : StoreState) (here : Phase) (downloads : DownloadState) → IsDueIn store downloads → IsDueIn store (download_part (state_by (state_of files here) downloads))
+lies-in store files phase.Command downloads lies = subst (λ (d : DownloadState). IsDueIn store d) (sym (download_part-is downloads)) lies
+lies-in store files (phase.Receiving up) downloads lies = tt
+lies-in store files phase.Aborting downloads lies = tt
 
-pub smaller : (files : StoreState) (session : SessionState) (fails : Bool) (next : DuePacket) → IsDueIn (store_in files) session.downloads → next_due (store_in files) (state_in files session) fails ≡ Some next
-    → octets_left (store_in files) (download_part next.state) < octets_left (store_in files) (download_part (state_in files session))
-smaller files session fails next lies is =
-    due-smaller (store_in files) (download_part (state_in files session)) fails next (lies-in files session.uploads.phase session.downloads lies) is
+pub smaller : (store : Store) (files : StoreState) (session : SessionState) (fails : Bool) (next : DuePacket) → IsDueIn store session.downloads → next_due store (state_in files session) fails ≡ Some next
+    → octets_left store (download_part next.state) < octets_left store (download_part (state_in files session))
+smaller store files session fails next lies is = due-smaller store (download_part (state_in files session)) fails next (lies-in store files session.uploads.phase session.downloads lies) is

@@ -52,7 +52,7 @@ not-upload caller store lists state packet fails row is = refl
 pub downloads : DownloadsLaw
 downloads caller moment store lists state packet fails row is =
     row-download caller moment store lists (downloading state) (Ok packet) fails row
-    (none-in caller moment store (downloading state) (Ok packet) (not-upload caller store lists state packet fails row is)) (download-free caller store lists state packet fails ∙ is)
+    (none-in caller moment store (downloading state) (Ok packet) fails (not-upload caller store lists state packet fails row is)) (download-free caller store lists state packet fails ∙ is)
 
 -- ---- what is sent
 

@@ -2,7 +2,7 @@
 use Rattle.std.proofs.Common.{◌≡◌, ℕ, List, refl, ap, sym, subst, Bool, Option, None, Some}
 use Rattle.std.specs.Option.{option_map}
 use Rattle.file_store.specs.Store.{Store}
-use Rattle.file_store.specs.State.{StoreState, store_in}
+use Rattle.file_store.specs.State.{StoreState}
 use Rattle.ftl0_session.specs.declared.uploads.phase.Phase.{Phase}
 use Rattle.ftl0_session.specs.declared.uploads.phase.Phase.TheVariants as phase
 use Rattle.ftl0_session.specs.Uploads.SessionState.{state_of}
@@ -29,15 +29,15 @@ module _ {D : Type 0} (store : Store) (fails put : Bool) (disk disk_now : D) (pa
   due-in None is = (is.0, is.1, ap downloading is.2, is.3)
   due-in (Some next) is = (is.0, ap downloading is.1, is.2)
 
-pub fill-due : {D : Type 0} (files : StoreState) (here : Phase) (fails put : Bool) (disk disk_now : D) (part part_now : DownloadState) (out out_now : List ℕ) → DoesOne here part
-    → IsDownloadDue (next_download (store_in files) part fails) put disk disk_now part part_now out out_now
-    → IsDue (next_due (store_in files) (state_by (state_of files here) part) fails) put disk disk_now (state_by (state_of files here) part) (state_by (state_of files here) part_now) out out_now
-fill-due files phase.Command fails put disk disk_now part part_now out out_now one is =
-    subst (λ (p : DownloadState). IsDue (option_map in_session (next_download (store_in files) p fails)) put disk disk_now (downloading part) (downloading part_now) out out_now)
-    (sym (download_part-is part)) (due-in (store_in files) fails put disk disk_now part part_now out out_now (next_download (store_in files) part fails) is)
-fill-due files (phase.Receiving up) fails put disk disk_now part part_now out out_now one is =
-    let none = none-due (store_in files) fails put disk disk_now part part_now out out_now one is in
+pub fill-due : {D : Type 0} (store : Store) (files : StoreState) (here : Phase) (fails put : Bool) (disk disk_now : D) (part part_now : DownloadState) (out out_now : List ℕ) → DoesOne here part
+    → IsDownloadDue (next_download store part fails) put disk disk_now part part_now out out_now
+    → IsDue (next_due store (state_by (state_of files here) part) fails) put disk disk_now (state_by (state_of files here) part) (state_by (state_of files here) part_now) out out_now
+fill-due store files phase.Command fails put disk disk_now part part_now out out_now one is =
+    subst (λ (p : DownloadState). IsDue (option_map in_session (next_download store p fails)) put disk disk_now (downloading part) (downloading part_now) out out_now)
+    (sym (download_part-is part)) (due-in store fails put disk disk_now part part_now out out_now (next_download store part fails) is)
+fill-due store files (phase.Receiving up) fails put disk disk_now part part_now out out_now one is =
+    let none = none-due store fails put disk disk_now part part_now out out_now one is in
     (none.0, none.1, refl, none.3)
-fill-due files phase.Aborting fails put disk disk_now part part_now out out_now one is =
-    let none = none-due (store_in files) fails put disk disk_now part part_now out out_now one is in
+fill-due store files phase.Aborting fails put disk disk_now part part_now out out_now one is =
+    let none = none-due store fails put disk disk_now part part_now out out_now one is in
     (none.0, none.1, refl, none.3)

@@ -7,13 +7,13 @@ use Rattle.ftl0_packets.specs.Layout.{Item, PacketValue}
 use Rattle.ftl0_packets.specs.declared.packet.Malformed.{Malformed}
 use Rattle.ftl0_session.specs.Lists.Lists.{CallerList}
 use Rattle.file_store.specs.Store.{Store}
-use Rattle.file_store.specs.State.{StoreState, store_in}
+use Rattle.file_store.specs.State.{StoreState}
 use Rattle.ftl0_session.specs.declared.uploads.phase.Phase.{Phase}
 use Rattle.ftl0_session.specs.declared.uploads.phase.Phase.TheVariants as phase
 use Rattle.ftl0_session.specs.Uploads.Session as upload
-use Rattle.ftl0_session.specs.Uploads.Session.{is_upload_kind, session_row as upload_session_row}
+use Rattle.ftl0_session.specs.Uploads.Session.{is_upload_kind}
 use Rattle.ftl0_session.specs.Uploads.SessionState.{state_of}
-use Rattle.ftl0_session.proofs.uploads.Rows.{row-none as upload_none}
+use Rattle.ftl0_session.proofs.uploads.Rows.{by_read-none as upload_none}
 use Rattle.ftl0_session.specs.Downloads.Table as download
 use Rattle.ftl0_session.specs.Downloads.Table.{DownloadRow, DownloadState, ready}
 use Rattle.ftl0_session.specs.SessionState.{DoesOne}
@@ -41,37 +41,41 @@ one-free phase.Aborting part free = free
 -- ---- rows of uploading
 
 -- of a session that does nothing of downloading
-pub upload-free : (caller : CallSign) (moment : ℕ) (store : Store) (part : upload.State) (item : Item) → upload_row caller moment store (state_by part ready) item ≡ upload_session_row caller moment store part item
-upload-free caller moment store upload.command item = refl
-upload-free caller moment store (upload.receiving number rest) item = refl
-upload-free caller moment store upload.aborting item = refl
+pub upload-free : (caller : CallSign) (moment : ℕ) (store : Store) (part : upload.State) (item : Item) (fails : Bool)
+    → upload_row caller moment store (state_by part ready) item fails ≡ upload.row_by_read caller moment store part item fails
+upload-free caller moment store upload.command item fails = refl
+upload-free caller moment store (upload.receiving number rest) item fails = refl
+upload-free caller moment store upload.aborting item fails = refl
 
 -- a packet that isn't of uploading has none
-pub none-in : (caller : CallSign) (moment : ℕ) (store : Store) (state : State) (item : Item) → is_upload_kind (kind_of_item item) ≡ false → upload_row caller moment store state item ≡ None
-none-in caller moment store command item kind = upload_none caller moment store upload.command item kind
-none-in caller moment store (receiving number rest) item kind = upload_none caller moment store (upload.receiving number rest) item kind
-none-in caller moment store aborting item kind = upload_none caller moment store upload.aborting item kind
-none-in caller moment store (sending number place last) item kind = refl
-none-in caller moment store waiting item kind = refl
-none-in caller moment store (listing dues) item kind = refl
+pub none-in : (caller : CallSign) (moment : ℕ) (store : Store) (state : State) (item : Item) (fails : Bool) → is_upload_kind (kind_of_item item) ≡ false
+    → upload_row caller moment store state item fails ≡ None
+none-in caller moment store command item fails kind = upload_none caller moment store upload.command item fails kind
+none-in caller moment store (receiving number rest) item fails kind = upload_none caller moment store (upload.receiving number rest) item fails kind
+none-in caller moment store aborting item fails kind = upload_none caller moment store upload.aborting item fails kind
+none-in caller moment store (sending number place last) item fails kind = refl
+none-in caller moment store waiting item fails kind = refl
+none-in caller moment store (listing dues) item fails kind = refl
 
-none-beside : (caller : CallSign) (moment : ℕ) (store : Store) (part : DownloadState) (item : Item) → (part ≡ ready → ⊥) → upload_row caller moment store (downloading part) item ≡ None
-none-beside caller moment store download.ready item busy = absurd (busy refl)
-none-beside caller moment store (download.sending number place last) item busy = refl
-none-beside caller moment store download.waiting item busy = refl
-none-beside caller moment store (download.listing dues) item busy = refl
+none-beside : (caller : CallSign) (moment : ℕ) (store : Store) (part : DownloadState) (item : Item) (fails : Bool) → (part ≡ ready → ⊥)
+    → upload_row caller moment store (downloading part) item fails ≡ None
+none-beside caller moment store download.ready item fails busy = absurd (busy refl)
+none-beside caller moment store (download.sending number place last) item fails busy = refl
+none-beside caller moment store download.waiting item fails busy = refl
+none-beside caller moment store (download.listing dues) item fails busy = refl
 
-none-busy : (caller : CallSign) (moment : ℕ) (files : StoreState) (here : Phase) (part : DownloadState) (item : Item) → DoesOne here part → (part ≡ ready → ⊥)
-    → upload_row caller moment (store_in files) (state_by (state_of files here) part) item ≡ None
-none-busy caller moment files phase.Command part item one busy = none-beside caller moment (store_in files) part item busy
-none-busy caller moment files (phase.Receiving up) part item one busy = absurd (busy one)
-none-busy caller moment files phase.Aborting part item one busy = absurd (busy one)
+none-busy : (caller : CallSign) (moment : ℕ) (store : Store) (files : StoreState) (here : Phase) (part : DownloadState) (item : Item) (fails : Bool) → DoesOne here part → (part ≡ ready → ⊥)
+    → upload_row caller moment store (state_by (state_of files here) part) item fails ≡ None
+none-busy caller moment store files phase.Command part item fails one busy = none-beside caller moment store part item fails busy
+none-busy caller moment store files (phase.Receiving up) part item fails one busy = absurd (busy one)
+none-busy caller moment store files phase.Aborting part item fails one busy = absurd (busy one)
 
--- a packet that isn't of uploading, or comes while something is done of downloading
-pub upload-other : (caller : CallSign) (moment : ℕ) (files : StoreState) (here : Phase) (part : DownloadState) (item : Item) (of_uploading : Bool) → DoesOne here part
-    → of_uploading ≡ is_upload_kind (kind_of_item item) → (of_uploading ≡ true → part ≡ ready → ⊥) → upload_row caller moment (store_in files) (state_by (state_of files here) part) item ≡ None
-upload-other caller moment files here part item true one kind other = none-busy caller moment files here part item one (other refl)
-upload-other caller moment files here part item false one kind other = none-in caller moment (store_in files) (state_by (state_of files here) part) item (sym kind)
+-- a packet that isn't of uploading, or comes while something is done of downloading, whether a read fails or none does
+pub upload-other : (caller : CallSign) (moment : ℕ) (store : Store) (files : StoreState) (here : Phase) (part : DownloadState) (item : Item) (of_uploading : Bool) → DoesOne here part
+    → of_uploading ≡ is_upload_kind (kind_of_item item) → (of_uploading ≡ true → part ≡ ready → ⊥)
+    → (fails : Bool) → upload_row caller moment store (state_by (state_of files here) part) item fails ≡ None
+upload-other caller moment store files here part item true one kind other fails = none-busy caller moment store files here part item fails one (other refl)
+upload-other caller moment store files here part item false one kind other fails = none-in caller moment store (state_by (state_of files here) part) item fails (sym kind)
 
 -- ---- rows of downloading
 
@@ -92,35 +96,35 @@ download-malformed caller store lists waiting malformed fails = refl
 download-malformed caller store lists (listing dues) malformed fails = refl
 
 -- while a file is received, or the end of one is waited for, there is none
-pub download-busy : (caller : CallSign) (files : StoreState) (lists : List CallerList) (here : Phase) (part : DownloadState) (packet : PacketValue) (fails : Bool) → (here ≡ phase.Command → ⊥)
-    → download_row caller (store_in files) lists (state_by (state_of files here) part) (Ok packet) fails ≡ None
-download-busy caller files lists phase.Command part packet fails busy = absurd (busy refl)
-download-busy caller files lists (phase.Receiving up) part packet fails busy = refl
-download-busy caller files lists phase.Aborting part packet fails busy = refl
+pub download-busy : (caller : CallSign) (store : Store) (files : StoreState) (lists : List CallerList) (here : Phase) (part : DownloadState) (packet : PacketValue) (fails : Bool) → (here ≡ phase.Command → ⊥)
+    → download_row caller store lists (state_by (state_of files here) part) (Ok packet) fails ≡ None
+download-busy caller store files lists phase.Command part packet fails busy = absurd (busy refl)
+download-busy caller store files lists (phase.Receiving up) part packet fails busy = refl
+download-busy caller store files lists phase.Aborting part packet fails busy = refl
 
 -- so where there is one the session waits for a command as far as uploading goes
-pub download-command : (caller : CallSign) (files : StoreState) (lists : List CallerList) (here : Phase) (part : DownloadState) (item : Item) (fails : Bool) (row : DownloadRow)
-    → download_row caller (store_in files) lists (state_by (state_of files here) part) item fails ≡ Some row → here ≡ phase.Command
-download-command caller files lists phase.Command part item fails row is = refl
-download-command caller files lists (phase.Receiving up) part (Ok packet) fails row is = absurd (cc)
-download-command caller files lists (phase.Receiving up) part (Err malformed) fails row is = absurd (cc)
-download-command caller files lists phase.Aborting part (Ok packet) fails row is = absurd (cc)
-download-command caller files lists phase.Aborting part (Err malformed) fails row is = absurd (cc)
+pub download-command : (caller : CallSign) (store : Store) (files : StoreState) (lists : List CallerList) (here : Phase) (part : DownloadState) (item : Item) (fails : Bool) (row : DownloadRow)
+    → download_row caller store lists (state_by (state_of files here) part) item fails ≡ Some row → here ≡ phase.Command
+download-command caller store files lists phase.Command part item fails row is = refl
+download-command caller store files lists (phase.Receiving up) part (Ok packet) fails row is = absurd (cc)
+download-command caller store files lists (phase.Receiving up) part (Err malformed) fails row is = absurd (cc)
+download-command caller store files lists phase.Aborting part (Ok packet) fails row is = absurd (cc)
+download-command caller store files lists phase.Aborting part (Err malformed) fails row is = absurd (cc)
 
 -- ---- the row of the whole table
 
 module _ (caller : CallSign) (moment : ℕ) (store : Store) (lists : List CallerList) (state : State) (item : Item) (fails : Bool) where
-  pub row-upload : (row : upload.Row) → upload_row caller moment store state item ≡ Some row → session_row caller moment store lists state item fails ≡ by_upload lists row
+  pub row-upload : (row : upload.Row) → upload_row caller moment store state item fails ≡ Some row → session_row caller moment store lists state item fails ≡ by_upload lists row
   unfolding session_row
   row-upload row is = ap (λ (o : Option upload.Row). row_among lists state item o (download_row caller store lists state item fails)) is
 
-  pub row-download : (row : DownloadRow) → upload_row caller moment store state item ≡ None → download_row caller store lists state item fails ≡ Some row → session_row caller moment store lists state item fails ≡ by_download row
+  pub row-download : (row : DownloadRow) → upload_row caller moment store state item fails ≡ None → download_row caller store lists state item fails ≡ Some row → session_row caller moment store lists state item fails ≡ by_download row
   unfolding session_row
   row-download row none is =
       ap (λ (o : Option upload.Row). row_among lists state item o (download_row caller store lists state item fails)) none
       ∙ ap (λ (o : Option DownloadRow). row_among lists state item None o) is
 
-  pub row-error : upload_row caller moment store state item ≡ None → download_row caller store lists state item fails ≡ None → session_row caller moment store lists state item fails ≡ error_row lists state item
+  pub row-error : upload_row caller moment store state item fails ≡ None → download_row caller store lists state item fails ≡ None → session_row caller moment store lists state item fails ≡ error_row lists state item
   unfolding session_row
   row-error none other =
       ap (λ (o : Option upload.Row). row_among lists state item o (download_row caller store lists state item fails)) none

@@ -35,7 +35,7 @@ upload_run caller store lists part (event ∷ events) all =
     let row : upload.Row = has.0 in
     let later = upload_run caller (after_all store row.commands) lists row.state events all.1 in
     let is : event_row caller store lists (state_by part ready) (as_event event) ≡ by_upload lists row =
-    row-upload caller event.moment store lists (state_by part ready) event.packet (read_fails [] 0) row (upload-free caller event.moment store part event.packet ∙ has.1) in
+    row-upload caller event.moment store lists (state_by part ready) event.packet (read_fails [] 0) row (upload-free caller event.moment store part event.packet (read_fails [] 0) ∙ has.1) in
     let replies : replies_to caller store part (event ∷ events) ≡ row.replies ++ replies_to caller (after_all store row.commands) row.state events =
     ap (λ (o : Option upload.Row). on_row o [] (λ r. r.replies ++ replies_to caller (after_all store r.commands) r.state events)) has.1 in
     let done : commands_of caller store part (event ∷ events) ≡ row.commands ++ commands_of caller (after_all store row.commands) row.state events =

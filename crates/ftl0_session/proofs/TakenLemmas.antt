@@ -2,28 +2,29 @@
 use Rattle.std.proofs.Common.{◌≡◌, ℕ, List, [], ◌∷◌, refl, ap, sym, ◌∙◌, subst, append-nil, Bool, true, false, Option, None, Some}
 use Rattle.std.specs.Prelude.{⊤, Result, Ok, IsErrOf, IsSomeAnd, IsTrue}
 use Rattle.disk_model.specs.declared.disk.Disk.{Ghosts}
+use Rattle.disk_model.specs.declared.halt.Halt.{Halt}
+use Rattle.disk_model.specs.declared.halt.Halt.TheVariants as stop
 use Rattle.ftl0_packets.specs.Items.{kind_of_item, texts}
 use Rattle.ftl0_packets.specs.Layout.{Item, dl_error_resp, packet_text}
 use Rattle.ftl0_session.specs.Lists.Lists.{CallerList}
 use Rattle.file_store.specs.Calls.{Reads}
-use Rattle.file_store.proofs.Offered.{Does-none, puts_none}
+use Rattle.file_store.proofs.Offered.{among-at, on_same, puts-among-same, reads-only}
 use Rattle.file_store.specs.Command.{Command, DoesAll}
-use Rattle.file_store.specs.OnDisk.{Does}
-use Rattle.file_store.specs.State.{IsReady, StoreState, store_in}
+use Rattle.file_store.specs.State.{IsKnown, IsReady, StoreState, store_in, store_on}
+use Rattle.file_store.specs.Store.{Store}
+use Rattle.file_store.specs.Working.{DoesAmongReads, one_if}
 use Rattle.ftl0_session.specs.declared.uploads.phase.Phase.{Phase}
 use Rattle.ftl0_session.specs.declared.uploads.phase.Phase.TheVariants as phase
+use Rattle.ftl0_session.specs.Uploads.Events.{packet_of}
 use Rattle.ftl0_session.specs.Uploads.Session.{is_upload_kind}
 use Rattle.ftl0_session.specs.Uploads.SessionState.{SessionState as Uploading, state_of}
 use Rattle.ftl0_session.proofs.uploads.Rows.{others-same}
 use Rattle.ftl0_session.specs.Downloads.Needs.{AreComplete, IsDueIn, KeepsFiles}
 use Rattle.ftl0_session.specs.Downloads.Table.{DownloadRow, DownloadState}
 use Rattle.ftl0_session.specs.Downloads.Taking.{IsRow, Made, TakesByRow, made, made_by}
-use Rattle.disk_model.specs.declared.halt.Halt.{Halt}
-use Rattle.disk_model.specs.declared.halt.Halt.TheVariants as stop
 use Rattle.ftl0_session.specs.SessionState.{MayTake, SessionState, caller_of, session_of, state_in, working_on}
-use Rattle.ftl0_session.specs.Table.{Row, by_download, download_row, downloading, error_by, error_row, state_by, upload_row}
-use Rattle.ftl0_session.specs.Taking.{Taken, download_row_of, row_over, working}
-use Rattle.ftl0_session.specs.Uploads.Events.{packet_of}
+use Rattle.ftl0_session.specs.Table.{Row, State, by_download, download_row, downloading, error_by, error_row, state_by, upload_row}
+use Rattle.ftl0_session.specs.Taking.{Taken, at_work, download_row_of, packet_row}
 use Rattle.ftl0_session.proofs.RowLemmas.{download-command, row-download, row-error}
 
 -- the answer that all was done
@@ -44,6 +45,24 @@ row-passed (Some row) disk disk_now before now is = absurd (let e : false ≡ tr
 is_some_at : {A : Type 0} {o : Option A} (P : A → Type 0) (x : A) → o ≡ Some x → IsSomeAnd o P → P x
 is_some_at P x is holds = subst (λ o. IsSomeAnd o P) is holds
 
+-- what a row without commands gives
+record GivesStill (row : Row) (fails : Bool) (lists_now : List CallerList) (next : State) (replies : List ℕ) : Type 0 where
+  none : row.commands ≡ []
+  lists_are : lists_now ≡ row.lists
+  state_is : next ≡ row.state
+  text : replies ≡ texts row.replies
+  told : fails ≡ true → row.replies ≡ dl_error_resp 3 ∷ []
+
+gives-still : (row : Row) (fails : Bool) (lists_now : List CallerList) (next : State) (replies : List ℕ) (given : Row) → row ≡ given → given.commands ≡ [] → lists_now ≡ given.lists → next ≡ given.state
+    → replies ≡ texts given.replies → (fails ≡ true → given.replies ≡ dl_error_resp 3 ∷ []) → GivesStill row fails lists_now next replies
+gives-still row fails lists_now next replies given is none lists_are state_is text told = record {
+  none = ap (λ (r : Row). r.commands) is ∙ none;
+  lists_are = lists_are ∙ sym (ap (λ (r : Row). r.lists) is);
+  state_is = state_is ∙ sym (ap (λ (r : Row). r.state) is);
+  text = text ∙ sym (ap (λ (r : Row). texts r.replies) is);
+  told = λ failed. ap (λ (r : Row). r.replies) is ∙ told failed;
+}
+
 module _ {D : Type 0} (g : Ghosts D) where
   -- what the next packet needs, where the store stayed
   pub may-still : (uploads : Uploading) (part part_now : DownloadState) (store store_now : StoreState) (lists lists_now : List CallerList) (disk disk_now : D)
@@ -57,32 +76,31 @@ module _ {D : Type 0} (g : Ghosts D) where
     complete = subst (λ (s : StoreState). AreComplete (store_in s) lists_now) same keeps.complete;
   }
 
-  -- a row without commands
-  still : (moment : ℕ) (item : Item) (old new : SessionState) (store : StoreState) (lists lists_now : List CallerList) (disk disk_now : D) (replies : List ℕ) (fails : Bool) (row : Row)
-      → row_over (caller_of old) moment (working old store lists) item fails ≡ row → row.commands ≡ [] → lists_now ≡ row.lists → state_in store new ≡ row.state → replies ≡ texts row.replies
-      → (fails ≡ true → row.replies ≡ dl_error_resp 3 ∷ []) → Reads g (IsTrue fails) disk disk_now → new.uploads ≡ old.uploads → MayTake g store disk_now lists_now new → g.lasts disk_now disk_now
+  -- a row without commands, over a store that stays
+  still : (moment : ℕ) (item : Item) (old new : SessionState) (store : StoreState) (lists lists_now : List CallerList) (disk disk_now : D) (replies : List ℕ) (fails : Bool) → Reads g (IsTrue fails) disk disk_now
+      → (IsKnown g disk → GivesStill (packet_row g (packet_of (caller_of old) moment item) (at_work old (working_on store lists disk)) fails) fails lists_now (state_in store new) replies)
+      → new.uploads ≡ old.uploads → IsReady g store disk → MayTake g store disk_now lists_now new
       → Taken g (packet_of (caller_of old) moment item) old new (working_on store lists disk) (working_on store lists_now disk_now) replies answered
-  still moment item old new store lists lists_now disk disk_now replies fails row is none lists_are state text told reads same may lasts =
+  still moment item old new store lists lists_now disk disk_now replies fails reads gives same ready may =
       let fine : ¬ IsErrOf answered stop.Disk = λ e. cc e in
-      let commands : (row_over (caller_of old) moment (working old store lists) item fails).commands ≡ [] = ap (λ (r : Row). r.commands) is ∙ none in
+      let does : DoesAmongReads g ⊥ (one_if fails) store store disk disk_now [] = reads-only g fails store disk disk_now reads ready in
       record {
         takes = record {
           fails = fails;
-          told = λ failed. ap (λ (r : Row). r.replies) is ∙ told failed;
-          answers = (
-            subst (λ (cs : List Command). DoesAll (store_in store) (store_in store) cs) (sym commands) (tt, refl),
-            lists_are ∙ sym (ap (λ (r : Row). r.lists) is),
-            state ∙ sym (ap (λ (r : Row). r.state) is),
-            text ∙ sym (ap (λ (r : Row). texts r.replies) is),
-          );
-          disk_then = disk_now;
-          reads = reads;
-          on_disk =
-              subst (λ (cs : List Command). Does g ⊥ store store disk_now disk_now cs) (sym commands)
-              (Does-none g ⊥ store disk_now (λ never. never) may.ready lasts);
-          puts = puts_none g disk_now (IsErrOf answered stop.Disk) fine lasts;
+          stopped = tt;
+          told = λ known failed. (dl_error_resp 3, (gives known).told failed, refl);
+          answers = λ known.
+              let row = gives known in (
+                subst (λ (cs : List Command). DoesAll (store_on g store disk) (store_on g store disk_now) cs) (sym row.none) (tt, on_same g store disk disk_now reads.only.same_content),
+                row.lists_are,
+                row.state_is,
+                row.text,
+              );
+          on_disk = λ known. among-at g ⊥ (one_if fails) store store disk disk_now [] _ (sym (gives known).none) does;
+          reads = does.reads;
+          puts = puts-among-same g ⊥ (IsErrOf answered stop.Disk) disk disk_now (λ never. absurd never) fine does.puts;
         };
-        untouched = λ any without. reads.only;
+        untouched = λ known without. reads.only;
         failed = λ e. absurd (fine e);
         kept = λ number entry found whole. found;
         others = others-same store (caller_of old);
@@ -96,34 +114,37 @@ module _ {D : Type 0} (g : Ghosts D) where
       }
 
   module _ (moment : ℕ) (item : Item) (uploads : Uploading) (part part_now : DownloadState) (store : StoreState) (lists lists_now : List CallerList) (disk disk_now : D)
-      (none : upload_row uploads.caller moment (store_in store) (state_in store (session_of uploads part)) item ≡ None)
-      (may : MayTake g store disk_now lists_now (session_of uploads part_now)) (lasts : g.lasts disk_now disk_now) where
+      (none : (files : Store) (fails : Bool) → upload_row uploads.caller moment files (state_in store (session_of uploads part)) item fails ≡ None) (ready : IsReady g store disk)
+      (may : MayTake g store disk_now lists_now (session_of uploads part_now)) where
+    abbrev old : SessionState
+    old = session_of uploads part
+
+    abbrev files : Store
+    files = store_on g store disk
+
     -- the packet's row of downloading
-    pub taken-download : (said replies : List ℕ) → TakesByRow g (download_row_of (session_of uploads part) store lists item) disk disk_now (made part lists said) (made part_now lists_now replies) true
-        → Taken g (packet_of uploads.caller moment item) (session_of uploads part) (session_of uploads part_now) (working_on store lists disk) (working_on store lists_now disk_now) replies answered
+    pub taken-download : (said replies : List ℕ) → TakesByRow g (download_row_of old store files lists item) disk disk_now (made part lists said) (made part_now lists_now replies) true
+        → Taken g (packet_of uploads.caller moment item) old (session_of uploads part_now) (working_on store lists disk) (working_on store lists_now disk_now) replies answered
     taken-download said replies takes =
-        let has = row-taken (download_row uploads.caller (store_in store) lists (state_in store (session_of uploads part)) item takes.fails) disk disk_now
-        (made part lists said) (made part_now lists_now replies) takes.is_row in
-        let row : Row = by_download has.0 in
-        let is : row_over uploads.caller moment (working (session_of uploads part) store lists) item takes.fails ≡ row =
-        row-download uploads.caller moment (store_in store) lists (state_in store (session_of uploads part)) item takes.fails has.0 none has.1 in
-        let here : uploads.phase ≡ phase.Command = download-command uploads.caller store lists uploads.phase part item takes.fails has.0 has.1 in
+        still moment item old (session_of uploads part_now) store lists lists_now disk disk_now replies takes.fails takes.reads
+        (λ known.
+        let has = row-taken (download_row uploads.caller files lists (state_in store old) item takes.fails) disk disk_now (made part lists said) (made part_now lists_now replies) (takes.is_row known) in
+        let is = row-download uploads.caller moment files lists (state_in store old) item takes.fails has.0 (none files takes.fails) has.1 in
+        let here : uploads.phase ≡ phase.Command = download-command uploads.caller files store lists uploads.phase part item takes.fails has.0 has.1 in
         let state : state_in store (session_of uploads part_now) ≡ downloading part_now = ap (λ (p : Phase). state_by (state_of store p) part_now) here in
-        still moment item (session_of uploads part) (session_of uploads part_now) store lists lists_now disk disk_now replies takes.fails row is refl
-        (ap (λ (m : Made). m.lists) has.2) (state ∙ ap (λ (m : Made). downloading m.state) has.2) (ap (λ (m : Made). m.replies) has.2)
-        (λ failed. is_some_at (λ r. r.replies ≡ dl_error_resp 3 ∷ []) has.0 has.1 (takes.told failed)) takes.reads refl may lasts
+        gives-still _ takes.fails lists_now _ replies (by_download has.0) is refl (ap (λ (m : Made). m.lists) has.2) (state ∙ ap (λ (m : Made). downloading m.state) has.2) (ap (λ (m : Made). m.replies) has.2)
+        (λ failed. is_some_at (λ r. r.replies ≡ dl_error_resp 3 ∷ []) has.0 has.1 (takes.told known failed))) refl ready may
 
     -- error 1
     pub taken-error : (said given replies : List ℕ) (of_uploading : Bool) → of_uploading ≡ is_upload_kind (kind_of_item item) → replies ≡ packet_text (error_by of_uploading)
-        → TakesByRow g (download_row_of (session_of uploads part) store lists item) disk disk_now (made part lists said) (made part_now lists_now given) false
-        → Taken g (packet_of uploads.caller moment item) (session_of uploads part) (session_of uploads part_now) (working_on store lists disk) (working_on store lists_now disk_now) replies answered
+        → TakesByRow g (download_row_of old store files lists item) disk disk_now (made part lists said) (made part_now lists_now given) false
+        → Taken g (packet_of uploads.caller moment item) old (session_of uploads part_now) (working_on store lists disk) (working_on store lists_now disk_now) replies answered
     taken-error said given replies of_uploading kind text takes =
-        let none_of = row-passed (download_row uploads.caller (store_in store) lists (state_in store (session_of uploads part)) item takes.fails) disk disk_now
-        (made part lists said) (made part_now lists_now given) takes.is_row in
-        let row : Row = error_row lists (state_in store (session_of uploads part)) item in
-        let is : row_over uploads.caller moment (working (session_of uploads part) store lists) item takes.fails ≡ row =
-        row-error uploads.caller moment (store_in store) lists (state_in store (session_of uploads part)) item takes.fails none none_of.0 in
-        still moment item (session_of uploads part) (session_of uploads part_now) store lists lists_now disk disk_now replies takes.fails row is refl
-        (ap (λ (m : Made). m.lists) none_of.1) (ap (λ (m : Made). state_in store (session_of uploads m.state)) none_of.1)
+        let passed = takes.passed refl in
+        still moment item old (session_of uploads part_now) store lists lists_now disk disk_now replies takes.fails takes.reads
+        (λ known.
+        let none_of = row-passed (download_row uploads.caller files lists (state_in store old) item takes.fails) disk disk_now (made part lists said) (made part_now lists_now given) (takes.is_row known) in
+        let is = row-error uploads.caller moment files lists (state_in store old) item takes.fails (none files takes.fails) none_of.0 in
+        gives-still _ takes.fails lists_now _ replies (error_row lists (state_in store old) item) is refl (ap (λ (m : Made). m.lists) passed.1) (ap (λ (m : Made). state_in store (session_of uploads m.state)) passed.1)
         (text ∙ ap (λ (b : Bool). packet_text (error_by b)) kind ∙ sym (append-nil (packet_text (error_by (is_upload_kind (kind_of_item item))))))
-        (λ failed. absurd (subst (λ (o : Option DownloadRow). IsSomeAnd o (λ r. r.replies ≡ dl_error_resp 3 ∷ [])) none_of.0 (takes.told failed))) takes.reads refl may lasts
+        (λ failed. absurd (subst (λ (o : Option DownloadRow). IsSomeAnd o (λ r. r.replies ≡ dl_error_resp 3 ∷ [])) none_of.0 (takes.told known failed)))) refl ready may

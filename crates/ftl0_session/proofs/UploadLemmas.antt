@@ -1,109 +1,122 @@
 -- What a packet of uploading does, while the session does nothing of downloading.
-use Rattle.std.proofs.Common.{◌≡◌, ℕ, List, [], ◌∷◌, refl, ap, ap₂, sym, ◌∙◌, subst, true≢false, Bool, true, false, Some}
+use Rattle.std.proofs.Common.{◌≡◌, ℕ, List, [], ◌∷◌, refl, ap, sym, ◌∙◌, subst, Bool, true, false, Some}
 use Rattle.std.specs.Prelude.{⊤, Result, Ok, Err, IsErrOf, IsTrue}
+use Rattle.disk_model.specs.AtDisk.{AtDisk, at}
 use Rattle.disk_model.specs.declared.disk.Disk.{Ghosts}
-use Rattle.ftl0_packets.specs.Items.{kind_of_item, texts}
-use Rattle.ftl0_packets.specs.Layout.{Item}
+use Rattle.disk_model.specs.declared.halt.Halt.{Halt}
+use Rattle.disk_model.specs.declared.halt.Halt.TheVariants as stop
+use Rattle.ftl0_packets.specs.Items.{texts}
+use Rattle.ftl0_packets.specs.Layout.{Item, ul_nak_resp}
 use Rattle.ftl0_session.specs.Lists.Lists.{CallerList}
-use Rattle.file_store.specs.Calls.{ChangesReads, Puts}
-use Rattle.file_store.proofs.Offered.{at_told, reads-none, reads_none}
+use Rattle.file_store.specs.Calls.{ChangesReads}
+use Rattle.file_store.proofs.Offered.{among-at, reads-none}
 use Rattle.file_store.specs.Command.{Command, DoesAll}
 use Rattle.file_store.specs.EntriesKept.{KeepsComplete}
-use Rattle.file_store.specs.OnDisk.{Does}
-use Rattle.file_store.specs.State.{StandsOn, StoreState, store_in}
-use Rattle.disk_model.specs.declared.halt.Halt.{Halt}
+use Rattle.file_store.specs.State.{IsKnown, StandsOn, StoreState, store_in, store_on}
+use Rattle.file_store.specs.Store.{Store}
+use Rattle.file_store.specs.Working.{one_if}
+use Rattle.ftl0_session.specs.Uploads.Events.{CallerPacket, packet_of}
 use Rattle.ftl0_session.specs.Uploads.Others.{KeepsOtherCallers}
 use Rattle.ftl0_session.specs.Uploads.Session as upload
-use Rattle.ftl0_session.specs.Uploads.Session.{is_upload_kind, session_row as upload_session_row}
 use Rattle.ftl0_session.specs.Uploads.SessionState.{IsHeld, IsOnlyOut, SessionState as Uploading, state_of}
-use Rattle.ftl0_session.specs.Uploads.Taking.{Answers as UploadAnswers, LeavesDisk, PutsRow as UploadPuts, row_of}
-use Rattle.ftl0_session.proofs.uploads.Rows.{row-some}
+use Rattle.ftl0_session.specs.Uploads.Taking.{IsStopped as IsUploadStopped, MakesRow, TakesPacket as TakesUpload, Working as UploadWorking, row_of, working_at}
 use Rattle.ftl0_session.specs.Downloads.Needs.{AreComplete}
 use Rattle.ftl0_session.specs.Downloads.Table.{ready}
-use Rattle.disk_model.specs.declared.halt.Halt.TheVariants as stop
 use Rattle.ftl0_session.specs.SessionState.{session_of, working_on}
-use Rattle.ftl0_session.specs.Table.{Row, State, by_upload, state_by, takes_memory}
-use Rattle.ftl0_session.specs.Taking.{Answers, PutsRow, Taken, Working, row_over, working}
-use Rattle.ftl0_session.specs.Uploads.Events.{packet_of}
+use Rattle.ftl0_session.specs.Table.{Row, by_upload, state_by, takes_memory}
+use Rattle.ftl0_session.specs.Taking.{Answers, IsStopped, PutsRow, Taken, TakesPacket, TellsRead, Working, packet_row}
 use Rattle.ftl0_session.proofs.RowLemmas.{row-upload, upload-free, upload_part-free}
 
--- what a session works on, by its parts
-abbrev working_at : List CallerList → StoreState → State → Working
-working_at lists store state = record { store = store; lists = lists; state = state }
+-- what a session of uploading works on, in a whole session with these lists
+abbrev whole : {D : Type 0} → List CallerList → AtDisk UploadWorking D → AtDisk Working D
+whole lists here = at (record { store = here.it.store; lists = lists; state = state_by here.it.state ready }) here.disk
 
-module _ {D : Type 0} (g : Ghosts D) (moment : ℕ) (item : Item) (uploads uploads_now : Uploading) (store store_now : StoreState) (lists : List CallerList) (disk disk_now : D) (replies : List ℕ) where
-  abbrev part : upload.State
-  part = state_of store uploads.phase
+module _ {D : Type 0} (g : Ghosts D) (packet : CallerPacket) (lists : List CallerList) (before now : AtDisk UploadWorking D) (replies : List ℕ) where
+  abbrev was : AtDisk Working D
+  was = whole lists before
 
-  abbrev before : Working
-  before = working (session_of uploads ready) store lists
+  abbrev is : AtDisk Working D
+  is = whole lists now
 
-  abbrev now : Working
-  now = working (session_of uploads_now ready) store_now lists
-
-  abbrev row : Bool → Row
-  row fails = row_over uploads.caller moment before item fails
+  abbrev files : Store
+  files = store_on g before.it.store before.disk
 
   -- its row is that of uploading
-  row-is : (given : upload.Row) → upload_session_row uploads.caller moment (store_in store) part item ≡ Some given → (fails : Bool) → row fails ≡ by_upload lists given
-  row-is given is fails =
-      row-upload uploads.caller moment (store_in store) lists (state_by part ready) item fails given (upload-free uploads.caller moment (store_in store) part item ∙ is)
+  row-is : (fails : Bool) (given : upload.Row) → row_of packet files before.it.state fails ≡ Some given → packet_row g packet was fails ≡ by_upload lists given
+  row-is fails given same =
+      row-upload packet.caller packet.moment files lists (state_by before.it.state ready) packet.item fails given
+      (upload-free packet.caller packet.moment files before.it.state packet.item fails ∙ same)
 
-  answers-by : (given : Result ⊤ Halt) → UploadAnswers (packet_of uploads.caller moment item) store part store_now (state_of store_now uploads_now.phase) replies given
-      → Answers before item (row false) now replies given
-  answers-by (Ok done) said =
-      let is = row-is said.0 said.1 false in (
-        subst (λ (cs : List Command). DoesAll (store_in store) (store_in store_now) cs) (sym (ap (λ (r : Row). r.commands) is)) said.2.0,
-        sym (ap (λ (r : Row). r.lists) is),
-        ap (λ (p : upload.State). state_by p ready) said.2.1 ∙ sym (ap (λ (r : Row). r.state) is),
-        said.2.2 ∙ sym (ap (λ (r : Row). texts r.replies) is),
-      )
-  answers-by (Err stop.Disk) said = (
-    ap (λ (p : upload.State). state_by p ready) said.2,
+  stopped-by : (fails : Bool) (result : Result ⊤ Halt) → IsUploadStopped fails before now replies result → IsStopped fails was is replies result
+  stopped-by fails (Ok done) stopped = tt
+  stopped-by fails (Err stop.OutOfMemory) stopped = (stopped.0, ap (whole lists) stopped.1, stopped.2)
+  stopped-by fails (Err stop.Disk) stopped = (
+    stopped.0,
+    ap (λ (p : upload.State). state_by p ready) stopped.1,
     refl,
-    said.3 ∙ ap (λ (p : upload.State). texts (upload.fault_reply p ∷ [])) (sym (upload_part-free part)),
+    stopped.2 ∙ ap (λ (p : upload.State). texts (upload.fault_reply p ∷ [])) (sym (upload_part-free before.it.state)),
   )
-  answers-by (Err stop.OutOfMemory) said =
-      let is = row-is said.0 said.1 false in (
-        subst (λ (r : Row). IsTrue (takes_memory item r.state)) (sym is)
-            (subst (λ (p : upload.State). IsTrue (upload.takes_memory item p)) (sym (upload_part-free said.0.state)) said.2),
-        ap₂ (λ (s : StoreState) (p : upload.State). working_at lists s (state_by p ready)) said.3.0 said.3.1,
-        said.3.2,
-      )
 
-  on_disk-by : (given : Result ⊤ Halt) → UploadAnswers (packet_of uploads.caller moment item) store part store_now (state_of store_now uploads_now.phase) replies given
-      → UploadPuts g store store_now disk disk_now (row_of (packet_of uploads.caller moment item) store part) given → PutsRow g store store_now disk disk_now (row false) given
-  on_disk-by (Ok done) said puts =
-      subst (λ (cs : List Command). Does g ⊥ store store_now disk disk_now cs) (sym (ap (λ (r : Row). r.commands) (row-is said.0 said.1 false)))
-      (at_told (λ (r : upload.Row). Does g ⊥ store store_now disk disk_now r.commands) said.0 said.1 puts)
-  on_disk-by (Err stop.Disk) said puts =
-      subst (λ (cs : List Command). Does g ⊤ store store_now disk disk_now cs) (sym (ap (λ (r : Row). r.commands) (row-is said.0 said.1 false)))
-      (at_told (λ (r : upload.Row). Does g ⊤ store store_now disk disk_now r.commands) said.0 said.1 puts)
-  on_disk-by (Err stop.OutOfMemory) said puts = puts
+  module _ (fails : Bool) (given : upload.Row) (same : row_of packet files before.it.state fails ≡ Some given) where
+    told-by : (result : Result ⊤ Halt) → MakesRow g fails packet.item given before now replies result → fails ≡ true → TellsRead (packet_row g packet was fails).replies
+    told-by result makes failed = (ul_nak_resp 3, ap (λ (r : Row). r.replies) (row-is fails given same) ∙ makes.told failed, refl)
 
-  pub taken-upload : (given : Result ⊤ Halt) → is_upload_kind (kind_of_item item) ≡ true
-      → UploadAnswers (packet_of uploads.caller moment item) store part store_now (state_of store_now uploads_now.phase) replies given
-      → UploadPuts g store store_now disk disk_now (row_of (packet_of uploads.caller moment item) store part) given
-      → LeavesDisk disk disk_now (row_of (packet_of uploads.caller moment item) store part) → Puts g (IsErrOf given stop.Disk) disk disk_now
+    answers-by : (result : Result ⊤ Halt) → MakesRow g fails packet.item given before now replies result → Answers g packet.item was (packet_row g packet was fails) is replies result
+    answers-by (Ok done) makes =
+        let row = row-is fails given same in (
+          subst (λ (cs : List Command). DoesAll files (store_on g now.it.store now.disk) cs) (sym (ap (λ (r : Row). r.commands) row)) makes.answers.0,
+          sym (ap (λ (r : Row). r.lists) row),
+          ap (λ (p : upload.State). state_by p ready) makes.answers.1 ∙ sym (ap (λ (r : Row). r.state) row),
+          makes.answers.2 ∙ sym (ap (λ (r : Row). texts r.replies) row),
+        )
+    answers-by (Err stop.OutOfMemory) makes =
+        subst (λ (r : Row). IsTrue (takes_memory packet.item r.state)) (sym (row-is fails given same))
+        (subst (λ (p : upload.State). IsTrue (upload.takes_memory packet.item p)) (sym (upload_part-free given.state)) makes.answers)
+    answers-by (Err stop.Disk) makes = tt
+
+    puts-by : (result : Result ⊤ Halt) → MakesRow g fails packet.item given before now replies result → PutsRow g fails (packet_row g packet was fails) was is result
+    puts-by (Ok done) makes =
+        among-at g ⊥ (one_if fails) before.it.store now.it.store before.disk now.disk given.commands (packet_row g packet was fails).commands (sym (ap (λ (r : Row). r.commands) (row-is fails given same))) makes.on_disk
+    puts-by (Err stop.OutOfMemory) makes = tt
+    puts-by (Err stop.Disk) makes =
+        among-at g ⊤ 0 before.it.store now.it.store before.disk now.disk given.commands (packet_row g packet was fails).commands (sym (ap (λ (r : Row). r.commands) (row-is fails given same))) makes.on_disk
+
+  takes-by : (result : Result ⊤ Halt) → TakesUpload g packet before now replies result → TakesPacket g packet was is replies result
+  takes-by result takes = record {
+    fails = takes.fails;
+    stopped = stopped-by takes.fails result takes.stopped;
+    told = λ known. let row = takes.makes known in told-by takes.fails row.0 row.1 result row.2;
+    answers = λ known. let row = takes.makes known in answers-by takes.fails row.0 row.1 result row.2;
+    on_disk = λ known. let row = takes.makes known in puts-by takes.fails row.0 row.1 result row.2;
+    reads = takes.reads;
+    puts = takes.puts;
+  }
+
+  -- a row without commands leaves the disk as reads do
+  untouched-by : (result : Result ⊤ Halt) (takes : TakesPacket g packet was is replies result) → IsKnown g before.disk → (packet_row g packet was takes.fails).commands ≡ [] → ChangesReads g before.disk now.disk
+  untouched-by (Ok done) takes known none = (takes.on_disk known).none none
+  untouched-by (Err stop.OutOfMemory) takes known none =
+      subst (λ (d : D). ChangesReads g before.disk d) (sym (ap (λ (w : AtDisk Working D). w.disk) takes.stopped.1)) (reads-none g before.disk)
+  untouched-by (Err stop.Disk) takes known none = (takes.on_disk known).none none
+
+module _ {D : Type 0} (g : Ghosts D) (moment : ℕ) (item : Item) (uploads uploads_now : Uploading) (store store_now : StoreState) (lists : List CallerList) (disk disk_now : D) (replies : List ℕ) where
+  abbrev before : AtDisk UploadWorking D
+  before = working_at (at store disk) (state_of store uploads.phase)
+
+  abbrev now : AtDisk UploadWorking D
+  now = working_at (at store_now disk_now) (state_of store_now uploads_now.phase)
+
+  pub taken-upload : (given : Result ⊤ Halt) → TakesUpload g (packet_of uploads.caller moment item) before now replies given
       → (IsErrOf given stop.Disk → store_now.journal.failed ≡ true) → KeepsComplete (store_in store) (store_in store_now) → KeepsOtherCallers store store_now uploads.caller
       → uploads_now.caller ≡ uploads.caller → (¬ IsErrOf given stop.Disk → store_now.journal.failed ≡ false) → StandsOn g store_now disk_now
-      → IsHeld store_now uploads_now → IsOnlyOut store_now uploads_now → AreComplete (store_in store_now) lists → g.lasts disk disk
+      → IsHeld store_now uploads_now → IsOnlyOut store_now uploads_now → AreComplete (store_in store_now) lists
       → Taken g (packet_of uploads.caller moment item) (session_of uploads ready) (session_of uploads_now ready) (working_on store lists disk) (working_on store_now lists disk_now) replies given
-  taken-upload given kind said on_disk untouched puts failed kept others caller healthy stands held only complete lasts =
-      let has = row-some uploads.caller moment (store_in store) part item kind in
-      let same : has.0.commands ≡ [] → disk_now ≡ disk = at_told (λ (r : upload.Row). r.commands ≡ [] → disk_now ≡ disk) has.0 has.1 untouched in
+  taken-upload given takes failed kept others caller healthy stands held only complete =
+      let packet : CallerPacket = packet_of uploads.caller moment item in
+      let all = takes-by g packet lists before now replies given takes in
       record {
-        takes = record {
-          fails = false;
-          told = λ failed. absurd (true≢false (sym failed));
-          answers = answers-by given said;
-          disk_then = disk;
-          reads = reads_none g disk (IsTrue false) (λ never. true≢false (sym never)) lasts;
-          on_disk = on_disk-by given said on_disk;
-          puts = puts;
-        };
-        untouched = λ fails without.
-            subst (λ (d : D). ChangesReads g disk d) (sym (same (sym (ap (λ (r : Row). r.commands) (row-is has.0 has.1 fails)) ∙ without))) (reads-none g disk);
+        takes = all;
+        untouched = untouched-by g packet lists before now replies given all;
         failed = failed;
         kept = kept;
         others = others;

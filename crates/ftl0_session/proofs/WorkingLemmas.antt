@@ -4,14 +4,14 @@ use Rattle.std.specs.Prelude.{⊤, Result, Ok, Err, if◌then◌else◌}
 use Rattle.std.specs.List.{list_any}
 use Rattle.std.specs.Option.{option_map}
 use Rattle.std.proofs.Math.Bool.{and-false, and-true, or-false}
-use Rattle.std.proofs.Math.Nat.{add-zero, add_assoc, zero-add}
+use Rattle.std.proofs.Math.Nat.{add_assoc, zero-add}
 use Rattle.std.proofs.lemmas.List.Folds.{list_any-append}
 use Rattle.px_base.specs.CallSign.{CallSign}
 use Rattle.disk_model.specs.declared.disk.Disk.{Ghosts}
 use Rattle.ftl0_packets.specs.Layout.{Item, PacketValue, dl_error_resp, packet_text}
-use Rattle.file_store.proofs.Offered.{among-same, among-then, at_told, does-among, reads-only}
+use Rattle.file_store.proofs.Offered.{among-same, at_told, Does-none, does-among, reads-only}
 use Rattle.file_store.specs.Store.{Store}
-use Rattle.file_store.specs.State.{IsReady, StoreState, store_in}
+use Rattle.file_store.specs.State.{IsKnown, IsReady, StoreState, store_on}
 use Rattle.file_store.specs.Working.{CutsOffAmongReads, DoesAmongReads, one_if}
 use Rattle.ftl0_session.specs.Uploads.Failures.{Failure, failed_reads, failed_write, is_read_fault, is_write_fault, read_fails, write_fails}
 use Rattle.ftl0_session.specs.Downloads.Sending as due
@@ -19,19 +19,19 @@ use Rattle.disk_model.specs.declared.halt.Halt.{Halt}
 use Rattle.disk_model.specs.declared.halt.Halt.TheVariants as stop
 use Rattle.ftl0_session.specs.Filling.{IsDue, PutsDue}
 use Rattle.ftl0_session.specs.Table.{DuePacket, Row, State, download_part, in_session, next_due, row_at, failed_reads_told, tells_failed_read}
-use Rattle.ftl0_session.specs.Taking.{TakesPacket, Working, row_over}
+use Rattle.ftl0_session.specs.Taking.{TakesPacket, TellsRead, Working, row_over}
 use Rattle.ftl0_session.specs.Downloads.Filling.{filled}
 use Rattle.ftl0_session.specs.Uploads.Events.{packet_of}
-use Rattle.disk_model.specs.AtDisk.{at}
+use Rattle.disk_model.specs.AtDisk.{AtDisk, at}
 use Rattle.ftl0_session.proofs.FaultLemmas.{due_codes, fault_codes}
 
 -- ---- a read that failed is told, and no other
 
 -- a row's replies tell of a read that failed exactly where one did
-pub told-is : (caller : CallSign) (moment : ℕ) (item : Item) (before : Working) (fails : Bool) → (fails ≡ true → (row_over caller moment before item fails).replies ≡ dl_error_resp 3 ∷ [])
-    → failed_reads_told (row_over caller moment before item fails).replies ≡ one_if fails
-told-is caller moment item before true told = ap failed_reads_told (told refl)
-told-is caller moment item before false told = (fault_codes caller moment (store_in before.store) before.lists before.state item).reads
+pub told-is : (caller : CallSign) (moment : ℕ) (files : Store) (item : Item) (before : Working) (fails : Bool) → (fails ≡ true → TellsRead (row_over caller moment files before item fails).replies)
+    → failed_reads_told (row_over caller moment files before item fails).replies ≡ one_if fails
+told-is caller moment files item before true told = let one = told refl in ap failed_reads_told one.1 ∙ ap (λ (b : Bool). one_if b + 0) one.2
+told-is caller moment files item before false told = (fault_codes caller moment files before.lists before.state item).reads
 
 -- so does a packet that is sent
 pub told-due : (store : Store) (state : State) (fails : Bool) (next : DuePacket) → next_due store state fails ≡ Some next → (fails ≡ true → IfSome (next_due store state fails) (λ sent. sent.packet ≡ dl_error_resp 3))
@@ -48,37 +48,50 @@ told-append (x ∷ xs) ys =
 -- ---- a packet that is taken
 
 module _ {D : Type 0} (g : Ghosts D) (on : (first second third : D) → g.lasts first second → g.lasts second third → g.lasts first third)
-    (caller : CallSign) (moment : ℕ) (item : Item) (before now : Working) (disk disk_now : D) (replies : List ℕ) (ready : IsReady g before.store disk) where
-  -- its reads
-  first : (result : Result ⊤ Halt) (takes : TakesPacket g (packet_of caller moment item) (at before disk) (at now disk_now) replies result)
-      → DoesAmongReads g ⊥ (failed_reads_told (row_over caller moment before item takes.fails).replies) before.store before.store disk takes.disk_then []
-  first result takes =
-      among-same g ⊥ ⊥ (one_if takes.fails) (failed_reads_told (row_over caller moment before item takes.fails).replies) before.store before.store disk takes.disk_then [] (λ p. p) (λ p. p)
-      (sym (told-is caller moment item before takes.fails takes.told)) (reads-only g takes.fails before.store disk takes.disk_then takes.reads ready)
+    (caller : CallSign) (moment : ℕ) (item : Item) (before now : Working) (disk disk_now : D) (replies : List ℕ) (ready : IsReady g before.store disk) (known : IsKnown g disk) where
+  abbrev files : Store
+  files = store_on g before.store disk
+
+  -- how many reads its row tells of
+  missed-is : (result : Result ⊤ Halt) (takes : TakesPacket g (packet_of caller moment item) (at before disk) (at now disk_now) replies result)
+      → one_if takes.fails ≡ failed_reads_told (row_over caller moment files before item takes.fails).replies
+  missed-is result takes = sym (told-is caller moment files item before takes.fails (takes.told known))
 
   -- its row's commands are done
   pub taken-among : (done : ⊤) (takes : TakesPacket g (packet_of caller moment item) (at before disk) (at now disk_now) replies (Ok done))
-      → DoesAmongReads g ⊥ (failed_reads_told (row_over caller moment before item takes.fails).replies) before.store now.store disk disk_now (row_over caller moment before item takes.fails).commands
+      → DoesAmongReads g ⊥ (failed_reads_told (row_over caller moment files before item takes.fails).replies) before.store now.store disk disk_now (row_over caller moment files before item takes.fails).commands
   taken-among done takes =
-      let row : Row = row_over caller moment before item takes.fails in
-      let missed : ℕ = failed_reads_told row.replies in
-      among-same g ⊥ ⊥ (missed + 0) missed before.store now.store disk disk_now row.commands (λ p. p) (λ p. p) (add-zero missed)
-      (among-then g on ⊥ ⊥ missed 0 before.store before.store now.store disk takes.disk_then disk_now [] row.commands (λ never. never) (first (Ok done) takes)
-      (does-among g ⊥ before.store now.store takes.disk_then disk_now row.commands takes.on_disk))
+      let row : Row = row_over caller moment files before item takes.fails in
+      among-same g ⊥ ⊥ (one_if takes.fails) (failed_reads_told row.replies) before.store now.store disk disk_now row.commands (λ p. p) (λ p. p) (missed-is (Ok done) takes) (takes.on_disk known)
 
-  -- the disk failed in one of them
-  pub taken-cut : (takes : TakesPacket g (packet_of caller moment item) (at before disk) (at now disk_now) replies (Err stop.Disk))
-      → CutsOffAmongReads g ⊤ (failed_reads_told (row_over caller moment before item takes.fails).replies) (at before.store disk) (at now.store disk_now) [] (row_over caller moment before item takes.fails).commands
-  taken-cut takes = record { then_is = at before.store takes.disk_then; first = first (Err stop.Disk) takes; second = takes.on_disk }
+  -- a write or a sync failed in one of them
+  pub taken-cut : g.lasts disk disk → (takes : TakesPacket g (packet_of caller moment item) (at before disk) (at now disk_now) replies (Err stop.Disk))
+      → CutsOffAmongReads g ⊤ (failed_reads_told (row_over caller moment files before item takes.fails).replies) (at before.store disk) (at now.store disk_now) []
+      (row_over caller moment files before item takes.fails).commands
+  taken-cut same takes =
+      let missed : ℕ = failed_reads_told (row_over caller moment files before item takes.fails).replies in
+      let none : 0 ≡ missed = sym (ap one_if takes.stopped.0) ∙ missed-is (Err stop.Disk) takes in
+      record {
+        then_is = at before.store disk;
+        first =
+            among-same g ⊥ ⊥ 0 missed before.store before.store disk disk [] (λ p. p) (λ p. p) none
+            (does-among g ⊥ before.store before.store disk disk [] (Does-none g ⊥ before.store disk (λ never. never) ready same));
+        second = takes.on_disk known;
+      }
 
   -- there was no memory
   pub taken-none : (takes : TakesPacket g (packet_of caller moment item) (at before disk) (at now disk_now) replies (Err stop.OutOfMemory))
-      → (now.store ≡ before.store) × DoesAmongReads g ⊥ (failed_reads_told (row_over caller moment before item takes.fails).replies) before.store before.store disk disk_now []
-  taken-none takes = (
-    ap (λ (w : Working). w.store) takes.answers.1,
-    subst (λ (d : D). DoesAmongReads g ⊥ (failed_reads_told (row_over caller moment before item takes.fails).replies) before.store before.store disk d []) (sym takes.on_disk)
-        (first (Err stop.OutOfMemory) takes),
-  )
+      → (now.store ≡ before.store) × DoesAmongReads g ⊥ (failed_reads_told (row_over caller moment files before item takes.fails).replies) before.store before.store disk disk_now []
+  taken-none takes =
+      let missed : ℕ = failed_reads_told (row_over caller moment files before item takes.fails).replies in
+      let none : 0 ≡ missed = sym (ap one_if takes.stopped.0) ∙ missed-is (Err stop.OutOfMemory) takes in
+      let still : disk_now ≡ disk = ap (λ (w : AtDisk Working D). w.disk) takes.stopped.1 in
+      let same : g.lasts disk disk = subst (λ (d : D). g.lasts disk d) still takes.puts.lasts in (
+        ap (λ (w : AtDisk Working D). w.it.store) takes.stopped.1,
+        subst (λ (d : D). DoesAmongReads g ⊥ missed before.store before.store disk d []) (sym still)
+            (among-same g ⊥ ⊥ 0 missed before.store before.store disk disk [] (λ p. p) (λ p. p) none
+            (does-among g ⊥ before.store before.store disk disk [] (Does-none g ⊥ before.store disk (λ never. never) ready same))),
+      )
 
 -- ---- a packet that is sent
 
@@ -104,18 +117,19 @@ due-not (Some next) disk disk_now state state_now out out_now is = absurd (let e
 -- what a packet that was put is, and what was done for it
 pub record Sent {D : Type 0} (g : Ghosts D) (files : StoreState) (disk disk_now : D) (state state_now : State) (out_now : List ℕ) (fails : Bool) : Type 0 where
   pub next : DuePacket
-  pub is_next : next_due (store_in files) state fails ≡ Some next
+  pub is_next : next_due (store_on g files disk) state fails ≡ Some next
   pub state_is : state_now ≡ next.state
   pub text_is : out_now ≡ packet_text next.packet
   pub tells : tells_failed_read next.packet ≡ fails
   pub does : DoesAmongReads g ⊥ (one_if (tells_failed_read next.packet)) files files disk disk_now []
 
 module _ {D : Type 0} (g : Ghosts D) (files : StoreState) (disk disk_now : D) (state state_now : State) (out out_now : List ℕ) where
-  pub due-among : (puts : PutsDue g (store_in files) (filled disk state out) (filled disk_now state_now out_now) true) → IsReady g files disk
+  pub due-among : (puts : PutsDue g (store_on g files disk) (filled disk state out) (filled disk_now state_now out_now) true) → IsReady g files disk → IsKnown g disk
       → Sent g files disk disk_now state state_now out_now puts.fails
-  due-among puts ready =
-      let has = due-put (next_due (store_in files) state puts.fails) disk disk_now state state_now out out_now puts.is_due in
-      let tells = told-due (store_in files) state puts.fails has.0 has.1 puts.told in
+  due-among puts ready known =
+      let store : Store = store_on g files disk in
+      let has = due-put (next_due store state puts.fails) disk disk_now state state_now out out_now (puts.is_due known) in
+      let tells = told-due store state puts.fails has.0 has.1 (puts.told known) in
       record {
         next = has.0;
         is_next = has.1;
@@ -128,11 +142,12 @@ module _ {D : Type 0} (g : Ghosts D) (files : StoreState) (disk disk_now : D) (s
       }
 
   -- nothing was due, whether a read fails or none does
-  pub due-none : PutsDue g (store_in files) (filled disk state out) (filled disk_now state_now out_now) false
-      → ((fails : Bool) → next_due (store_in files) state fails ≡ None) × (disk_now ≡ disk) × (state_now ≡ state) × (out_now ≡ out)
-  due-none puts =
-      let none = due-not (next_due (store_in files) state puts.fails) disk disk_now state state_now out out_now puts.is_due in
-      (λ fails. none-whatever (store_in files) state puts.fails fails none.0, none.1, none.2, none.3)
+  pub due-none : PutsDue g (store_on g files disk) (filled disk state out) (filled disk_now state_now out_now) false → IsKnown g disk
+      → ((fails : Bool) → next_due (store_on g files disk) state fails ≡ None) × (disk_now ≡ disk) × (state_now ≡ state) × (out_now ≡ out)
+  due-none puts known =
+      let store : Store = store_on g files disk in
+      let none = due-not (next_due store state puts.fails) disk disk_now state state_now out out_now (puts.is_due known) in
+      (λ fails. none-whatever store state puts.fails fails none.0, none.1, none.2, none.3)
 
 -- ---- parts whose reads failed
 
@@ -163,6 +178,6 @@ pub write-unread : (number part : ℕ) → read_fails (failed_write number) part
 write-unread number part = or-false ((number == part) && false) ∙ and-false (number == part)
 
 -- the row of a packet, and what is sent, as the part of an event whose failures list it where a read fails
-pub row-at : (caller : CallSign) (moment : ℕ) (item : Item) (before : Working) (failures : List Failure) (part : ℕ) (fails : Bool) → read_fails failures part ≡ fails
-    → row_over caller moment before item fails ≡ row_at caller moment (store_in before.store) before.lists before.state item failures part
-row-at caller moment item before failures part fails is = ap (λ (b : Bool). row_over caller moment before item b) (sym is)
+pub row-at : (caller : CallSign) (moment : ℕ) (files : Store) (item : Item) (before : Working) (failures : List Failure) (part : ℕ) (fails : Bool) → read_fails failures part ≡ fails
+    → row_over caller moment files before item fails ≡ row_at caller moment files before.lists before.state item failures part
+row-at caller moment files item before failures part fails is = ap (λ (b : Bool). row_over caller moment files before item b) (sym is)

@@ -1,6 +1,7 @@
 mod ChosenLemmas
 pub mod DueLemmas
 pub mod FileLemmas
+mod LikeLemmas
 mod ListLemmas
 mod ReadsLemmas
 pub mod ReplyLemmas

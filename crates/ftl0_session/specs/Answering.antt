@@ -1,5 +1,5 @@
 -- The answer to a packet while it is sent: what is due of it so far, and how much is left.
-use Rattle.std.specs.Prelude.{◌≡◌, ℕ, suc, ◌+◌, ◌≤◌, List, [], ◌∷◌, ◌++◌, length, false, Some, if◌then◌else◌, ⊤}
+use Rattle.std.specs.Prelude.{◌≡◌, ℕ, suc, ◌+◌, ◌≤◌, List, [], ◌∷◌, ◌++◌, length, false, Some, ⊤}
 use Rattle.px_base.specs.CallSign.{CallSign}
 use Rattle.ftl0_packets.specs.Layout.{PacketValue}
 use Rattle.file_store.specs.Command.{Command, after_all}
@@ -7,18 +7,13 @@ use Rattle.file_store.specs.Store.{Store}
 use Rattle.ftl0_session.specs.Lists.Lists.{CallerList}
 use Rattle.ftl0_session.specs.Uploads.Events.{Event as Heard}
 use Rattle.ftl0_session.specs.Uploads.Failures.{Failure, failed_reads, read_fails}
-use Rattle.ftl0_session.specs.Downloads.Sending.{is_due, octets_due}
-use Rattle.ftl0_session.specs.Downloads.Table.{DownloadState}
+pub use Rattle.ftl0_session.specs.Downloads.Sending.{octets_left}
 use Rattle.ftl0_session.specs.Run.{Event, Session, event_row}
 use Rattle.ftl0_session.specs.Table.{Row, State, due_at}
 
 -- an event at some of whose parts reads failed
 abbrev pub met_with : Heard → List ℕ → Event
 met_with event parts = record { moment = event.moment; packet = event.packet; failures = failed_reads parts }
-
--- how many octets are due, and one for DATA_END; none where nothing is due
-abbrev pub octets_left : Store → DownloadState → ℕ
-octets_left store state = if is_due state then suc (length (octets_due store state)) else 0
 
 -- These packets are sent from the state on, one after another, the first as the event's part of this number, up to this
 -- state; others may be due in it.

@@ -3,6 +3,7 @@ use Rattle.std.specs.Prelude.{◌≡◌, List, ℕ, Bool, true, false, IsTrue, O
 use Rattle.disk_model.specs.declared.disk.Disk.{Ghosts}
 use Rattle.ftl0_packets.specs.Layout.{dl_error_resp, packet_text}
 use Rattle.file_store.specs.Calls.{Reads}
+use Rattle.file_store.specs.State.{IsKnown}
 use Rattle.file_store.specs.Store.{Store}
 use Rattle.ftl0_session.specs.Downloads.Filling.{Filled}
 use Rattle.ftl0_session.specs.Table.{DuePacket, State, next_due}
@@ -14,12 +15,15 @@ IsDue None put disk disk_now state state_now out out_now =
 IsDue (Some due) put disk disk_now state state_now out out_now =
     (put ≡ true) × (state_now ≡ due.state) × (out_now ≡ packet_text due.packet)
 
--- A packet is put exactly where one is due. The disk is as reads leave it, of which one failed or none; and what was
--- put is what is due for that, code 3 where a read failed.
+-- The disk is as reads leave it, of which one failed or none. Where it is known what the store's files hold, a packet
+-- is put exactly where one is due, and what was put is what is due for that, code 3 where a read failed.
 pub record PutsDue {D : Type 0} (g : Ghosts D) (store : Store) (before now : Filled D State) (put : Bool) :
     Type 0 where
   pub fails : Bool
   pub reads : Reads g (IsTrue fails) before.disk now.disk
-  pub told : fails ≡ true → IfSome (next_due store before.state fails) (λ due. due.packet ≡ dl_error_resp 3)
+  pub told :
+      IsKnown g before.disk → fails ≡ true
+      → IfSome (next_due store before.state fails) (λ due. due.packet ≡ dl_error_resp 3)
   pub is_due :
-      IsDue (next_due store before.state fails) put before.disk now.disk before.state now.state before.out now.out
+      IsKnown g before.disk
+      → IsDue (next_due store before.state fails) put before.disk now.disk before.state now.state before.out now.out

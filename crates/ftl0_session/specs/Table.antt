@@ -3,7 +3,7 @@ use Rattle.std.specs.Prelude.{ℕ, ◌+◌, ◌==◌, List, [], ◌∷◌, Bool,
 use Rattle.std.specs.Option.{option_map}
 use Rattle.px_base.specs.CallSign.{CallSign}
 use Rattle.ftl0_packets.specs.Items.{kind_of_item}
-use Rattle.ftl0_packets.specs.Layout.{Item, PacketValue, dl_error_resp, login_resp, ul_error_resp}
+use Rattle.ftl0_packets.specs.Layout.{Item, PacketValue, dl_error_resp, login_resp, ul_error_resp, ul_nak_resp}
 use Rattle.ftl0_session.specs.Lists.Lists.{CallerList}
 use Rattle.file_store.specs.Command.{Command}
 use Rattle.file_store.specs.Store.{Store}
@@ -92,14 +92,16 @@ abbrev pub error_row : List CallerList → State → Item → Row
 error_row lists state item =
     record { state = state; lists = lists; commands = []; replies = error_reply item ∷ [] }
 
--- The packet's row of uploading, if it has one: none while something is sent or listed, or the word is waited for that
--- a file came.
-abbrev pub upload_row : CallSign → ℕ → Store → State → Item → Option upload.Row
-upload_row caller moment store command item = upload.session_row caller moment store upload.command item
-upload_row caller moment store (receiving number rest) item =
-    upload.session_row caller moment store (upload.receiving number rest) item
-upload_row caller moment store aborting item = upload.session_row caller moment store upload.aborting item
-upload_row caller moment store state item = None
+-- The packet's row of uploading, where a read fails or none does, if it has one: none while something is sent or
+-- listed, or the word is waited for that a file came.
+abbrev pub upload_row : CallSign → ℕ → Store → State → Item → Bool → Option upload.Row
+upload_row caller moment store command item fails =
+    upload.row_by_read caller moment store upload.command item fails
+upload_row caller moment store (receiving number rest) item fails =
+    upload.row_by_read caller moment store (upload.receiving number rest) item fails
+upload_row caller moment store aborting item fails =
+    upload.row_by_read caller moment store upload.aborting item fails
+upload_row caller moment store state item fails = None
 
 -- The packet's row of downloading, where a read fails or none does, if it has one: none while a file is received, or
 -- the end of a refused one is waited for, and none where it is malformed.
@@ -120,7 +122,7 @@ row_among lists state item None None = error_row lists state item
 -- where a read of the disk fails or none does.
 unfoldable pub session_row : CallSign → ℕ → Store → List CallerList → State → Item → Bool → Row
 session_row caller moment store lists state item fails =
-    row_among lists state item (upload_row caller moment store state item)
+    row_among lists state item (upload_row caller moment store state item fails)
     (download_row caller store lists state item fails)
 
 -- The reply to a packet at whose row a write or a sync of the disk failed: code 3, by UL_NAK_RESP where a file is
@@ -154,9 +156,11 @@ in_session next = record { packet = next.packet; state = downloading next.state 
 abbrev pub next_due : Store → State → Bool → Option DuePacket
 next_due store state fails = option_map in_session (due.next_due store (download_part state) fails)
 
--- whether a packet tells that a read of the disk failed: DL_ERROR_RESP with code 3
+-- whether a reply of a row, or a packet that is sent, tells that a read of the disk failed: DL_ERROR_RESP or
+-- UL_NAK_RESP with code 3
 abbrev pub tells_failed_read : PacketValue → Bool
 tells_failed_read (dl_error_resp code) = code == 3
+tells_failed_read (ul_nak_resp code) = code == 3
 tells_failed_read packet = false
 
 -- how many of these packets do

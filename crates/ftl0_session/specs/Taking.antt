@@ -3,13 +3,14 @@ use Rattle.std.specs.Prelude.{◌≡◌, ℕ, List, [], ◌∷◌, Bool, true, f
 use Rattle.px_base.specs.CallSign.{CallSign}
 use Rattle.disk_model.specs.declared.disk.Disk.{Ghosts}
 use Rattle.ftl0_packets.specs.Items.{texts}
-use Rattle.ftl0_packets.specs.Layout.{Item, dl_error_resp}
+use Rattle.ftl0_packets.specs.Layout.{Item, PacketValue}
 use Rattle.ftl0_session.specs.Lists.Lists.{CallerList}
 use Rattle.file_store.specs.Command.{DoesAll}
 use Rattle.file_store.specs.EntriesKept.{KeepsComplete}
-use Rattle.file_store.specs.Calls.{ChangesReads, Puts, Reads}
-use Rattle.file_store.specs.OnDisk.{Does}
-use Rattle.file_store.specs.State.{StandsOn, StoreState, store_in}
+use Rattle.file_store.specs.Calls.{ChangesReads}
+use Rattle.file_store.specs.State.{IsKnown, StandsOn, StoreState, store_in, store_on}
+use Rattle.file_store.specs.Store.{Store}
+use Rattle.file_store.specs.Working.{CountsSome, DoesAmongReads, PutsAmongReads, one_if}
 use Rattle.disk_model.specs.declared.halt.Halt.{Halt}
 use Rattle.ftl0_session.specs.Uploads.Events.{CallerPacket, packet_of}
 use Rattle.ftl0_session.specs.Uploads.Others.{KeepsOtherCallers}
@@ -21,6 +22,7 @@ use Rattle.ftl0_session.specs.Downloads.Taking.{Made, TakesByRow}
 use Rattle.disk_model.specs.declared.halt.Halt.TheVariants as stop
 use Rattle.ftl0_session.specs.SessionState.{SessionState, WorkingOn, caller_of, session_of, state_in, working_on}
 use Rattle.ftl0_session.specs.Table.{Row, State, command, download_row, fault_reply, session_row, takes_memory}
+use Rattle.ftl0_session.specs.Table.{tells_failed_read}
 
 -- what a session takes a packet over, and what it leaves for the next one: the store, the lists of all callers, its
 -- state
@@ -33,56 +35,77 @@ pub record Working : Type 0 where
 abbrev pub working : SessionState → StoreState → List CallerList → Working
 working session store lists = record { store = store; lists = lists; state = state_in store session }
 
--- the packet's row, where a read fails or none does
-abbrev pub row_over : CallSign → ℕ → Working → Item → Bool → Row
-row_over caller moment before item fails =
-    session_row caller moment (store_in before.store) before.lists before.state item fails
+-- the store with the octets that its files have on the disk
+abbrev pub files_at : {D : Type 0} → Ghosts D → AtDisk Working D → Store
+files_at g here = store_on g here.it.store here.disk
 
--- the row of a caller's packet
-abbrev pub packet_row : CallerPacket → Working → Bool → Row
-packet_row packet before fails = row_over packet.caller packet.moment before packet.item fails
+-- the packet's row over this store, where a read fails or none does
+abbrev pub row_over : CallSign → ℕ → Store → Working → Item → Bool → Row
+row_over caller moment files before item fails =
+    session_row caller moment files before.lists before.state item fails
+
+-- the row of a caller's packet, over the store on its disk
+abbrev pub packet_row : {D : Type 0} → Ghosts D → CallerPacket → AtDisk Working D → Bool → Row
+packet_row g packet before fails =
+    row_over packet.caller packet.moment (files_at g before) before.it packet.item fails
 
 -- what the row gives is the store, the lists, the state and the replies now; the condition of each of its commands held
 -- in turn
-abbrev pub Gives : Working → Row → Working → List ℕ → Type 0
-Gives before row now replies =
-    DoesAll (store_in before.store) (store_in now.store) row.commands × (now.lists ≡ row.lists)
-    × (now.state ≡ row.state) × (replies ≡ texts row.replies)
+abbrev pub Gives : {D : Type 0} → Ghosts D → AtDisk Working D → Row → AtDisk Working D → List ℕ → Type 0
+Gives g before row now replies =
+    DoesAll (files_at g before) (files_at g now) row.commands × (now.it.lists ≡ row.lists)
+    × (now.it.state ≡ row.state) × (replies ≡ texts row.replies)
 
 -- The answer to a packet is its row of the table. A stop says that there is no memory, where the row begins a file or
--- takes octets, and nothing changed and nothing is replied; or that the disk failed in one of the row's commands, which
--- code 3 replies.
-abbrev pub Answers : Working → Item → Row → Working → List ℕ → Result ⊤ Halt → Type 0
-Answers before item row now replies (Ok done) = Gives before row now replies
-Answers before item row now replies (Err stop.OutOfMemory) =
-    IsTrue (takes_memory item row.state) × (now ≡ before) × (replies ≡ [])
-Answers before item row now replies (Err stop.Disk) =
-    (now.state ≡ command) × (now.lists ≡ before.lists) × (replies ≡ texts (fault_reply before.state ∷ []))
+-- takes octets; or that a write or a sync of the disk failed in one of the row's commands.
+abbrev pub Answers :
+    {D : Type 0} → Ghosts D → Item → AtDisk Working D → Row → AtDisk Working D → List ℕ → Result ⊤ Halt → Type 0
+Answers g item before row now replies (Ok done) = Gives g before row now replies
+Answers g item before row now replies (Err stop.OutOfMemory) = IsTrue (takes_memory item row.state)
+Answers g item before row now replies (Err stop.Disk) = ⊤
 
--- What a packet with this row does to the disk behind its reads. Where it is answered, the row's commands are done, or
--- the disk failed in one of them: a crash since the packet came leaves the store after the first so many of them. Else
--- the disk isn't touched.
+-- What a packet with this row does to the disk. Where it is answered, the row's commands are done, among reads of which
+-- one failed or none; or a write or a sync failed in one of them, and no read. A crash since the packet came leaves the
+-- store after the first so many of them.
 abbrev pub PutsRow :
-    {D : Type 0} → Ghosts D → StoreState → StoreState → D → D → Row → Result ⊤ Halt → Type 0
-PutsRow g before now disk disk_now row (Ok done) = Does g ⊥ before now disk disk_now row.commands
-PutsRow g before now disk disk_now row (Err stop.Disk) = Does g ⊤ before now disk disk_now row.commands
-PutsRow g before now disk disk_now row (Err stop.OutOfMemory) = disk_now ≡ disk
+    {D : Type 0} → Ghosts D → Bool → Row → AtDisk Working D → AtDisk Working D → Result ⊤ Halt → Type 0
+PutsRow g fails row before now (Ok done) =
+    DoesAmongReads g ⊥ (one_if fails) before.it.store now.it.store before.disk now.disk row.commands
+PutsRow g fails row before now (Err stop.Disk) =
+    DoesAmongReads g ⊤ 0 before.it.store now.it.store before.disk now.disk row.commands
+PutsRow g fails row before now (Err stop.OutOfMemory) = ⊤
 
--- A session takes a packet, malformed or not. First the disk is read, and a read failed or none did; the answer is the
--- packet's row for that, which tells of a read that failed by code 3. Then the row's commands are done.
+-- What a stop leaves, whatever the disk tells; no read failed. There was no memory, and nothing changed and nothing is
+-- replied; or a write or a sync of the disk failed, which code 3 replies, the lists stay, and a command is waited for.
+abbrev pub IsStopped :
+    {D : Type 0} → Bool → AtDisk Working D → AtDisk Working D → List ℕ → Result ⊤ Halt → Type 0
+IsStopped fails before now replies (Ok done) = ⊤
+IsStopped fails before now replies (Err stop.OutOfMemory) = (fails ≡ false) × (now ≡ before) × (replies ≡ [])
+IsStopped fails before now replies (Err stop.Disk) =
+    (fails ≡ false) × (now.it.state ≡ command) × (now.it.lists ≡ before.it.lists)
+    × (replies ≡ texts (fault_reply before.it.state ∷ []))
+
+-- these replies are one, which tells of a read that failed
+abbrev pub TellsRead : List PacketValue → Type 0
+TellsRead replies = (reply : PacketValue) × (replies ≡ reply ∷ []) × (tells_failed_read reply ≡ true)
+
+-- A session takes a packet, malformed or not, and a read of the disk fails or none does. Where it is known what the
+-- store's files hold, the answer is the packet's row for that, which tells of a read that failed by code 3, and the
+-- row's commands are done.
 pub record TakesPacket {D : Type 0} (g : Ghosts D) (packet : CallerPacket) (before now : AtDisk Working D)
     (replies : List ℕ) (result : Result ⊤ Halt) : Type 0 where
   pub fails : Bool
-  pub told : fails ≡ true → (packet_row packet before.it fails).replies ≡ dl_error_resp 3 ∷ []
-  pub answers : Answers before.it packet.item (packet_row packet before.it fails) now.it replies result
-  pub disk_then : D
-  pub reads : Reads g (IsTrue fails) before.disk disk_then
-  pub on_disk : PutsRow g before.it.store now.it.store disk_then now.disk (packet_row packet before.it fails) result
-  pub puts : Puts g (IsErrOf result stop.Disk) disk_then now.disk
+  pub stopped : IsStopped fails before now replies result
+  pub told : IsKnown g before.disk → fails ≡ true → TellsRead (packet_row g packet before fails).replies
+  pub answers :
+      IsKnown g before.disk → Answers g packet.item before (packet_row g packet before fails) now replies result
+  pub on_disk : IsKnown g before.disk → PutsRow g fails (packet_row g packet before fails) before now result
+  pub reads : CountsSome (g.read_faults before.disk) (g.read_faults now.disk) (one_if fails)
+  pub puts : PutsAmongReads g (IsErrOf result stop.Disk) before.disk now.disk
 
--- a packet whose row has no command, whether a read fails or none does, leaves the disk as reads do
-abbrev pub ReadsAlone : {D : Type 0} → Ghosts D → (Bool → Row) → D → D → Type 0
-ReadsAlone g row disk disk_now = (fails : Bool) → (row fails).commands ≡ [] → ChangesReads g disk disk_now
+-- a packet whose row has no command leaves the disk as reads do, where it is known what the store's files hold
+abbrev pub ReadsAlone : {D : Type 0} → Ghosts D → Row → D → D → Type 0
+ReadsAlone g row disk disk_now = IsKnown g disk → row.commands ≡ [] → ChangesReads g disk disk_now
 
 -- a session at work, with its disk
 abbrev pub at_work : {D : Type 0} → SessionState → WorkingOn D → AtDisk Working D
@@ -92,7 +115,8 @@ at_work session on = at (working session on.store on.lists) on.disk
 pub record Taken {D : Type 0} (g : Ghosts D) (packet : CallerPacket) (old new : SessionState)
     (before now : WorkingOn D) (replies : List ℕ) (result : Result ⊤ Halt) : Type 0 where
   pub takes : TakesPacket g packet (at_work old before) (at_work new now) replies result
-  pub untouched : ReadsAlone g (packet_row packet (working old before.store before.lists)) before.disk now.disk
+  pub untouched :
+      ReadsAlone g (packet_row g packet (at_work old before) takes.fails) before.disk now.disk
   pub failed : IsErrOf result stop.Disk → now.store.journal.failed ≡ true
   pub kept : KeepsComplete (store_in before.store) (store_in now.store)
   pub others : KeepsOtherCallers before.store now.store packet.caller
@@ -125,14 +149,16 @@ TakenOver g moment item before now replies result =
     (session_of now.uploads now.downloads) (working_on before.store before.lists before.disk)
     (working_on now.store now.lists now.disk) replies result
 
--- the packet's row of downloading, if it has one: not while a file is received, and not where it is malformed
-abbrev pub download_row_of : SessionState → StoreState → List CallerList → Item → Bool → Option DownloadRow
-download_row_of session store lists item fails =
-    download_row (caller_of session) (store_in store) lists (state_in store session) item fails
+-- the packet's row of downloading over this store, if it has one: not while a file is received, and not where it is
+-- malformed
+abbrev pub download_row_of : SessionState → StoreState → Store → List CallerList → Item → Bool → Option DownloadRow
+download_row_of session store files lists item fails =
+    download_row (caller_of session) files lists (state_in store session) item fails
 
 -- So a packet of a session with these uploads is taken, over this store.
 abbrev pub TakesDownload :
     {D : Type 0} → Ghosts D → Uploading → StoreState → Item → AtDisk Made D → AtDisk Made D → Bool → Type 0
 TakesDownload g uploads store item before now taken =
-    TakesByRow g (download_row_of (session_of uploads before.it.state) store before.it.lists item) before.disk now.disk
-    before.it now.it taken
+    TakesByRow g
+    (download_row_of (session_of uploads before.it.state) store (store_on g store before.disk) before.it.lists item)
+    before.disk now.disk before.it now.it taken

@@ -2,7 +2,7 @@
 
 ghost use Rattle.ftl0_session.specs.DownloadLaws.{DownloadedLaw, DownloadsLaw, LongListedLaw, SentLaw, ShortListedLaw};
 ghost use Rattle.ftl0_session.specs.Laws.{AcknowledgedLaw, AcknowledgedStandsLaw, DueFaultLaw, FaultCodeLaw};
-ghost use Rattle.ftl0_session.specs.Laws.{GrantedLaw, ResumedLaw, UploadsLaw};
+ghost use Rattle.ftl0_session.specs.Laws.{GrantedLaw, ResumedLaw, UnreadLaw, UploadsLaw};
 ghost use Rattle.ftl0_session.specs.Run.{CommandsLaw, UploadRunLaw};
 
 /// Each row of uploading is a row of the whole table: what holds of the rows of `uploads` holds of it.
@@ -20,10 +20,16 @@ pub fn resumed_law()
     ensures { ResumedLaw }
 {}
 
-/// A file of which all octets came, and which has no fault, is acknowledged, and is then complete with these octets,
-/// stamped: it has the client's body, and the client's items but for the server's.
+/// Where no read fails, a file of which all octets came, and which has no fault, is acknowledged, and is then complete
+/// with these octets, stamped: it has the client's body, and the client's items but for the server's.
 pub fn acknowledged_law()
     ensures { AcknowledgedLaw }
+{}
+
+/// Where a read fails, a file of which all octets came is refused by UL_NAK_RESP 3, and stays under way, with exactly
+/// these octets held.
+pub fn unread_law()
+    ensures { UnreadLaw }
 {}
 
 /// What was acknowledged stands: once the commands before and those of the row that replies UL_ACK_RESP are done, the
@@ -33,8 +39,9 @@ pub fn acknowledged_stands_law()
     ensures { AcknowledgedStandsLaw }
 {}
 
-/// Code 3 says by DL_ERROR_RESP that a read of the disk failed: where none does, neither a row nor what is sent next
-/// has it. By UL_ERROR_RESP or UL_NAK_RESP it says that a write or a sync failed: no row has it at all.
+/// Code 3 says by DL_ERROR_RESP, or by UL_NAK_RESP at the end of a whole file, that a read of the disk failed: where
+/// none does, neither a row nor what is sent next has it. By UL_ERROR_RESP it says that a write or a sync failed: no
+/// row has it at all.
 pub fn fault_code_law()
     ensures rows { FaultCodeLaw }
     ensures due { DueFaultLaw }

@@ -1,12 +1,12 @@
 //! The session of one caller: what each packet gives, and what is sent next (FTL0 1990).
 
-ghost use Rattle.std.specs.Prelude.{◌≡◌, ◌≢◌, ℕ, [], false, true, IsErrOf, None};
+ghost use Rattle.std.specs.Prelude.{◌≡◌, ◌≢◌, ◌<◌, ℕ, [], length, false, true, None};
 ghost use Rattle.disk_model.specs.AtDisk.{at};
 ghost use Rattle.ftl0_packets.specs.Items.{kind_of_item};
 ghost use Rattle.ftl0_packets.specs.Layout.{packet_text};
 ghost use Rattle.ftl0_packets.specs.Values.{item_of};
 ghost use Rattle.ftl0_session.specs.Lists.Lists.{has_left};
-ghost use Rattle.file_store.specs.State.{store_in};
+ghost use Rattle.file_store.specs.State.{store_in, store_on};
 ghost use Rattle.ftl0_session.specs.Uploads.Others.{KeepsOtherCallers};
 ghost use Rattle.ftl0_session.specs.Uploads.Session.{is_upload_kind};
 ghost use Rattle.ftl0_session.specs.Uploads.SessionState.{IsHeld, IsOnlyOut, NoOtherOut, Parks};
@@ -15,11 +15,13 @@ ghost use Rattle.ftl0_session.specs.Downloads.Table.{ready};
 ghost use Rattle.ftl0_session.specs.Filling.{PutsDue};
 ghost use Rattle.ftl0_session.specs.SessionState.{DoesOne, MayTake, caller_of, new_session, session_of, state_in};
 ghost use Rattle.ftl0_session.specs.SessionState.{working_on};
-ghost use Rattle.ftl0_session.specs.Table.{error_by, flags, greeting};
+ghost use Rattle.ftl0_session.specs.Downloads.Sending.{is_due, octets_left};
+ghost use Rattle.ftl0_session.specs.Table.{download_part, error_by, flags, greeting};
 ghost use Rattle.ftl0_session.specs.Taking.{Taken, TakenOver, TakesDownload, lent};
 ghost use Rattle.ftl0_session.specs.Downloads.Filling.{filled};
 ghost use Rattle.ftl0_session.specs.Uploads.Events.{packet_of};
 ghost use Rattle.ftl0_session.specs.Downloads.Taking.{made};
+ghost use Rattle.ftl0_session.specs.declared.uploads.phase.Phase.TheVariants.{Command as command_phase};
 
 use crate::downloads::Downloads;
 use crate::downloads::laws::stays_law;
@@ -102,8 +104,9 @@ impl Session {
     ) -> Result<(), Halt>
         requires { MayTake D.Disk store.old disk.old lists.old self.old }
 
-        // The answer is the packet's row for the reads that were made, and the row's commands are on the disk; or the
-        // disk failed in one of them. It leaves what the next packet needs.
+        // Where it is known what the store's files hold, the answer is the packet's row for the reads that were made,
+        // and the row's commands are on the disk; or a write or a sync failed in one of them. It leaves what the next
+        // packet needs.
         ensures { Taken D.Disk (packet_of (caller_of self.old) moment (item_of packet.entry)) self.old self.new
             (working_on store.old lists.old disk.old) (working_on store.new lists.new disk.new) replies.new.items
             result }
@@ -131,8 +134,15 @@ impl Session {
         out: &mut ArrayVec<u8, 256>,
     ) -> bool
         requires { MaySend D.Disk store.old disk.old self.old.downloads }
-        ensures puts { PutsDue D.Disk (store_in store.old) (filled disk.old (state_in store.old self.old) out.old.items)
+        ensures puts { PutsDue D.Disk (store_on D.Disk store.old disk.old)
+            (filled disk.old (state_in store.old self.old) out.old.items)
             (filled disk.new (state_in store.new self.new) out.new.items) result }
+        ensures due { result ≡ is_due (download_part (state_in store.old self.old)) }
+        ensures none { result ≡ false → (self.new ≡ self.old) × (disk.new ≡ disk.old)
+            × (out.new.items ≡ out.old.items) }
+        ensures some { result ≡ true → 0 < length out.new.items }
+        ensures fewer { result ≡ true → octets_left (store_in store.old) (download_part (state_in store.old self.new))
+            < octets_left (store_in store.old) (download_part (state_in store.old self.old)) }
         ensures uploads { self.new.uploads ≡ self.old.uploads }
         ensures store { store.new ≡ store.old }
         ensures may { MaySend D.Disk store.new disk.new self.new.downloads }
@@ -262,6 +272,7 @@ fn take_download<D: Disk>(
         (at (made downloads.old lists.old replies.old.items) disk.old)
         (at (made downloads.new lists.new replies.new.items) disk.new) result }
     ensures keeps { KeepsFiles D.Disk store.old store.new disk.new lists.new downloads.new }
+    ensures waits { result ≡ true → uploads.now.phase ≡ command_phase }
 {
     let Ok(packet) = packet else {
         return false;

@@ -1,7 +1,7 @@
 -- How a connection answers one packet.
 use Rattle.std.proofs.lemmas.Grind.{common_steps}
 use Rattle.std.proofs.Common.{◌≡◌, ℕ, suc, Bool, true, false, not, List, [], ◌∷◌, ◌++◌, refl, sym, ◌∙◌, subst, arith}
-use Rattle.std.specs.Prelude.{Result, Ok, Err, IsErrOf, ⊤, if◌then◌else◌}
+use Rattle.std.specs.Prelude.{Result, Ok, Err, ⊤, if◌then◌else◌}
 use Rattle.std.proofs.Math.Nat.{add-zero}
 use Rattle.disk_model.specs.declared.disk.Disk.{Ghosts}
 use Rattle.ax25_link.specs.Calls.{after_abandon, after_push}
@@ -33,7 +33,7 @@ use Rattle.ftl0_server.proofs.connection.TakingLemmas.{by_tests}
 
 module _ {D : Type 0} (g : Ghosts D) (on : (first second third : D) → g.lasts first second → g.lasts second third → g.lasts first third)
     (w : Window) (end : LinkEnd) (moment : ℕ) (session : SessionState) (new : ConnectionState) (before now : WorkingOn D) (item : Item) (first : ℕ)
-    (ready : IsReady g before.store before.disk) (known : IsKnown g before.disk) where
+    (ready : IsReady g before.store before.disk) (known : IsKnown g before.disk) (lasts : g.lasts before.disk before.disk) where
   -- the packet's row, where a read fails or none does
   abbrev row_here : Bool → Row
   row_here = packet_row g (packet_of (caller_of session) moment item) (at_work session before)
@@ -86,7 +86,7 @@ module _ {D : Type 0} (g : Ghosts D) (on : (first second third : D) → g.lasts 
   pub said-fault : (text replies : List ℕ) → text ≡ replies → StandsFor w new.link (replied end text) → Takes (Err stop.Disk) replies → Made (Ends, Err stop.Disk)
   said-fault text replies same stands takes =
       let at = subst (λ p. By p Ends (Err stop.Disk)) (sym (one-fails takes.fails))
-      (first, refl, ((takes.answers known).1, (refl, rw (same ∙ (takes.answers known).2) at stands)), taken-cut g on _ _ _ _ _ _ _ replies ready known takes) in
+      (first, refl, (takes.stopped.2, (refl, rw (same ∙ takes.stopped.3) at stands)), taken-cut g on _ _ _ _ _ _ _ replies ready known lasts takes) in
       record { parts = at_part takes.fails first; among = All-at (IsAmong first 1) takes.fails first (omega arith, omega arith); by = (first, at.1, at.2, at.3) }
 
   -- there was no memory for it

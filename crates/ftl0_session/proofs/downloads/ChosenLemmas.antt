@@ -1,11 +1,10 @@
 -- The complete files of which a selection holds, one after another in rising number.
-use Rattle.std.proofs.Common.{◌≡◌, ℕ, ◌+◌, ◌≤◌, ◌<◌, List, [], ◌∷◌, ◌++◌, length, map, Bool, true, false, cond, Option, None, Some, refl, sym, ap, ◌∙◌, arith, inl, inr, append_assoc, length-append}
+use Rattle.std.proofs.Common.{◌≡◌, ℕ, ◌+◌, ◌≤◌, ◌<◌, List, [], ◌∷◌, ◌++◌, length, map, Bool, true, false, cond, Option, None, Some, refl, sym, ap, ◌∙◌, arith, inl, inr, append_assoc}
 use Rattle.std.specs.Prelude.{find, filter, nat_lt}
 use Rattle.std.specs.List.{AllByRecursion}
 use Rattle.std.proofs.lemmas.Bool.Decides.{eqb_tells, nat_tests}
 use Rattle.std.proofs.lemmas.Bool.{cases_lt}
 use Rattle.std.proofs.lemmas.List.{append-nil}
-use Rattle.std.proofs.lemmas.List.Elements.{All-cons, All-nil}
 use Rattle.selection.specs.Layout.{Tree}
 use Rattle.selection.specs.Meaning.{holds}
 use Rattle.file_store.specs.Headers.{header_items}
@@ -13,7 +12,6 @@ use Rattle.file_store.specs.Info.{IsCompleteIn, IsNextComplete, is_complete}
 use Rattle.file_store.specs.IsStore.{AreEntries, IsStore}
 use Rattle.file_store.specs.Store.{Entry, Store, entry_of, octets_at}
 use Rattle.file_store.proofs.Offered.{found-fits, found-number, has_number}
-use Rattle.ftl0_session.specs.Downloads.Needs.{AreFiles}
 use Rattle.ftl0_session.specs.Downloads.Table.{chosen, is_chosen, octets_in}
 
 -- the entries with a number above this one
@@ -171,44 +169,46 @@ module _ (store : Store) (rules : IsStore store) (tree : Tree) where
   pub next-below : (above next : ℕ) → IsNextComplete store above (Some next) → next < store.next
   next-below above next least = (found-fits next 1 store.next store.entries least.1.0 rules.entries least.1.1).2
 
--- there are no more than entries
-few-more : (x : Entry) (kept : List Entry) (b : Bool) (n : ℕ) → length (map (λ (e : Entry). e.number) kept) ≤ n → length (map (λ (e : Entry). e.number) (cond b (x ∷ kept) kept)) ≤ n + 1
-few-more x kept true n few = omega (arith, few)
-few-more x kept false n few = omega (arith, few)
+-- ---- how many are left
 
-pub chosen-few : (tree : Tree) (entries : List Entry) → length (chosen tree entries) ≤ length entries
-chosen-few tree [] = omega arith
-chosen-few tree (x ∷ xs) = omega (arith, few-more x (filter (is_chosen tree) xs) (is_chosen tree x) (length xs) (chosen-few tree xs))
-
--- and each is complete
-done : (tree : Tree) (x : Entry) → is_chosen tree x ≡ true → is_complete x.holding ≡ true
-done tree x is = by (is_complete x.holding) refl
+fewer : (above next : ℕ) (entries : List Entry) → above < next → length (above_of next entries) ≤ length (above_of above entries)
+fewer above next [] lt = omega arith
+fewer above next (x ∷ xs) lt = by (nat_lt next x.number) refl (nat_lt above x.number) refl (fewer above next xs lt)
   where
-    by : (b : Bool) → is_complete x.holding ≡ b → is_complete x.holding ≡ true
-    by true e = e
-    by false e = absurd (let not = passed tree x e in cc)
+    by : (a : Bool) → nat_lt next x.number ≡ a → (b : Bool) → nat_lt above x.number ≡ b → length (above_of next xs) ≤ length (above_of above xs)
+        → length (above_of next (x ∷ xs)) ≤ length (above_of above (x ∷ xs))
+    by true p true q rest = rw (p, q) (omega (arith, rest))
+    by true p false q rest = absurd (let f : ⊥ = grind (arith, nat_tests, p, q, lt) in f)
+    by false p true q rest = rw (p, q) (omega (arith, rest))
+    by false p false q rest = rw (p, q) rest
 
-among : (store : Store) (tree : Tree) (entries : List Entry) → AreFound store entries → AreFiles store (chosen tree entries)
-among store tree [] found = All-nil _
-among store tree (x ∷ xs) found = by (among store tree xs found.1) (is_chosen tree x) refl
+fewer-one : (above next : ℕ) (entries : List Entry) (entry : Entry) → above < next → find (has_number next) entries ≡ Some entry → length (above_of next entries) + 1 ≤ length (above_of above entries)
+fewer-one above next [] entry lt found = absurd (cc)
+fewer-one above next (x ∷ xs) entry lt found =
+    elim (eqb_tells x.number next) [
+      | inl w ↦
+          let past : nat_lt above x.number ≡ true = grind (arith, nat_tests, w.1, lt) in
+          let not_past : nat_lt next x.number ≡ false = grind (arith, nat_tests, w.1) in
+          rw (past, not_past) (omega (arith, fewer above next xs lt))
+      | inr w ↦ by (nat_lt next x.number) refl (nat_lt above x.number) refl (fewer-one above next xs entry lt (rw w.0 at found))
+    ]
   where
-    by : AreFiles store (chosen tree xs) → (b : Bool) → is_chosen tree x ≡ b → AreFiles store (map (λ (e : Entry). e.number) (cond b (x ∷ filter (is_chosen tree) xs) (filter (is_chosen tree) xs)))
-    by rest true e = All-cons (IsCompleteIn store) x.number (chosen tree xs) (x, found.0, done tree x e) rest
-    by rest false e = rest
+    by : (a : Bool) → nat_lt next x.number ≡ a → (b : Bool) → nat_lt above x.number ≡ b → length (above_of next xs) + 1 ≤ length (above_of above xs)
+        → length (above_of next (x ∷ xs)) + 1 ≤ length (above_of above (x ∷ xs))
+    by true p true q rest = rw (p, q) (omega (arith, rest))
+    by true p false q rest = absurd (let f : ⊥ = grind (arith, nat_tests, p, q, lt) in f)
+    by false p true q rest = rw (p, q) (omega (arith, rest))
+    by false p false q rest = rw (p, q) rest
 
-pub chosen-complete : (store : Store) (tree : Tree) → IsStore store → AreFiles store (chosen tree store.entries)
-chosen-complete store tree rules = among store tree store.entries (are-found store rules)
+-- one less above the next complete one
+pub above-fewer : (store : Store) (above next : ℕ) → IsNextComplete store above (Some next) → length (above_of next store.entries) + 1 ≤ length (above_of above store.entries)
+above-fewer store above next least = fewer-one above next store.entries least.1.0 least.0 least.1.1
 
--- there is room for one more
-pub chosen-room : (store : Store) (rules : IsStore store) (tree : Tree) (above next : ℕ) (numbers : List ℕ) → IsNextComplete store above (Some next) → true ≡ holds tree (header_items (octets_in store next))
-    → numbers ++ chosen tree (above_of above store.entries) ≡ chosen tree store.entries → length numbers < 1024
-chosen-room store rules tree above next numbers least is so_far =
-    let all = chosen-step store rules tree above next numbers true least is so_far in
-    omega (
-      arith,
-      rules.count,
-      chosen-few tree store.entries,
-      ap (λ (l : List ℕ). length l) all,
-      length-append (numbers ++ next ∷ []) (chosen tree (above_of next store.entries)),
-      length-append numbers (next ∷ []),
-    )
+-- and no more than there are
+pub above-few : (above : ℕ) (entries : List Entry) → length (above_of above entries) ≤ length entries
+above-few above [] = omega arith
+above-few above (x ∷ xs) = by (nat_lt above x.number) refl (above-few above xs)
+  where
+    by : (b : Bool) → nat_lt above x.number ≡ b → length (above_of above xs) ≤ length xs → length (above_of above (x ∷ xs)) ≤ length (x ∷ xs)
+    by true q rest = rw q (omega (arith, rest))
+    by false q rest = rw q (omega (arith, rest))

@@ -235,40 +235,48 @@ some-at store f (x ∷ xs) (suc i) d lt is some =
 rest-at : {X : Type 0} (xs : List X) (i : ℕ) (d : X) → i < length xs → drop i xs ≡ get_or xs i d ∷ drop (i + 1) xs
 rest-at xs i d lt = rw (add-one, drop-cons xs i d)
 
-module _ (store : Store) {X : Type 0} (f : X → Due) (xs : List X) (i : ℕ) (d : X) (lt : i < length xs) (part octets : List ℕ) (few : length part ≤ 254)
-    (is : octets ≡ part ++ take (254 - length part) (due_octets store (f (get_or xs i d)))) where
-  pub step-octets : (whole : List ℕ) → part ++ take (254 - length part) (joined store (map f (drop i xs))) ≡ whole
-      → octets ++ take (254 - length octets) (joined store (map f (drop (i + 1) xs))) ≡ whole
-  step-octets whole so_far =
+-- how many octets there are behind one more
+abbrev pub HasMore : List ℕ → List ℕ → Due → Type 0
+HasMore part octets due = length octets ≡ length part + min (254 - length part) (due_len due)
+
+module _ {X : Type 0} (f : X → Due) (xs : List X) (i : ℕ) (d : X) (lt : i < length xs) (part octets : List ℕ) (few : length part ≤ 254) where
+  abbrev due : Due
+  due = f (get_or xs i d)
+
+  pub step-octets : (store : Store) → octets ≡ part ++ take (254 - length part) (due_octets store due) → (whole : List ℕ)
+      → part ++ take (254 - length part) (joined store (map f (drop i xs))) ≡ whole → octets ++ take (254 - length octets) (joined store (map f (drop (i + 1) xs))) ≡ whole
+  step-octets store is whole so_far =
       ap (λ (l : List ℕ). l ++ take (254 - length l) (joined store (map f (drop (i + 1) xs)))) is
-      ∙ part-more part (due_octets store (f (get_or xs i d))) (joined store (map f (drop (i + 1) xs))) 254 few
+      ∙ part-more part (due_octets store due) (joined store (map f (drop (i + 1) xs))) 254 few
       ∙ ap (λ (l : List X). part ++ take (254 - length part) (joined store (map f l))) (sym (rest-at xs i d lt))
       ∙ so_far
 
-  pub step-few : length octets ≤ 254
-  step-few =
-      omega (
-        arith,
-        few,
-        ap (λ (l : List ℕ). length l) is,
-        length-append part (take (254 - length part) (due_octets store (f (get_or xs i d)))),
-        length-take (254 - length part) (due_octets store (f (get_or xs i d))),
-      )
+  pub step-few : HasMore part octets due → length octets ≤ 254
+  step-few more = omega (arith, few, more)
 
-  pub step-left : (lies : IsStored store (f (get_or xs i d))) (left : List X) (moved_on : X) (whole : List Due) → f moved_on ≡ moved (min (254 - length part) (due_len (f (get_or xs i d)))) (f (get_or xs i d))
+  pub step-left : HasMore part octets due → (left : List X) (moved_on : X) (whole : List Due) → f moved_on ≡ moved (min (254 - length part) (due_len due)) due
       → map f left ++ after_octets (254 - length part) (map f (drop i xs)) ≡ whole
       → map f (left ++ moved_on ∷ []) ++ after_octets (254 - length octets) (map f (drop (i + 1) xs)) ≡ whole
-  step-left lies left moved_on whole here so_far =
+  step-left more left moved_on whole here so_far =
       let later : List Due = map f (drop (i + 1) xs) in
-      let room : 254 - length octets ≡ (254 - length part) - due_len (f (get_or xs i d)) =
-      ap (λ (l : List ℕ). 254 - length l) is ∙ room-more part (due_octets store (f (get_or xs i d))) 254 few
-      ∙ ap (λ (k : ℕ). (254 - length part) - k) (length-due store (f (get_or xs i d)) lies) in
+      let room : 254 - length octets ≡ (254 - length part) - due_len due = omega (arith, few, more) in
       ap (λ (l : List Due). l ++ after_octets (254 - length octets) later) (map-append f left (moved_on ∷ []))
       ∙ append_assoc (map f left) (f moved_on ∷ []) (after_octets (254 - length octets) later)
-      ∙ ap (λ (due : Due). map f left ++ due ∷ after_octets (254 - length octets) later) here
-      ∙ ap (λ (k : ℕ). map f left ++ moved (min (254 - length part) (due_len (f (get_or xs i d)))) (f (get_or xs i d)) ∷ after_octets k later) room
+      ∙ ap (λ (x : Due). map f left ++ x ∷ after_octets (254 - length octets) later) here
+      ∙ ap (λ (k : ℕ). map f left ++ moved (min (254 - length part) (due_len due)) due ∷ after_octets k later) room
       ∙ ap (λ (l : List X). map f left ++ after_octets (254 - length part) (map f l)) (sym (rest-at xs i d lt))
       ∙ so_far
+
+  -- how many octets there are once all were read
+  pub step-count : HasMore part octets due → (store : Store) → IsStored store due → (whole : ℕ)
+      → length part + min (254 - length part) (length (joined store (map f (drop i xs)))) ≡ whole
+      → length octets + min (254 - length octets) (length (joined store (map f (drop (i + 1) xs)))) ≡ whole
+  step-count more store lies whole so_far =
+      let rest : ℕ = length (joined store (map f (drop (i + 1) xs))) in
+      let split : length (joined store (map f (drop i xs))) ≡ due_len due + rest =
+      ap (λ (l : List X). length (joined store (map f l))) (rest-at xs i d lt) ∙ length-append (due_octets store due) (joined store (map f (drop (i + 1) xs)))
+      ∙ ap (λ (n : ℕ). n + rest) (length-due store due lies) in
+      omega (arith, few, more, split, so_far)
 
 -- octets of one more
 pub flat-more : (f : ℕ → List ℕ) (xs : List ℕ) (i : ℕ) (octets more : List ℕ) → i < length xs → octets ≡ flat_map f (take i xs) → more ≡ f (get_or xs i 0)

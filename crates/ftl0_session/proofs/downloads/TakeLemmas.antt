@@ -11,6 +11,7 @@ use Rattle.ftl0_packets.specs.declared.packet.Packet.{Packet}
 use Rattle.ftl0_packets.specs.declared.packet.Packet.TheVariants as packet
 use Rattle.ftl0_session.specs.Lists.Lists.{CallerList}
 use Rattle.file_store.proofs.Offered.{reads_none}
+use Rattle.file_store.specs.State.{IsKnown}
 use Rattle.file_store.specs.Store.{Store}
 use Rattle.ftl0_session.specs.Downloads.Table.{DownloadRow, DownloadState, Due, command_row, directory_row, download_cmd_row, download_row, ended_row, listing, long_due, ready, reply_sending, reply_waiting, select_row, sending, short_due, waiting}
 use Rattle.ftl0_session.specs.Downloads.Taking.{Made, MakesRow, TakesByRow, made, made_by}
@@ -86,17 +87,19 @@ module _ {D : Type 0} (g : Ghosts D) (row : Bool → Option DownloadRow) (before
   taken_reading disk_now now given is makes = record {
     fails = makes.fails;
     reads = makes.reads;
-    told = λ failed. rw (is makes.fails) (makes.told failed);
-    is_row = rw (is makes.fails) (refl, makes.is_row);
+    passed = λ never. absurd (cc never);
+    told = λ known failed. rw (is makes.fails) (makes.told known failed);
+    is_row = λ known. rw (is makes.fails) (refl, makes.is_row known);
   }
 
   -- it has this row, and nothing is read
-  pub taken_alone : (now : Made) (given : DownloadRow) → row false ≡ Some given → now ≡ made_by given → TakesByRow g row disk disk before now true
+  pub taken_alone : (now : Made) (given : DownloadRow) → (IsKnown g disk → row false ≡ Some given) → now ≡ made_by given → TakesByRow g row disk disk before now true
   taken_alone now given is makes = record {
     fails = false;
     reads = reads_none g disk (false ≡ true) (λ e. cc e) same;
-    told = λ failed. absurd (cc failed);
-    is_row = rw is (refl, makes);
+    passed = λ never. absurd (cc never);
+    told = λ known failed. absurd (cc failed);
+    is_row = λ known. rw (is known) (refl, makes);
   }
 
   -- it has none
@@ -104,8 +107,9 @@ module _ {D : Type 0} (g : Ghosts D) (row : Bool → Option DownloadRow) (before
   not_taken is = record {
     fails = false;
     reads = reads_none g disk (false ≡ true) (λ e. cc e) same;
-    told = λ failed. absurd (cc failed);
-    is_row = rw is (refl, refl, refl);
+    passed = λ never. (refl, refl);
+    told = λ known failed. absurd (cc failed);
+    is_row = λ known. rw is (refl, refl, refl);
   }
 
 -- a download ends by this reply, if there is one
@@ -116,5 +120,5 @@ pub ended_by : {D : Type 0} (g : Ghosts D) (row : Bool → Option DownloadRow) (
 ended_by g row lists state disk same None now replies_before replies result is none some = rw (none.0, none.1, none.2) (not_taken g row (made state lists replies_before) disk same is)
 ended_by g row lists state disk same (Some packet) now replies_before replies result is none some =
     rw (some.0, some.1)
-    (taken_alone g row (made state lists replies_before) disk same (made ready lists replies) (ended_row lists (value_of packet)) is
+    (taken_alone g row (made state lists replies_before) disk same (made ready lists replies) (ended_row lists (value_of packet)) (λ known. is)
     (ap (λ (l : List ℕ). made ready lists l) (some.2 ∙ sym (append-nil (packet_text (value_of packet))))))

@@ -1,40 +1,44 @@
 -- A new file: what it leaves of other files, and the answer to a refusal.
-use Rattle.std.proofs.Common.{◌≡◌, ◌⊎◌, ℕ, ◌<◌, List, [], ◌∷◌, refl, ap, sym, ◌∙◌, subst, arith, inl, inr, None, Some, true≢false}
+use Rattle.std.proofs.Common.{◌≡◌, ◌⊎◌, ℕ, List, [], ◌∷◌, refl, ap, sym, ◌∙◌, subst, inl, inr, None, Some, true, true≢false}
 use Rattle.std.specs.Prelude.{⊤, IsTrue, Result, Ok, Err, IsErr}
 use Rattle.px_base.specs.CallSign.{CallSign}
 use Rattle.disk_model.specs.declared.disk.Disk.{Ghosts}
+use Rattle.ftl0_packets.specs.Items.{texts}
 use Rattle.ftl0_packets.specs.Layout.{Item, ul_error_resp, upload_cmd}
-use Rattle.file_store.specs.Command.{after_all, begin}
+use Rattle.file_store.specs.Answers.{RefusesBegin, begin_reaches}
+use Rattle.file_store.specs.BeginBar.{BeginBar}
+use Rattle.file_store.specs.BeginBar.TheVariants as bar
+use Rattle.file_store.specs.Bars.{Bars}
+use Rattle.file_store.specs.Command.{Command, MayBegin, after, begin, can_begin}
+use Rattle.file_store.specs.EntriesKept.{KeepsComplete}
 use Rattle.file_store.specs.Files.{KeepsRests}
 use Rattle.file_store.specs.IsStore.{IsStore}
-use Rattle.file_store.specs.EntriesKept.{KeepsComplete}
-use Rattle.file_store.specs.Store.{Entry, Store, entry_of, new_entry}
-use Rattle.file_store.specs.Answers.{RefusesBegin, begin_reaches}
 use Rattle.file_store.specs.Kept.{KeepsUploads}
-use Rattle.file_store.specs.OnDisk.{Does, after_first}
-use Rattle.file_store.specs.State.{StoreState, store_in}
+use Rattle.file_store.specs.OnDisk.{Does}
+use Rattle.file_store.specs.Outlined.{IsStoreLike}
+use Rattle.file_store.specs.State.{StandsOn, StoreState, store_in, store_on}
+use Rattle.file_store.specs.Store.{Entry, Store, entry_of, new_entry}
 use Rattle.file_store.specs.Upload.{Upload}
 use Rattle.file_store.specs.declared.refusals.BeginRefusal.{BeginRefusal}
 use Rattle.file_store.specs.declared.refusals.BeginRefusal.TheVariants as refusal
+use Rattle.file_store.proofs.Offered.{like_bars, like_can_begin, on_like}
 use Rattle.ftl0_session.specs.declared.uploads.phase.Phase.TheVariants as phase
+use Rattle.disk_model.specs.AtDisk.{at}
 use Rattle.disk_model.specs.declared.halt.Halt.{Halt}
 use Rattle.disk_model.specs.declared.halt.Halt.TheVariants as stop
+use Rattle.ftl0_session.specs.Uploads.Events.{packet_of}
 use Rattle.ftl0_session.specs.Uploads.Others.{KeepsOtherCallers}
-use Rattle.ftl0_packets.specs.Items.{texts}
-use Rattle.ftl0_session.specs.Uploads.Session.{command, granted_row, refused_row, session_row}
-use Rattle.disk_model.specs.AtDisk.{at}
+use Rattle.ftl0_session.specs.Uploads.Session.{command, granted_row, session_row}
 use Rattle.ftl0_session.specs.Uploads.SessionState.{MayTake, NoOtherOut}
 use Rattle.ftl0_session.specs.Uploads.Taking.{Answered, AnswersRefusal}
-use Rattle.ftl0_session.specs.Uploads.Events.{packet_of}
-use Rattle.ftl0_session.proofs.uploads.DoesLemmas.{answered-alone, does-row, some-at_front, touched, untouched as as-it-was}
+use Rattle.ftl0_session.proofs.uploads.DoesLemmas.{answered-alone, takes-cut, takes-memory}
 use Rattle.ftl0_session.proofs.uploads.OtherLemmas.{never_some}
-use Rattle.ftl0_session.proofs.uploads.Rows.{alone-row, others-same}
-use Rattle.ftl0_session.proofs.uploads.UploadRows.{bars-cannot, begin-can, below-next, may-can, push-back, row-barred, row-granted}
-use Rattle.file_store.specs.BeginBar.TheVariants as bar
+use Rattle.ftl0_session.proofs.uploads.Rows.{others-same, upload-refused}
+use Rattle.ftl0_session.proofs.uploads.UploadRows.{bars-cannot, below-next, may-can, push-back, row-barred, row-granted}
 
 module _ (caller : CallSign) (moment len : ℕ) (before now : StoreState) (is : IsStore (store_in before)) (rests : KeepsRests before.files now.files (store_in before).next) where
   -- the store after the file was begun
-  module _ (made : store_in now ≡ after_all (store_in before) (begin (store_in before).next caller len moment ∷ [])) where
+  module _ (made : store_in now ≡ after (store_in before) (begin (store_in before).next caller len moment)) where
     back : (number : ℕ) (e : Entry) → entry_of (store_in now) number ≡ Some e
         → (entry_of (store_in before) number ≡ Some e) ⊎ ((number ≡ (store_in before).next) × (e ≡ new_entry (store_in before).next caller len moment))
     back number e found =
@@ -72,6 +76,19 @@ module _ (caller : CallSign) (moment len : ℕ) (before now : StoreState) (is : 
     unbegun-only only number e found theirs other =
         rests number (below-next (store_in before) number e is (here number e found)) ∙ only number e (here number e found) theirs other
 
+-- ---- the row of one that may be begun
+
+-- over a store that is so, whatever octets its files have
+pub granted-like : (caller : CallSign) (moment len : ℕ) (one other : Store) → IsStoreLike one other → IsStore one → MayBegin one len
+    → session_row caller moment other command (Ok (upload_cmd 0 len)) ≡ Some (granted_row caller moment other.next len)
+granted-like caller moment len one other like is may =
+    let can : can_begin other len ≡ true = sym (like_can_begin one other like len) ∙ may-can one len is may in
+    row-granted caller moment other len can
+
+-- its command
+pub begin-like : (caller : CallSign) (moment len : ℕ) (one other : Store) → IsStoreLike one other → begin one.next caller len moment ∷ [] ≡ begin other.next caller len moment ∷ []
+begin-like caller moment len one other like = ap (λ (n : ℕ). begin n caller len moment ∷ []) like.next
+
 -- ---- a refusal
 
 abbrev refusing : BeginRefusal → Result Upload BeginRefusal
@@ -90,14 +107,14 @@ module _ {D : Type 0} (g : Ghosts D) (caller : CallSign) (moment len : ℕ) (bef
   untouched replies result same given =
       subst (λ (s : StoreState). Gives-it s disk_now replies result) (sym same.0) (subst (λ (d : D). Gives-it before d replies result) (sym same.1) given)
 
-  barred : (replies : List ℕ) (result : Result ⊤ Halt) → (now ≡ before) × (disk_now ≡ disk)
-      → session_row caller moment (store_in before) command (Ok (upload_cmd 0 len)) ≡ Some (refused_row command 13) → (result ≡ Ok tt) × (replies ≡ texts (ul_error_resp 13 ∷ [])) → Gives-it now disk_now replies result
-  barred replies result same row answer =
+  barred : (replies : List ℕ) (result : Result ⊤ Halt) (cause : BeginBar) → (now ≡ before) × (disk_now ≡ disk) → Bars cause (store_in before) len
+      → (result ≡ Ok tt) × (replies ≡ texts (ul_error_resp 13 ∷ [])) → Gives-it now disk_now replies result
+  barred replies result cause same bars answer =
       subst (λ (r : Result ⊤ Halt). Gives-it now disk_now replies r) (sym answer.0)
       (untouched replies (Ok tt) same
-      (answered-alone g caller moment command (Ok (upload_cmd 0 len)) before before disk replies (phase.Command, Ok tt) may.ready lasts
-      (alone-row caller moment command (Ok (upload_cmd 0 len)) before phase.Command (refused_row command 13) replies row refl
-      (refused_row command 13, row, ((tt, refl), refl, answer.1)) tt may.only)))
+      (answered-alone g (packet_of caller moment Item-asked) command before disk before replies (phase.Command, Ok tt) may.ready lasts
+      (upload-refused caller moment Item-asked before before 13 replies (phase.Command, Ok tt)
+      (λ files like. row-barred caller moment files len (bars-cannot files len cause (like_bars (store_in before) files like cause len bars))) refl refl answer.1 may.only)))
 
   not_reached : {P : Type 0} → IsTrue (begin_reaches (refusing refusal.OutOfMemory)) ⊎ P → P
   not_reached (inl never) = absurd (true≢false (sym never))
@@ -106,41 +123,44 @@ module _ {D : Type 0} (g : Ghosts D) (caller : CallSign) (moment len : ℕ) (bef
   pub begin-refused : (r : BeginRefusal) (replies : List ℕ) (result : Result ⊤ Halt) → RefusesBegin before len r
       → IsTrue (begin_reaches (refusing r)) ⊎ ((now ≡ before) × (disk_now ≡ disk))
       → (IsTrue (begin_reaches (refusing r)) → Does g (IsErr (refusing r)) before now disk disk_now (begin (store_in before).next caller len moment ∷ []))
+      → store_in now ≡ store_in before → StandsOn g now disk_now
       → KeepsUploads before now → KeepsRests before.files now.files (store_in before).next → KeepsComplete (store_in before) (store_in now)
       → AnswersRefusal r replies result → Gives-it now disk_now replies result
-  begin-refused refusal.TooLong replies result refused same does uploads rests kept answer =
-      barred replies result (not_reached same) (row-barred caller moment (store_in before) len (bars-cannot (store_in before) len bar.TooLong refused)) answer
-  begin-refused refusal.TooMany replies result refused same does uploads rests kept answer =
-      barred replies result (not_reached same) (row-barred caller moment (store_in before) len (bars-cannot (store_in before) len bar.TooMany refused)) answer
-  begin-refused refusal.NumbersGone replies result refused same does uploads rests kept answer =
-      barred replies result (not_reached same) (row-barred caller moment (store_in before) len (bars-cannot (store_in before) len bar.NumbersGone refused)) answer
-  begin-refused (refusal.NoRoom blocks free) replies result refused same does uploads rests kept answer =
-      barred replies result (not_reached same) (row-barred caller moment (store_in before) len (bars-cannot (store_in before) len (bar.NoRoom blocks free) refused)) answer
-  begin-refused refusal.Failed replies result refused same does uploads rests kept answer = absurd answer
-  begin-refused refusal.OutOfMemory replies result refused same does uploads rests kept answer =
-      let row = row-granted caller moment (store_in before) len (may-can (store_in before) len is refused.0) in
+  begin-refused refusal.TooLong replies result refused same does still stands uploads rests kept answer = barred replies result bar.TooLong (not_reached same) refused answer
+  begin-refused refusal.TooMany replies result refused same does still stands uploads rests kept answer = barred replies result bar.TooMany (not_reached same) refused answer
+  begin-refused refusal.NumbersGone replies result refused same does still stands uploads rests kept answer = barred replies result bar.NumbersGone (not_reached same) refused answer
+  begin-refused (refusal.NoRoom blocks free) replies result refused same does still stands uploads rests kept answer =
+      barred replies result (bar.NoRoom blocks free) (not_reached same) refused answer
+  begin-refused refusal.Failed replies result refused same does still stands uploads rests kept answer = absurd answer
+  begin-refused refusal.OutOfMemory replies result refused same does still stands uploads rests kept answer =
       subst (λ (r : Result ⊤ Halt). Gives-it now disk_now replies r) (sym answer.0)
       (untouched replies (Err stop.OutOfMemory) (not_reached same)
       (record {
-        answers = (granted_row caller moment (store_in before).next len, row, refl, (refl, refl, answer.1));
-        on_disk = refl;
-        untouched = as-it-was disk disk _ (granted_row caller moment (store_in before).next len) row (λ none. refl);
+        takes =
+            takes-memory g (packet_of caller moment Item-asked) command before disk replies lasts
+            (λ known. let files : Store = store_on g before disk in (granted_row caller moment files.next len, granted-like caller moment len (store_in before) files (on_like g before disk may.ready known) is refused.0, refl)) answer.1;
+        failed = λ e. absurd (cc e);
+        healthy = λ fine. may.ready.healthy;
+        stands_on = may.ready.stands_on;
         held = tt;
         only = may.only;
         others = others-same before caller;
         kept = λ number entry found whole. found;
       }))
-  begin-refused refusal.Disk replies result refused same does uploads rests kept answer =
+  begin-refused refusal.Disk replies result refused same does still stands uploads rests kept answer =
+      let commands : List Command = begin (store_in before).next caller len moment ∷ [] in
       let done = does refl in
-      let cut = done.cut refl in
-      let none : cut.count ≡ 0 = let few : cut.count < 1 = cut.fewer in omega arith in
-      let row = row-granted caller moment (store_in before) len (begin-can _ _ (done.allowed (inl refl)).0) in
-      let still : store_in now ≡ store_in before = cut.state (inl refl) ∙ ap (λ (count : ℕ). after_first count (store_in before) (begin (store_in before).next caller len moment ∷ [])) none in
       subst (λ (r : Result ⊤ Halt). Gives-it now disk_now replies r) (sym answer.0)
       (record {
-        answers = (granted_row caller moment (store_in before).next len, row, refl, answer.1);
-        on_disk = does-row g _ _ _ _ _ _ ⊤ _ row (λ failed. tt) (λ failed. refl) done;
-        untouched = touched disk disk_now _ (granted_row caller moment (store_in before).next len) row (some-at_front (begin (store_in before).next caller len moment) []);
+        takes =
+            takes-cut g (packet_of caller moment Item-asked) command before disk command now disk_now replies _ commands refl done
+            (λ known.
+            let files : Store = store_on g before disk in
+            let like = on_like g before disk may.ready known in
+            (granted_row caller moment files.next len, granted-like caller moment len (store_in before) files like is refused.0, begin-like caller moment len (store_in before) files like)) refl answer.1;
+        failed = λ e. (done.cut refl).failed;
+        healthy = λ fine. absurd (fine refl);
+        stands_on = stands;
         held = tt;
         only = unbegun-only caller moment len before now is rests still may.only;
         others = unbegun-others caller moment len before now is rests still uploads;

@@ -1,96 +1,146 @@
 -- What a packet does to the store's disk.
-use Rattle.std.proofs.Common.{◌≡◌, ℕ, List, [], ◌∷◌, ◌++◌, refl, sym, subst, Option, Some, IfSome, true, false}
-use Rattle.std.specs.Prelude.{⊤, Result, Ok, Err, IsErrOf}
-use Rattle.px_base.specs.CallSign.{CallSign}
+use Rattle.std.proofs.Common.{◌≡◌, ℕ, List, [], ◌∷◌, ◌++◌, refl, sym, ◌∙◌, subst, inl, arith, Bool, true, false, true≢false, Option, Some}
+use Rattle.std.specs.Prelude.{⊤, Result, Ok, Err, IsTrue}
 use Rattle.disk_model.specs.declared.disk.Disk.{Ghosts}
-use Rattle.ftl0_packets.specs.Layout.{Item}
-use Rattle.file_store.specs.Calls.{Puts}
-use Rattle.file_store.proofs.Offered.{at_told, Does-moved, Does-none, Does-same, puts_none, puts_same, told_weaker}
-use Rattle.file_store.specs.Command.{Command}
+use Rattle.ftl0_packets.specs.Items.{texts}
+use Rattle.ftl0_packets.specs.Layout.{ul_nak_resp}
+use Rattle.file_store.proofs.Offered.{Does-moved, Does-none, Does-same, does-among, in_parked, on_like, puts_none, puts-among, puts-among-same, stands_parked}
+use Rattle.file_store.specs.Command.{Command, DoesAll}
 use Rattle.file_store.specs.EntriesKept.{KeepsComplete}
 use Rattle.file_store.specs.Store.{Store}
 use Rattle.file_store.specs.OnDisk.{Does}
-use Rattle.file_store.specs.State.{IsReady, StandsOn, StoreState, store_in}
+use Rattle.file_store.specs.State.{IsKnown, IsReady, StoreState, store_in, store_on}
+use Rattle.file_store.specs.Working.{CountsSome, DoesAmongReads, PutsAmongReads, one_if}
 use Rattle.ftl0_session.specs.declared.uploads.phase.Phase.{Phase}
 use Rattle.disk_model.specs.declared.halt.Halt.{Halt}
 use Rattle.disk_model.specs.declared.halt.Halt.TheVariants as stop
-use Rattle.ftl0_session.specs.Uploads.Session.{Row, State, session_row}
-use Rattle.ftl0_session.specs.Uploads.Taking.{Answered, AnsweredAlone, Answers, DoesRow, LeavesDisk, PutsRow, row_of}
-use Rattle.ftl0_session.specs.Uploads.Events.{CallerPacket, packet_of}
-use Rattle.disk_model.specs.AtDisk.{AtDisk, at}
+use Rattle.ftl0_session.specs.Uploads.Session.{Row, State, command, fault_reply, takes_memory}
+use Rattle.ftl0_session.specs.Uploads.SessionState.{state_of}
+use Rattle.ftl0_session.specs.Uploads.Taking.{Answered, AnsweredAlone, TakesPacket, row_of, working_at}
+use Rattle.ftl0_session.specs.Uploads.Events.{CallerPacket}
+use Rattle.disk_model.specs.AtDisk.{at}
 
--- the answer that is this stop
-abbrev stopped : Halt → Result ⊤ Halt
-stopped stop = Err stop
+-- a count that stands as it stood
+counts-none : (before now : ℕ) → now ≡ before → CountsSome before now 0
+counts-none before now same = record { no_less = omega (arith, same); rose = inl (omega (arith, same)); same = λ none. same }
 
-module _ {D : Type 0} (g : Ghosts D) where
-  -- no commands
-  pub does-none : (before now : StoreState) (disk : D) → IsReady g before disk → store_in now ≡ store_in before
-      → now.journal ≡ before.journal → g.lasts disk disk → Does g ⊥ before now disk disk []
-  does-none before now disk ready same journal lasts =
-      Does-moved g ⊥ before before before now disk disk [] refl refl same journal (Does-none g ⊥ before disk (λ never. never) ready lasts)
+-- a row with these commands
+abbrev pub HasRow : Option Row → List Command → Type 0
+HasRow given commands = (row : Row) × (given ≡ Some row) × (commands ≡ row.commands)
 
-  -- the same commands, said otherwise
-  pub does-at : (P : Type 0) (before now : StoreState) (disk disk_now : D) (these those : List Command) → these ≡ those
-      → Does g P before now disk disk_now these → Does g P before now disk disk_now those
-  does-at P before now disk disk_now these those same does = subst (λ (cs : List Command). Does g P before now disk disk_now cs) same does
+-- a row with these commands, this state and these replies
+abbrev pub GivesRow : Option Row → List Command → State → List ℕ → Type 0
+GivesRow given commands next replies = (row : Row) × (given ≡ Some row) × (commands ≡ row.commands) × (next ≡ row.state) × (replies ≡ texts row.replies)
 
-  -- by its row
-  pub does-row : (o : Option Row) (before now : StoreState) (disk disk_now : D) (P Q : Type 0) (row : Row) → o ≡ Some row → (P → Q) → (Q → P) → Does g P before now disk disk_now row.commands
-      → DoesRow g Q before now disk disk_now o
-  does-row o before now disk disk_now P Q row is there back does = rw is (Does-same g P Q before now disk disk_now row.commands there back does)
+module _ {D : Type 0} (g : Ghosts D) (packet : CallerPacket) (state : State) (before : StoreState) (disk : D) where
+  module _ (next : State) (now : StoreState) (disk_now : D) (replies : List ℕ) where
+    -- commands are done, among reads of which one failed or none
+    pub takes-among : (P : Type 0) (fails : Bool) (commands : List Command) → ¬ P → PutsAmongReads g P disk disk_now → CountsSome (g.read_faults disk) (g.read_faults disk_now) (one_if fails)
+        → (IsKnown g disk → DoesAmongReads g ⊥ (one_if fails) before now disk disk_now commands)
+        → (gives : IsKnown g disk → GivesRow (row_of packet (store_on g before disk) state fails) commands next replies)
+        → ((known : IsKnown g disk) → fails ≡ true → (gives known).0.replies ≡ ul_nak_resp 3 ∷ []) → (fails ≡ false → commands ≡ [] → disk_now ≡ disk)
+        → TakesPacket g packet (working_at (at before disk) state) (working_at (at now disk_now) next) replies (Ok tt)
+    takes-among P fails commands fine puts reads does gives told untouched = record {
+      fails = fails;
+      stopped = tt;
+      makes = λ known.
+          let row = gives known in
+          let done = does known in (
+            row.0,
+            row.1,
+            record {
+              told = told known;
+              answers = (
+                subst (λ (cs : List Command). DoesAll (store_on g before disk) (store_on g now disk_now) cs) row.2 (done.allowed known, (done.done (λ never. never)).0 known),
+                row.3,
+                row.4,
+              );
+              on_disk = subst (λ (cs : List Command). DoesAmongReads g ⊥ (one_if fails) before now disk disk_now cs) row.2 done;
+              untouched = λ ok none. untouched ok (row.2 ∙ none);
+            },
+          );
+      reads = reads;
+      puts = puts-among-same g P _ disk disk_now (λ p. absurd (fine p)) (λ e. cc e) puts;
+    }
 
-  on_disk-alone : (caller : CallSign) (moment : ℕ) (state : State) (item : Item) (before now : StoreState) (disk : D) (result : Result ⊤ Halt)
-      → ¬ IsErrOf result stop.Disk → IfSome (session_row caller moment (store_in before) state item) (λ row. row.commands ≡ [])
-      → Does g ⊥ before now disk disk [] → PutsRow g before now disk disk (row_of (packet_of caller moment item) before state) result
-  on_disk-alone caller moment state item before now disk (Ok done) no_fault none does =
-      told_weaker (session_row caller moment (store_in before) state item) _ _ (λ row is no_commands. subst (λ (cs : List Command). Does g ⊥ before now disk disk cs) (sym no_commands) does) none
-  on_disk-alone caller moment state item before now disk (Err stop.Disk) no_fault none does = absurd (no_fault refl)
-  on_disk-alone caller moment state item before now disk (Err stop.OutOfMemory) no_fault none does = refl
+    -- commands are done, and nothing is read
+    pub takes-done : (P : Type 0) (commands : List Command) → ¬ P → Does g P before now disk disk_now commands
+        → (IsKnown g disk → GivesRow (row_of packet (store_on g before disk) state false) commands next replies)
+        → TakesPacket g packet (working_at (at before disk) state) (working_at (at now disk_now) next) replies (Ok tt)
+    takes-done P commands fine does gives =
+        takes-among P false commands fine (puts-among g P disk disk_now does.puts) (counts-none _ _ does.puts.reads)
+        (λ known. does-among g ⊥ before now disk disk_now commands (Does-same g P ⊥ before now disk disk_now commands fine (λ never. absurd never) does)) gives
+        (λ known failed. absurd (true≢false (sym failed))) (λ ok none. does.none none)
 
-  -- a packet that leaves the disk alone
-  pub answered-alone : (caller : CallSign) (moment : ℕ) (state : State) (item : Item) (before now : StoreState) (disk : D) (replies : List ℕ) (taken : Phase × Result ⊤ Halt)
-      → IsReady g before disk → g.lasts disk disk → AnsweredAlone (packet_of caller moment item) state before now replies taken
-      → Answered g (packet_of caller moment item) state (at before disk) (at now disk) replies taken
-  answered-alone caller moment state item before now disk replies taken ready lasts alone = record {
-    answers = alone.answers;
-    on_disk =
-        on_disk-alone caller moment state item before now disk taken.1 alone.no_fault alone.no_commands
-        (does-none before now disk ready alone.store alone.journal lasts);
-    untouched = told_weaker (session_row caller moment (store_in before) state item) _ _ (λ row is no_commands. λ none. refl) alone.no_commands;
-    held = alone.held;
-    only = alone.only;
-    others = alone.others;
-    kept = subst (λ (s : Store). KeepsComplete (store_in before) s) (sym alone.store) (λ number entry found whole. found);
+    -- the disk failed in one of them
+    pub takes-fault : (P : Type 0) (commands : List Command) → P → PutsAmongReads g P disk disk_now → CountsSome (g.read_faults disk) (g.read_faults disk_now) 0
+        → (IsKnown g disk → DoesAmongReads g ⊤ 0 before now disk disk_now commands) → (IsKnown g disk → HasRow (row_of packet (store_on g before disk) state false) commands)
+        → (commands ≡ [] → disk_now ≡ disk) → next ≡ command → replies ≡ texts (fault_reply state ∷ [])
+        → TakesPacket g packet (working_at (at before disk) state) (working_at (at now disk_now) next) replies (Err stop.Disk)
+    takes-fault P commands failed puts reads does rows untouched waits text = record {
+      fails = false;
+      stopped = (refl, waits, text);
+      makes = λ known.
+          let row = rows known in (
+            row.0,
+            row.1,
+            record {
+              told = λ never. absurd (true≢false (sym never));
+              answers = tt;
+              on_disk = subst (λ (cs : List Command). DoesAmongReads g ⊤ 0 before now disk disk_now cs) row.2 (does known);
+              untouched = λ ok none. untouched (row.2 ∙ none);
+            },
+          );
+      reads = reads;
+      puts = puts-among-same g P _ disk disk_now (λ p. refl) (λ e. failed) puts;
+    }
+
+    -- the same where nothing is read
+    pub takes-cut : (P : Type 0) (commands : List Command) → P → Does g P before now disk disk_now commands → (IsKnown g disk → HasRow (row_of packet (store_on g before disk) state false) commands)
+        → next ≡ command → replies ≡ texts (fault_reply state ∷ []) → TakesPacket g packet (working_at (at before disk) state) (working_at (at now disk_now) next) replies (Err stop.Disk)
+    takes-cut P commands failed does rows waits text =
+        takes-fault P commands failed (puts-among g P disk disk_now does.puts) (counts-none _ _ does.puts.reads)
+        (λ known. does-among g ⊤ before now disk disk_now commands (Does-same g P ⊤ before now disk disk_now commands (λ p. tt) (λ t. failed) does)) rows does.none waits text
+
+  -- there was no memory
+  pub takes-memory : (replies : List ℕ) → g.lasts disk disk → (IsKnown g disk → (row : Row) × (row_of packet (store_on g before disk) state false ≡ Some row) × IsTrue (takes_memory packet.item row.state)) → replies ≡ []
+      → TakesPacket g packet (working_at (at before disk) state) (working_at (at before disk) state) replies (Err stop.OutOfMemory)
+  takes-memory replies lasts rows none = record {
+    fails = false;
+    stopped = (refl, refl, none);
+    makes = λ known.
+        let row = rows known in
+        (row.0, row.1, record { told = λ never. absurd (true≢false (sym never)); answers = row.2; on_disk = tt; untouched = λ ok none. refl });
+    reads = counts-none _ _ refl;
+    puts = puts-among g _ disk disk (puts_none g disk _ (λ e. cc e) lasts);
   }
 
-  -- What stands after a packet, whatever the answer.
-  pub after-packet : (packet : CallerPacket) (state next : State) (before now : AtDisk StoreState D) (replies : List ℕ) (result : Result ⊤ Halt) → g.lasts before.disk before.disk
-      → IsReady g before.it before.disk → Answers packet before.it state now.it next replies result
-      → PutsRow g before.it now.it before.disk now.disk (row_of packet before.it state) result
-      → Puts g (IsErrOf result stop.Disk) before.disk now.disk × (IsErrOf result stop.Disk → now.it.journal.failed ≡ true)
-      × (¬ IsErrOf result stop.Disk → now.it.journal.failed ≡ false) × StandsOn g now.it now.disk
-  after-packet packet state next before now replies (Ok done) lasts ready answers on_disk =
-      let does = at_told (λ row. Does g ⊥ before.it now.it before.disk now.disk row.commands) answers.0 answers.1 on_disk in
-      (puts_same g before.disk now.disk ⊥ _ (λ never. absurd never) (λ e. cc e) does.puts, λ e. absurd (cc e), λ fine. (does.done (λ never. never)).1, does.stands_on)
-  after-packet packet state next before now replies (Err stop.Disk) lasts ready answers on_disk =
-      let does = at_told (λ row. Does g ⊤ before.it now.it before.disk now.disk row.commands) answers.0 answers.1 on_disk in
-      (puts_same g before.disk now.disk ⊤ _ (λ failed. refl) (λ failed. tt) does.puts, λ e. (does.cut tt).failed, λ fine. absurd (fine refl), does.stands_on)
-  after-packet packet state next before now replies (Err stop.OutOfMemory) lasts ready answers on_disk =
-      rw (on_disk, answers.3.0) (puts_none g before.disk _ (λ e. cc e) lasts, λ e. absurd (cc e), λ fine. ready.healthy, ready.stands_on)
+  -- a packet that leaves the disk alone
+  answered-by : (now : StoreState) (replies : List ℕ) (phase : Phase) → IsReady g before disk → g.lasts disk disk → AnsweredAlone packet state before now replies (phase, Ok tt)
+      → Answered g packet state (at before disk) (at now disk) replies (phase, Ok tt)
+  answered-by now replies phase ready lasts alone =
+      let same : store_in now ≡ store_in before = in_parked before now alone.files in
+      let does : Does g ⊥ before now disk disk [] = Does-moved g ⊥ before before before now disk disk [] refl refl alone.files alone.journal (Does-none g ⊥ before disk (λ never. never) ready lasts) in
+      record {
+        takes =
+            takes-done (state_of now phase) now disk replies ⊥ [] (λ never. never) does
+            (λ known. let row = alone.gives (store_on g before disk) (on_like g before disk ready known) in (row.0, row.1, sym row.2, row.3, row.4));
+        failed = λ e. absurd (cc e);
+        healthy = λ fine. (does.done (λ never. never)).1;
+        stands_on = stands_parked g before now disk alone.files alone.journal ready.stands_on;
+        held = alone.held;
+        only = alone.only;
+        others = alone.others;
+        kept = subst (λ (s : Store). KeepsComplete (store_in before) s) (sym same) (λ number entry found whole. found);
+      }
 
--- a row with commands may touch the disk
-pub touched : {D : Type 0} (disk disk_now : D) (o : Option Row) (row : Row) → o ≡ Some row → (row.commands ≡ [] → ⊥) → LeavesDisk disk disk_now o
-touched disk disk_now o row is some = subst (λ (p : Option Row). LeavesDisk disk disk_now p) (sym is) (λ none. absurd (some none))
+  pub answered-alone : (now : StoreState) (replies : List ℕ) (taken : Phase × Result ⊤ Halt) → IsReady g before disk → g.lasts disk disk → AnsweredAlone packet state before now replies taken
+      → Answered g packet state (at before disk) (at now disk) replies taken
+  answered-alone now replies taken ready lasts alone =
+      let P : Result ⊤ Halt → Type 0 = λ r. AnsweredAlone packet state before now replies (taken.0, r) → Answered g packet state (at before disk) (at now disk) replies (taken.0, r) in
+      subst P (sym alone.answered) (answered-by now replies taken.0 ready lasts) alone
 
--- and one without doesn't
-pub untouched : {D : Type 0} (disk disk_now : D) (o : Option Row) (row : Row) → o ≡ Some row → (row.commands ≡ [] → disk_now ≡ disk) → LeavesDisk disk disk_now o
-untouched disk disk_now o row is same = subst (λ (p : Option Row). LeavesDisk disk disk_now p) (sym is) same
-
--- a list with one at its front or at its end isn't empty
-pub some-at_front : (command : Command) (commands : List Command) → command ∷ commands ≡ [] → ⊥
-some-at_front command commands none = cc
-
+-- a list with one at its end isn't empty
 pub some-at_end : (commands : List Command) (last : Command) → commands ++ last ∷ [] ≡ [] → ⊥
 some-at_end [] last none = cc
-some-at_end (command ∷ commands) last none = cc
+some-at_end (first ∷ commands) last none = cc

@@ -1,4 +1,4 @@
--- Code 3 is in no row of the table.
+-- Code 3 is in no row of the table where no read fails.
 use Rattle.std.proofs.Common.{◌≡◌, ◌≢◌, ℕ, List, [], ◌∷◌, ◌++◌, length, refl, ap, ◌∙◌, arith, Bool, true, false, not, Option, None, Some}
 use Rattle.std.specs.Prelude.{Ok, IfSome, if◌then◌else◌, unwrap_or, ◌==◌}
 use Rattle.std.specs.List.{AllByRecursion}
@@ -47,7 +47,7 @@ one : (reply : PacketValue) → code_in reply ≢ 3 → AllByRecursion IsNoFault
 one reply other = (other-code reply other, tt)
 
 -- the code of a fault of a file isn't 3
-fault-other : (o : Option FileFault) (code : ℕ) → option_map code_of o ≡ Some code → code ≢ 3
+pub fault-other : (o : Option FileFault) (code : ℕ) → option_map code_of o ≡ Some code → code ≢ 3
 fault-other None code is three = absurd (let same : None ≡ Some code = is in cc)
 fault-other (Some fault) code is three = by fault (ap (λ (c : Option ℕ). unwrap_or c 0) is ∙ three)
   where

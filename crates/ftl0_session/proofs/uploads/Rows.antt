@@ -1,8 +1,10 @@
 -- Which packets have a row, the rows of those that have no row of their own, and of those in Aborting.
 use Rattle.std.proofs.Common.{◌≡◌, ℕ, List, [], ◌∷◌, refl, Bool, true, false, true≢false, sym, ap, ◌∙◌, Bor, subst, Option, None, Some}
-use Rattle.std.specs.Prelude.{⊤, Result, Ok, Err, IfSome, IsErr, if◌then◌else◌, is_some}
+use Rattle.std.specs.Prelude.{⊤, Result, Ok, Err, IsErr, if◌then◌else◌, is_some}
+use Rattle.std.specs.Option.{option_or}
 use Rattle.px_base.specs.CallSign.{CallSign}
 use Rattle.ftl0_packets.specs.Layout.{Item, data_part, data_end, upload_cmd, ul_error_resp}
+use Rattle.file_store.specs.Outlined.{IsStoreLike}
 use Rattle.file_store.specs.Store.{Store}
 use Rattle.file_store.specs.State.{StoreState, store_in}
 use Rattle.ftl0_session.specs.Uploads.Asked.{IsAsked}
@@ -14,9 +16,9 @@ use Rattle.disk_model.specs.declared.halt.Halt.{Halt}
 use Rattle.ftl0_session.specs.Uploads.Laws.{RowsLaw}
 use Rattle.ftl0_session.specs.Uploads.Others.{KeepsOtherCallers}
 use Rattle.ftl0_packets.specs.Items.{kind_of_item, texts}
-use Rattle.ftl0_session.specs.Uploads.Session.{Row, State, aborting, command, error_row, is_upload_kind, receiving, refused_row, session_row, silent_row}
+use Rattle.ftl0_session.specs.Uploads.Session.{Row, State, aborting, command, error_row, is_upload_kind, receiving, refused_row, row_by_read, row_unread, session_row, silent_row}
 use Rattle.ftl0_session.specs.Uploads.SessionState.{NoOtherOut, PhaseIsHeld, number_of, state_of}
-use Rattle.ftl0_session.specs.Uploads.Taking.{Answers, AnsweredAlone}
+use Rattle.ftl0_session.specs.Uploads.Taking.{AnsweredAlone}
 use Rattle.ftl0_session.specs.Uploads.Events.{packet_of}
 
 -- ---- which packets have a row
@@ -51,6 +53,26 @@ row-some caller moment store state item kind = some-of (session_row caller momen
 pub row-none : (caller : CallSign) (moment : ℕ) (store : Store) (state : State) (item : Item) → is_upload_kind (kind_of_item item) ≡ false
     → session_row caller moment store state item ≡ None
 row-none caller moment store state item kind = none-of (session_row caller moment store state item) (rows caller moment store state item ∙ kind)
+
+-- ---- rows where a read of the disk fails or none does
+
+-- a file is read at no packet but DATA_END, which is of uploading
+unread-none : (store : Store) (state : State) (item : Item) → is_upload_kind (kind_of_item item) ≡ false → row_unread store state item ≡ None
+unread-none store (receiving n rest) (Ok data_end) kind = absurd (true≢false kind)
+unread-none store state item kind = refl
+
+-- a packet that isn't of uploading has none
+pub by_read-none : (caller : CallSign) (moment : ℕ) (store : Store) (state : State) (item : Item) (fails : Bool) → is_upload_kind (kind_of_item item) ≡ false
+    → row_by_read caller moment store state item fails ≡ None
+by_read-none caller moment store state item true kind =
+    ap (λ (o : Option Row). option_or o (session_row caller moment store state item)) (unread-none store state item kind) ∙ row-none caller moment store state item kind
+by_read-none caller moment store state item false kind = row-none caller moment store state item kind
+
+-- where no file is read it is the row where no read fails
+pub by_read-unread : (caller : CallSign) (moment : ℕ) (store : Store) (state : State) (item : Item) (fails : Bool) → row_unread store state item ≡ None
+    → row_by_read caller moment store state item fails ≡ session_row caller moment store state item
+by_read-unread caller moment store state item true none = ap (λ (o : Option Row). option_or o (session_row caller moment store state item)) none
+by_read-unread caller moment store state item false none = refl
 
 -- ---- rows
 
@@ -115,20 +137,15 @@ error-aborting caller moment store item a no_part no_end is = error-no_data call
 pub others-same : (store : StoreState) (caller : CallSign) → KeepsOtherCallers store store caller
 others-same store caller = record { uploads = λ up ne holds. holds; entries = λ number e ne found. (found, refl) }
 
--- no commands, where this is the row
-pub none-at : (row : Row) (o : Option Row) → o ≡ Some row → row.commands ≡ [] → IfSome o (λ r. r.commands ≡ [])
-none-at row o is none = subst (λ (p : Option Row). IfSome p (λ r. r.commands ≡ [])) (sym is) none
-
--- A packet whose row has no commands, and that leaves the store as it was.
+-- A packet that leaves the store as it was, and whose row has no commands.
 module _ (caller : CallSign) (moment : ℕ) (state : State) (item : Item) (store : StoreState) where
-  pub alone-row : (next : Phase) (row : Row) (replies : List ℕ) → session_row caller moment (store_in store) state item ≡ Some row → row.commands ≡ []
-      → Answers (packet_of caller moment item) store state store (state_of store next) replies (Ok tt) → PhaseIsHeld store caller next → NoOtherOut store caller (number_of next)
+  pub alone-row : (next : Phase) (row : Row) (replies : List ℕ) → ((files : Store) → session_row caller moment files state item ≡ Some row) → row.commands ≡ [] → state_of store next ≡ row.state
+      → replies ≡ texts row.replies → PhaseIsHeld store caller next → NoOtherOut store caller (number_of next)
       → AnsweredAlone (packet_of caller moment item) state store store replies (next, Ok tt)
-  alone-row next row replies is none answers held only = record {
-    answers = answers;
-    no_fault = λ same. cc same;
-    no_commands = none-at row _ is none;
-    store = refl;
+  alone-row next row replies is none at text held only = record {
+    answered = refl;
+    gives = λ files like. (row, is files, none, at, text);
+    files = refl;
     journal = refl;
     held = held;
     only = only;
@@ -136,17 +153,26 @@ module _ (caller : CallSign) (moment : ℕ) (state : State) (item : Item) (store
   }
 
   -- one that is refused with a code
-  pub alone-refused : (here : Phase) (code : ℕ) (replies : List ℕ) (taken : Phase × Result ⊤ Halt) → session_row caller moment (store_in store) state item ≡ Some (refused_row state code)
+  pub alone-refused : (here : Phase) (code : ℕ) (replies : List ℕ) (taken : Phase × Result ⊤ Halt) → ((files : Store) → session_row caller moment files state item ≡ Some (refused_row state code))
       → state_of store here ≡ state → taken ≡ (here, Ok tt) → replies ≡ texts (ul_error_resp code ∷ []) → PhaseIsHeld store caller here → NoOtherOut store caller (number_of here)
       → AnsweredAlone (packet_of caller moment item) state store store replies taken
   alone-refused here code replies taken row at is text held only =
       subst (λ (t : Phase × Result ⊤ Halt). AnsweredAlone (packet_of caller moment item) state store store replies t) (sym is)
-      (alone-row here (refused_row state code) replies row refl (refused_row state code, row, ((tt, refl), at, text)) held only)
+      (alone-row here (refused_row state code) replies row refl at text held only)
 
 -- An UPLOAD_CMD that is refused, over a store that stays.
 pub upload-refused : (caller : CallSign) (moment : ℕ) (item : Item) (before now : StoreState) (code : ℕ) (replies : List ℕ) (taken : Phase × Result ⊤ Halt)
-    → session_row caller moment (store_in before) command item ≡ Some (refused_row command code) → now ≡ before → taken ≡ (phase.Command, Ok tt) → replies ≡ texts (ul_error_resp code ∷ [])
-    → NoOtherOut before caller None → AnsweredAlone (packet_of caller moment item) command before now replies taken
+    → ((files : Store) → IsStoreLike (store_in before) files → session_row caller moment files command item ≡ Some (refused_row command code)) → now ≡ before → taken ≡ (phase.Command, Ok tt)
+    → replies ≡ texts (ul_error_resp code ∷ []) → NoOtherOut before caller None → AnsweredAlone (packet_of caller moment item) command before now replies taken
 upload-refused caller moment item before now code replies taken row same is text only =
     subst (λ (s : StoreState). AnsweredAlone (packet_of caller moment item) command before s replies taken) (sym same)
-    (alone-refused caller moment command item before phase.Command code replies taken row refl is text tt only)
+    (subst (λ (t : Phase × Result ⊤ Halt). AnsweredAlone (packet_of caller moment item) command before before replies t) (sym is)
+    (record {
+      answered = refl;
+      gives = λ files like. (refused_row command code, row files like, refl, refl, text);
+      files = refl;
+      journal = refl;
+      held = tt;
+      only = only;
+      others = others-same before caller;
+    }))

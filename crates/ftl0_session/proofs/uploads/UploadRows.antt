@@ -17,7 +17,7 @@ use Rattle.file_store.specs.Store.{Entry, Store, blocks_for, blocks_of, entry_of
 use Rattle.file_store.proofs.Offered.{found-fits, has_number}
 use Rattle.file_store.specs.State.{StoreState, rest_in}
 use Rattle.file_store.specs.Upload.{Upload}
-use Rattle.ftl0_session.specs.Uploads.Session.{aborting, command, continue_row, granted_row, is_all, is_same_call, is_theirs, receiving, refused_row, resumed_row, session_row, taken_row, whole_row}
+use Rattle.ftl0_session.specs.Uploads.Session.{aborting, command, continue_row, granted_row, is_all, is_same_call, is_theirs, receiving, refused_row, resumed_row, row_by_read, session_row, taken_row, unread_row, whole_row}
 use Rattle.ftl0_session.specs.Uploads.SessionState.{receiving_of}
 
 -- ---- a new file
@@ -205,14 +205,19 @@ module _ (caller : CallSign) (moment : ℕ) (store : Store) (number : ℕ) (e : 
   count-here : (rest : List ℕ) → length (octets_of e.holding) + length rest ≡ length held + length rest
   count-here rest = ap (λ (h : List ℕ). length h + length rest) (ap octets_of partly)
 
-  -- Receiving, DATA_END after all octets
+  all-here : (rest : List ℕ) → length held + length rest ≡ e.length → is_all (entry_of store number) rest ≡ true
+  all-here rest all = passes-at (λ x. length (octets_of x.holding) + length rest == x.length) true (eq-eqb _ _ (count-here rest ∙ all))
+
+  -- Receiving, DATA_END after all octets, where a read fails
+  pub row-unread : (rest : List ℕ) → length held + length rest ≡ e.length → row_by_read caller moment store (receiving number rest) (Ok data_end) true ≡ Some (unread_row number rest)
+  row-unread rest all = rw (all-here rest all) refl
+
+  -- and where none does
   pub row-whole : (rest : List ℕ) (fault : Option ℕ) → length held + length rest ≡ e.length → fault_code (octets_at (entry_of store number) ++ rest) ≡ fault
       → session_row caller moment store (receiving number rest) (Ok data_end) ≡ Some (whole_row moment number rest fault)
   unfolding session_row
   row-whole rest fault all checked =
-      let test : is_all (entry_of store number) rest ≡ true =
-      passes-at (λ x. length (octets_of x.holding) + length rest == x.length) true (eq-eqb _ _ (count-here rest ∙ all)) in
-      rw test (ap (λ (f : Option ℕ). Some (whole_row moment number rest f)) checked)
+      rw (all-here rest all) (ap (λ (f : Option ℕ). Some (whole_row moment number rest f)) checked)
 
   -- and before them
   pub row-short : (rest : List ℕ) → length held + length rest < e.length

@@ -12,11 +12,11 @@ use Rattle.file_store.specs.Store.{Entry, Holding, Store, entry_of, new_entry, o
 use Rattle.file_store.proofs.Offered.{after_all-append, find-map-changed, find-push, find_past, grows-after, has_number, last_grow-after}
 use Rattle.ftl0_session.specs.Uploads.Continued.{ContinuedLaw}
 use Rattle.ftl0_session.specs.Uploads.Events.{Event}
-use Rattle.ftl0_session.specs.Uploads.Laws.{AcknowledgedLaw, ResumedLaw, kept}
+use Rattle.ftl0_session.specs.Uploads.Laws.{AcknowledgedLaw, ResumedLaw, UnreadLaw, kept}
 use Rattle.ftl0_session.specs.Uploads.Run.{CommandsOfLaw, commands_of, on_row, replies_to, store_after}
 use Rattle.ftl0_session.specs.Uploads.Session.{Row, receiving, session_row, taken_row, whole_row}
 use Rattle.ftl0_session.specs.Uploads.Uploaded.{BringsFile, UploadedLaw}
-use Rattle.ftl0_session.proofs.uploads.UploadRows.{row-granted, row-resumed, row-taken, row-whole}
+use Rattle.ftl0_session.proofs.uploads.UploadRows.{row-granted, row-resumed, row-taken, row-unread, row-whole}
 
 -- the entry with these octets held
 abbrev pub upto : Entry → List ℕ → Entry
@@ -163,6 +163,19 @@ resumed caller moment store number entry held some under_way by =
     let partly : entry.holding ≡ partial held = under_way.1 in
     row-resumed caller moment number entry.length some store entry under_way.0 by refl (rw partly refl)
     ∙ rw partly refl
+
+-- the last octets that wait are held
+held_entry : (store : Store) (number : ℕ) (held rest : List ℕ) (e : Entry) → entry_of store number ≡ Some (upto e held)
+    → entry_of (after_all store (last_grow number rest)) number ≡ Some (upto e (held ++ rest))
+held_entry store number held rest e found =
+    ap (λ (s : Store). entry_of s number) (last_grow-after number rest store)
+    ∙ find-map-changed number (grown rest) store.entries (upto e held) found
+
+pub unread : UnreadLaw
+unread caller moment store number entry held rest under_way all =
+    let found = under_way.0 ∙ ap Some (upto-is entry held under_way.1) in
+    let whole = row-unread caller moment store number (upto entry held) held found refl rest all in
+    (whole, (held_entry store number held rest entry found, refl))
 
 pub acknowledged : AcknowledgedLaw
 acknowledged caller moment store number entry held rest under_way all good =

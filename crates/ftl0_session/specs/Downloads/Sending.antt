@@ -1,6 +1,6 @@
 -- What a session sends of itself, one packet after another (FTL0 1990, downloading): DATA of what is due, then
 -- DATA_END.
-use Rattle.std.specs.Prelude.{ℕ, ◌+◌, ◌-◌, ◌==◌, min, List, [], ◌∷◌, length, take, drop, flat_map}
+use Rattle.std.specs.Prelude.{ℕ, suc, ◌+◌, ◌-◌, ◌==◌, min, List, [], ◌∷◌, length, take, drop, flat_map}
 use Rattle.std.specs.Prelude.{Bool, true, false, ◌&&◌, if◌then◌else◌, Option, None, Some}
 use Rattle.std.specs.List.{list_any}
 use Rattle.ftl0_packets.specs.Layout.{PacketValue, data_end, data_part, dl_error_resp}
@@ -63,6 +63,10 @@ is_due ready = false
 is_due (sending number place last) = true
 is_due waiting = false
 is_due (listing dues) = true
+
+-- how many octets are due, and one for DATA_END; none where nothing is due
+abbrev pub octets_left : Store → DownloadState → ℕ
+octets_left store state = if is_due state then suc (length (octets_due store state)) else 0
 
 -- whether the octets of a DATA are read from the store then, and not kept
 abbrev pub is_stored : Due → Bool

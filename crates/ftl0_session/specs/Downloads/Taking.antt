@@ -6,6 +6,7 @@ use Rattle.disk_model.specs.declared.disk.Disk.{Ghosts}
 use Rattle.ftl0_packets.specs.Layout.{dl_error_resp, packet_text}
 use Rattle.ftl0_session.specs.Lists.Lists.{CallerList}
 use Rattle.file_store.specs.Calls.{Reads}
+use Rattle.file_store.specs.State.{IsKnown}
 use Rattle.file_store.specs.Store.{Store}
 use Rattle.selection.specs.Layout.{Tree}
 use Rattle.ftl0_session.specs.declared.downloads.downloads.Form.{Form}
@@ -29,29 +30,32 @@ made state lists replies = record { state = state; lists = lists; replies = repl
 abbrev pub made_by : DownloadRow → Made
 made_by row = made row.state row.lists (flat_map packet_text row.replies)
 
--- The disk is as reads leave it, of which one failed or none; and what was made is the row for that, which tells of a
--- read that failed by code 3.
+-- The disk is as reads leave it, of which one failed or none. Where it is known what the store's files hold, what was
+-- made is the row for that, which tells of a read that failed by code 3.
 pub record MakesRow {D : Type 0} (g : Ghosts D) (disk disk_now : D) (row : Bool → DownloadRow) (now : Made) :
     Type 0 where
   pub fails : Bool
   pub reads : Reads g (IsTrue fails) disk disk_now
-  pub told : fails ≡ true → (row fails).replies ≡ dl_error_resp 3 ∷ []
-  pub is_row : now ≡ made_by (row fails)
+  pub told : IsKnown g disk → fails ≡ true → (row fails).replies ≡ dl_error_resp 3 ∷ []
+  pub is_row : IsKnown g disk → now ≡ made_by (row fails)
 
 -- the packet has this row, and it was made; or it has none, was not taken, and nothing changed
 abbrev pub IsRow : {D : Type 0} → Option DownloadRow → Bool → D → D → Made → Made → Type 0
 IsRow None taken disk disk_now before now = (taken ≡ false) × (disk_now ≡ disk) × (now ≡ before)
 IsRow (Some row) taken disk disk_now before now = (taken ≡ true) × (now ≡ made_by row)
 
--- A packet with this row of downloading, for reads that fail or don't, is taken exactly where it has one. The disk is
--- as reads leave it, of which one failed or none; and what was made is the packet's row for that. Where a read failed
--- it has one, which tells of it by code 3.
+-- The disk is as reads leave it, of which one failed or none; a packet that isn't taken changes nothing. Where it is
+-- known what the store's files hold, a packet with this row of downloading, for reads that fail or don't, is taken
+-- exactly where it has one; and what was made is the packet's row for that. Where a read failed it has one, which tells
+-- of it by code 3.
 pub record TakesByRow {D : Type 0} (g : Ghosts D) (row : Bool → Option DownloadRow) (disk disk_now : D)
     (before now : Made) (taken : Bool) : Type 0 where
   pub fails : Bool
   pub reads : Reads g (IsTrue fails) disk disk_now
-  pub told : fails ≡ true → IsSomeAnd (row fails) (λ given. given.replies ≡ dl_error_resp 3 ∷ [])
-  pub is_row : IsRow (row fails) taken disk disk_now before now
+  pub passed : taken ≡ false → (disk_now ≡ disk) × (now ≡ before)
+  pub told :
+      IsKnown g disk → fails ≡ true → IsSomeAnd (row fails) (λ given. given.replies ≡ dl_error_resp 3 ∷ [])
+  pub is_row : IsKnown g disk → IsRow (row fails) taken disk disk_now before now
 
 -- what a directory command of this form lists
 abbrev pub due_by : Form → Store → List ℕ → List Due

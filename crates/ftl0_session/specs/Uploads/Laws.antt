@@ -16,7 +16,7 @@ use Rattle.file_store.specs.Store.{Entry, Store, complete, entry_of, partial}
 use Rattle.file_store.specs.OnDisk.{MakesBetween}
 use Rattle.file_store.specs.State.{StandsFor}
 use Rattle.ftl0_session.specs.Uploads.Session.{Row, State, command, granted_row, is_upload_kind, receiving, resumed_row}
-use Rattle.ftl0_session.specs.Uploads.Session.{session_row}
+use Rattle.ftl0_session.specs.Uploads.Session.{row_by_read, session_row, unread_row}
 
 -- Each packet of uploading, malformed or not, has a row in each state, and no other packet has one in any.
 abbrev pub RowsLaw : Type 0
@@ -35,7 +35,7 @@ GrantedLaw =
 abbrev pub IsNoFault : PacketValue → Type 0
 IsNoFault reply = (reply ≢ ul_error_resp 3) × (reply ≢ ul_nak_resp 3)
 
--- No row of the table replies code 3: it comes only where the disk failed.
+-- No row of the table replies code 3 where no read of the disk fails.
 abbrev pub FaultCodeLaw : Type 0
 FaultCodeLaw =
     (caller : CallSign) (moment : ℕ) (store : Store) (state : State) (item : Item)
@@ -53,6 +53,10 @@ ResumedLaw =
     → session_row caller moment store command (Ok (upload_cmd number entry.length))
     ≡ Some (resumed_row number (length held))
 
+-- the entry with these octets held
+abbrev pub holding : Entry → List ℕ → Entry
+holding entry held = record entry { holding = partial held }
+
 -- the entry with this file, kept with its stamp of this moment
 abbrev pub kept : Entry → List ℕ → ℕ → Entry
 kept entry file moment = record entry { holding = complete (stamped (stamp_of moment entry) file) moment }
@@ -69,6 +73,16 @@ AcknowledgedLaw =
     × (entry_of (after_all store row.commands) number ≡ Some (kept entry (held ++ rest) moment))
     × (IsCall entry.caller → IsOctets (held ++ rest)
     → KeepsClient (held ++ rest) (stamped (stamp_of moment entry) (held ++ rest)))
+
+-- Where a read of the disk fails, a file of which all octets came isn't acknowledged: UL_NAK_RESP 3. It stays under
+-- way, with exactly these octets held.
+abbrev pub UnreadLaw : Type 0
+UnreadLaw =
+    (caller : CallSign) (moment : ℕ) (store : Store) (number : ℕ) (entry : Entry) (held rest : List ℕ)
+    → IsUnderWay store number entry held → length held + length rest ≡ entry.length
+    → (row_by_read caller moment store (receiving number rest) (Ok data_end) true ≡ Some (unread_row number rest))
+    × IsUnderWay (after_all store (unread_row number rest).commands) number (holding entry (held ++ rest))
+    (held ++ rest)
 
 -- All octets of the file under way have come: those that are held and those that wait. It has no fault.
 pub record IsWhole (store : Store) (number : ℕ) (entry : Entry) (held rest : List ℕ) : Type 0 where

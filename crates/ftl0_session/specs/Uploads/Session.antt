@@ -2,6 +2,7 @@
 -- table row by row, as far as it is of uploading.
 use Rattle.std.specs.Prelude.{ℕ, ◌+◌, ◌==◌, List, [], ◌∷◌, ◌++◌, length, Option, None, Some, Ok}
 use Rattle.std.specs.Prelude.{bytes_eq, Bool, true, false, not, ◌&&◌, ◌||◌, if◌then◌else◌}
+use Rattle.std.specs.Option.{option_or}
 use Rattle.px_base.specs.CallSign.{CallSign}
 use Rattle.pfh_items.specs.Faults.{fault_code}
 use Rattle.ftl0_packets.specs.Items.{kind_of_item}
@@ -123,8 +124,8 @@ silent_row state = record { state = state; commands = []; replies = [] }
 abbrev pub error_row : State → Item → Option Row
 error_row state item = if is_upload_kind (kind_of_item item) then Some (refused_row state 1) else None
 
--- The table, row by row: what a packet gives in a state, over a store, at a moment. None exactly where the packet isn't
--- of uploading.
+-- The table, row by row: what a packet gives in a state, over a store, at a moment, where no read of the disk fails.
+-- None exactly where the packet isn't of uploading.
 unfoldable pub session_row : CallSign → ℕ → Store → State → Item → Option Row
 session_row caller moment store command (Ok (upload_cmd number file_length)) =
     Some (upload_row caller moment store number file_length)
@@ -135,8 +136,25 @@ session_row caller moment store aborting (Ok (data_part octets)) = Some (silent_
 session_row caller moment store aborting (Ok data_end) = Some (silent_row command)
 session_row caller moment store state item = error_row state item
 
--- The reply to a packet at whose row the disk failed: code 3, by UL_NAK_RESP where a file is received, else by
--- UL_ERROR_RESP.
+-- the row of a whole file whose octets can't be read: those that wait become held, and the file stays under way
+abbrev pub unread_row : ℕ → List ℕ → Row
+unread_row number rest =
+    record { state = command; commands = last_grow number rest; replies = ul_nak_resp 3 ∷ [] }
+
+-- The row where a read of the disk fails, of a packet at which the file is read: DATA_END of a whole file, UL_NAK_RESP
+-- 3. At no other one is anything read.
+abbrev pub row_unread : Store → State → Item → Option Row
+row_unread store (receiving number rest) (Ok data_end) =
+    if is_all (entry_of store number) rest then Some (unread_row number rest) else None
+row_unread store state item = None
+
+-- The table where a read of the disk fails or none does.
+abbrev pub row_by_read : CallSign → ℕ → Store → State → Item → Bool → Option Row
+row_by_read caller moment store state item fails =
+    option_or (if fails then row_unread store state item else None) (session_row caller moment store state item)
+
+-- The reply to a packet at whose row a write or a sync of the disk failed: code 3, by UL_NAK_RESP where a file is
+-- received, else by UL_ERROR_RESP.
 abbrev pub fault_reply : State → PacketValue
 fault_reply command = ul_error_resp 3
 fault_reply (receiving number rest) = ul_nak_resp 3

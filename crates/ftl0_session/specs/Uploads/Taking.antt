@@ -1,68 +1,98 @@
 -- How the code's session answers a packet of uploading, and what that does to the disk.
-use Rattle.std.specs.Prelude.{◌≡◌, ℕ, List, [], ◌∷◌, IsTrue, ⊤, Option, Some, IfSome, Result, Ok, Err, IsErrOf}
+use Rattle.std.specs.Prelude.{◌≡◌, ℕ, List, [], ◌∷◌, Bool, true, false, IsTrue, ⊤, Option, Some, Result, Ok, Err}
+use Rattle.std.specs.Prelude.{IsErrOf}
 use Rattle.disk_model.specs.declared.disk.Disk.{Ghosts}
-use Rattle.ftl0_packets.specs.Layout.{ul_error_resp}
-use Rattle.ftl0_packets.specs.Values.{item_of}
-use Rattle.ftl0_packets.specs.declared.packet.Malformed.{Malformed}
-use Rattle.ftl0_packets.specs.declared.packet.Packet.{Packet}
+use Rattle.ftl0_packets.specs.Layout.{Item, ul_error_resp, ul_nak_resp}
 use Rattle.file_store.specs.Command.{DoesAll}
 use Rattle.file_store.specs.EntriesKept.{KeepsComplete}
 use Rattle.file_store.specs.declared.refusals.BeginRefusal.{BeginRefusal}
 use Rattle.file_store.specs.declared.refusals.BeginRefusal.TheVariants as refusal
-use Rattle.file_store.specs.OnDisk.{Does}
-use Rattle.file_store.specs.State.{StoreState, store_in}
+use Rattle.file_store.specs.Files.{store_of}
+use Rattle.file_store.specs.Outlined.{IsStoreLike}
+use Rattle.file_store.specs.State.{IsKnown, StandsOn, StoreState, store_in, store_on}
+use Rattle.file_store.specs.Store.{Store}
+use Rattle.file_store.specs.Working.{CountsSome, DoesAmongReads, PutsAmongReads, one_if}
 use Rattle.ftl0_session.specs.declared.uploads.phase.Phase.{Phase}
 use Rattle.disk_model.specs.declared.halt.Halt.{Halt}
 use Rattle.disk_model.specs.declared.halt.Halt.TheVariants as stop
-use Rattle.ftl0_session.specs.Uploads.Events.{CallerPacket, packet_of}
+use Rattle.ftl0_session.specs.Uploads.Events.{CallerPacket}
 use Rattle.ftl0_session.specs.Uploads.Others.{KeepsOtherCallers}
 use Rattle.ftl0_packets.specs.Items.{texts}
-use Rattle.ftl0_session.specs.Uploads.Session.{Row, State, command, fault_reply, session_row, takes_memory}
-use Rattle.disk_model.specs.AtDisk.{AtDisk}
-use Rattle.ftl0_session.specs.Uploads.SessionState.{NoOtherOut, PhaseIsHeld, SessionState, number_of}
-use Rattle.ftl0_session.specs.Uploads.SessionState.{state_of}
+use Rattle.ftl0_session.specs.Uploads.Session.{Row, State, command, fault_reply, row_by_read, takes_memory}
+use Rattle.disk_model.specs.AtDisk.{AtDisk, at}
+use Rattle.ftl0_session.specs.Uploads.SessionState.{NoOtherOut, PhaseIsHeld, number_of, state_of}
 
--- the packet's row over this store: each packet of uploading has one
-abbrev pub row_of : CallerPacket → StoreState → State → Option Row
-row_of packet before state = session_row packet.caller packet.moment (store_in before) state packet.item
+-- what a session takes a packet of uploading over, and what it leaves: the store and the state
+pub record Working : Type 0 where
+  pub store : StoreState
+  pub state : State
+
+-- by its parts, with their disk
+abbrev pub working_at : {D : Type 0} → AtDisk StoreState D → State → AtDisk Working D
+working_at files state = at (record { store = files.it; state = state }) files.disk
+
+-- the store with the octets that its files have on the disk
+abbrev pub files_at : {D : Type 0} → Ghosts D → AtDisk Working D → Store
+files_at g here = store_on g here.it.store here.disk
+
+-- the packet's row over this store, where a read of the disk fails or none does: each packet of uploading has one
+abbrev pub row_of : CallerPacket → Store → State → Bool → Option Row
+row_of packet store state fails = row_by_read packet.caller packet.moment store state packet.item fails
 
 -- what the row gives is the store, the state and the replies now; the condition of each of its commands held in turn
-abbrev pub Gives : StoreState → Row → StoreState → State → List ℕ → Type 0
-Gives before row now next replies =
-    DoesAll (store_in before) (store_in now) row.commands × (next ≡ row.state) × (replies ≡ texts row.replies)
-
--- nothing changed and nothing is replied
-abbrev pub GivesNothing : StoreState → State → StoreState → State → List ℕ → Type 0
-GivesNothing before state now next replies = (now ≡ before) × (next ≡ state) × (replies ≡ [])
+abbrev pub Gives : {D : Type 0} → Ghosts D → AtDisk Working D → Row → AtDisk Working D → List ℕ → Type 0
+Gives g before row now replies =
+    DoesAll (files_at g before) (files_at g now) row.commands × (now.it.state ≡ row.state)
+    × (replies ≡ texts row.replies)
 
 -- The answer to a packet is its row of the table. A stop says that there is no memory, where the row begins a file or
--- takes octets, and nothing changed; or that the disk failed in one of the row's commands, which code 3 replies.
-abbrev pub Answers : CallerPacket → StoreState → State → StoreState → State → List ℕ → Result ⊤ Halt → Type 0
-Answers packet before state now next replies (Ok done) =
-    (row : Row) × (row_of packet before state ≡ Some row) × Gives before row now next replies
-Answers packet before state now next replies (Err stop.OutOfMemory) =
-    (row : Row) × (row_of packet before state ≡ Some row)
-    × IsTrue (takes_memory packet.item row.state) × GivesNothing before state now next replies
-Answers packet before state now next replies (Err stop.Disk) =
-    (row : Row) × (row_of packet before state ≡ Some row)
-    × (next ≡ command) × (replies ≡ texts (fault_reply state ∷ []))
+-- takes octets; or that a write or a sync of the disk failed in one of the row's commands.
+abbrev pub Answers :
+    {D : Type 0} → Ghosts D → Item → AtDisk Working D → Row → AtDisk Working D → List ℕ → Result ⊤ Halt → Type 0
+Answers g item before row now replies (Ok done) = Gives g before row now replies
+Answers g item before row now replies (Err stop.OutOfMemory) = IsTrue (takes_memory item row.state)
+Answers g item before row now replies (Err stop.Disk) = ⊤
 
--- the row's commands are done, or, where it failed, the disk failed in one of them
-abbrev pub DoesRow : {D : Type 0} → Ghosts D → Type 0 → StoreState → StoreState → D → D → Option Row → Type 0
-DoesRow g failed before now disk disk_now row = IfSome row (λ r. Does g failed before now disk disk_now r.commands)
-
--- What a packet with this row does to the disk. Where it is answered, the row's commands are done, or the disk failed
--- in one of them: a crash since the packet came leaves the store after the first so many of them. Else the disk isn't
--- touched.
+-- What a packet with this row does to the disk. Where it is answered, the row's commands are done, among reads of which
+-- one failed or none; or a write or a sync failed in one of them, and no read. A crash since the packet came leaves the
+-- store after the first so many of them.
 abbrev pub PutsRow :
-    {D : Type 0} → Ghosts D → StoreState → StoreState → D → D → Option Row → Result ⊤ Halt → Type 0
-PutsRow g before now disk disk_now row (Ok done) = DoesRow g ⊥ before now disk disk_now row
-PutsRow g before now disk disk_now row (Err stop.Disk) = DoesRow g ⊤ before now disk disk_now row
-PutsRow g before now disk disk_now row (Err stop.OutOfMemory) = disk_now ≡ disk
+    {D : Type 0} → Ghosts D → Bool → Row → AtDisk Working D → AtDisk Working D → Result ⊤ Halt → Type 0
+PutsRow g fails row before now (Ok done) =
+    DoesAmongReads g ⊥ (one_if fails) before.it.store now.it.store before.disk now.disk row.commands
+PutsRow g fails row before now (Err stop.Disk) =
+    DoesAmongReads g ⊤ 0 before.it.store now.it.store before.disk now.disk row.commands
+PutsRow g fails row before now (Err stop.OutOfMemory) = ⊤
 
--- a row without commands leaves the disk as it was
-abbrev pub LeavesDisk : {D : Type 0} → D → D → Option Row → Type 0
-LeavesDisk disk disk_now row = IfSome row (λ r. r.commands ≡ [] → disk_now ≡ disk)
+-- What a packet with this row gives, where a read of the disk failed, which code 3 tells, or none did.
+pub record MakesRow {D : Type 0} (g : Ghosts D) (fails : Bool) (item : Item) (row : Row)
+    (before now : AtDisk Working D) (replies : List ℕ) (result : Result ⊤ Halt) : Type 0 where
+  pub told : fails ≡ true → row.replies ≡ ul_nak_resp 3 ∷ []
+  pub answers : Answers g item before row now replies result
+  pub on_disk : PutsRow g fails row before now result
+  pub untouched : fails ≡ false → row.commands ≡ [] → now.disk ≡ before.disk
+
+-- What a stop leaves, whatever the disk tells; no read failed. There was no memory, and nothing changed and nothing is
+-- replied; or a write or a sync of the disk failed, which code 3 replies, and a command is waited for.
+abbrev pub IsStopped :
+    {D : Type 0} → Bool → AtDisk Working D → AtDisk Working D → List ℕ → Result ⊤ Halt → Type 0
+IsStopped fails before now replies (Ok done) = ⊤
+IsStopped fails before now replies (Err stop.OutOfMemory) = (fails ≡ false) × (now ≡ before) × (replies ≡ [])
+IsStopped fails before now replies (Err stop.Disk) =
+    (fails ≡ false) × (now.it.state ≡ command) × (replies ≡ texts (fault_reply before.it.state ∷ []))
+
+-- A session takes a packet, malformed or not, and a read of the disk fails or none does. What it gives is the packet's
+-- row for that, where it is known what the store's files hold.
+pub record TakesPacket {D : Type 0} (g : Ghosts D) (packet : CallerPacket) (before now : AtDisk Working D)
+    (replies : List ℕ) (result : Result ⊤ Halt) : Type 0 where
+  pub fails : Bool
+  pub stopped : IsStopped fails before now replies result
+  pub makes :
+      IsKnown g before.disk
+      → (row : Row) × (row_of packet (files_at g before) before.it.state fails ≡ Some row)
+      × MakesRow g fails packet.item row before now replies result
+  pub reads : CountsSome (g.read_faults before.disk) (g.read_faults now.disk) (one_if fails)
+  pub puts : PutsAmongReads g (IsErrOf result stop.Disk) before.disk now.disk
 
 -- the answer by UL_ERROR_RESP with this code
 abbrev pub AnswersCode : ℕ → List ℕ → Result ⊤ Halt → Type 0
@@ -79,39 +109,33 @@ AnswersRefusal refusal.Failed replies result = ⊥
 AnswersRefusal refusal.Disk replies result = (result ≡ Err stop.Disk) × (replies ≡ texts (fault_reply command ∷ []))
 AnswersRefusal refusal.OutOfMemory replies result = (result ≡ Err stop.OutOfMemory) × (replies ≡ [])
 
--- A session takes a packet, malformed or not: what it was, over one store, and what it is now, over another, with these
--- replies.
-abbrev pub TakesPacket :
-    ℕ → SessionState → StoreState → Result Packet Malformed → SessionState → StoreState → List ℕ
-    → Result ⊤ Halt → Type 0
-TakesPacket moment old before packet new now replies result =
-    Answers (packet_of old.caller moment (item_of packet)) before (state_of before old.phase) now
-    (state_of now new.phase) replies result
-
--- the row of a packet that a session takes
-abbrev pub row_for : ℕ → SessionState → StoreState → Result Packet Malformed → Option Row
-row_for moment old before packet =
-    row_of (packet_of old.caller moment (item_of packet)) before (state_of before old.phase)
-
--- What a packet gives in a state: the phase after it and the answer, and what it keeps.
+-- What a packet gives in a state: the phase after it and the answer, and what it leaves and keeps.
 pub record Answered {D : Type 0} (g : Ghosts D) (packet : CallerPacket) (state : State)
     (before now : AtDisk StoreState D) (replies : List ℕ) (taken : Phase × Result ⊤ Halt) : Type 0 where
-  pub answers : Answers packet before.it state now.it (state_of now.it taken.0) replies taken.1
-  pub on_disk : PutsRow g before.it now.it before.disk now.disk (row_of packet before.it state) taken.1
-  pub untouched : LeavesDisk before.disk now.disk (row_of packet before.it state)
+  pub takes :
+      TakesPacket g packet (working_at before state) (working_at now (state_of now.it taken.0)) replies taken.1
+  pub failed : IsErrOf taken.1 stop.Disk → now.it.journal.failed ≡ true
+  pub healthy : ¬ IsErrOf taken.1 stop.Disk → now.it.journal.failed ≡ false
+  pub stands_on : StandsOn g now.it now.disk
   pub held : PhaseIsHeld now.it packet.caller taken.0
   pub only : NoOtherOut now.it packet.caller (number_of taken.0)
   pub others : KeepsOtherCallers before.it now.it packet.caller
   pub kept : KeepsComplete (store_in before.it) (store_in now.it)
 
--- What a packet gives that leaves the disk alone: the files are as they were, but that an upload may have gone out or
--- been given up.
+-- a row without commands gives this state and these replies
+abbrev pub GivesAlone : Option Row → State → List ℕ → Type 0
+GivesAlone given next replies =
+    (row : Row) × (given ≡ Some row) × (row.commands ≡ []) × (next ≡ row.state) × (replies ≡ texts row.replies)
+
+-- What a packet gives that leaves the disk alone: its row over each store that is so, whatever octets its files have.
+-- The files are as they were, but that an upload may have gone out or been given up.
 pub record AnsweredAlone (packet : CallerPacket) (state : State) (before now : StoreState) (replies : List ℕ)
     (taken : Phase × Result ⊤ Halt) : Type 0 where
-  pub answers : Answers packet before state now (state_of now taken.0) replies taken.1
-  pub no_fault : ¬ IsErrOf taken.1 stop.Disk
-  pub no_commands : IfSome (row_of packet before state) (λ row. row.commands ≡ [])
-  pub store : store_in now ≡ store_in before
+  pub answered : taken.1 ≡ Ok tt
+  pub gives :
+      (store : Store) → IsStoreLike (store_in before) store
+      → GivesAlone (row_of packet store state false) (state_of now taken.0) replies
+  pub files : store_of now.files ≡ store_of before.files
   pub journal : now.journal ≡ before.journal
   pub held : PhaseIsHeld now packet.caller taken.0
   pub only : NoOtherOut now packet.caller (number_of taken.0)

@@ -1,17 +1,17 @@
 //! The headers of files that a directory command lists.
 
-ghost use Rattle.std.specs.Prelude.{◌≡◌, ◌+◌, ◌*◌, ◌≤◌, ◌++◌, [], length, map, flat_map, IsErr, IfOk, OnOk};
+ghost use Rattle.std.specs.Prelude.{◌≡◌, ◌+◌, ◌*◌, ◌≤◌, ◌++◌, [], length, map, flat_map, IsErrOf, IfOk, OnOk};
 ghost use Rattle.file_store.specs.Headers.{header_octets};
 ghost use Rattle.file_store.specs.Reads.{MayRead, OnlyReads};
-ghost use Rattle.file_store.specs.State.{store_in};
+ghost use Rattle.file_store.specs.State.{IsKnown, store_in, store_on};
 ghost use Rattle.ftl0_session.specs.Downloads.Needs.{AreStored, LiesIn, MayList};
 ghost use Rattle.ftl0_session.specs.Downloads.Spans.{due_of};
 ghost use Rattle.ftl0_session.specs.Downloads.Table.{header_due, long_due, octets_in, short_octets};
 
 use crate::downloads::span::{MOST_LISTED, Span, Spans};
 use arrayvec::ArrayVec;
-use disk_model::{Disk, DiskFault};
-use file_store::{FileStore, header_in};
+use disk_model::Disk;
+use file_store::{FileStore, HeaderFault, header_in};
 use pfh_writer::short_form;
 
 /// The length of a short form in octets.
@@ -21,17 +21,18 @@ pub(crate) const SHORT_LEN: usize = 73;
 pub(crate) type ShortForms = ArrayVec<u8, 730>;
 
 /// Reads the headers of complete files, at most ten, and puts their short forms in place of what is there, one after
-/// another. The fault comes only where a read of the disk failed, and leaves any octets there. Takes no memory.
+/// another. A fault leaves any octets there. Takes no memory.
 pub(crate) fn read_short_forms<D: Disk>(
     disk: &mut D,
     store: &mut FileStore,
     numbers: &[u32],
     forms: &mut ShortForms,
-) -> Result<(), DiskFault>
+) -> Result<(), HeaderFault>
     requires { MayList D.Disk store.old disk.old numbers.now }
-    ensures forms { OnOk result (forms.new.items
-        ≡ flat_map (λ number. short_octets (octets_in (store_in store.old) number)) numbers.now) }
-    ensures reads { OnlyReads D.Disk (IsErr result) store.old store.new disk.old disk.new }
+    ensures forms { OnOk result (IsKnown D.Disk disk.old → forms.new.items ≡ flat_map
+        (λ number. short_octets (octets_in (store_on D.Disk store.old disk.old) number)) numbers.now) }
+    ensures there { IsErrOf result HeaderFault.NoHeader → ¬ IsKnown D.Disk disk.old }
+    ensures reads { OnlyReads D.Disk (IsErrOf result HeaderFault.Disk) store.old store.new disk.old disk.new }
 {
     forms.clear();
     for number in numbers {
@@ -46,26 +47,29 @@ fn read_short_form<D: Disk>(
     disk: &mut D,
     store: &mut FileStore,
     number: u32,
-) -> Result<[u8; SHORT_LEN], DiskFault>
+) -> Result<[u8; SHORT_LEN], HeaderFault>
     requires { MayRead D.Disk store.old disk.old number }
-    ensures form { IfOk result (λ form. form ≡ short_octets (octets_in (store_in store.old) number)) }
-    ensures reads { OnlyReads D.Disk (IsErr result) store.old store.new disk.old disk.new }
+    ensures form { IfOk result (λ form. IsKnown D.Disk disk.old
+        → form ≡ short_octets (octets_in (store_on D.Disk store.old disk.old) number)) }
+    ensures there { IsErrOf result HeaderFault.NoHeader → ¬ IsKnown D.Disk disk.old }
+    ensures reads { OnlyReads D.Disk (IsErrOf result HeaderFault.Disk) store.old store.new disk.old disk.new }
 {
     let header = store.header(disk, number)?;
     Ok(short_form(&header_in(header)))
 }
 
-/// Reads the headers of complete files, at most ten, and gives where they lie. The fault comes only where a read of the
-/// disk failed. Takes no memory.
+/// Reads the headers of complete files, at most ten, and gives where they lie. Takes no memory.
 pub(crate) fn read_spans_of_headers<D: Disk>(
     disk: &mut D,
     store: &mut FileStore,
     numbers: &[u32],
-) -> Result<Spans, DiskFault>
+) -> Result<Spans, HeaderFault>
     requires { MayList D.Disk store.old disk.old numbers.now }
-    ensures spans { IfOk result (λ spans. map due_of spans.items ≡ long_due (store_in store.old) numbers.now) }
-    ensures within { OnOk result (AreStored (store_in store.old) (long_due (store_in store.old) numbers.now)) }
-    ensures reads { OnlyReads D.Disk (IsErr result) store.old store.new disk.old disk.new }
+    ensures spans { IfOk result (λ spans. IsKnown D.Disk disk.old
+        → map due_of spans.items ≡ long_due (store_on D.Disk store.old disk.old) numbers.now) }
+    ensures within { IfOk result (λ spans. AreStored (store_in store.old) (map due_of spans.items)) }
+    ensures there { IsErrOf result HeaderFault.NoHeader → ¬ IsKnown D.Disk disk.old }
+    ensures reads { OnlyReads D.Disk (IsErrOf result HeaderFault.Disk) store.old store.new disk.old disk.new }
 {
     let mut spans = ArrayVec::new();
     for number in numbers {
@@ -75,11 +79,13 @@ pub(crate) fn read_spans_of_headers<D: Disk>(
 }
 
 /// Reads the header of a complete file, and gives where it lies.
-fn read_span<D: Disk>(disk: &mut D, store: &mut FileStore, number: u32) -> Result<Span, DiskFault>
+fn read_span<D: Disk>(disk: &mut D, store: &mut FileStore, number: u32) -> Result<Span, HeaderFault>
     requires { MayRead D.Disk store.old disk.old number }
-    ensures span { IfOk result (λ span. due_of span ≡ header_due (store_in store.old) number) }
+    ensures span { IfOk result (λ span. IsKnown D.Disk disk.old
+        → due_of span ≡ header_due (store_on D.Disk store.old disk.old) number) }
     ensures within { IfOk result (λ span. LiesIn (store_in store.old) span.number span.place span.last) }
-    ensures reads { OnlyReads D.Disk (IsErr result) store.old store.new disk.old disk.new }
+    ensures there { IsErrOf result HeaderFault.NoHeader → ¬ IsKnown D.Disk disk.old }
+    ensures reads { OnlyReads D.Disk (IsErrOf result HeaderFault.Disk) store.old store.new disk.old disk.new }
 {
     let header = store.header(disk, number)?;
     Ok(Span {

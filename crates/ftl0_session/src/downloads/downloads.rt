@@ -1,20 +1,21 @@
 //! Downloads, directories and selections of one session: what each packet gives, and what is sent next.
 
-ghost use Rattle.std.specs.Prelude.{◌≡◌, ◌↔◌, ◌<◌, ◌≤◌, [], length, take as front, IfNone, IfOk, IfSome, IsErr};
-ghost use Rattle.std.specs.Prelude.{IsTrue, OnErr};
+ghost use Rattle.std.specs.Prelude.{◌≡◌, ◌↔◌, ◌<◌, ◌≤◌, [], length, min, take as front, IfNone, IfOk, IfSome, IsErr};
+ghost use Rattle.std.specs.Prelude.{IsErrOf, IsTrue, OnErr};
 ghost use Rattle.std.specs.Prelude.{OnOk, Some, false, true};
 ghost use Rattle.std.specs.List.{list_all};
 ghost use Rattle.std.specs.Option.{ForSome, option_map};
 ghost use Rattle.ftl0_packets.specs.Layout.{dl_error_resp, information, packet_text};
 ghost use Rattle.ftl0_packets.specs.Values.{value_of};
 ghost use Rattle.file_store.specs.Reads.{OnlyReads};
-ghost use Rattle.file_store.specs.State.{IsReady, store_in};
+ghost use Rattle.file_store.specs.State.{IsKnown, IsReady, store_in, store_on};
 ghost use Rattle.selection.specs.Values.{tree_of};
 ghost use Rattle.ftl0_session.specs.Lists.Lists.{left_of};
 ghost use Rattle.ftl0_session.specs.Downloads.Filling.{PutsDue, filled};
 ghost use Rattle.ftl0_session.specs.Downloads.Needs.{AreComplete, IsDueIn, KeepsFiles, LiesIn, MayCommand, MayList};
 ghost use Rattle.ftl0_session.specs.Downloads.Needs.{MaySend, MayTake};
 ghost use Rattle.ftl0_session.specs.Downloads.Sending.{is_due as is_due_in, is_read, most_data, octets_due};
+ghost use Rattle.ftl0_session.specs.Downloads.Sending.{octets_left};
 ghost use Rattle.ftl0_session.specs.Downloads.Sending.{state_after, state_at_end};
 ghost use Rattle.ftl0_session.specs.Downloads.Table.{asked_file, directory_row, download_cmd_row, file_of, has_file};
 ghost use Rattle.ftl0_session.specs.Downloads.Table.{download_row, listed_files};
@@ -30,7 +31,7 @@ use crate::downloads::span::{MOST_DATA, MOST_LISTED, Part, Span, Spans, read_spa
 use crate::lists::Lists;
 use arrayvec::ArrayVec;
 use disk_model::{Disk, DiskFault};
-use file_store::FileStore;
+use file_store::{FileStore, HeaderFault};
 use ftl0_packets::{Packet, write_packet};
 use px_base::Call;
 use selection::Selection;
@@ -39,7 +40,7 @@ use std::marker::Model;
 /// The code of an offset above the file's length.
 const BAD_CONTINUE: u8 = 2;
 
-/// The code of a read of the server's disk that failed.
+/// The code of a read of the server's disk that failed, or that gave no header of a file any more.
 const FILE_SYSTEM: u8 = 3;
 
 /// The code of a number of which there is no complete file.
@@ -145,7 +146,7 @@ impl Downloads {
         requires { MayTake D.Disk store.old disk.old lists.old self.old }
 
         // The answer is the packet's row, if it has one.
-        ensures takes { TakesByRow D.Disk (download_row caller (store_in store.old) lists.old self.old
+        ensures takes { TakesByRow D.Disk (download_row caller (store_on D.Disk store.old disk.old) lists.old self.old
             (value_of packet.now)) disk.old disk.new (made self.old lists.old replies.old.items)
             (made self.new lists.new replies.new.items) result }
         ensures keeps { KeepsFiles D.Disk store.old store.new disk.new lists.new self.new }
@@ -169,8 +170,14 @@ impl Downloads {
         out: &mut ArrayVec<u8, 256>,
     ) -> bool
         requires { MaySend D.Disk store.old disk.old self.old }
-        ensures puts { PutsDue D.Disk (store_in store.old) (filled disk.old self.old out.old.items)
+        ensures puts { PutsDue D.Disk (store_on D.Disk store.old disk.old) (filled disk.old self.old out.old.items)
             (filled disk.new self.new out.new.items) result }
+        ensures due { result ≡ is_due_in self.old }
+        ensures none { result ≡ false → (self.new ≡ self.old) × (disk.new ≡ disk.old)
+            × (out.new.items ≡ out.old.items) }
+        ensures some { result ≡ true → 0 < length out.new.items }
+        ensures fewer { result ≡ true → octets_left (store_in store.old) self.new
+            < octets_left (store_in store.old) self.old }
         ensures store { store.new ≡ store.old }
         ensures may { MaySend D.Disk store.new disk.new self.new }
     {
@@ -219,7 +226,10 @@ impl Downloads {
     ) -> Result<(), DiskFault>
         requires may { MaySend D.Disk store.old disk.old self.old }
         requires empty { part.old.items ≡ [] }
-        ensures octets { OnOk result (part.new.items ≡ front most_data (octets_due (store_in store.old) self.old)) }
+        ensures octets { OnOk result (IsKnown D.Disk disk.old
+            → part.new.items ≡ front most_data (octets_due (store_on D.Disk store.old disk.old) self.old)) }
+        ensures count { OnOk result
+            (length part.new.items ≡ min most_data (length (octets_due (store_in store.old) self.old))) }
         ensures state { OnOk result (self.new ≡ state_after most_data self.old) }
         ensures some { OnErr result (0 < length (octets_due (store_in store.old) self.old)) }
         ensures read { OnErr result (IsTrue (is_read self.old)) }
@@ -254,7 +264,7 @@ impl Downloads {
         replies: &mut Replies,
     ) -> bool
         requires { MayCommand D.Disk store.old disk.old lists.old self.old }
-        ensures takes { TakesByRow D.Disk (download_row caller (store_in store.old) lists.old self.old
+        ensures takes { TakesByRow D.Disk (download_row caller (store_on D.Disk store.old disk.old) lists.old self.old
             (value_of packet.now)) disk.old disk.new (made self.old lists.old replies.old.items)
             (made self.new lists.new replies.new.items) result }
         ensures keeps { KeepsFiles D.Disk store.old store.new disk.new lists.new self.new }
@@ -318,7 +328,7 @@ impl Downloads {
     )
         requires { MayCommand D.Disk store.old disk.old lists.old self.old }
         ensures row { MakesRow D.Disk disk.old disk.new
-            (directory_row caller (store_in store.old) lists.old number (due_by form))
+            (directory_row caller (store_on D.Disk store.old disk.old) lists.old number (due_by form))
             (made self.new lists.new replies.new.items) }
         ensures keeps { KeepsFiles D.Disk store.old store.new disk.new lists.new self.new }
     {
@@ -334,7 +344,7 @@ impl Downloads {
                 take_numbers(number, numbers.len(), caller, lists);
                 replies.clear();
             }
-            Err(DiskFault) => refuse(FILE_SYSTEM, replies),
+            Err(_fault) => refuse(FILE_SYSTEM, replies),
         }
     }
 
@@ -345,13 +355,15 @@ impl Downloads {
         form: Form,
         numbers: &[u32],
         store: &mut FileStore,
-    ) -> Result<(), DiskFault>
+    ) -> Result<(), HeaderFault>
         requires may { MayList D.Disk store.old disk.old numbers.now }
         requires ready { self.old ≡ ready }
-        ensures listing { OnOk result (self.new ≡ listing (due_by form (store_in store.old) numbers.now)) }
+        ensures listing { OnOk result (IsKnown D.Disk disk.old
+            → self.new ≡ listing (due_by form (store_on D.Disk store.old disk.old) numbers.now)) }
         ensures ready { OnErr result (self.new ≡ ready) }
         ensures due { IsDueIn (store_in store.new) self.new }
-        ensures reads { OnlyReads D.Disk (IsErr result) store.old store.new disk.old disk.new }
+        ensures there { IsErrOf result HeaderFault.NoHeader → ¬ IsKnown D.Disk disk.old }
+        ensures reads { OnlyReads D.Disk (IsErrOf result HeaderFault.Disk) store.old store.new disk.old disk.new }
     {
         match form {
             Form::Short => {
@@ -506,7 +518,8 @@ fn select<D: Disk>(
 )
     requires ready { IsReady D.Disk store.old disk.old }
     requires complete { AreComplete (store_in store.old) lists.old }
-    ensures row { MakesRow D.Disk disk.old disk.new (select_row caller (store_in store.old) lists.old tokens.now)
+    ensures row { MakesRow D.Disk disk.old disk.new
+        (select_row caller (store_on D.Disk store.old disk.old) lists.old tokens.now)
         (made ready lists.new replies.new.items) }
     ensures keeps { KeepsFiles D.Disk store.old store.new disk.new lists.new ready }
 {
@@ -518,7 +531,7 @@ fn select<D: Disk>(
             lists.select(caller, &numbers);
             write_packet(&Packet::SelectResp(numbers.len() as u16), replies);
         }
-        Err(DiskFault) => refuse(FILE_SYSTEM, replies),
+        Err(_fault) => refuse(FILE_SYSTEM, replies),
     }
 }
 

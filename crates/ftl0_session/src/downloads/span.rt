@@ -1,8 +1,9 @@
 //! Octets of complete files that are still to be sent.
 
-ghost use Rattle.std.specs.Prelude.{◌≡◌, ◌-◌, ◌<◌, ◌≤◌, ◌++◌, [], length, map, min, take, IfOk, IsErr, OnErr, OnOk};
+ghost use Rattle.std.specs.Prelude.{◌≡◌, ◌+◌, ◌-◌, ◌<◌, ◌≤◌, ◌++◌, [], length, map, min, take, IfOk, IsErr, OnErr};
+ghost use Rattle.std.specs.Prelude.{OnOk};
 ghost use Rattle.file_store.specs.Reads.{OnlyReads};
-ghost use Rattle.file_store.specs.State.{IsReady, store_in};
+ghost use Rattle.file_store.specs.State.{IsKnown, IsReady, store_in, store_on};
 ghost use Rattle.ftl0_session.specs.Downloads.Needs.{AreStored, LiesIn};
 ghost use Rattle.ftl0_session.specs.Downloads.Sending.{after_octets, due_len, due_octets, joined, most_data, moved};
 ghost use Rattle.ftl0_session.specs.Downloads.Spans.{due_of};
@@ -42,8 +43,11 @@ impl Span {
     ) -> Result<(), DiskFault>
         requires ready { IsReady D.Disk store.old disk.old }
         requires within { LiesIn (store_in store.old) self.old.number self.old.place self.old.last }
-        ensures octets { OnOk result (part.new.items ≡ part.old.items
-            ++ take (most_data - length part.old.items) (due_octets (store_in store.old) (due_of self.old))) }
+        ensures octets { OnOk result (IsKnown D.Disk disk.old → part.new.items ≡ part.old.items
+            ++ take (most_data - length part.old.items)
+            (due_octets (store_on D.Disk store.old disk.old) (due_of self.old))) }
+        ensures count { OnOk result (length part.new.items ≡ length part.old.items
+            + min (most_data - length part.old.items) (due_len (due_of self.old))) }
         ensures moved { OnOk result (due_of self.new
             ≡ moved (min (most_data - length part.old.items) (due_len (due_of self.old))) (due_of self.old)) }
         ensures some { OnErr result (0 < due_len (due_of self.old)) }
@@ -73,8 +77,10 @@ pub(crate) fn read_spans<D: Disk>(
     requires few { length spans.now ≤ 10 }
     requires within { AreStored (store_in store.old) (map due_of spans.now) }
     requires empty { part.old.items ≡ [] }
-    ensures octets { OnOk result (part.new.items
-        ≡ take most_data (joined (store_in store.old) (map due_of spans.now))) }
+    ensures octets { OnOk result (IsKnown D.Disk disk.old → part.new.items
+        ≡ take most_data (joined (store_on D.Disk store.old disk.old) (map due_of spans.now))) }
+    ensures count { OnOk result
+        (length part.new.items ≡ min most_data (length (joined (store_in store.old) (map due_of spans.now)))) }
     ensures left { IfOk result (λ left. map due_of left.items ≡ after_octets most_data (map due_of spans.now)) }
     ensures some { OnErr result (0 < length (joined (store_in store.old) (map due_of spans.now))) }
     ensures reads { OnlyReads D.Disk (IsErr result) store.old store.new disk.old disk.new }

@@ -2,8 +2,7 @@
 
 ghost use Rattle.ftl0_session.specs.Uploads.Continued.{ContinuedLaw};
 ghost use Rattle.ftl0_session.specs.Uploads.Laws.{AcknowledgedLaw, AcknowledgedStandsLaw, FaultCodeLaw, GrantedLaw};
-ghost use Rattle.ftl0_session.specs.Uploads.Laws.{ResumedLaw};
-ghost use Rattle.ftl0_session.specs.Uploads.Laws.{RowsLaw};
+ghost use Rattle.ftl0_session.specs.Uploads.Laws.{ResumedLaw, RowsLaw, UnreadLaw};
 ghost use Rattle.ftl0_session.specs.Uploads.Run.{CommandsOfLaw};
 ghost use Rattle.ftl0_session.specs.Uploads.Uploaded.{UploadedLaw};
 
@@ -22,7 +21,7 @@ pub fn resumed_law()
     ensures { ResumedLaw }
 {}
 
-/// No row of the table replies code 3, which says that the server's disk failed.
+/// Where no read fails no row of the table replies code 3, which says that the server's disk failed.
 pub fn fault_code_law()
     ensures { FaultCodeLaw }
 {}
@@ -31,6 +30,12 @@ pub fn fault_code_law()
 /// stamped: it has the client's body, and the client's items but for the server's.
 pub fn acknowledged_law()
     ensures { AcknowledgedLaw }
+{}
+
+/// Where a read fails, a file of which all octets came is refused by UL_NAK_RESP 3, and stays under way, with exactly
+/// these octets held.
+pub fn unread_law()
+    ensures { UnreadLaw }
 {}
 
 /// What was acknowledged stands: once the commands before and those of the row that replies UL_ACK_RESP are done, the

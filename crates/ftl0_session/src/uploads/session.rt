@@ -6,7 +6,6 @@ ghost use Rattle.ftl0_packets.specs.Layout.{data_end, data_part, packet_text, ul
 ghost use Rattle.ftl0_packets.specs.Layout.{ul_go_resp, upload_cmd};
 ghost use Rattle.ftl0_packets.specs.Values.{item_of};
 ghost use Rattle.file_store.specs.EntriesKept.{KeepsComplete};
-ghost use Rattle.file_store.specs.Calls.{Puts};
 ghost use Rattle.file_store.specs.State.{StandsOn, store_in};
 ghost use Rattle.ftl0_session.specs.Uploads.Asked.{AnswersAborting, AnswersAsked};
 ghost use Rattle.ftl0_session.specs.Uploads.Others.{KeepsOtherCallers};
@@ -14,8 +13,7 @@ ghost use Rattle.ftl0_session.specs.Uploads.Session.{command as in_command, is_u
 ghost use Rattle.disk_model.specs.AtDisk.{at};
 ghost use Rattle.ftl0_session.specs.Uploads.SessionState.{IsHeld, IsOnlyOut, MayTake, NoOtherOut, Parks};
 ghost use Rattle.ftl0_session.specs.Uploads.SessionState.{new_session, receiving_of, state_of};
-ghost use Rattle.ftl0_session.specs.Uploads.Taking.{Answered, AnsweredAlone, AnswersRefusal, LeavesDisk};
-ghost use Rattle.ftl0_session.specs.Uploads.Taking.{PutsRow, TakesPacket, row_for};
+ghost use Rattle.ftl0_session.specs.Uploads.Taking.{Answered, AnsweredAlone, AnswersRefusal, TakesPacket, working_at};
 ghost use Rattle.ftl0_session.specs.declared.uploads.phase.Phase.TheVariants.{Command as command_phase};
 ghost use Rattle.ftl0_session.specs.declared.uploads.phase.Phase.TheVariants.{Receiving as receiving_phase};
 ghost use Rattle.ftl0_session.specs.Uploads.Events.{packet_of};
@@ -99,8 +97,9 @@ impl Session {
         self.caller
     }
 
-    /// Takes a packet of uploading: its row of the session's table, or code 3 where the disk fails. The row's commands
-    /// are on the disk before its replies are given. Takes memory, before it touches the disk.
+    /// Takes a packet of uploading: its row of the session's table, or code 3 where a write or a sync of the disk
+    /// fails. The row's commands are on the disk before its replies are given. A read that fails gives the row for that.
+    /// Takes memory, before it touches the disk.
     pub fn take<D: Disk>(
         &mut self,
         disk: &mut D,
@@ -112,12 +111,11 @@ impl Session {
         requires kind { is_upload_kind (kind_of_item (item_of packet)) ≡ true }
         requires may { MayTake D.Disk store.old disk.old self.old.caller self.old.phase }
 
-        // The answer is the packet's row, and the row's commands are on the disk; or the disk failed in one of them.
-        ensures takes { TakesPacket moment self.old store.old packet.entry self.new store.new replies.new.items result }
-        ensures on_disk { PutsRow D.Disk store.old store.new disk.old disk.new
-            (row_for moment self.old store.old packet.entry) result }
-        ensures untouched { LeavesDisk disk.old disk.new (row_for moment self.old store.old packet.entry) }
-        ensures puts { Puts D.Disk (IsErrOf result Halt.Disk) disk.old disk.new }
+        // The answer is the packet's row, and the row's commands are on the disk; or a write or a sync failed in one of
+        // them. A read that failed gives the row for that.
+        ensures takes { TakesPacket D.Disk (packet_of self.old.caller moment (item_of packet.entry))
+            (working_at (at store.old disk.old) (state_of store.old self.old.phase))
+            (working_at (at store.new disk.new) (state_of store.new self.new.phase)) replies.new.items result }
         ensures failed { IsErrOf result Halt.Disk → store.new.journal.failed ≡ true }
         ensures kept { KeepsComplete (store_in store.old) (store_in store.new) }
         ensures others { KeepsOtherCallers store.old store.new self.old.caller }
@@ -206,7 +204,7 @@ impl Session {
         }
     }
 
-    /// Receiving, DATA_END: the file is sealed and acknowledged, or refused.
+    /// Receiving, DATA_END: the file is sealed and acknowledged, or refused; or it can't be read, and stays under way.
     fn take_end<D: Disk>(
         &self,
         disk: &mut D,
@@ -231,6 +229,11 @@ impl Session {
             }
             Err(SealRefusal::Header { code }) => {
                 write_packet(&Packet::UlNakResp(code), replies);
+                (Phase::Command, Ok(()))
+            }
+            Err(SealRefusal::Read(up)) => {
+                store.park(up);
+                write_packet(&Packet::UlNakResp(FILE_SYSTEM), replies);
                 (Phase::Command, Ok(()))
             }
             Err(SealRefusal::Disk) => {

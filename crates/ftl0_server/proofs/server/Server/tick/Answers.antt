@@ -1,7 +1,7 @@
 -- A tick came at each place, and the disk stays.
 use Rattle.std.proofs.lemmas.Grind.{common_steps}
 use Rattle.std.proofs.Common.{refl, subst, sym, [], arith, ap}
-use Rattle.file_store.proofs.Offered.{in_parked, on_parked}
+use Rattle.file_store.proofs.Offered.{in_parked, on_parked, stands_parked}
 use Rattle.file_store.specs.State.{store_on}
 use Rattle.file_store.specs.Store.{Store}
 use Rattle.file_store.specs.Working.{DoesAmongReads}
@@ -22,7 +22,8 @@ invariant_of-self g c = record {
 pub returns-clause-ticks : goal.returns-clause-ticks
 returns-clause-ticks g c = λ over server is.
     let was = rw (sym c.self.view_is) at is in
-    let all = all-are over (server_state c.self.inside) server was in grind (arith, common_steps, server-ticked)
+    let all = all-are over (server_state c.self.inside) server was in
+    server-ticked over (server_state c.self.inside) server c.tick_all.new.places c.tick_all.new.store was (c.tick_all.ensures.ticks server.window server.slots all)
 
 -- the entries and what they hold are as they were
 pub returns-clause-store : goal.returns-clause-store
@@ -41,6 +42,12 @@ returns-clause-takes g c = record {
       nothing-done g.D.Disk c.self.inside.store c.tick_all.new.store c.args._disk.now ready lasts c.tick_all.ensures.store in
       rw (sym c.self.view_is)
       (record { parts = []; by = (refl, ticked, does); since = does.since });
-  keeps = record { puts = grind (arith, common_steps); kept = grind (arith, common_steps); healthy = grind (arith, common_steps); stands_on = grind (arith, common_steps) };
+  keeps = record {
+    puts = grind (arith, common_steps);
+    kept = grind (arith, common_steps);
+    healthy = grind (arith, common_steps);
+    stands_on = stands_parked g.D.Disk c.self.inside.store c.tick_all.new.store c.args._disk.now c.tick_all.ensures.store.entries c.tick_all.ensures.store.journal
+        (rw (sym c.self.view_is) at c.requires.ready).stands_on;
+  };
   me = ap (λ (s : ServerState). s.me) c.self.view_is;
 }

@@ -1,9 +1,10 @@
 use Rattle.std.proofs.Common.{◌≡◌, ◌++◌, get_or, length, sym, ◌∙◌, ap, subst, arith, rules, length-append}
 use Rattle.file_store.specs.Info.{IsCompleteIn}
-use Rattle.file_store.specs.State.{StoreState, store_in}
+use Rattle.file_store.specs.State.{StoreState, store_in, store_on}
+use Rattle.file_store.specs.Store.{Store}
 use Rattle.ftl0_session.specs.Downloads.Table.{octets_in, short_octets}
 use Rattle.ftl0_session.proofs.downloads.DueLemmas.{flat-more}
-use Rattle.ftl0_session.proofs.downloads.ReadsLemmas.{one-more}
+use Rattle.ftl0_session.proofs.downloads.ReadsLemmas.{files-then, known-then, one-more}
 use Rattle.ftl0_session.proofs.downloads.directory.read_short_forms.Goals as goal
 
 pub read_short_form-requires : goal.read_short_form-requires
@@ -23,13 +24,15 @@ loop-number-preserved g c =
     let numbers = c.args.numbers.now in
     let forms = c.loop-number.forms.items in
     let form = c.in_ok-form.form in
-    let same = inv.reads.stays.same in
+    let files = store_on g.D.Disk c.args.store.now c.args.disk.now in
     let ext : c.try_extend_from_slice.new.self.items ≡ forms ++ form = search rules in
-    let here : form ≡ short_octets (octets_in (store_in c.args.store.now) (get_or numbers i 0)) =
-    c.in_ok-form.ensures.form ∙ ap (λ (s : StoreState). short_octets (octets_in (store_in s) (get_or numbers i 0))) same in
     let long : length form ≡ 73 = search rules in
     record {
-      forms = ext ∙ flat-more (λ number. short_octets (octets_in (store_in c.args.store.now) number)) numbers i forms form c.loop-number-test.true inv.forms here;
+      forms = λ known.
+          let here : form ≡ short_octets (octets_in files (get_or numbers i 0)) =
+          c.in_ok-form.ensures.form (known-then g.D.Disk ⊥ c.args.store.now c.loop-number.store c.args.disk.now c.loop-number.disk inv.reads known)
+          ∙ ap (λ (s : Store). short_octets (octets_in s (get_or numbers i 0))) (files-then g.D.Disk ⊥ c.args.store.now c.loop-number.store c.args.disk.now c.loop-number.disk inv.reads) in
+          ext ∙ flat-more (λ number. short_octets (octets_in files number)) numbers i forms form c.loop-number-test.true (inv.forms known) here;
       count = omega (arith, inv.count, long, ap (λ l. length l) ext, length-append forms form);
-      reads = one-more g.D.Disk g.met.D.Disk.lasts_on _ _ _ _ _ _ inv.reads c.in_ok-form.ensures.reads;
+      reads = one-more g.D.Disk g.met.D.Disk.lasts_on _ (λ is. cc is) _ _ _ _ _ _ inv.reads c.in_ok-form.ensures.reads;
     }

@@ -1,14 +1,15 @@
 use Rattle.std.proofs.Common.{◌≡◌, ◌*◌, length, take, flat_map}
 use Rattle.file_store.specs.Reads.{OnlyReads}
-use Rattle.file_store.specs.State.{store_in}
+use Rattle.file_store.specs.State.{IsKnown, store_on}
 use Rattle.ftl0_session.specs.Downloads.Table.{octets_in, short_octets}
 use Rattle.ftl0_session.proofs.downloads.directory.read_short_forms.Given as goal
 
 abbrev pub invariant-loop-number : goal.invariant-loop-number
 invariant-loop-number g l = record {
   forms :
-      l.forms.items
-      ≡ flat_map (λ number. short_octets (octets_in (store_in l.fn.store) number)) (take l.number-index l.numbers);
+      IsKnown g.D.Disk l.fn.disk
+      → l.forms.items
+      ≡ flat_map (λ number. short_octets (octets_in (store_on g.D.Disk l.fn.store l.fn.disk) number)) (take l.number-index l.numbers);
   count : length l.forms.items ≡ 73 * l.number-index;
   reads : OnlyReads g.D.Disk ⊥ l.fn.store l.store l.fn.disk l.disk;
 }

@@ -1,6 +1,6 @@
 use Rattle.std.proofs.Common.{◌≡◌, length, map, take}
 use Rattle.file_store.specs.Reads.{OnlyReads}
-use Rattle.file_store.specs.State.{store_in}
+use Rattle.file_store.specs.State.{IsKnown, store_in, store_on}
 use Rattle.ftl0_session.specs.Downloads.Needs.{AreStored}
 use Rattle.ftl0_session.specs.Downloads.Spans.{due_of}
 use Rattle.ftl0_session.specs.Downloads.Table.{long_due}
@@ -8,8 +8,9 @@ use Rattle.ftl0_session.proofs.downloads.directory.read_spans_of_headers.Given a
 
 abbrev pub invariant-loop-number : goal.invariant-loop-number
 invariant-loop-number g l = record {
-  spans : map due_of l.spans.items ≡ long_due (store_in l.fn.store) (take l.number-index l.numbers);
-  within : AreStored (store_in l.fn.store) (long_due (store_in l.fn.store) (take l.number-index l.numbers));
+  spans :
+      IsKnown g.D.Disk l.fn.disk → map due_of l.spans.items ≡ long_due (store_on g.D.Disk l.fn.store l.fn.disk) (take l.number-index l.numbers);
+  within : AreStored (store_in l.fn.store) (map due_of l.spans.items);
   count : length l.spans.items ≡ l.number-index;
   reads : OnlyReads g.D.Disk ⊥ l.fn.store l.store l.fn.disk l.disk;
 }

@@ -1,8 +1,9 @@
-use Rattle.std.proofs.Common.{◌≡◌, ◌-◌, ◌++◌}
+use Rattle.std.proofs.Common.{◌≡◌, ◌+◌, ◌-◌, ◌≤◌, ◌++◌, length}
 use Rattle.file_store.specs.IsStore.{IsStore}
 use Rattle.file_store.specs.Reads.{OnlyReads}
-use Rattle.file_store.specs.State.{store_in}
+use Rattle.file_store.specs.State.{IsKnown, store_in, store_on}
 use Rattle.selection.specs.Values.{tree_of}
+use Rattle.ftl0_session.specs.Downloads.Needs.{AreFiles}
 use Rattle.ftl0_session.specs.Downloads.Table.{chosen}
 use Rattle.ftl0_session.proofs.downloads.ChosenLemmas.{above_of}
 use Rattle.ftl0_session.proofs.downloads.selecting.chosen_files.Given as goal
@@ -10,8 +11,11 @@ use Rattle.ftl0_session.proofs.downloads.selecting.chosen_files.Given as goal
 abbrev pub invariant-loop-numbers : goal.invariant-loop-numbers
 invariant-loop-numbers g l = record {
   numbers :
-      l.numbers.items ++ chosen (tree_of l.selection) (above_of l.above (store_in l.fn.store).entries)
-      ≡ chosen (tree_of l.selection) (store_in l.fn.store).entries;
+      IsKnown g.D.Disk l.fn.disk
+      → l.numbers.items ++ chosen (tree_of l.selection) (above_of l.above (store_on g.D.Disk l.fn.store l.fn.disk).entries)
+      ≡ chosen (tree_of l.selection) (store_on g.D.Disk l.fn.store l.fn.disk).entries;
+  complete : AreFiles (store_in l.fn.store) l.numbers.items;
+  room : length l.numbers.items + length (above_of l.above (store_in l.fn.store).entries) ≤ length (store_in l.fn.store).entries;
   rules : IsStore (store_in l.fn.store);
   reads : OnlyReads g.D.Disk ⊥ l.fn.store l.store l.fn.disk l.disk;
   selection : l.selection ≡ l.fn.selection;

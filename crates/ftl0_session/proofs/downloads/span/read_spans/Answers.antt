@@ -1,11 +1,12 @@
-use Rattle.std.proofs.Common.{◌≡◌, ◌++◌, ◌∷◌, [], ◌-◌, ◌+◌, get_or, length, min, take, sym, ◌∙◌, ap, subst, arith, length-append}
-use Rattle.file_store.specs.State.{StoreState, store_in}
+use Rattle.std.proofs.Common.{◌≡◌, ◌++◌, ◌∷◌, [], ◌-◌, ◌+◌, get_or, length, min, take, false, true, sym, ◌∙◌, ap, subst, arith, length-append}
+use Rattle.file_store.specs.State.{StoreState, store_in, store_on}
+use Rattle.file_store.specs.Store.{Store}
 use Rattle.ftl0_session.specs.Downloads.Needs.{IsStored, LiesIn}
 use Rattle.ftl0_session.specs.Downloads.Sending.{after_octets, due_octets}
 use Rattle.ftl0_session.specs.Downloads.Spans.{due_of}
 use Rattle.ftl0_session.specs.declared.downloads.span.Span.{Span}
-use Rattle.ftl0_session.proofs.downloads.DueLemmas.{at-map, some-at, step-few, step-left, step-octets}
-use Rattle.ftl0_session.proofs.downloads.ReadsLemmas.{at_error, one-more}
+use Rattle.ftl0_session.proofs.downloads.DueLemmas.{HasMore, at-map, some-at, step-count, step-few, step-left, step-octets}
+use Rattle.ftl0_session.proofs.downloads.ReadsLemmas.{at_error, files-then, known-then, one-more}
 use Rattle.ftl0_session.proofs.downloads.span.read_spans.Goals as goal
 
 none : Span
@@ -34,18 +35,24 @@ loop-span-preserved g c =
     let spans = c.args.spans.now in
     let i = c.loop-span.span-index in
     let store = store_in c.args.store.now in
+    let files = store_on g.D.Disk c.args.store.now c.args.disk.now in
     let lt = c.loop-span-test.true in
     let part = c.loop-span.part.items in
     let octets = c.read.new.part.items in
     let lies = at-map (IsStored store) due_of spans i none lt c.requires.within in
-    let is : octets ≡ part ++ take (254 - length part) (due_octets store (due_of (get_or spans i none))) =
-    c.in_ok-read.ensures.octets ∙ ap (λ (s : StoreState). part ++ take (254 - length part) (due_octets (store_in s) (due_of (get_or spans i none)))) inv.reads.stays.same in
+    let more : HasMore part octets (due_of (get_or spans i none)) = c.in_ok-read.ensures.count in
     record {
-      octets = step-octets store due_of spans i none lt part octets inv.few is _ inv.octets;
+      octets = λ known.
+          let is : octets ≡ part ++ take (254 - length part) (due_octets files (due_of (get_or spans i none))) =
+          c.in_ok-read.ensures.octets (known-then g.D.Disk ⊥ c.args.store.now c.loop-span.store c.args.disk.now c.loop-span.disk inv.reads known)
+          ∙ ap (λ (s : Store). part ++ take (254 - length part) (due_octets s (due_of (get_or spans i none))))
+          (files-then g.D.Disk ⊥ c.args.store.now c.loop-span.store c.args.disk.now c.loop-span.disk inv.reads) in
+          step-octets due_of spans i none lt part octets inv.few files is _ (inv.octets known);
+      full = step-count due_of spans i none lt part octets inv.few more store lies _ inv.full;
       left =
           ap (λ l. Rattle.std.proofs.Common.map due_of l ++ after_octets (254 - length octets) (Rattle.std.proofs.Common.map due_of (Rattle.std.proofs.Common.drop (i + 1) spans))) c.push.ensures.items
-          ∙ step-left store due_of spans i none lt part octets inv.few is lies c.loop-span.left.items c.read.new.self _ c.in_ok-read.ensures.moved inv.left;
-      few = step-few store due_of spans i none lt part octets inv.few is;
+          ∙ step-left due_of spans i none lt part octets inv.few more c.loop-span.left.items c.read.new.self _ c.in_ok-read.ensures.moved inv.left;
+      few = step-few due_of spans i none lt part octets inv.few more;
       count = omega (arith, inv.count, ap (λ l. length l) c.push.ensures.items, length-append c.loop-span.left.items (c.read.new.self ∷ []));
-      reads = one-more g.D.Disk g.met.D.Disk.lasts_on _ _ _ _ _ _ inv.reads c.in_ok-read.ensures.reads;
+      reads = one-more g.D.Disk g.met.D.Disk.lasts_on (false ≡ true) (λ is. cc is) _ _ _ _ _ _ inv.reads c.in_ok-read.ensures.reads;
     }

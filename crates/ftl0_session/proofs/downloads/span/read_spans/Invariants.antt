@@ -1,6 +1,6 @@
-use Rattle.std.proofs.Common.{◌≡◌, ◌-◌, ◌≤◌, ◌++◌, length, map, take, drop}
+use Rattle.std.proofs.Common.{◌≡◌, ◌+◌, ◌-◌, ◌≤◌, ◌++◌, length, map, min, take, drop}
 use Rattle.file_store.specs.Reads.{OnlyReads}
-use Rattle.file_store.specs.State.{store_in}
+use Rattle.file_store.specs.State.{IsKnown, store_in, store_on}
 use Rattle.ftl0_session.specs.Downloads.Sending.{after_octets, joined}
 use Rattle.ftl0_session.specs.Downloads.Spans.{due_of}
 use Rattle.ftl0_session.proofs.downloads.span.read_spans.Given as goal
@@ -8,9 +8,13 @@ use Rattle.ftl0_session.proofs.downloads.span.read_spans.Given as goal
 abbrev pub invariant-loop-span : goal.invariant-loop-span
 invariant-loop-span g l = record {
   octets :
-      l.part.items
-      ++ take (254 - length l.part.items) (joined (store_in l.fn.store) (map due_of (drop l.span-index l.spans)))
-      ≡ take 254 (joined (store_in l.fn.store) (map due_of l.spans));
+      IsKnown g.D.Disk l.fn.disk
+      → l.part.items
+      ++ take (254 - length l.part.items) (joined (store_on g.D.Disk l.fn.store l.fn.disk) (map due_of (drop l.span-index l.spans)))
+      ≡ take 254 (joined (store_on g.D.Disk l.fn.store l.fn.disk) (map due_of l.spans));
+  full :
+      length l.part.items + min (254 - length l.part.items) (length (joined (store_in l.fn.store) (map due_of (drop l.span-index l.spans))))
+      ≡ min 254 (length (joined (store_in l.fn.store) (map due_of l.spans)));
   left :
       map due_of l.left.items
       ++ after_octets (254 - length l.part.items) (map due_of (drop l.span-index l.spans))

@@ -2,8 +2,8 @@
 use Rattle.std.proofs.Common.{refl}
 use Rattle.std.specs.Prelude.{Ok}
 use Rattle.ftl0_packets.specs.Layout.{upload_cmd}
-use Rattle.file_store.specs.State.{store_in}
 use Rattle.ftl0_session.specs.declared.uploads.phase.Phase.TheVariants as phase
+use Rattle.ftl0_session.specs.Uploads.Events.{packet_of}
 use Rattle.ftl0_session.specs.Uploads.Session.{command}
 use Rattle.ftl0_session.proofs.uploads.DoesLemmas.{answered-alone}
 use Rattle.ftl0_session.proofs.uploads.Rows.{alone-refused, error-command}
@@ -13,12 +13,12 @@ pub returns-in-Upload : goal.returns-in-Upload
 returns-in-Upload g c = λ item is.
     let same = rw c.in-Upload.is at is in
     rw same
-    (answered-alone g.D.Disk c.args.caller c.args.moment command (Ok (upload_cmd c.in-Upload.number c.in-Upload.length)) c.args.store.now c.resume.new.store c.args.disk.now _ _
+    (answered-alone g.D.Disk (packet_of c.args.caller c.args.moment (Ok (upload_cmd c.in-Upload.number c.in-Upload.length))) command c.args.store.now c.args.disk.now c.resume.new.store _ _
     c.requires.ready (g.met.D.Disk.lasts_same c.args.disk.now) (c.resume.ensures c.args.moment))
 
 pub returns-in_default : goal.returns-in_default
 returns-in_default g c = λ item is.
-    let row = error-command c.args.caller c.args.moment (store_in c.args.store.now) item _ c.in_default.not-Upload is in
-    answered-alone g.D.Disk c.args.caller c.args.moment command item c.args.store.now c.args.store.now c.args.disk.now _ _ c.requires.ready
+    answered-alone g.D.Disk (packet_of c.args.caller c.args.moment item) command c.args.store.now c.args.disk.now c.args.store.now _ _ c.requires.ready
     (g.met.D.Disk.lasts_same c.args.disk.now)
-    (alone-refused c.args.caller c.args.moment command item c.args.store.now phase.Command 1 _ _ row refl c.refuse.ensures.taken c.refuse.ensures.text tt c.requires.only)
+    (alone-refused c.args.caller c.args.moment command item c.args.store.now phase.Command 1 _ _
+    (λ files. error-command c.args.caller c.args.moment files item _ c.in_default.not-Upload is) refl c.refuse.ensures.taken c.refuse.ensures.text tt c.requires.only)

@@ -18,8 +18,8 @@ loop-preserved g c =
       keeps = keeps-then g.D.Disk g.met.D.Disk.lasts_same g.met.D.Disk.lasts_on _ _ _ _ _ _ c.args.self.now c.loop.self c.queue_next.new.self keeps c.queue_next.ensures.keeps;
     }
 
-pub loop-decreases : goal.loop-decreases
-loop-decreases g c = c.loop-test.ensures.next.fewer refl
+pub loop-smaller : goal.loop-smaller
+loop-smaller g c = c.loop-test.ensures.next.fewer refl
 
 pub returns-clause-queues : goal.returns-clause-queues
 returns-clause-queues g c =

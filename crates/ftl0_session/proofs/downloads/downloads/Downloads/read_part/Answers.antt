@@ -1,6 +1,6 @@
 use Rattle.std.proofs.Common.{◌≡◌, ◌<◌, ◌-◌, ◌++◌, [], ◌∷◌, ℕ, List, rules, length, map, take, drop, refl, sym, ◌∙◌, ap, subst}
 use Rattle.std.proofs.lemmas.List.{append-nil}
-use Rattle.file_store.specs.State.{store_in}
+use Rattle.file_store.specs.State.{store_in, store_on}
 use Rattle.ftl0_session.specs.Downloads.Sending.{is_read, joined, octets_due}
 use Rattle.ftl0_session.specs.Downloads.Spans.{due_of}
 use Rattle.ftl0_session.specs.Downloads.Table.{kept, listing}
@@ -22,8 +22,8 @@ returns-in_err-self-inside-in-ListingLong-clause-read g c =
     at_error c.from_residual-in_err-self-inside-in-ListingLong.result (ap is_read state ∙ read-some store due_of headers (λ x. refl) some)
 
 pub returns-in-ListingShort-clause-octets : goal.returns-in-ListingShort-clause-octets
-returns-in-ListingShort-clause-octets g c =
-    let store = store_in c.args.store.now in
+returns-in-ListingShort-clause-octets g c = λ known.
+    let store = store_on g.D.Disk c.args.store.now c.args.disk.now in
     let forms = c.self.inside.short_forms.items in
     let left = drop c.self.inside.sent forms in
     let state : c.args.self.now ≡ listing (kept left ∷ []) =

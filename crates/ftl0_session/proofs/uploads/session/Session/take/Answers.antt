@@ -4,10 +4,9 @@ use Rattle.px_base.specs.CallSign.{CallSign}
 use Rattle.ftl0_packets.specs.Values.{item_of}
 use Rattle.ftl0_session.specs.declared.uploads.phase.Phase.{Phase}
 use Rattle.disk_model.specs.AtDisk.{at}
-use Rattle.ftl0_session.specs.Uploads.SessionState.{IsHeld, IsOnlyOut, SessionState, state_of}
-use Rattle.ftl0_session.specs.Uploads.Taking.{TakesPacket}
 use Rattle.ftl0_session.specs.Uploads.Events.{packet_of}
-use Rattle.ftl0_session.proofs.uploads.DoesLemmas.{after-packet}
+use Rattle.ftl0_session.specs.Uploads.SessionState.{IsHeld, IsOnlyOut, SessionState, state_of}
+use Rattle.ftl0_session.specs.Uploads.Taking.{TakesPacket, working_at}
 use Rattle.ftl0_session.proofs.uploads.session.Session.take.Goals as goal
 
 -- a session by its parts
@@ -21,23 +20,19 @@ returns g c =
     let here = c.take_asked-phase.ensures (item_of c.args.packet) c.of-asked.ensures in
     let all = rw (by, phase) at here in
     let same = ap₂ session_of by c.replace.ensures.after in
-    let after = after-packet g.D.Disk (packet_of c.args.self.now.caller c.args.moment (item_of c.args.packet)) (state_of c.args.store.now c.args.self.now.phase)
-    (state_of c.take_asked-phase.new.store c.take_asked-phase.result.0) (at c.args.store.now c.args.disk.now) (at c.take_asked-phase.new.store c.take_asked-phase.new.disk)
-    c.take_asked-phase.new.replies.items c.take_asked-phase.result.1 (g.met.D.Disk.lasts_same c.args.disk.now) c.requires.may.ready all.answers all.on_disk in
+    let b = c.take_asked-phase.new in
     record {
       takes =
           subst
-          (λ (s : SessionState). TakesPacket c.args.moment c.args.self.now c.args.store.now c.args.packet s c.take_asked-phase.new.store c.take_asked-phase.new.replies.items c.take_asked-phase.result.1)
-          (sym same) all.answers;
-      on_disk = all.on_disk;
-      untouched = all.untouched;
-      puts = after.0;
-      failed = after.1;
+          (λ (s : SessionState). TakesPacket g.D.Disk (packet_of c.args.self.now.caller c.args.moment (item_of c.args.packet))
+          (working_at (at c.args.store.now c.args.disk.now) (state_of c.args.store.now c.args.self.now.phase)) (working_at (at b.store b.disk) (state_of b.store s.phase)) b.replies.items
+          c.take_asked-phase.result.1) (sym same) all.takes;
+      failed = all.failed;
       kept = all.kept;
       others = all.others;
       caller = by;
-      healthy = after.2;
-      stands_on = after.3;
-      held = subst (λ (s : SessionState). IsHeld c.take_asked-phase.new.store s) (sym same) all.held;
-      only = subst (λ (s : SessionState). IsOnlyOut c.take_asked-phase.new.store s) (sym same) all.only;
+      healthy = all.healthy;
+      stands_on = all.stands_on;
+      held = subst (λ (s : SessionState). IsHeld b.store s) (sym same) all.held;
+      only = subst (λ (s : SessionState). IsOnlyOut b.store s) (sym same) all.only;
     }

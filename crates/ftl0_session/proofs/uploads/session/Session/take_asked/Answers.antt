@@ -1,6 +1,7 @@
 -- What is asked in each phase, by what is asked in its state.
 use Rattle.std.proofs.Common.{ap, sym}
 use Rattle.ftl0_session.specs.Uploads.Session.{aborting}
+use Rattle.ftl0_session.specs.Uploads.Events.{packet_of}
 use Rattle.ftl0_session.specs.Uploads.SessionState.{SessionState}
 use Rattle.ftl0_session.proofs.uploads.DoesLemmas.{answered-alone}
 use Rattle.ftl0_session.proofs.uploads.session.Session.take_asked.Goals as goal
@@ -16,5 +17,5 @@ pub returns-in-Aborting : goal.returns-in-Aborting
 returns-in-Aborting g c = λ item is.
     let only = rw c.in-Aborting.is at c.requires.only in
     rw c.in-Aborting.is
-    (answered-alone g.D.Disk c.args.self.now.caller c.args.moment aborting item c.args.store.now c.args.store.now c.args.disk.now _ _ c.requires.ready
+    (answered-alone g.D.Disk (packet_of c.args.self.now.caller c.args.moment item) aborting c.args.store.now c.args.disk.now c.args.store.now _ _ c.requires.ready
     (g.met.D.Disk.lasts_same c.args.disk.now) (c.take_aborting.ensures c.args.self.now.caller c.args.moment c.args.store.now item only is))

@@ -1,8 +1,8 @@
 -- Each packet in Receiving, by its row.
 use Rattle.std.proofs.Common.{refl, ap, sym}
-use Rattle.file_store.specs.State.{store_in}
 use Rattle.file_store.specs.Upload.{waiting}
 use Rattle.ftl0_session.specs.declared.uploads.phase.Phase.TheVariants as phase
+use Rattle.ftl0_session.specs.Uploads.Events.{packet_of}
 use Rattle.ftl0_session.specs.Uploads.SessionState.{SessionState, receiving_of}
 use Rattle.ftl0_session.proofs.uploads.DoesLemmas.{answered-alone}
 use Rattle.ftl0_session.proofs.uploads.Rows.{alone-refused, error-receiving}
@@ -15,8 +15,8 @@ returns-in-Part g c = λ item is.
 
 pub returns-in_default : goal.returns-in_default
 returns-in_default g c = λ item is.
-    let row = error-receiving c.args.self.now.caller c.args.moment (store_in c.args.store.now) c.args.up.number (waiting c.args.store.now c.args.up) item _ c.in_default.not-Part c.in_default.not-End is in
-    answered-alone g.D.Disk c.args.self.now.caller c.args.moment (receiving_of c.args.store.now c.args.up) item c.args.store.now c.args.store.now c.args.disk.now _ _
+    answered-alone g.D.Disk (packet_of c.args.self.now.caller c.args.moment item) (receiving_of c.args.store.now c.args.up) c.args.store.now c.args.disk.now c.args.store.now _ _
     c.requires.ready (g.met.D.Disk.lasts_same c.args.disk.now)
-    (alone-refused c.args.self.now.caller c.args.moment (receiving_of c.args.store.now c.args.up) item c.args.store.now (phase.Receiving c.args.up) 1 _ _ row refl c.refuse.ensures.taken
+    (alone-refused c.args.self.now.caller c.args.moment (receiving_of c.args.store.now c.args.up) item c.args.store.now (phase.Receiving c.args.up) 1 _ _
+    (λ files. error-receiving c.args.self.now.caller c.args.moment files c.args.up.number (waiting c.args.store.now c.args.up) item _ c.in_default.not-Part c.in_default.not-End is) refl c.refuse.ensures.taken
     c.refuse.ensures.text c.requires.held c.requires.only)
