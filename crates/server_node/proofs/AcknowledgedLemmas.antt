@@ -1,12 +1,13 @@
 -- The files that a session or a server acknowledges stand.
 use Rattle.std.proofs.lemmas.Grind.{common_steps}
 use Rattle.std.proofs.Common.{◌≡◌, ◌⊎◌, inl, inr, ⊎_elim, ℕ, zero, suc, ◌+◌, ◌≤◌, ◌||◌, List, [], ◌∷◌, ◌++◌, length, Bool, true, false, Option, None, Some, refl, sym, ap, subst, ◌∙◌, append_assoc, append-nil, length-append, true≢false, arith}
+use Rattle.std.specs.Option.{option_or}
 use Rattle.std.specs.Prelude.{slice_index, Ok, Err, IfSome, IsErrOf, Result, if◌then◌else◌}
 use Rattle.px_base.specs.CallSign.{CallSign}
 use Rattle.px_base.specs.Octets.{IsFront}
 use Rattle.disk_model.specs.declared.disk.Disk.{Ghosts}
 use Rattle.ftl0_packets.specs.Items.{kind_of_item, texts}
-use Rattle.ftl0_packets.specs.Layout.{Item, PacketValue, data_end, data_part, dir_long_cmd, dir_short_cmd, download_cmd, select_cmd, ul_ack_resp, upload_cmd}
+use Rattle.ftl0_packets.specs.Layout.{Item, PacketValue, data_end, data_part, dir_long_cmd, dir_short_cmd, download_cmd, select_cmd, ul_ack_resp, ul_nak_resp, upload_cmd}
 use Rattle.pfh_items.specs.Faults.{fault_code}
 use Rattle.file_journal.specs.Commands.{calls_of, done_at}
 use Rattle.file_journal.specs.Through.{StandsThrough}
@@ -84,22 +85,24 @@ split {X = X} (a ∷ xs) ys (b ∷ before) later x e = ⊎_elim (λ (one : (more
 abbrev pub IsAllGood : Store → ℕ → List ℕ → Type 0
 IsAllGood store number rest = (is_all (entry_of store number) rest ≡ true) × (fault_code (octets_at (entry_of store number) ++ rest) ≡ None)
 
--- it is that of DATA_END in this state, of a file of which all octets came, and replies nothing else
-pub record Acks (store : Store) (state : State) (item : Item) (replies : List PacketValue) : Type 0 where
+-- it is that of DATA_END in this state, of a file of which all octets came, at which no read failed, and replies nothing
+-- else
+pub record Acks (store : Store) (state : State) (item : Item) (fails : Bool) (replies : List PacketValue) : Type 0 where
   pub number : ℕ
   pub rest : List ℕ
   pub state_is : state ≡ receiving number rest
   pub item_is : item ≡ Ok data_end
   pub good : IsAllGood store number rest
+  pub read : fails ≡ false
   pub only : replies ≡ ul_ack_resp ∷ []
 
 end-acks : (moment : ℕ) (store : Store) (number : ℕ) (rest : List ℕ) → acks (upload.end_row moment store number rest).replies ≡ true
-    → Acks store (receiving number rest) (Ok data_end) (upload.end_row moment store number rest).replies
+    → Acks store (receiving number rest) (Ok data_end) false (upload.end_row moment store number rest).replies
 end-acks moment store number rest h =
-    record { number = number; rest = rest; state_is = refl; item_is = refl; good = (grind (arith, common_steps), grind (arith, common_steps)); only = grind (arith, common_steps) }
+    record { number = number; rest = rest; state_is = refl; item_is = refl; good = (grind (arith, common_steps), grind (arith, common_steps)); read = refl; only = grind (arith, common_steps) }
 
 upload-acks : (caller : CallSign) (moment : ℕ) (store : Store) (part : upload.State) (item : Item)
-    → IfSome (upload.session_row caller moment store part item) (λ row. acks row.replies ≡ true → Acks store (state_by part ready) item row.replies)
+    → IfSome (upload.session_row caller moment store part item) (λ row. acks row.replies ≡ true → Acks store (state_by part ready) item false row.replies)
 unfolding upload.session_row
 upload-acks caller moment store upload.command (Ok (upload_cmd number len)) = λ h. absurd (grind (arith, common_steps))
 upload-acks caller moment store (upload.receiving n rest) (Ok (data_part octets)) = λ h. absurd (grind (arith, common_steps))
@@ -108,9 +111,42 @@ upload-acks caller moment store upload.aborting (Ok (data_part octets)) = λ h. 
 upload-acks caller moment store upload.aborting (Ok data_end) = λ h. absurd cc
 upload-acks caller moment store state item = by (is_upload_kind (kind_of_item item))
   where
-    by : (b : Bool) → IfSome (if b then Some (upload.refused_row state 1) else None) (λ (row : upload.Row). acks row.replies ≡ true → Acks store (state_by state ready) item row.replies)
+    by : (b : Bool) → IfSome (if b then Some (upload.refused_row state 1) else None) (λ (row : upload.Row). acks row.replies ≡ true → Acks store (state_by state ready) item false row.replies)
     by true = λ h. absurd cc
     by false = tt
+
+-- where a read fails none does
+unread-acks : (caller : CallSign) (moment : ℕ) (store : Store) (part : upload.State) (item : Item) → IfSome (upload.row_by_read caller moment store part item true) (λ row. acks row.replies ≡ false)
+unfolding upload.session_row
+unread-acks caller moment store upload.command (Ok (upload_cmd number len)) = grind (arith, common_steps)
+unread-acks caller moment store (upload.receiving n rest) (Ok (data_part octets)) = grind (arith, common_steps)
+unread-acks caller moment store (upload.receiving n rest) (Ok data_end) = by (is_all (entry_of store n) rest)
+  where
+    few : upload.Row
+    few = record { state = upload.command; commands = []; replies = ul_nak_resp 16 ∷ [] }
+
+    by : (b : Bool)
+        → IfSome (option_or (if b then Some (upload.unread_row n rest) else None) (Some (if b then whole_row moment n rest (fault_code (octets_at (entry_of store n) ++ rest)) else few)))
+        (λ (row : upload.Row). acks row.replies ≡ false)
+    by true = refl
+    by false = refl
+unread-acks caller moment store upload.aborting (Ok (data_part octets)) = refl
+unread-acks caller moment store upload.aborting (Ok data_end) = refl
+unread-acks caller moment store state item = by (is_upload_kind (kind_of_item item))
+  where
+    by : (b : Bool) → IfSome (if b then Some (upload.refused_row state 1) else None) (λ (row : upload.Row). acks row.replies ≡ false)
+    by true = refl
+    by false = tt
+
+-- whether a read fails or none does
+read-acks : (caller : CallSign) (moment : ℕ) (store : Store) (part : upload.State) (item : Item) (fails : Bool)
+    → IfSome (upload.row_by_read caller moment store part item fails) (λ row. acks row.replies ≡ true → Acks store (state_by part ready) item fails row.replies)
+read-acks caller moment store part item false = upload-acks caller moment store part item
+read-acks caller moment store part item true = by (upload.row_by_read caller moment store part item true) (unread-acks caller moment store part item)
+  where
+    by : (o : Option upload.Row) → IfSome o (λ row. acks row.replies ≡ false) → IfSome o (λ row. acks row.replies ≡ true → Acks store (state_by part ready) item true row.replies)
+    by None none = tt
+    by (Some row) none = λ h. absurd (true≢false (sym h ∙ none))
 
 -- no row of downloading does
 files-acks : (caller : CallSign) (store : Store) (lists : List CallerList) (asked : ℕ) (due : Store → List ℕ → List Due) (fails : Bool) (numbers : List ℕ) → acks (download.files_row caller store lists asked due fails numbers).replies ≡ false
@@ -152,18 +188,19 @@ module _ (E : List PacketValue → Type 0) (lists : List CallerList) (state : St
       by true e = absurd cc
       by false e = absurd cc
 
-uploading-acks : (caller : CallSign) (moment : ℕ) (store : Store) (state : State) (item : Item) → IfSome (upload_row caller moment store state item) (λ row. acks row.replies ≡ true → Acks store state item row.replies)
-uploading-acks caller moment store command item = upload-acks caller moment store upload.command item
-uploading-acks caller moment store (receiving number rest) item = upload-acks caller moment store (upload.receiving number rest) item
-uploading-acks caller moment store aborting item = upload-acks caller moment store upload.aborting item
-uploading-acks caller moment store state item = tt
+uploading-acks : (caller : CallSign) (moment : ℕ) (store : Store) (state : State) (item : Item) (fails : Bool)
+    → IfSome (upload_row caller moment store state item fails) (λ row. acks row.replies ≡ true → Acks store state item fails row.replies)
+uploading-acks caller moment store command item fails = read-acks caller moment store upload.command item fails
+uploading-acks caller moment store (receiving number rest) item fails = read-acks caller moment store (upload.receiving number rest) item fails
+uploading-acks caller moment store aborting item fails = read-acks caller moment store upload.aborting item fails
+uploading-acks caller moment store state item fails = tt
 
 pub row-acks : (caller : CallSign) (moment : ℕ) (store : Store) (lists : List CallerList) (state : State) (item : Item) (fails : Bool) → acks (session_row caller moment store lists state item fails).replies ≡ true
-    → Acks store state item (session_row caller moment store lists state item fails).replies
+    → Acks store state item fails (session_row caller moment store lists state item fails).replies
 unfolding session_row
 row-acks caller moment store lists state item fails =
-    among-acks (λ replies. Acks store state item replies) lists state item (upload_row caller moment store state item) (download_row caller store lists state item fails) (uploading-acks caller moment store state item)
-    (download-acks caller store lists state item fails)
+    among-acks (λ replies. Acks store state item fails replies) lists state item (upload_row caller moment store state item fails) (download_row caller store lists state item fails)
+    (uploading-acks caller moment store state item fails) (download-acks caller store lists state item fails)
 
 -- nor does anything that is due
 due-acks : (store : Store) (state : State) (failures : List Failure) (part : ℕ) (packet : PacketValue) (next : State) → due_at store state failures part ≡ Some (record { packet = packet; state = next }) → is_ack packet ≡ false
@@ -240,7 +277,7 @@ module _ {D : Type 0} (g : Ghosts D) (law : AcknowledgedStandsLaw) (failed : Typ
       (AreAllowed-split before (commands ++ (others ++ cut)) start allowed).1 in
       let is = whole file.store file.number file.moment file.rest (others ++ cut) (entry_of file.store file.number) refl good
       (subst (λ (cs : List Command). AreAllowed file.store (cs ++ (others ++ cut))) (end-commands file good) there) in
-      let ack = law file.caller start file.store file.lists file.fails before file.moment file.number is.0 is.1 file.rest behind is.2 in
+      let ack = law file.caller start file.store file.lists before file.moment file.number is.0 is.1 file.rest behind is.2 in
       let count : ℕ = length before + length commands in
       let some : 1 ≤ count = omega (arith, ack.some) in
       let most : count ≤ length done = omega (arith, ap length parts, length-append before (commands ++ others), length-append commands others) in
@@ -288,12 +325,13 @@ module _ (caller : CallSign) where
       → row.replies ≡ before ++ ul_ack_resp ∷ later → Found caller now before (row.commands ++ others)
   found-here now event row others before later is replies =
       let fails : Bool = read_fails event.failures 0 in
-      let of : State → Item → Row = λ state item. session_row caller event.moment now.store now.lists state item fails in
+      let of : State → Item → Bool → Row = λ state item read. session_row caller event.moment now.store now.lists state item read in
       let a = row-acks caller event.moment now.store now.lists now.state event.packet fails (ap (λ (r : Row). acks r.replies) is ∙ ap acks replies ∙ acks-at before later) in
-      let same : row ≡ of (receiving a.number a.rest) (Ok data_end) = sym is ∙ ap (λ (s : State). of s event.packet) a.state_is ∙ ap (of (receiving a.number a.rest)) a.item_is in
+      let same : row ≡ of (receiving a.number a.rest) (Ok data_end) false =
+      sym is ∙ ap (λ (s : State). of s event.packet fails) a.state_is ∙ ap (λ (i : Item). of (receiving a.number a.rest) i fails) a.item_is ∙ ap (of (receiving a.number a.rest) (Ok data_end)) a.read in
       subst (λ (said : List PacketValue). Found caller now said (row.commands ++ others)) (sym (none-before before later (sym a.only ∙ ap (λ (r : Row). r.replies) is ∙ replies)))
       (record {
-        file = record { caller = caller; before = []; store = now.store; lists = now.lists; fails = fails; moment = event.moment; number = a.number; rest = a.rest };
+        file = record { caller = caller; before = []; store = now.store; lists = now.lists; moment = event.moment; number = a.number; rest = a.rest };
         caller_is = refl;
         events = [];
         runs = (refl, refl, refl, refl, sym a.state_is);
@@ -630,12 +668,14 @@ server_acknowledges {D} {A} {C} seen law taking old new terms ended ends =
           let done : Progress = progress meets.now meets.event meets.failures taken in
           let store : Store = after_all meets.now.store done.done in
           let fails : Bool = read_fails meets.failures (length taken.items) in
-          let of : State → Item → Row = λ state item. session_row (caller_of taken.c) taken.moment store done.lists state item fails in
+          let of : State → Item → Bool → Row = λ state item read. session_row (caller_of taken.c) taken.moment store done.lists state item read in
           let a = row-acks (caller_of taken.c) taken.moment store done.lists done.state taken.packet fails (ap (λ (r : Row). acks r.replies) taken.row_is ∙ ap acks is ∙ acks-at before later) in
-          let same : taken.row ≡ of (receiving a.number a.rest) (Ok data_end) = sym taken.row_is ∙ ap (λ (s : State). of s taken.packet) a.state_is ∙ ap (of (receiving a.number a.rest)) a.item_is in
+          let same : taken.row ≡ of (receiving a.number a.rest) (Ok data_end) false =
+          sym taken.row_is ∙ ap (λ (s : State). of s taken.packet fails) a.state_is ∙ ap (λ (i : Item). of (receiving a.number a.rest) i fails) a.item_is
+          ∙ ap (of (receiving a.number a.rest) (Ok data_end)) a.read in
           let up = taking-up_to meets.now meets.event meets.failures taken taking in
           let file : FileEnd =
-          record { caller = caller_of taken.c; before = meets.before ++ done.done; store = store; lists = done.lists; fails = fails; moment = taken.moment; number = a.number; rest = a.rest } in (
+          record { caller = caller_of taken.c; before = meets.before ++ done.done; store = store; lists = done.lists; moment = taken.moment; number = a.number; rest = a.rest } in (
             file,
             record { caller_is = refl; moment_is = refl; receives = a.state_is; before_is = refl },
             acknowledged seen.disk law _ (by_disk ended) served.start served.run.all.done served.run.cut old.disk new.disk served.stands file

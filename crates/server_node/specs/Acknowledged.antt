@@ -1,5 +1,5 @@
 -- The files that a session or a server acknowledges in a run, and from which moment of its disk on each of them stands.
-use Rattle.std.specs.Prelude.{◌≡◌, ◌⊎◌, ℕ, ◌+◌, ◌≤◌, List, [], ◌∷◌, ◌++◌, length, slice_get, slice_index, Bool}
+use Rattle.std.specs.Prelude.{◌≡◌, ◌⊎◌, ℕ, ◌+◌, ◌≤◌, List, [], ◌∷◌, ◌++◌, length, slice_get, slice_index}
 use Rattle.std.specs.Prelude.{false, None, Some, IfSome, Result, Ok}
 use Rattle.px_base.specs.CallSign.{CallSign}
 use Rattle.px_base.specs.Octets.{IsFront}
@@ -38,14 +38,13 @@ use Rattle.server_node.specs.declared.terms.Served.{Served}
 use Rattle.server_node.specs.declared.terms.ServerTerms.{ServerTerms}
 use Rattle.server_node.specs.declared.terms.SessionTerms.{SessionTerms}
 
--- DATA_END of a file: whose upload it is, which commands were done before, over which store and lists it comes, whether
--- a read fails, when it comes, the file's number, and the last of its octets, which aren't held yet.
+-- DATA_END of a file at which no read of the disk fails: whose upload it is, which commands were done before, over
+-- which store and lists it comes, when it comes, the file's number, and the last of its octets, which aren't held yet.
 pub record FileEnd : Type 0 where
   pub caller : CallSign
   pub before : List Command
   pub store : Store
   pub lists : List CallerList
-  pub fails : Bool
   pub moment : ℕ
   pub number : ℕ
   pub rest : List ℕ
@@ -53,7 +52,7 @@ pub record FileEnd : Type 0 where
 -- its row of the session's table
 abbrev pub row_of_end : FileEnd → Row
 row_of_end file =
-    session_row file.caller file.moment file.store file.lists (receiving file.number file.rest) (Ok data_end) file.fails
+    session_row file.caller file.moment file.store file.lists (receiving file.number file.rest) (Ok data_end) false
 
 -- All octets of the file came, over the store to which the commands before lead, and its row replies UL_ACK_RESP. Since
 -- the last call of the disk for the row's commands, which is in this run, the file's entry is complete with the octets

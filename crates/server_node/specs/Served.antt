@@ -61,8 +61,8 @@ pub record IsUnrecovered {A C D : Type 0} (seen : Seen D A C) (blocks : ℕ) (ol
 
 -- It was served over the store for which the disk's content stood. Its recovery changed no octet of a formatted store,
 -- and made a formatted one of any other content; without commands that is what the disk has at the end. Only a write or
--- a sync that failed ends it by the disk; a read that failed is told by DL_ERROR_RESP with code 3, and the count of
--- failed reads rose by at least as many as were told, and not where none was.
+-- a sync that failed ends it by the disk; a read that failed is told by code 3, and the count of failed reads rose by
+-- at least as many as were told, and not where none was.
 pub record IsServed {A C D : Type 0} (seen : Seen D A C) (blocks : ℕ) (given : Option ℕ)
     (Ran : Store → Run → Type 0) (old new : Lent D A C) (result : Result Served NodeStop) : Type 0 where
   pub start : Store
