@@ -1,12 +1,13 @@
 """Rows that were written for the growing layout, as they are for that of blocks: each disk stands for the same files or is damaged
-at the same record, and it stops at the same call of the same command. Once run.rows has disks of blocks, this is done with."""
+at the same record, and it stops at the same call of the same command. Most of them have few blocks then. Once run.rows has disks of
+blocks, this is done with."""
 
 import itertools
 import re
 
 from disks import Disk, octets_of
 from headers import first_fault, header_sum, stamped
-from journal import BLOCK, BLOCKS, GROWING, HEADER, blocks_in, call_octets, disk, record
+from journal import BLOCK, BLOCKS, GROWING, HEADER, block_place, blocks_in, call_octets, disk, first_gate, header, record
 from rows import header_file, is_row, words_of
 from stores import MAGICS, Store, begin, grow, grow_in, seal, seal_with
 
@@ -74,10 +75,17 @@ class Moved(Store):
         self.put(record(3, content))
 
     def text(self, header, rest):
-        """The words of its disk: the header, each block or several that are alike, and the records with what is behind them."""
-        blocks = itertools.groupby(self.read_block(block) for block in range(self.blocks))
-        texts = [blocks_text(octets, len(list(alike))) for octets, alike in blocks]
-        return " ".join([words_of(header), *texts, words_of(self.records + rest)])
+        """The words of its disk: the header, the blocks, and the records with what is behind them."""
+        area = b"".join(self.read_block(block) for block in range(self.blocks))
+        return disk_text(header + area + self.records + rest)
+
+
+def disk_text(octets):
+    """The words of a disk of blocks: the header, each block or several that are alike, and what is behind them."""
+    gate = first_gate(BLOCKS, blocks_in(octets))
+    blocks = itertools.groupby(octets[place : place + BLOCK] for place in range(HEADER, gate, BLOCK))
+    texts = [blocks_text(octets, len(list(alike))) for octets, alike in blocks]
+    return " ".join([words_of(octets[:HEADER]), *texts, words_of(octets[gate:])])
 
 
 def blocks_text(octets, count):
@@ -229,3 +237,64 @@ def with_stops_at_blocks(lines, first):
         else:
             added += group
     return added
+
+
+# ---- sizes
+
+MANY, FEW = 65536, 64
+
+
+def with_few_blocks(lines, play):
+    """The lines of a file of rows of blocks, where disks have few of them in place of as many as there may be, so that they are
+    small. Rows that go on with one another's disks stay where one of them gives something else then: `play` gives what a row
+    gives and its disk, behind what the one before it left, or None where it can't. So do those under a heading on that number."""
+    chains, found, heading = [[]], [], ""
+    for line in lines:
+        if is_row(line) and not line.split(";")[-2].startswith("="):
+            chains.append([])
+        chains[-1].append(line)
+    for chain in chains:
+        found += chain if "65,536" in heading else with_few(chain, play)
+        heading = ([heading] + [line for line in chain if not is_row(line)])[-1]
+    return found
+
+
+def with_few(chain, play):
+    few = [few_row(line) if is_row(line) else line for line in chain]
+    given = gives(few, play)
+    return few if given is not None and given == gives(chain, play) else chain
+
+
+def few_row(line):
+    """With a disk of few blocks, and that number in its words, where they have none."""
+    words, *others, octets, calls = line.split(";")
+    if "--blocks" in words:
+        return line
+    before, polls, count = words.partition(" --polls")
+    if not octets.startswith("="):
+        octets = few_disk(octets)
+    return ";".join(["%s --blocks %d%s%s" % (before, FEW, polls, count), *others, octets, calls])
+
+
+def few_disk(text):
+    """The words of a disk, without those of its blocks that are too many."""
+    octets = octets_of(text)
+    if len(octets) <= HEADER or octets[:8] != MAGICS[BLOCKS] or blocks_in(octets) != MANY:
+        return text
+    return disk_text(header(MAGICS[BLOCKS], FEW)[:12] + octets[12 : block_place(FEW)] + octets[block_place(MANY) :])
+
+
+def gives(chain, play):
+    """What rows give one after another, or None where they can't be played. A place of damage is told from the first gate on."""
+    given, left = [], None
+    for line in filter(is_row, chain):
+        row_played = play(line, left)
+        if row_played is None:
+            return None
+        text, left = row_played
+        given.append(re.sub(r"damaged (\d+)", lambda place: "damaged %d" % behind_blocks(int(place[1]), left.present), text))
+    return given
+
+
+def behind_blocks(place, octets):
+    return place - first_gate(BLOCKS, blocks_in(octets))

@@ -118,7 +118,6 @@ module _ (files : List Asked) (c : ℕ) (party : Party) (before : Session) (serv
     acknowledged =
         subst (Acknowledges before.store before.lists number file_taken.entry (file_taken.held ++ rest) moment) row-is
         (acknowledged_law party.client.me moment before.store before.lists number file_taken.entry file_taken.held rest
-        false
         (file_taken.is_entry, file_taken.holds) counted faultless)
 
     abbrev store_now : Store

@@ -11,7 +11,7 @@ use Rattle.client_notes.specs.Several as notes
 use Rattle.client_notes.specs.State as notes_state
 use Rattle.ftl0_server.specs.Server.{Server}
 use Rattle.ftl0_server.specs.ServerState.{IsServer, ServerState}
-use Rattle.file_store.specs.State.{StandsFor as StandsForStore}
+use Rattle.file_store.specs.State.{StandsFor as StandsForStore, store_on}
 use Rattle.air_attempt.specs.Party.{Party}
 use Rattle.air_world.specs.Cuts.{WorldStep, client_commands}
 use Rattle.air_world.specs.Events.{ClientPart, ClientTakes}
@@ -333,8 +333,11 @@ module _ {B : Type 0} (g : Ghosts B) (cuts : Cuts B) (world next : World) (event
           sound = law.kept world next event bench.sound step;
           plays = record {
             server =
-                subst (λ (s : ServerState). IsServer s next.server) (sym changes.server)
-                (subst (λ (s : Server). IsServer old.server s) (sym goes.server) bench.plays.server);
+                subst (λ (d : B). IsServer (store_on g new.server.store d) new.server next.server)
+                (sym changes.server_disk)
+                (subst (λ (s : ServerState). IsServer (store_on g s.store old.disk) s next.server) (sym changes.server)
+                (subst (λ (s : Server). IsServer (store_on g old.server.store old.disk) old.server s) (sym goes.server)
+                bench.plays.server));
             blocks = ap (λ (s : Server). s.store.blocks) goes.server ∙ bench.plays.blocks;
             stations = plays_stations plays files;
           };

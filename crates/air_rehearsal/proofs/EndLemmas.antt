@@ -1,16 +1,14 @@
 -- The server's disk at the end: what is recovered from it is the world's store, and it stands for that then.
-use Rattle.std.proofs.Common.{◌≡◌, ℕ, ◌≤◌, List, true, false, Option, None, Some, IfSome, refl, sym, ◌∙◌, subst, arith}
+use Rattle.std.proofs.Common.{◌≡◌, ℕ, ◌≤◌, List, true, false, Option, None, Some, IfSome, refl, inr, sym, ◌∙◌, subst, arith}
 use Rattle.disk_model.specs.Disk.{IsTold}
 use Rattle.disk_model.specs.declared.disk.Disk.{Ghosts}
-use Rattle.file_journal.specs.Calls.{ChangesReads, IsQuietNow, images_now}
+use Rattle.file_journal.specs.Calls.{ChangesReads, IsQuietNow, TellsAlike, images_now}
 use Rattle.file_journal.specs.Walk.{state}
-use Rattle.file_journal.proofs.Offered.{alike_on, alike_same, at_told, images_here, joined, reads, reads_now, told_weaker}
-use Rattle.file_entries.specs.Records.{store_form}
-use Rattle.file_entries.specs.StoreLaws.{store_number}
-use Rattle.file_store.specs.OnDisk.{kept_at}
+use Rattle.file_journal.proofs.Offered.{alike_on, alike_same, at_told, joined, reads, reads_now, told_weaker}
 use Rattle.file_store.specs.Recovery.{IsRecovered}
-use Rattle.file_store.specs.State.{IsRead, IsReady, StandsFor, StoreState, standing_of, store_in}
+use Rattle.file_store.specs.State.{IsKnown, IsReady, StandsFor, StoreState, standing_of, store_on}
 use Rattle.file_store.specs.Store.{Store}
+use Rattle.file_store.proofs.Offered.{on_same, stands-each}
 use Rattle.air_world.specs.World.{World, store_blocks}
 use Rattle.air_rehearsal.specs.Counting.{EndsSo}
 use Rattle.air_rehearsal.specs.Ending.{CountsAcked, LooksOnly}
@@ -31,17 +29,23 @@ module _ {D : Type 0} (g : Ghosts D) where
   -- The store that is recovered from a disk that stands for the world's is that one.
   pub recovered-store : (world : World) (disk mid : D) (store : StoreState)
       → world.server.store.blocks ≡ store_blocks → StandsNow g the_server world disk
-      → IsRecovered g store_blocks disk mid store → store_in store ≡ world.server.store
+      → IsRecovered g store_blocks disk mid store → store_on g store mid ≡ world.server.store
   recovered-store world disk mid store blocks stands recovered =
-      let found : standing_of store_blocks stands.content ≡ state (store_in store) =
-      at_told (λ (before : List ℕ). standing_of store_blocks before ≡ state (store_in store)) stands.content
+      let found : standing_of store_blocks stands.content ≡ state (store_on g store mid) =
+      at_told (λ (before : List ℕ). standing_of store_blocks before ≡ state (store_on g store mid)) stands.content
       stands.is_content recovered.content
       in
       let stood : standing_of store_blocks stands.content ≡ state world.server.store =
       subst (λ (b : ℕ). standing_of b stands.content ≡ state world.server.store) blocks stands.stands
       in
-      let same : state (store_in store) ≡ state world.server.store = sym found ∙ stood in
+      let same : state (store_on g store mid) ≡ state world.server.store = sym found ∙ stood in
       cc
+
+  -- What its files hold is known, since the disk tells still.
+  pub recovered-known : (world : World) (disk mid : D) → StandsNow g the_server world disk
+      → TellsAlike (g.content disk) (g.content mid) → IsKnown g mid
+  recovered-known world disk mid stands told =
+      inr (told.1 (told-by (g.content disk) stands.content stands.is_content))
 
   -- A station that was to start from its disk was so behind reads too.
   pub tries-reads : ((first second third : D) → g.lasts first second → g.lasts second third → g.lasts first third)
@@ -69,14 +73,14 @@ module _ {D : Type 0} (g : Ghosts D) where
   -- A disk on which a store stands that is the world's stands for the world.
   pub stands-end : ((disk : D) → IfSome (g.content disk) (g.images disk))
       → ((disk : D) (t : ℕ) (image : List ℕ) → t ≤ g.moment disk → g.images disk image → g.images_since disk t image)
-      → (world : World) (store : StoreState) (now : D) → store_in store ≡ world.server.store → IsRead store.journal
+      → (world : World) (store : StoreState) (now : D) → store_on g store now ≡ world.server.store
       → IsReady g store now → IsTold (g.content now) → StandsNow g the_server world now
-  stands-end image-of counts world store now same read ready told =
+  stands-end image-of counts world store now same ready told =
       let some = is-some (g.content now) told in
       let here =
-      at_told (λ (octets : List ℕ). (image : List ℕ) → images_now g now image → StandsFor image (store_in store))
-      some.0 some.1
-      (images_here store_form g store_number (kept_at store now) ready.stands_on ready.healthy)
+      at_told
+      (λ (octets : List ℕ). (image : List ℕ) → images_now g now image → StandsFor image (store_on g store now)) some.0
+      some.1 (stands-each g store now ready.healthy ready.stands_on)
       in
       let each : (image : List ℕ) → images_now g now image → StandsFor image world.server.store =
       λ image left. subst (λ (it : Store). StandsFor image it) same (here image left)
@@ -94,11 +98,11 @@ module _ {D : Type 0} (g : Ghosts D) where
       → ((disk : D) → IfSome (g.content disk) (g.images disk))
       → ((disk : D) (t : ℕ) (image : List ℕ) → t ≤ g.moment disk → g.images disk image → g.images_since disk t image)
       → (world : World) (disk mid now : D) (store store_now : StoreState) (before report : StoredReport)
-      → StandsNow g the_server world disk → IsRead store.journal → IsRecovered g store_blocks disk mid store
+      → StandsNow g the_server world disk → IsRecovered g store_blocks disk mid store
       → TriesToStart g the_server disk mid → LooksOnly g store store_now mid now
-      → store_in store ≡ world.server.store → CountsAcked (all_tasks world) before report
+      → store_on g store mid ≡ world.server.store → CountsAcked (all_tasks world) before report
       → EndsSo g world before disk now report
-  ends-so on image-of counts world disk mid now store store_now before report stands read recovered tried looks same
+  ends-so on image-of counts world disk mid now store store_now before report stands recovered tried looks same
       counted =
       let all = tries-reads on the_server disk mid now tried looks.only looks.lasts in
       let told : IsTold (g.content now) = all.told.1 (told-by (g.content disk) stands.content stands.is_content) in
@@ -113,5 +117,7 @@ module _ {D : Type 0} (g : Ghosts D) where
           quiet = quiet-reads mid now looks.only recovered.quiet;
           lasts = all.lasts;
         };
-        stands = stands-end image-of counts world store now same read ready told;
+        stands =
+            stands-end image-of counts world store now (on_same g store mid now looks.only.same_content ∙ same) ready
+            told;
       }

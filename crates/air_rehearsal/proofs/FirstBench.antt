@@ -15,7 +15,7 @@ use Rattle.file_journal.proofs.Offered.{told_weaker}
 use Rattle.file_journal.specs.Calls.{images_now}
 use Rattle.file_journal.specs.Journal.{journal_of}
 use Rattle.file_journal.specs.Walk.{state}
-use Rattle.file_store.specs.State.{StandsFor as StandsForStore, standing_of, store_in}
+use Rattle.file_store.specs.State.{StandsFor as StandsForStore, standing_of, store_on}
 use Rattle.file_store.specs.Store.{Store, empty_store}
 use Rattle.ftl0_server.specs.Server.{new_server}
 use Rattle.ftl0_server.specs.ServerState.{IsServer, ServerState}
@@ -121,22 +121,25 @@ module _ {B : Type 0} (g : Ghosts B) (cuts : Cuts B)
   fresh_at : (c : ℕ) (it : B) → slice_get disks c ≡ Some it → IsFresh g cuts it
   fresh_at c it is = all_at (IsFresh g cuts) (disk ∷ disks) (suc c) it fresh.1 is
 
-  store_is : store_in server.store ≡ empty_store store_blocks
+  abbrev store_now : Store
+  store_now = store_on g server.store disk_now
+
+  store_is : store_now ≡ empty_store store_blocks
   store_is =
       let content : g.content starts.disarmed ≡ Some [] =
       starts.arms.nothing_else.same_content ∙ fresh_disk.told in
-      let stood : standing_of store_blocks [] ≡ state (store_in server.store) =
+      let stood : standing_of store_blocks [] ≡ state store_now =
       subst
-      (λ (c : Option (List ℕ)). IfSome c (λ before. standing_of store_blocks before ≡ state (store_in server.store)))
+      (λ (c : Option (List ℕ)). IfSome c (λ before. standing_of store_blocks before ≡ state store_now))
       content starts.restarts.stood in
       let empty : standing_of store_blocks [] ≡ state (empty_store store_blocks) = empty_stands in
-      (let same : state (store_in server.store) ≡ state (empty_store store_blocks) = sym stood ∙ empty in cc)
+      (let same : state store_now ≡ state (empty_store store_blocks) = sym stood ∙ empty in cc)
 
-  server_plays : IsServer server world.server
+  server_plays : IsServer store_now server world.server
   server_plays =
-      subst (λ (s : Store). IsServer server (new_server pacsat (window_of schedule.size) s)) store_is
-      (subst (λ (k : ℕ). IsServer server (new_server pacsat (window_of k) (store_in server.store))) opens.k_is
-      (subst (λ (me : CallSign). IsServer server (new_server me (window_of stations.k) (store_in server.store)))
+      subst (λ (s : Store). IsServer store_now server (new_server pacsat (window_of schedule.size) s)) store_is
+      (subst (λ (k : ℕ). IsServer store_now server (new_server pacsat (window_of k) store_now)) opens.k_is
+      (subst (λ (me : CallSign). IsServer store_now server (new_server me (window_of stations.k) store_now))
       opens.me_is starts.restarts.is_new))
 
   count_is : client_count stations ≡ length schedule.calls
@@ -205,7 +208,7 @@ module _ {B : Type 0} (g : Ghosts B) (cuts : Cuts B)
       λ image since.
       subst (λ (s : Store). StandsForStore image s) store_is
       (some_has (g.content disk_now) told.0
-      (λ _. (i : List ℕ) → images_now g disk_now i → StandsForStore i (store_in server.store)) told.1
+      (λ _. (i : List ℕ) → images_now g disk_now i → StandsForStore i store_now) told.1
       starts.restarts.stands image since) in
       record {
         content = told.0;

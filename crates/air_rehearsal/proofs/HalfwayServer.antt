@@ -12,9 +12,9 @@ use Rattle.disk_model.specs.declared.halt.Halt.TheVariants as halt
 use Rattle.file_entries.specs.Command.{Command}
 use Rattle.file_journal.specs.Calls.{Leaves, TellsAlike}
 use Rattle.file_store.specs.OnDisk.{MakesFirst}
-use Rattle.file_store.specs.State.{store_in}
+use Rattle.file_store.specs.State.{store_on}
 use Rattle.file_store.specs.Store.{Store}
-use Rattle.file_store.proofs.Offered.{cuts-among-all}
+use Rattle.file_store.proofs.Offered.{cuts-among-all, on_same}
 use Rattle.ftl0_session.specs.Uploads.Failures.{Failure, failed_reads, failed_write}
 use Rattle.ftl0_server.specs.Calls.{Hears}
 use Rattle.ftl0_server.specs.Server.{Server, ServerHappened}
@@ -67,7 +67,7 @@ module _ {B : Type 0} (g : Ghosts B)
     pub told : TellsAlike (g.content disk) (g.content disk_now)
     pub lasts : g.lasts disk disk_now
     pub since :
-        WhereRead g the_server disk disk_now (Leaves g disk disk_now (λ _. MakesFirst (store_in old.store) (event []).done))
+        WhereRead g the_server disk disk_now (Leaves g disk disk_now (λ _. MakesFirst (store_on g old.store disk) (event []).done))
 
   -- all commands are behind those that were begun, where no read failed
   begun_first :
@@ -88,7 +88,7 @@ module _ {B : Type 0} (g : Ghosts B)
         since = λ same.
             let none = missed-none _ _ _ hears.by.2.reads same below in
             let is : happened ≡ event [] = misses it coming [] hears.parts no-reads none in
-            subst (λ (h : ServerHappened). Leaves g disk disk_now (λ _. MakesFirst (store_in old.store) h.done)) is
+            subst (λ (h : ServerHappened). Leaves g disk disk_now (λ _. MakesFirst (store_on g old.store disk) h.done)) is
             hears.by.2.since;
       }
   stopped (Err halt.Disk) hears =
@@ -102,7 +102,7 @@ module _ {B : Type 0} (g : Ghosts B)
         since = λ same.
             let none = missed-none _ _ _ all.reads same below in
             let first = begun_first by.0 hears.parts none in
-            leaves-more g (store_in old.store) (begun_in happened) first.0 (event []).done disk disk_now first.1
+            leaves-more g (store_on g old.store disk) (begun_in happened) first.0 (event []).done disk disk_now first.1
             all.since;
       }
   stopped (Err halt.OutOfMemory) hears = elim hears.by [
@@ -111,7 +111,7 @@ module _ {B : Type 0} (g : Ghosts B)
           told = none.puts.told;
           lasts = none.puts.lasts;
           since = λ same.
-              leaves-more g (store_in old.store) [] (event []).done (event []).done disk disk_now refl none.since;
+              leaves-more g (store_on g old.store disk) [] (event []).done (event []).done disk disk_now refl none.since;
         }
     | inr by ↦
         let happened : ServerHappened = event (failed_write by.0 ++ failed_reads hears.parts) in
@@ -121,7 +121,7 @@ module _ {B : Type 0} (g : Ghosts B)
           since = λ same.
               let none = missed-none _ _ _ by.2.reads same below in
               let first = begun_first by.0 hears.parts none in
-              leaves-more g (store_in old.store) happened.done (happened.cut ++ first.0) (event []).done disk disk_now
+              leaves-more g (store_on g old.store disk) happened.done (happened.cut ++ first.0) (event []).done disk disk_now
               (first.1 ∙ append_assoc happened.done happened.cut first.0) by.2.since;
         }
   ]
@@ -132,7 +132,7 @@ module _ {B : Type 0} (g : Ghosts B) (cuts : Cuts B)
     (misses : MissesLaw) (front : FrontOfEventLaw) (world : World) (event : Event) (old mid : Serving B) (disk : B)
     (answer : Result ⊤ Halt) (awaits : AwaitsServer g cuts world old)
     (taken : IsTaken g world event (serving old.stations old.server disk) mid answer)
-    (reads : g.read_faults disk ≡ g.read_faults old.disk) where
+    (reads : g.read_faults disk ≡ g.read_faults old.disk) (content : g.content disk ≡ g.content old.disk) where
   below_last : g.read_faults disk < 18446744073709551615
   below_last = (let before = awaits.steady.reads in omega (arith, reads, before))
 
@@ -146,7 +146,7 @@ module _ {B : Type 0} (g : Ghosts B) (cuts : Cuts B)
         carried g world event taken.coming taken.delivered disk mid.disk taken.takes
         (subst
         (λ (s : Store). Leaves g disk mid.disk (λ _. MakesFirst s (server_commands world taken.coming)))
-        awaits.plays.server.store (went.since same));
+        (on_same g old.server.store old.disk disk content ∙ awaits.plays.server.store) (went.since same));
     lasts = went.lasts;
   }
 

@@ -1,18 +1,27 @@
 -- The file of a task that was acknowledged: an upload without fault, which the server's store keeps.
-use Rattle.std.proofs.Common.{◌≡◌, ℕ, zero, suc, ◌+◌, List, [], ◌∷◌, Option, None, Some, refl, ap, sym, subst, ◌∙◌}
+use Rattle.std.proofs.Common.{◌≡◌, ℕ, zero, suc, ◌+◌, true, List, [], ◌∷◌, length, Option, None, Some, refl, ap, sym}
+use Rattle.std.proofs.Common.{subst, ◌∙◌}
 use Rattle.std.specs.List.{AllByRecursion, slice_get}
 use Rattle.std.specs.Option.{option_and_then, option_map}
 use Rattle.std.proofs.lemmas.Option.{same_Some}
+use Rattle.px_base.specs.CallSign.{CallSign}
+use Rattle.pfh_items.specs.Faults.{fault_code}
+use Rattle.file_store.specs.EntriesInfo.{Info}
+use Rattle.file_store.specs.Info.{info_of, is_complete}
+use Rattle.file_store.specs.Outlined.{IsStoreLike}
+use Rattle.file_store.specs.Store.{Entry, Holding, Store, entry_of, octets_at, octets_of}
+use Rattle.file_store.proofs.Offered.{like_back, like_entry, like_is_complete, like_octets_length}
 use Rattle.client_notes.specs.Answers.{noted_as, noted_at, noted_by}
 use Rattle.client_notes.specs.Notes.{Lists, Task, task_of}
 use Rattle.client_notes.specs.declared.answers.Noted.TheVariants as noted
 use Rattle.client_notes.specs.declared.progress.Progress.{Progress}
 use Rattle.client_notes.specs.declared.progress.Progress.TheVariants as progress
 use Rattle.air_attempt.specs.Party.{Asked, IsFileOf, Party, upload_of}
+use Rattle.air_files.specs.Kept.{IsKept}
 use Rattle.air_files.specs.Uploads.{IsGoodFile}
 use Rattle.air_world.specs.Sound.{Sound}
 use Rattle.air_world.specs.World.{World}
-use Rattle.air_rehearsal.specs.Ending.{IsUpload}
+use Rattle.air_rehearsal.specs.Ending.{IsStampedFor, IsUpload}
 use Rattle.air_rehearsal.specs.Worlds.{PlaysStations}
 use Rattle.air_rehearsal.specs.declared.stations.Stations.{Stations}
 use Rattle.air_rehearsal.proofs.PartiesLemmas.{upload-at}
@@ -70,3 +79,46 @@ acked-number lists task other number is = by (task_of lists task) is
     by : (found : Option Task) → option_map (noted_as task) found ≡ Some (noted.Acked other number) → other ≡ task
     by None is = absurd (let no : ⊥ = cc is in no)
     by (Some entry) is = acked-by task other number entry.number entry.progress (same_Some _ _ is)
+
+-- ---- what memory tells of a file that the store on the disk keeps
+
+-- It is complete, and its caller's.
+pub info-kept : (one other : Store) → IsStoreLike one other → (number : ℕ) (file : List ℕ) (caller : CallSign)
+    → IsKept other number file caller
+    → (info : Info) × (option_map info_of (entry_of one number) ≡ Some info) × (info.complete ≡ true)
+    × (info.caller ≡ caller)
+info-kept one other like number file caller kept =
+    let found = like_entry other one (like_back one other like) number kept.entry kept.is_entry in (
+      info_of found.0,
+      ap (λ (e : Option Entry). option_map info_of e) found.1,
+      sym (like_is_complete kept.entry found.0 found.2) ∙ ap (λ (h : Holding). is_complete h) kept.whole,
+      sym found.2.caller ∙ kept.caller_is,
+    )
+
+-- It holds as many octets as it has on the disk.
+pub info-length : (one other : Store) → IsStoreLike one other → (number : ℕ) (info : Info)
+    → option_map info_of (entry_of one number) ≡ Some info → info.held ≡ length (octets_at (entry_of other number))
+info-length one other like number info told = by (entry_of one number) refl told
+  where
+    by : (found : Option Entry) → entry_of one number ≡ found → option_map info_of found ≡ Some info
+        → info.held ≡ length (octets_at (entry_of other number))
+    by None is told = absurd cc
+    by (Some entry) is told =
+        let there = like_entry one other like number entry is in
+        let same : info_of entry ≡ info = same_Some (info_of entry) info told in
+        ap (λ (i : Info). i.held) (sym same) ∙ like_octets_length entry there.0 there.2
+        ∙ ap (λ (e : Option Entry). length (octets_at e)) (sym there.1)
+
+-- Its octets are the file, stamped.
+pub stamped-kept : (store : Store) (number : ℕ) (file : List ℕ) (caller : CallSign) (octets : List ℕ)
+    → IsKept store number file caller → octets ≡ octets_at (entry_of store number)
+    → IsStampedFor file number caller octets
+stamped-kept store number file caller octets kept is =
+    let same : octets ≡ octets_of kept.entry.holding =
+    is ∙ ap (λ (e : Option Entry). octets_at e) kept.is_entry
+    in
+    record {
+      moment = kept.moment;
+      octets_are = same ∙ ap (λ (h : Holding). octets_of h) kept.whole;
+      faultless = subst (λ (o : List ℕ). fault_code o ≡ None) (sym same) kept.keeps.faultless;
+    }

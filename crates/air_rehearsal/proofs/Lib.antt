@@ -57,6 +57,7 @@ mod Promised
 mod RestartLemmas
 mod RunStages
 mod SaidLanes
+mod SameContent
 mod SayLemmas
 mod SentLanes
 mod Served

@@ -1,12 +1,16 @@
 -- Reads of a store, one after another.
 use Rattle.std.proofs.lemmas.Grind.{common_steps}
-use Rattle.std.proofs.Common.{refl, ◌∙◌, arith}
+use Rattle.std.proofs.Common.{◌≡◌, refl, ap, ◌∙◌, arith}
 use Rattle.disk_model.specs.declared.disk.Disk.{Ghosts}
 use Rattle.file_journal.specs.Calls.{ChangesReads}
 use Rattle.file_store.specs.Reads.{OnlyReads}
-use Rattle.file_store.specs.State.{IsReady, StoreState}
-use Rattle.file_journal.proofs.Offered.{changes_none}
-use Rattle.air_rehearsal.specs.Ending.{LooksOnly}
+use Rattle.file_store.specs.State.{IsKnown, IsReady, StoreState, store_on}
+use Rattle.file_store.proofs.Offered.{known_on, on_same}
+use Rattle.file_journal.proofs.Offered.{alike_same, changes_none}
+use Rattle.air_rehearsal.specs.Ending.{IsAtEnd, LooksOnly}
+use Rattle.air_rehearsal.specs.TakingPart.{Seat}
+use Rattle.air_rehearsal.specs.declared.party.Party.{Party}
+use Rattle.air_rehearsal.specs.declared.stations.Stations.{Stations}
 
 module _ {D : Type 0} (g : Ghosts D) where
   -- no read
@@ -32,4 +36,28 @@ module _ {D : Type 0} (g : Ghosts D) where
     only = changes-on disk disk_mid disk_now first.only second.only;
     lasts = on disk disk_mid disk_now first.lasts second.lasts;
     stays = record { same = second.stays.same ∙ first.stays.same; ready = second.stays.ready };
+  }
+
+  -- The store on the disk is as it was, and what its files hold is known still.
+  pub looks-store : (old new : StoreState) (disk disk_now : D) → LooksOnly g old new disk disk_now
+      → store_on g new disk_now ≡ store_on g old disk
+  looks-store old new disk disk_now looks =
+      ap (λ (s : StoreState). store_on g s disk_now) looks.stays.same
+      ∙ on_same g old disk disk_now looks.only.same_content
+
+  pub looks-known : (old new : StoreState) (disk disk_now : D) → LooksOnly g old new disk disk_now → IsKnown g disk
+      → IsKnown g disk_now
+  looks-known old new disk disk_now looks =
+      known_on g disk disk_now (alike_same (g.content disk) (g.content disk_now) looks.only.same_content)
+
+  -- So it is the store of the same world.
+  pub looks-at-end : (old new : StoreState) (disk disk_now : D) (self : Stations) (party : Party) (seat : Seat)
+      → LooksOnly g old new disk disk_now → IsAtEnd g self party old disk seat → IsAtEnd g self party new disk_now seat
+  looks-at-end old new disk disk_now self party seat looks at = record {
+    sound = at.sound;
+    stations = at.stations;
+    is_party = at.is_party;
+    plays = at.plays;
+    known = looks-known old new disk disk_now looks at.known;
+    store_is = looks-store old new disk disk_now looks ∙ at.store_is;
   }

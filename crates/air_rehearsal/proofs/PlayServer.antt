@@ -71,7 +71,7 @@ module _ {B : Type 0} (g : Ghosts B) (cuts : Cuts B) (world : World) (old : Benc
       record {
         sound = bench.sound;
         plays =
-            subst (λ (s : Stations). PlaysWorld s old.server world) (sym counts.same)
+            subst (λ (s : Stations). PlaysWorld g s old.server old.disk world) (sym counts.same)
             (record {
               server = bench.plays.server;
               blocks = bench.plays.blocks;

@@ -13,10 +13,10 @@ use Rattle.file_entries.specs.Command.{Command}
 use Rattle.file_journal.specs.Calls.{Leaves, images_now}
 use Rattle.file_journal.specs.Walk.{state}
 use Rattle.file_journal.proofs.Offered.{at_told, if_told}
-use Rattle.file_store.specs.Records.{store_form}
 use Rattle.file_store.specs.OnDisk.{MakesBetween, MakesFirst, after_first}
-use Rattle.file_store.specs.State.{StandsFor, standing_of, store_in}
+use Rattle.file_store.specs.State.{StandsFor, standing_of, store_form, store_on}
 use Rattle.file_store.specs.Store.{Store}
+use Rattle.file_store.proofs.Offered.{on_same}
 use Rattle.ftl0_server.specs.Server.{Server, new_server, settled}
 use Rattle.ftl0_server.specs.ServerState.{IsServer}
 use Rattle.ftl0_server.specs.ServerStep.{Empties, happening}
@@ -34,6 +34,7 @@ use Rattle.air_rehearsal.specs.Stations.{acts, the_server}
 use Rattle.air_rehearsal.specs.Worlds.{IsSteady, PlayParties, PlaysWorld, asked_from}
 use Rattle.air_rehearsal.specs.declared.cuts.Cut.{Cut}
 use Rattle.air_rehearsal.specs.declared.stations.Stations.{Stations}
+use Rattle.air_rehearsal.proofs.SameContent.{server-over, store-same}
 use Rattle.air_rehearsal.proofs.ServingDisk.{WentCut, WentWhole, all-images, stands-now, steady-on, told-content, went-cut}
 use Rattle.air_rehearsal.proofs.ServingWorld.{carried, commands-blocks, empties-keeps, goes, happening-window, next}
 use Rattle.air_rehearsal.proofs.ServingWorld.{plays-over}
@@ -50,8 +51,8 @@ module _ {B : Type 0} (g : Ghosts B) (cuts : Cuts B)
       (whole : WentWhole g world.server taken.coming old.server mid.server old.disk mid.disk)
       (memory : cuts.is_starved mid.disk ≡ false) (frames : List FrameValue) (last : Server)
       (sent : Empties (happening world.server taken.coming []).after frames last)
-      (is : IsServer new.server (settled last)) (disk : new.disk ≡ mid.disk)
-      (me : new.server.me ≡ new.stations.me) (k : new.stations.k ≡ old.stations.k)
+      (is : IsServer (store_on g mid.server.store mid.disk) new.server (settled last)) (disk : new.disk ≡ mid.disk)
+      (store : new.server.store ≡ mid.server.store) (me : new.server.me ≡ new.stations.me) (k : new.stations.k ≡ old.stations.k)
       (uploads : new.stations.uploads ≡ mid.stations.uploads) (cut : new.stations.cut ≡ mid.stations.cut) where
     abbrev then : World
     then = next world event awaits.sound taken.coming taken.delivered taken.takes frames last sent
@@ -59,7 +60,7 @@ module _ {B : Type 0} (g : Ghosts B) (cuts : Cuts B)
     commands : List Command
     commands = server_commands world taken.coming
 
-    same-store : store_in old.server.store ≡ world.server.store
+    same-store : store_on g old.server.store old.disk ≡ world.server.store
     same-store = awaits.plays.server.store
 
     carries : CarriesOut g the_server world event old.disk mid.disk
@@ -76,15 +77,15 @@ module _ {B : Type 0} (g : Ghosts B) (cuts : Cuts B)
     not-cut : world.is_cut ≡ false
     not-cut = sym awaits.plays.stations.cut_is ∙ ap (λ (c : Option Cut). is_some c) none
 
-    store-then : then.server.store ≡ store_in mid.server.store
+    store-then : then.server.store ≡ store_on g mid.server.store mid.disk
     store-then =
         (empties-keeps (happening world.server taken.coming []).after frames last sent).1 ∙ sym whole.is.store
 
     blocks-then : then.server.store.blocks ≡ store_blocks
     blocks-then =
         ap (λ (s : Store). s.blocks) store-then
-        ∙ ap (λ (s : Store). s.blocks) ((whole.does.done (λ never. never)).0 (inl refl))
-        ∙ commands-blocks (server_commands world taken.coming) (store_in old.server.store)
+        ∙ ap (λ (s : Store). s.blocks) ((whole.does.done (λ never. never)).0 (inr awaits.steady.told))
+        ∙ commands-blocks (server_commands world taken.coming) (store_on g old.server.store old.disk)
         ∙ ap (λ (s : Store). s.blocks) same-store ∙ awaits.plays.blocks
 
     window-then : then.server.window ≡ window_of new.stations.k
@@ -117,7 +118,12 @@ module _ {B : Type 0} (g : Ghosts B) (cuts : Cuts B)
                 (goes world event awaits.sound taken.coming taken.delivered taken.takes frames last sent);
           };
           plays = record {
-            server = is;
+            server =
+                server-over new.server then.server (store_on g mid.server.store mid.disk)
+                (store_on g new.server.store new.disk)
+                (sym
+                (store-same g mid.disk new.disk (ap (λ (d : B). g.content d) disk) mid.server.store new.server.store
+                store)) is;
             blocks = blocks-then;
             stations = record {
               me_is = sym me ∙ is.sends.me;
@@ -151,16 +157,19 @@ module _ {B : Type 0} (g : Ghosts B) (cuts : Cuts B)
     told-armed =
         subst (λ (c : Option (List ℕ)). IsTold c) (sym arms.nothing_else.same_content) awaits.steady.told
 
-    stands-armed : (image : List ℕ) → images_now g armed image → StandsFor image (store_in old.server.store)
+    store-armed : store_on g old.server.store armed ≡ world.server.store
+    store-armed = on_same g old.server.store old.disk armed arms.nothing_else.same_content ∙ awaits.plays.server.store
+
+    stands-armed : (image : List ℕ) → images_now g armed image → StandsFor image (store_on g old.server.store armed)
     stands-armed image now =
         let then = (arms.nothing_else.same_past (g.moment armed) image).0 now in
         let was = subst (λ (t : ℕ). g.images_since old.disk t image) arms.nothing_else.same_moment then in
-        subst (λ (s : Store). StandsFor image s) (sym awaits.plays.server.store) (awaits.stands.images image was)
+        subst (λ (s : Store). StandsFor image s) (sym store-armed) (awaits.stands.images image was)
 
     -- what the event did to the disk
     went :
-        WentCut g cuts lasts_so (cut.call - 1) (store_in old.server.store) (server_commands world taken.coming) armed
-        mid.disk
+        WentCut g cuts lasts_so (cut.call - 1) (store_on g old.server.store armed)
+        (server_commands world taken.coming) armed mid.disk
     went =
         let writes = subst (λ (c : Option Cut). TellsFailure g c old.disk) waits awaits.tells in
         went-cut g cuts lasts_so on misses front world.server taken.coming old.server mid.server armed mid.disk
@@ -181,7 +190,7 @@ module _ {B : Type 0} (g : Ghosts B) (cuts : Cuts B)
     since =
         subst
         (λ (s : Store). Leaves g armed mid.disk (λ _. MakesFirst s (server_commands world taken.coming)))
-        awaits.plays.server.store went.since
+        store-armed went.since
 
     -- what is left stands for the store after the first of the commands
     made : MakesFirst world.server.store (server_commands world taken.coming) octets
@@ -198,7 +207,7 @@ module _ {B : Type 0} (g : Ghosts B) (cuts : Cuts B)
             0,
             omega arith,
             omega arith,
-            subst (λ (s : Store). StandsFor octets s) awaits.plays.server.store (stands-armed octets before),
+            subst (λ (s : Store). StandsFor octets s) store-armed (stands-armed octets before),
           )
           | inr here ↦ here
         ]
@@ -210,13 +219,14 @@ module _ {B : Type 0} (g : Ghosts B) (cuts : Cuts B)
     blocks-left =
         commands-blocks (take made.0 (server_commands world taken.coming)) world.server.store ∙ awaits.plays.blocks
 
-    same-left : store_in new.server.store ≡ store-left
+    same-left : store_on g new.server.store new.disk ≡ store-left
     same-left =
-        let stood = at_told (λ (c : List ℕ). standing_of store_blocks c ≡ state (store_in new.server.store)) octets
-        is-left gone.restarts.stood in
+        let stood = at_told
+        (λ (c : List ℕ). standing_of store_blocks c ≡ state (store_on g new.server.store new.disk)) octets is-left
+        gone.restarts.stood in
         let stands : standing_of store_blocks octets ≡ state store-left =
         subst (λ (b : ℕ). standing_of b octets ≡ state store-left) blocks-left made.3 in
-        let same : state (store_in new.server.store) ≡ state store-left = sym stood ∙ stands in cc
+        let same : state (store_on g new.server.store new.disk) ≡ state store-left = sym stood ∙ stands in cc
 
     abbrev then-cut : World
     then-cut =
@@ -241,16 +251,19 @@ module _ {B : Type 0} (g : Ghosts B) (cuts : Cuts B)
       reads = omega (arith, gone.strikes.keeps.reads, went.reads, arms.reads, awaits.steady.reads);
     }
 
-    plays-cut : PlaysWorld new.stations new.server then-cut
+    abbrev store-now : Store
+    store-now = store_on g new.server.store new.disk
+
+    plays-cut : PlaysWorld g new.stations new.server new.disk then-cut
     plays-cut = record {
       server =
-          subst (λ (c : _). IsServer new.server (new_server c world.server.window store-left))
+          subst (λ (c : _). IsServer store-now new.server (new_server c world.server.window store-left))
           (me ∙ awaits.plays.stations.me_is)
-          (subst (λ (w : Window). IsServer new.server (new_server new.stations.me w store-left))
+          (subst (λ (w : Window). IsServer store-now new.server (new_server new.stations.me w store-left))
           (ap (λ (n : ℕ). window_of n) k ∙ sym awaits.plays.stations.window_is)
           (subst
-          (λ (s : Store). IsServer new.server (new_server new.stations.me (window_of new.stations.k) s)) same-left
-          gone.restarts.is_new));
+          (λ (s : Store). IsServer store-now new.server (new_server new.stations.me (window_of new.stations.k) s))
+          same-left gone.restarts.is_new));
       blocks = blocks-left;
       stations = record {
         me_is = me ∙ awaits.plays.stations.me_is;
@@ -280,7 +293,7 @@ module _ {B : Type 0} (g : Ghosts B) (cuts : Cuts B)
           stands =
               subst
               (λ (s : Store). MakesBetween (least_done (cuts.arming mid.disk) (cut.call - 1) Store Command store_form commands)
-              (length commands) s commands image) awaits.plays.server.store makes;
+              (length commands) s commands image) store-armed makes;
         })
 
     pub serves-cut : ServesEvent g cuts world event old new
@@ -289,7 +302,7 @@ module _ {B : Type 0} (g : Ghosts B) (cuts : Cuts B)
         let steady = steady-on g cuts lasts_so gone.left new.disk steady-left gone.memory again.lasts again.told in
         let now = told-content (g.content new.disk) steady.0.told in
         let each = at_told
-        (λ (_ : List ℕ). (image : List ℕ) → images_now g new.disk image → StandsFor image (store_in new.server.store))
+        (λ (_ : List ℕ). (image : List ℕ) → images_now g new.disk image → StandsFor image store-now)
         now.0 now.1 gone.restarts.stands in
         record {
           next = then-cut;

@@ -5,6 +5,8 @@ use Rattle.std.specs.Prelude.{is_ok, is_some, slice_get, slice_set, ⊤}
 use Rattle.disk_model.specs.Cuts.{Cuts, LastsSo, cut_state}
 use Rattle.disk_model.specs.declared.disk.Disk.{Ghosts}
 use Rattle.disk_model.specs.declared.halt.Halt.{Halt}
+use Rattle.file_store.specs.State.{store_on}
+use Rattle.file_store.specs.Store.{Store}
 use Rattle.ftl0_server.specs.Calls.{Hears}
 use Rattle.ftl0_server.specs.Server.{Server}
 use Rattle.ftl0_server.specs.ServerState.{IsServer}
@@ -54,6 +56,7 @@ pub record KeepsSo {B : Type 0} (old mid new : Serving B) : Type 0 where
   pub uploads : new.stations.uploads ≡ mid.stations.uploads
   pub cut : new.stations.cut ≡ mid.stations.cut
   pub disk : new.disk ≡ mid.disk
+  pub store : new.server.store ≡ mid.server.store
 
 -- nothing but a cut that waits is taken away
 pub keeps-no-cut : (old new : Stations) → KeepsClients old new → KeepsClients old (record new { cut = None })
@@ -86,15 +89,16 @@ module _ {B : Type 0} (g : Ghosts B) (cuts : Cuts B)
       → AwaitsServer g cuts world old → IsAllowed world (to_server (suc c) (suc place)) → KeepsSo old mid new
       → IsTaken g world (to_server (suc c) (suc place)) old mid answer → is_ok answer ≡ true
       → cuts.is_starved mid.disk ≡ false
-      → ((it : Server) (party : StoredParty) → IsServer mid.server it
+      → ((store : Store) (it : Server) (party : StoredParty) → IsServer store mid.server it
       → slice_get mid.stations.parties.items c ≡ Some party
-      → RepliesAt c it new.server party mid.stations.parties.items new.stations.parties.items)
+      → RepliesAt store c it new.server party mid.stations.parties.items new.stations.parties.items)
       → ServesEvent g cuts world (to_server (suc c) (suc place)) old new
   serves-heard laws c place old mid new answer awaits allowed keeps taken ok memory replies =
       let whole = whole-of (to_server (suc c) (suc place)) old mid answer awaits taken ok memory in
       let self = own-at world c place taken.coming taken.delivered mid.stations.parties.items taken.takes
       taken.plays.parties in
-      let sent = replies (happening world.server taken.coming []).after self.0 whole.is self.1 in
+      let sent = replies (store_on g mid.server.store mid.disk) (happening world.server taken.coming []).after self.0
+      whole.is self.1 in
       let not_cut : world.is_cut ≡ false =
       sym awaits.plays.stations.cut_is ∙ ap (λ (o : Option Cut). is_some o) keeps.none in
       let plays = plays-heard laws world awaits.sound c place allowed not_cut taken.coming taken.delivered taken.takes
@@ -102,7 +106,7 @@ module _ {B : Type 0} (g : Ghosts B) (cuts : Cuts B)
       self.0 sent.attempt_now taken.plays.parties self.1 sent.replies.lanes sent.parties_are in
       serves-whole g cuts lasts_so is_image counts_now world (to_server (suc c) (suc place)) old mid new answer awaits
       keeps.none taken whole memory sent.replies.frames sent.replies.last sent.replies.empties sent.replies.settles
-      keeps.disk keeps.me keeps.k keeps.uploads keeps.cut plays
+      keeps.disk keeps.store keeps.me keeps.k keeps.uploads keeps.cut plays
 
   -- the event of a tick, taken
   abbrev pub ticks-taken :
@@ -122,16 +126,17 @@ module _ {B : Type 0} (g : Ghosts B) (cuts : Cuts B)
       → KeepsSo old mid new
       → Hears g (happening world.server (ticks (next_moment world))) old.server mid.server old.disk mid.disk answer
       → PlaysStations mid.stations world → is_ok answer ≡ true → cuts.is_starved mid.disk ≡ false
-      → ((it : Server) → IsServer mid.server it
-      → SendsByTimer it new.server mid.stations.parties.items new.stations.parties.items)
+      → ((store : Store) (it : Server) → IsServer store mid.server it
+      → SendsByTimer store it new.server mid.stations.parties.items new.stations.parties.items)
       → ServesEvent g cuts world tick_server old new
   serves-ticked laws old mid new answer awaits keeps hears stations ok memory says =
       let taken = ticks-taken old mid answer hears stations in
       let whole = whole-of tick_server old mid answer awaits taken ok memory in
-      let sent = says (happening world.server (ticks (next_moment world)) []).after whole.is in
+      let sent = says (store_on g mid.server.store mid.disk)
+      (happening world.server (ticks (next_moment world)) []).after whole.is in
       let not_cut : world.is_cut ≡ false =
       sym awaits.plays.stations.cut_is ∙ ap (λ (o : Option Cut). is_some o) keeps.none in
       let plays = plays-ticked laws world awaits.sound not_cut sent.frames sent.last sent.empties
       mid.stations.parties.items new.stations.parties.items stations.parties sent.timed in
       serves-whole g cuts lasts_so is_image counts_now world tick_server old mid new answer awaits keeps.none taken whole
-      memory sent.frames sent.last sent.empties sent.settles keeps.disk keeps.me keeps.k keeps.uploads keeps.cut plays
+      memory sent.frames sent.last sent.empties sent.settles keeps.disk keeps.store keeps.me keeps.k keeps.uploads keeps.cut plays

@@ -13,12 +13,11 @@ use Rattle.disk_model.specs.declared.disk.Disk.{Ghosts}
 use Rattle.disk_model.specs.declared.halt.Halt.{Halt}
 use Rattle.disk_model.specs.declared.halt.Halt.TheVariants as halt
 use Rattle.file_entries.specs.Command.{Command, after_all}
-use Rattle.file_entries.specs.Records.{store_form}
 use Rattle.file_journal.specs.AmongReads.{CountsSome}
 use Rattle.file_journal.specs.Calls.{EachImage, Leaves, TellsAlike, images_now}
 use Rattle.file_journal.proofs.Offered.{at_told, cut_makes, told_weaker, weaker}
 use Rattle.file_store.specs.OnDisk.{MakesBetween, MakesFirst, after_first, kept_at}
-use Rattle.file_store.specs.State.{StandsFor, StoreState, store_in}
+use Rattle.file_store.specs.State.{StandsFor, StoreState, store_form, store_on}
 use Rattle.file_store.specs.Store.{Store}
 use Rattle.file_store.specs.Working.{CutsOffAmongReads, DoesAmongReads}
 use Rattle.file_store.proofs.Offered.{after_first-all, cuts-among-all, makes-first, makes-within}
@@ -69,13 +68,13 @@ module _ {B : Type 0} (g : Ghosts B) where
   pub all-images :
       (missed : ℕ) (old new : StoreState) (disk disk_now : B) (commands : List Command)
       → DoesAmongReads g ⊥ missed old new disk disk_now commands → IsTold (g.content disk)
-      → ((image : List ℕ) → images_now g disk image → StandsFor image (store_in old))
-      → (image : List ℕ) → images_now g disk_now image → StandsFor image (store_in new)
+      → ((image : List ℕ) → images_now g disk image → StandsFor image (store_on g old disk))
+      → (image : List ℕ) → images_now g disk_now image → StandsFor image (store_on g new disk_now)
   all-images missed old new disk disk_now [] does told before image now =
       let only = does.none refl in
       let then = (only.same_past (g.moment disk_now) image).0 now in
       let was = subst (λ (t : ℕ). g.images_since disk t image) only.same_moment then in
-      subst (λ (s : Store). StandsFor image s) (sym ((does.done (λ never. never)).0 (inl refl))) (before image was)
+      subst (λ (s : Store). StandsFor image s) (sym ((does.done (λ never. never)).0 (inr told))) (before image was)
   all-images missed old new disk disk_now (command ∷ commands) does told before image now =
       let all = command ∷ commands in
       let is = told-content (g.content disk) told in
@@ -83,8 +82,8 @@ module _ {B : Type 0} (g : Ghosts B) where
       let calls = at_told (λ (_ : List ℕ). _) is.0 is.1 (does.calls (λ never. never)) in
       let made = stay (length all) (omega arith) (omega arith) image
       (subst (λ (t : ℕ). g.images_since disk_now t image) calls now) in
-      subst (λ (s : Store). StandsFor image s) (sym ((does.done (λ never. never)).0 (inl refl)))
-      (all-made (length all) (store_in old) all image refl made)
+      subst (λ (s : Store). StandsFor image s) (sym ((does.done (λ never. never)).0 (inr told)))
+      (all-made (length all) (store_on g old disk) all image refl made)
 
   -- the commands before are the first of these
   pub leaves-more :
@@ -121,7 +120,7 @@ module _ {B : Type 0} (g : Ghosts B) where
 
   -- what became of the server and its disk where the event was taken whole
   pub record WentWhole (it : Server) (coming : NodeEvent) (old new : ServerState) (disk disk_now : B) : Type 0 where
-    pub is : IsServer new (happening it coming []).after
+    pub is : IsServer (store_on g new.store disk_now) new (happening it coming []).after
     pub does : DoesAmongReads g ⊥ 0 old.store new.store disk disk_now (happening it coming []).done
 
   pub went-whole :
@@ -138,7 +137,7 @@ module _ {B : Type 0} (g : Ghosts B) where
       let none = missed-none _ _ _ by.2.reads (same _ _ by.2) below in
       let is : event (failed_reads hears.parts) ≡ event [] = misses it coming [] hears.parts no-reads none in
       record {
-        is = subst (λ (h : ServerHappened). IsServer new h.after) is by.1;
+        is = subst (λ (h : ServerHappened). IsServer (store_on g new.store disk_now) new h.after) is by.1;
         does = subst
             (λ (h : ServerHappened). DoesAmongReads g ⊥ 0 old.store new.store disk disk_now h.done) is
             (subst
@@ -190,7 +189,7 @@ module _ {B : Type 0} (g : Ghosts B) (cuts : Cuts B)
       (armed lost : B) (left_calls : ℕ) (plain : cuts.plain armed) (arming : cuts.arming armed ≡ Passes left_calls)
       (writes : g.write_faults armed < 18446744073709551615) (reads : g.read_faults armed < 18446744073709551615)
       (memory : cuts.is_starved lost ≡ false) (told : IsTold (g.content armed))
-      (stands : (image : List ℕ) → images_now g armed image → StandsFor image (store_in old.store)) where
+      (stands : (image : List ℕ) → images_now g armed image → StandsFor image (store_on g old.store armed)) where
     abbrev event : List Failure → ServerHappened
     event = happening it coming
 
@@ -206,7 +205,7 @@ module _ {B : Type 0} (g : Ghosts B) (cuts : Cuts B)
     went-ok :
         (parts : List ℕ) → (missed : ℕ) → missed ≡ (event (failed_reads parts)).missed
         → DoesAmongReads g ⊥ missed old.store new.store armed lost (event (failed_reads parts)).done
-        → WentCut left_calls (store_in old.store) (event []).done armed lost
+        → WentCut left_calls (store_on g old.store armed) (event []).done armed lost
     went-ok parts missed missed_is does =
         let same = reads-same lost does.puts.lasts memory (does.puts.faults.same (λ never. never)) in
         let none = missed-none _ _ _ does.reads same reads in
@@ -220,8 +219,8 @@ module _ {B : Type 0} (g : Ghosts B) (cuts : Cuts B)
           reads = same;
           no_fewer = λ below image now.
               let commands : List Command = (event []).done in
-              let all : StandsFor image (after_all (store_in old.store) commands) =
-              subst (λ (s : Store). StandsFor image s) ((does_now.done (λ never. never)).0 (inl refl))
+              let all : StandsFor image (after_all (store_on g old.store armed) commands) =
+              subst (λ (s : Store). StandsFor image s) ((does_now.done (λ never. never)).0 (inr told))
               (all-images g missed old.store new.store armed lost commands does_now told stands image now) in
               let few = least_most store_form (cuts.arming lost) left_calls commands in (
                 length commands,
@@ -229,7 +228,7 @@ module _ {B : Type 0} (g : Ghosts B) (cuts : Cuts B)
                 omega arith,
                 subst
                     (λ (s : Store). StandsFor image s)
-                    (sym (after_first-all commands (store_in old.store))) all,
+                    (sym (after_first-all commands (store_on g old.store armed))) all,
               );
         }
 
@@ -253,7 +252,7 @@ module _ {B : Type 0} (g : Ghosts B) (cuts : Cuts B)
         (part : ℕ) (parts : List ℕ) (missed : ℕ) (happened : ServerHappened)
         → happened ≡ event (failed_write part ++ failed_reads parts) → missed ≡ happened.missed
         → CutsOffAmongReads g ⊤ missed (at old.store armed) (at new.store lost) happened.done happened.cut
-        → WentCut left_calls (store_in old.store) (event []).done armed lost
+        → WentCut left_calls (store_on g old.store armed) (event []).done armed lost
     went-failed part parts missed happened happened_is missed_is cut =
         let then : AtDisk StoreState B = cut.then_is in
         let fed = memory-before then.disk lost cut.second.puts.lasts memory in
@@ -271,39 +270,39 @@ module _ {B : Type 0} (g : Ghosts B) (cuts : Cuts B)
         begins.1 ∙ ap (λ (h : ServerHappened). begun_in h ++ begins.0) (sym is) in
         record {
           since =
-              leaves-more g (store_in old.store) (begun_in happened) begins.0 (event []).done armed lost commands
+              leaves-more g (store_on g old.store armed) (begun_in happened) begins.0 (event []).done armed lost commands
               all.since;
           told = all.puts.told;
           lasts = all.puts.lasts;
-          reads = cut.second.puts.reads ∙ same;
+          reads = cut.second.reads.same refl ∙ same;
           no_fewer = λ below image now.
               let fails = failed-so then.disk all.puts.lasts same_writes (cut.second.puts.faults.rose tt) in
-              let makes = cut_makes g store_form (begun_in happened) begins.0 (kept_at old.store armed)
-              (kept_at new.store lost) left_calls (all.cut tt) fails.passed in
+              let makes = cut_makes g store_form (begun_in happened) begins.0 (kept_at g old.store armed)
+              (kept_at g new.store lost) left_calls (all.cut tt) fails.passed in
               let first = told-content (g.content armed) told in
               let last = told-content (g.content lost) (all.puts.told.1 told) in
               let each = at_told
               (λ (_ : List ℕ). EachImage g lost (MakesBetween
               (least_done Failed left_calls Store Command store_form (begun_in happened ++ begins.0))
-              (length (begun_in happened ++ begins.0)) (store_in old.store) (begun_in happened ++ begins.0))) first.0
+              (length (begun_in happened ++ begins.0)) (store_on g old.store armed) (begun_in happened ++ begins.0))) first.0
               first.1 makes in
               let here = at_told
               (λ (_ : List ℕ). (image : List ℕ) → images_now g lost image → MakesBetween
               (least_done Failed left_calls Store Command store_form (begun_in happened ++ begins.0))
-              (length (begun_in happened ++ begins.0)) (store_in old.store) (begun_in happened ++ begins.0) image) last.0
+              (length (begun_in happened ++ begins.0)) (store_on g old.store armed) (begun_in happened ++ begins.0) image) last.0
               last.1 each image now in
               subst
               (λ (a : Arming). MakesBetween (least_done a left_calls Store Command store_form (event []).done) (length (event []).done)
-              (store_in old.store) (event []).done image) (sym fails.failed)
+              (store_on g old.store armed) (event []).done image) (sym fails.failed)
               (subst
               (λ (all : List Command). MakesBetween (least_done Failed left_calls Store Command store_form all) (length all)
-              (store_in old.store) all image) (sym commands) here);
+              (store_on g old.store armed) all image) (sym commands) here);
         }
 
     pub went-cut :
         (answer : Result ⊤ Halt) → answer ≢ Err halt.OutOfMemory
         → Hears g (happening it coming) old new armed lost answer
-        → WentCut left_calls (store_in old.store) (event []).done armed lost
+        → WentCut left_calls (store_on g old.store armed) (event []).done armed lost
     went-cut (Ok done) not_stopped hears = went-ok hears.parts _ refl hears.by.2
     went-cut (Err halt.Disk) not_stopped hears =
         let by = hears.by in went-failed by.0 hears.parts _ _ refl refl by.3

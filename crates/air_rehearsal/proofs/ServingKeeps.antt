@@ -7,6 +7,7 @@ use Rattle.std.proofs.lemmas.Option.{same_Some, slice_get_within}
 use Rattle.px_base.specs.CallSign.{CallSign}
 use Rattle.ax25_frames.specs.FrameText.{FrameText, FrameValue}
 use Rattle.ftl0_session.specs.Uploads.Session.{is_same_call}
+use Rattle.file_store.specs.Store.{Store}
 use Rattle.ftl0_server.specs.Calls.{HandsOutNext}
 use Rattle.ftl0_server.specs.Server.{Server, settled}
 use Rattle.ftl0_server.specs.ServerState.{IsServer, ServerState}
@@ -161,16 +162,17 @@ timed-end frame place all now so_far past = record {
 -- ---- a server that says what it has to say by its timer
 
 -- It has sent these frames so far, each to the client that it is for.
-pub record SaysSoFar (it : Server) (now : ServerState) (parties parties_now : List Party) : Type 0 where
+pub record SaysSoFar (store : Store) (it : Server) (now : ServerState) (parties parties_now : List Party)
+    : Type 0 where
   pub frames : List FrameValue
   pub last : Server
   pub sent : SendsEach it frames last
-  pub is : IsServer now last
+  pub is : IsServer store now last
   pub timed : AreTimed frames parties parties_now
 
-pub says-first : (it : Server) (now : ServerState) (parties : List Party) → IsServer now it
-    → SaysSoFar it now parties parties
-says-first it now parties is = record {
+pub says-first : (store : Store) (it : Server) (now : ServerState) (parties : List Party) → IsServer store now it
+    → SaysSoFar store it now parties parties
+says-first store it now parties is = record {
   frames = [];
   last = it;
   sent = refl;
@@ -179,12 +181,13 @@ says-first it now parties is = record {
 }
 
 pub says-more :
-    (it : Server) (old new : ServerState) (parties mid parties_now : List Party) (before now : List ℕ) (answer : Bool)
-    → SaysSoFar it old parties mid → answer ≡ true → HandsOutNext IsServer old new before now answer
+    (store : Store) (it : Server) (old new : ServerState) (parties mid parties_now : List Party) (before now : List ℕ)
+    (answer : Bool) → SaysSoFar store it old parties mid → answer ≡ true
+    → HandsOutNext (IsServer store) old new before now answer
     → ((frame : FrameValue) → FrameText frame now → AreTimed (frame ∷ []) mid parties_now)
-    → SaysSoFar it new parties parties_now
-says-more it old new parties mid parties_now before now answer so_far given hands says =
-    let next = has-sent so_far.last old new before now answer given hands so_far.is in
+    → SaysSoFar store it new parties parties_now
+says-more store it old new parties mid parties_now before now answer so_far given hands says =
+    let next = has-sent store so_far.last old new before now answer given hands so_far.is in
     record {
       frames = so_far.frames ++ next.sends.frame ∷ [];
       last = next.sends.after;
@@ -196,16 +199,17 @@ says-more it old new parties mid parties_now before now answer so_far given hand
     }
 
 pub says-all :
-    (it : Server) (old new : ServerState) (parties parties_now : List Party) (before now : List ℕ) (answer : Bool)
-    → SaysSoFar it old parties parties_now → answer ≡ false → HandsOutNext IsServer old new before now answer
-    → (answer ≡ false → (server : Server) → IsServer old server → IsServer new (settled server))
-    → SendsByTimer it new parties parties_now
-says-all it old new parties parties_now before now answer so_far ended hands settles = record {
+    (store : Store) (it : Server) (old new : ServerState) (parties parties_now : List Party) (before now : List ℕ)
+    (answer : Bool) → SaysSoFar store it old parties parties_now → answer ≡ false
+    → HandsOutNext (IsServer store) old new before now answer
+    → (answer ≡ false → (server : Server) → IsServer store old server → IsServer store new (settled server))
+    → SendsByTimer store it new parties parties_now
+says-all store it old new parties parties_now before now answer so_far ended hands settles = record {
   frames = so_far.frames;
   last = so_far.last;
   empties =
       sends-empties it so_far.frames so_far.last so_far.sent
-      (is-silent so_far.last old new before now answer ended hands so_far.is);
+      (is-silent store so_far.last old new before now answer ended hands so_far.is);
   settles = settles ended so_far.last so_far.is;
   timed = so_far.timed;
 }

@@ -3,6 +3,7 @@ use Rattle.std.proofs.Common.{◌≡◌, ℕ, Bool, true, false, List, [], ◌�
 use Rattle.std.proofs.Common.{◌∙◌}
 use Rattle.std.specs.Prelude.{filter, if◌then◌else◌, IfOk, Result, Ok, Err, OnOk}
 use Rattle.ax25_frames.specs.FrameText.{FrameText, FrameValue}
+use Rattle.file_store.specs.Store.{Store}
 use Rattle.ftl0_server.specs.Calls.{HandsOut, HandsOutNext}
 use Rattle.ftl0_server.specs.Server.{IsSilent, Server, ServerSends, server_next, settled}
 use Rattle.ftl0_server.specs.ServerState.{IsServer, ServerState}
@@ -54,42 +55,44 @@ filter-more keep (first ∷ frames) frame =
     first-more (keep first) first (filter keep frames) (filter keep (frames ++ frame ∷ [])) (filter keep (frame ∷ []))
     (filter-more keep frames frame)
 
--- What the answer of `next_out` says of a server that it was.
-pub record HasSent (it : Server) (now : ServerState) (octets : List ℕ) : Type 0 where
+-- What the answer of `next_out` says of a server that it was, over a store of files.
+pub record HasSent (store : Store) (it : Server) (now : ServerState) (octets : List ℕ) : Type 0 where
   pub sends : ServerSends
   pub next : server_next it ≡ Some sends
-  pub is : IsServer now sends.after
+  pub is : IsServer store now sends.after
   pub text : FrameText sends.frame octets
 
-pub has-sent : (it : Server) (old new : ServerState) (before now : List ℕ) (answer : Bool) → answer ≡ true
-    → HandsOutNext IsServer old new before now answer → IsServer old it → HasSent it new now
-has-sent it old new before now answer given hands is = by (server_next it) refl (hands it is)
+pub has-sent : (store : Store) (it : Server) (old new : ServerState) (before now : List ℕ) (answer : Bool)
+    → answer ≡ true → HandsOutNext (IsServer store) old new before now answer → IsServer store old it
+    → HasSent store it new now
+has-sent store it old new before now answer given hands is = by (server_next it) refl (hands it is)
   where
-    by : (next : Option ServerSends) → server_next it ≡ next → HandsOut IsServer next old new before now answer
-        → HasSent it new now
+    by : (next : Option ServerSends) → server_next it ≡ next → HandsOut (IsServer store) next old new before now answer
+        → HasSent store it new now
     by None next gives = absurd (let wrong : true ≡ false = sym given ∙ gives.0 in cc)
     by (Some sends) next gives = record { sends = sends; next = next; is = gives.1; text = gives.3 }
 
-pub is-silent : (it : Server) (old new : ServerState) (before now : List ℕ) (answer : Bool) → answer ≡ false
-    → HandsOutNext IsServer old new before now answer → IsServer old it → IsSilent it
-is-silent it old new before now answer ended hands is = by (server_next it) refl (hands it is)
+pub is-silent : (store : Store) (it : Server) (old new : ServerState) (before now : List ℕ) (answer : Bool)
+    → answer ≡ false → HandsOutNext (IsServer store) old new before now answer → IsServer store old it → IsSilent it
+is-silent store it old new before now answer ended hands is = by (server_next it) refl (hands it is)
   where
-    by : (next : Option ServerSends) → server_next it ≡ next → HandsOut IsServer next old new before now answer
+    by : (next : Option ServerSends) → server_next it ≡ next → HandsOut (IsServer store) next old new before now answer
         → server_next it ≡ None
     by None next gives = next
     by (Some sends) next gives = absurd (let wrong : false ≡ true = sym ended ∙ gives.0 in cc)
 
 -- The server has sent these frames so far, as replies in this attempt.
-pub record RepliesSoFar (it : Server) (now : ServerState) (attempt attempt_now : Attempt) : Type 0 where
+pub record RepliesSoFar (store : Store) (it : Server) (now : ServerState) (attempt attempt_now : Attempt)
+    : Type 0 where
   pub frames : List FrameValue
   pub last : Server
   pub sent : SendsEach it frames last
-  pub is : IsServer now last
+  pub is : IsServer store now last
   pub lanes : (lanes : Lanes) → HasLanes attempt lanes → HasLanes attempt_now (replying_each frames lanes)
 
-pub replies-first : (it : Server) (now : ServerState) (attempt : Attempt) → IsServer now it
-    → RepliesSoFar it now attempt attempt
-replies-first it now attempt is = record {
+pub replies-first : (store : Store) (it : Server) (now : ServerState) (attempt : Attempt) → IsServer store now it
+    → RepliesSoFar store it now attempt attempt
+replies-first store it now attempt is = record {
   frames = [];
   last = it;
   sent = refl;
@@ -98,12 +101,13 @@ replies-first it now attempt is = record {
 }
 
 pub replies-more :
-    (it : Server) (old new : ServerState) (attempt mid attempt_now : Attempt) (before now : List ℕ) (answer : Bool)
-    → RepliesSoFar it old attempt mid → answer ≡ true → HandsOutNext IsServer old new before now answer
+    (store : Store) (it : Server) (old new : ServerState) (attempt mid attempt_now : Attempt) (before now : List ℕ)
+    (answer : Bool) → RepliesSoFar store it old attempt mid → answer ≡ true
+    → HandsOutNext (IsServer store) old new before now answer
     → ((lanes : Lanes) (frame : FrameValue) → HasLanes mid lanes → FrameText frame now
-    → HasLanes attempt_now (replying frame lanes)) → RepliesSoFar it new attempt attempt_now
-replies-more it old new attempt mid attempt_now before now answer so_far given hands replies =
-    let next = has-sent so_far.last old new before now answer given hands so_far.is in
+    → HasLanes attempt_now (replying frame lanes)) → RepliesSoFar store it new attempt attempt_now
+replies-more store it old new attempt mid attempt_now before now answer so_far given hands replies =
+    let next = has-sent store so_far.last old new before now answer given hands so_far.is in
     record {
       frames = so_far.frames ++ next.sends.frame ∷ [];
       last = next.sends.after;
@@ -128,16 +132,17 @@ if-ok-more P Q (Ok it) more holds = more it holds
 if-ok-more P Q (Err stop) more holds = tt
 
 pub replies-all :
-    (it : Server) (old new : ServerState) (attempt attempt_now : Attempt) (before now : List ℕ) (answer : Bool)
-    → RepliesSoFar it old attempt attempt_now → answer ≡ false → HandsOutNext IsServer old new before now answer
-    → (answer ≡ false → (server : Server) → IsServer old server → IsServer new (settled server))
-    → SendsReplies it new attempt attempt_now
-replies-all it old new attempt attempt_now before now answer so_far ended hands settles = record {
+    (store : Store) (it : Server) (old new : ServerState) (attempt attempt_now : Attempt) (before now : List ℕ)
+    (answer : Bool) → RepliesSoFar store it old attempt attempt_now → answer ≡ false
+    → HandsOutNext (IsServer store) old new before now answer
+    → (answer ≡ false → (server : Server) → IsServer store old server → IsServer store new (settled server))
+    → SendsReplies store it new attempt attempt_now
+replies-all store it old new attempt attempt_now before now answer so_far ended hands settles = record {
   frames = so_far.frames;
   last = so_far.last;
   empties =
       sends-empties it so_far.frames so_far.last so_far.sent
-      (is-silent so_far.last old new before now answer ended hands so_far.is);
+      (is-silent store so_far.last old new before now answer ended hands so_far.is);
   settles = settles ended so_far.last so_far.is;
   lanes = so_far.lanes;
 }

@@ -7,6 +7,7 @@ use Rattle.ax25_link.specs.Air.{IsAt, Transmission, delivering}
 use Rattle.ax25_link.specs.Window.{window_of}
 use Rattle.disk_model.specs.declared.disk.Disk.{Ghosts}
 use Rattle.disk_model.specs.declared.halt.Halt.{Halt}
+use Rattle.file_store.specs.State.{IsKnown}
 use Rattle.ftl0_server.specs.Calls.{Hears, HearsEvent}
 use Rattle.ftl0_server.specs.Server.{server_hearing}
 use Rattle.node.specs.Events.{IsFor, hears}
@@ -80,7 +81,7 @@ text-of world c place self it lane P delivers texts =
     (at-itself it.a.by_client place it.t (record it.t { delivered = true }) it.is_at)
 
 module _ {B : Type 0} (g : Ghosts B) (world : World) (sound : Sound world) (c place : ℕ) (old new : Serving B)
-    (answer : Result ⊤ Halt) (plays : PlaysWorld old.stations old.server world)
+    (answer : Result ⊤ Halt) (plays : PlaysWorld g old.stations old.server old.disk world)
     (moment : old.stations.moment ≡ next_moment world) (self : StoredParty)
     (self_at : slice_get old.stations.parties.items c ≡ Some self) (it : Comes world c place self) (lane : Lane)
     (is_lane : IsLane lane (delivering it.a.by_client place it.t)) where
@@ -91,7 +92,7 @@ module _ {B : Type 0} (g : Ghosts B) (world : World) (sound : Sound world) (c pl
       record { dest = own.dest ∙ sym plays.stations.me_is; via = own.via }
 
   pub taken-so :
-      (frame : FrameValue) → frame ≡ it.t.frame
+      IsKnown g old.disk → (frame : FrameValue) → frame ≡ it.t.frame
       → HearsEvent g (λ server. server_hearing server frame old.stations.moment) old.server new.server old.disk new.disk
       answer
       → new.stations.parties.items
@@ -99,11 +100,11 @@ module _ {B : Type 0} (g : Ghosts B) (world : World) (sound : Sound world) (c pl
       → new.stations.me ≡ old.stations.me → new.stations.k ≡ old.stations.k
       → new.stations.uploads ≡ old.stations.uploads → new.stations.cut ≡ old.stations.cut
       → IsTaken g world (to_server (suc c) (suc place)) old new answer
-  taken-so frame frame_is event parties me k uploads cut =
+  taken-so known frame frame_is event parties me k uploads cut =
       let change = to_server_delivered place it.t in
       let both = plays-both old.stations.parties.items world.parties c self it.party plays.stations.parties self_at
       it.is_party in
-      let heard = event.hears world.server plays.server in
+      let heard = event.hears known world.server plays.server in
       record {
         coming = hears it.t.frame (next_moment world);
         delivered = with_party world c (with_current change it.party);

@@ -4,18 +4,12 @@ use Rattle.std.proofs.Common.{subst}
 use Rattle.disk_model.specs.Disk.{IsTold}
 use Rattle.disk_model.specs.declared.disk.Disk.{Ghosts}
 use Rattle.file_journal.specs.Calls.{EachImage, images_now}
-use Rattle.file_journal.proofs.Offered.{images_here}
-use Rattle.file_entries.specs.Records.{store_form}
-use Rattle.file_entries.specs.StoreLaws.{store_number}
-use Rattle.file_store.specs.OnDisk.{kept_at}
-use Rattle.file_store.specs.State.{IsRead, IsReady, StandsFor as StandsForStore, StoreState, store_in}
-use Rattle.file_store.specs.Store.{Store}
 use Rattle.client_notes.specs.Notes.{Lists}
 use Rattle.client_notes.specs.State as notes
 use Rattle.air_attempt.specs.Party.{Party}
 use Rattle.air_world.specs.World.{PartyAt, World}
 use Rattle.air_rehearsal.specs.Standing.{StandsNow}
-use Rattle.air_rehearsal.specs.Stations.{client_at, the_server}
+use Rattle.air_rehearsal.specs.Stations.{client_at}
 
 pub told_content : (content : Option (List ℕ)) → IsTold content → (octets : List ℕ) × (content ≡ Some octets)
 told_content None told = absurd (let e : false ≡ true = told in cc)
@@ -26,27 +20,6 @@ pub some_has : (content : Option (List ℕ)) (octets : List ℕ) (P : List ℕ �
 some_has content octets P is has = subst (λ (c : Option (List ℕ)). IfSome c P) is has
 
 module _ {D : Type 0} (g : Ghosts D) where
-  -- A store that is ready, on a disk that tells its content.
-  pub store_stands :
-      (self : StoreState) (disk : D) (world : World) → IsReady g self disk → IsRead self.journal
-      → IsTold (g.content disk) → store_in self ≡ world.server.store → StandsNow g the_server world disk
-  store_stands self disk world ready read told store_is =
-      let content = told_content (g.content disk) told in
-      let here : (image : List ℕ) → StandsForStore image (store_in self) → StandsForStore image world.server.store =
-      λ image stands. subst (λ (s : Store). StandsForStore image s) store_is stands in
-      record {
-        content = content.0;
-        is_content = content.1;
-        stands =
-            here content.0
-            (store_number self.journal.blocks content.0 (store_in self)
-            (some_has (g.content disk) content.0 _ content.1 (ready.stands_on.content ready.healthy)));
-        images = λ image since.
-            here image
-            (some_has (g.content disk) content.0 _ content.1
-            (images_here store_form g store_number (kept_at self disk) ready.stands_on ready.healthy) image since);
-      }
-
   -- Notes that each image stands for, on a disk that tells its content, which is one.
   pub notes_stand :
       (lists : Lists) (disk : D) (world : World) (c : ℕ) (party : Party) → IsTold (g.content disk)

@@ -9,7 +9,7 @@ use Rattle.pfh_items.specs.Stamp.{stamped}
 use Rattle.disk_model.specs.declared.disk.Disk.{Ghosts}
 use Rattle.file_journal.specs.Calls.{ChangesReads}
 use Rattle.file_store.specs.Reads.{StaysReady}
-use Rattle.file_store.specs.State.{StoreState, store_in}
+use Rattle.file_store.specs.State.{IsKnown, StoreState, store_on}
 use Rattle.air_files.specs.Uploads.{upload_file}
 use Rattle.air_world.specs.Sound.{Sound}
 use Rattle.air_world.specs.World.{PartyAt}
@@ -49,13 +49,16 @@ pub record LooksOnly {D : Type 0} (g : Ghosts D) (old new : StoreState) (disk di
   pub lasts : g.lasts disk disk_now
   pub stays : StaysReady g old new disk_now
 
--- The client is that one of a sound world whose server's store this is.
-pub record IsAtEnd (self : Stations) (party : StoredParty) (store : StoreState) (seat : Seat) : Type 0 where
+-- The client is that one of a sound world whose server's store this is on its disk, and it is known what octets the
+-- files have there.
+pub record IsAtEnd {D : Type 0} (g : Ghosts D) (self : Stations) (party : StoredParty) (store : StoreState) (disk : D)
+    (seat : Seat) : Type 0 where
   pub sound : Sound seat.world
   pub stations : PlaysStations self seat.world
   pub is_party : PartyAt seat.world seat.c seat.party
   pub plays : PlaysParty party seat.party
-  pub store_is : store_in store ≡ seat.world.server.store
+  pub known : IsKnown g disk
+  pub store_is : store_on g store disk ≡ seat.world.server.store
 
 -- Of these tasks those were counted of which the client holds an acknowledgement, each as one whose file is kept.
 pub record CountsAcked (tasks : List ClientTask) (before report : StoredReport) : Type 0 where

@@ -53,7 +53,7 @@ module _ {B : Type 0} (g : Ghosts B) (cuts : Cuts B) where
   -- Between two events the stations play this world, which is sound, over disks that are steady.
   pub record IsBench (world : World) (at : Bench B) : Type 0 where
     pub sound : Sound world
-    pub plays : PlaysWorld at.stations at.server world
+    pub plays : PlaysWorld g at.stations at.server at.disk world
     pub steady : IsSteady g cuts at.disk
     pub all_steady :
         (c : ℕ) (disk : B) → c < client_count at.stations → slice_get at.disks c ≡ Some disk → IsSteady g cuts disk

@@ -8,7 +8,8 @@ use Rattle.disk_model.specs.declared.disk.Disk.{Ghosts}
 use Rattle.disk_model.specs.declared.halt.Halt.{Halt}
 use Rattle.file_journal.specs.Calls.{EachImage}
 use Rattle.file_journal.specs.Walk.{state}
-use Rattle.file_store.specs.State.{StandsFor, standing_of, store_in}
+use Rattle.file_store.specs.State.{StandsFor, standing_of, store_on}
+use Rattle.file_store.specs.Store.{Store}
 use Rattle.ftl0_session.specs.Uploads.Session.{is_same_call}
 use Rattle.ftl0_server.specs.Calls.{Hears}
 use Rattle.ftl0_server.specs.Server.{Server, new_server, settled}
@@ -29,13 +30,16 @@ use Rattle.air_rehearsal.specs.declared.cuts.Cut.{Cut}
 use Rattle.air_rehearsal.specs.declared.party.Party.{Party}
 use Rattle.air_rehearsal.specs.declared.stations.Stations.{Stations}
 
--- The server starts from its disk, without sessions: its store is the one that the content stood for, and that the disk
--- stands for then.
+-- The server starts from its disk, without sessions: the store that the disk holds then is the one that the content
+-- stood for, and that each image stands for.
 pub record IsRestarted {B : Type 0} (g : Ghosts B) (stations : Stations) (disk disk_now : B) (server : ServerState)
     : Type 0 where
-  pub is_new : IsServer server (new_server stations.me (window_of stations.k) (store_in server.store))
-  pub stood : IfSome (g.content disk) (λ before. standing_of store_blocks before ≡ state (store_in server.store))
-  pub stands : EachImage g disk_now (λ image. StandsFor image (store_in server.store))
+  pub is_new :
+      IsServer (store_on g server.store disk_now) server
+      (new_server stations.me (window_of stations.k) (store_on g server.store disk_now))
+  pub stood :
+      IfSome (g.content disk) (λ before. standing_of store_blocks before ≡ state (store_on g server.store disk_now))
+  pub stands : EachImage g disk_now (λ image. StandsFor image (store_on g server.store disk_now))
   pub again : StartsAgain g the_server disk disk_now
 
 module _ {B : Type 0} (g : Ghosts B) (cuts : Cuts B) where
@@ -68,19 +72,20 @@ pub record IsTaken {B : Type 0} (g : Ghosts B) (world : World) (event : Event) (
   pub hears : Hears g (happening world.server coming) old.server new.server old.disk new.disk answer
   pub plays : PlaysStations new.stations delivered
 
--- The server sends all that it has to send, as replies in this attempt.
-pub record SendsReplies (it : Server) (now : ServerState) (attempt attempt_now : Attempt) : Type 0 where
+-- The server sends all that it has to send, as replies in this attempt, and stands for what it is then, over this store
+-- of files.
+pub record SendsReplies (store : Store) (it : Server) (now : ServerState) (attempt attempt_now : Attempt) : Type 0 where
   pub frames : List FrameValue
   pub last : Server
   pub empties : Empties it frames last
-  pub settles : IsServer now (settled last)
+  pub settles : IsServer store now (settled last)
   pub lanes : (lanes : Lanes) → HasLanes attempt lanes → HasLanes attempt_now (replying_each frames lanes)
 
 -- So it does in the attempt of this client, which is at this place of the clients, and no other one is touched.
-pub record RepliesAt (c : ℕ) (it : Server) (now : ServerState) (party : Party) (parties parties_now : List Party)
-    : Type 0 where
+pub record RepliesAt (store : Store) (c : ℕ) (it : Server) (now : ServerState) (party : Party)
+    (parties parties_now : List Party) : Type 0 where
   pub attempt_now : Attempt
-  pub replies : SendsReplies it now party.attempt attempt_now
+  pub replies : SendsReplies store it now party.attempt attempt_now
   pub parties_are : parties_now ≡ slice_set parties c (record party { attempt = attempt_now })
 
 -- the client was sent those of these frames that are for it, by the server's timer, and nothing else of it changed
@@ -97,10 +102,12 @@ pub record AreTimed (frames : List FrameValue) (parties parties_now : List Party
       (i : ℕ) (old new : Party) → slice_get parties i ≡ Some old → slice_get parties_now i ≡ Some new
       → IsTimed frames old new
 
--- The server sends all that it has to send by its timer, each frame to the client that it is for.
-pub record SendsByTimer (it : Server) (now : ServerState) (parties parties_now : List Party) : Type 0 where
+-- The server sends all that it has to send by its timer, each frame to the client that it is for, and stands for what
+-- it is then, over this store of files.
+pub record SendsByTimer (store : Store) (it : Server) (now : ServerState) (parties parties_now : List Party)
+    : Type 0 where
   pub frames : List FrameValue
   pub last : Server
   pub empties : Empties it frames last
-  pub settles : IsServer now (settled last)
+  pub settles : IsServer store now (settled last)
   pub timed : AreTimed frames parties parties_now

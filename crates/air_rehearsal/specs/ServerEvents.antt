@@ -50,7 +50,7 @@ module _ {B : Type 0} (g : Ghosts B) (cuts : Cuts B) where
   -- of its next event. The disk stands for it, and is steady.
   pub record AwaitsServer (world : World) (at : Serving B) : Type 0 where
     pub sound : Sound world
-    pub plays : PlaysWorld at.stations at.server world
+    pub plays : PlaysWorld g at.stations at.server at.disk world
     pub moment : at.stations.moment ≡ next_moment world
     pub stands : StandsNow g the_server world at.disk
     pub steady : IsSteady g cuts at.disk
@@ -60,7 +60,7 @@ module _ {B : Type 0} (g : Ghosts B) (cuts : Cuts B) where
   pub record ServesEvent (world : World) (event : Event) (old new : Serving B) : Type 0 where
     pub next : World
     pub happens : ServerEvent world event next
-    pub plays : PlaysWorld new.stations new.server next
+    pub plays : PlaysWorld g new.stations new.server new.disk next
     pub does :
         StepBy g cuts the_server acts (waiting_of old.stations.cut) (server_stage world old) event
         (server_stage next new)

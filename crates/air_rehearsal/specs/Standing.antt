@@ -8,10 +8,10 @@ use Rattle.file_journal.specs.Form.{Form}
 use Rattle.node.specs.Events.{NodeEvent}
 use Rattle.file_store.specs.Command.{Command}
 use Rattle.file_store.specs.OnDisk as store
-use Rattle.file_store.specs.Records.{store_form}
 use Rattle.file_store.specs.Store.{Store}
 use Rattle.file_store.specs.Recovery as store_recovery
 use Rattle.file_store.specs.State as store_state
+use Rattle.file_store.specs.State.{store_form}
 use Rattle.client_notes.specs.Command.{NotesCommand}
 use Rattle.client_notes.specs.Notes.{Lists}
 use Rattle.client_notes.specs.Records.{notes_form}

@@ -5,6 +5,7 @@ use Rattle.disk_model.specs.Cuts.{Cuts, Unarmed}
 use Rattle.disk_model.specs.Disk.{IsTold}
 use Rattle.disk_model.specs.declared.disk.Disk.{Ghosts}
 use Rattle.ax25_link.specs.Window.{window_of}
+use Rattle.file_store.specs.State.{store_on}
 use Rattle.ftl0_client.specs.ClientState.{IsClient}
 use Rattle.ftl0_server.specs.ServerState.{IsServer, ServerState}
 use Rattle.air_attempt.specs.Party.{Asked, Party}
@@ -46,9 +47,10 @@ pub record PlaysStations (self : Stations) (world : World) : Type 0 where
   pub files_are : world.files ≡ asked_from 0 self.uploads.items
   pub parties : PlayParties self.parties.items world.parties
 
--- And so is the server, whose store has the blocks of a rehearsal.
-pub record PlaysWorld (self : Stations) (state : ServerState) (world : World) : Type 0 where
-  pub server : IsServer state world.server
+-- And so is the server, over the store of files that its disk holds, which has the blocks of a rehearsal.
+pub record PlaysWorld {B : Type 0} (g : Ghosts B) (self : Stations) (state : ServerState) (disk : B) (world : World)
+    : Type 0 where
+  pub server : IsServer (store_on g state.store disk) state world.server
   pub blocks : world.server.store.blocks ≡ store_blocks
   pub stations : PlaysStations self world
 

@@ -6,7 +6,7 @@ ghost use Rattle.pfh_items.specs.Faults.{fault_code};
 ghost use Rattle.pfh_items.specs.Layout.{FileText, ItemValue};
 ghost use Rattle.file_entries.specs.Info.{info_of};
 ghost use Rattle.file_entries.specs.Store.{entry_of, octets_at};
-ghost use Rattle.file_store.specs.State.{IsReady, store_in};
+ghost use Rattle.file_store.specs.State.{IsKnown, IsReady, store_in, store_on};
 ghost use Rattle.air_attempt.specs.Party.{Party as PlayedParty, file_of_task};
 ghost use Rattle.air_files.specs.Kept.{HoldsAck, IsKept};
 ghost use Rattle.air_world.specs.Sound.{Sound};
@@ -27,7 +27,7 @@ use crate::stations::{LIMITS, Stations};
 use air_world::laws::parts_law;
 use client_notes::Noted;
 use disk_model::Disk;
-use file_store::laws::state_law;
+use file_store::laws::{state_law, told_law};
 use file_store::{FileStore, Info};
 use pfh_items::UPLOAD_TIME;
 use pfh_reader::check;
@@ -64,7 +64,8 @@ impl Stations {
         requires { IsReady D.Disk store.old disk.old }
         ensures looks { LooksOnly D.Disk store.old store.new disk.old disk.new }
         ensures counts { OnOk result ((world : World) → Sound world → PlaysStations self.now world
-            → store_in store.old ≡ world.server.store → CountsAcked (all_tasks world) report.old report.new) }
+            → IsKnown D.Disk disk.old → store_on D.Disk store.old disk.old ≡ world.server.store
+            → CountsAcked (all_tasks world) report.old report.new) }
     {
         for party in &self.parties {
             self.count_tasks(store, disk, report, party)?;
@@ -82,7 +83,7 @@ impl Stations {
     ) -> Result<(), OutOfMemory>
         requires { IsReady D.Disk store.old disk.old }
         ensures looks { LooksOnly D.Disk store.old store.new disk.old disk.new }
-        ensures counts { OnOk result ((seat : Seat) → IsAtEnd self.now party.now store.old seat
+        ensures counts { OnOk result ((seat : Seat) → IsAtEnd D.Disk self.now party.now store.old disk.old seat
             → CountsAcked (tasks_of seat.party) report.old report.new) }
     {
         for before in 0..party.client.notes().tasks() {
@@ -103,7 +104,7 @@ impl Stations {
         requires ready { IsReady D.Disk store.old disk.old }
         requires some { 1 ≤ task }
         ensures looks { LooksOnly D.Disk store.old store.new disk.old disk.new }
-        ensures counts { OnOk result ((seat : Seat) → IsAtEnd self.now party.now store.old seat
+        ensures counts { OnOk result ((seat : Seat) → IsAtEnd D.Disk self.now party.now store.old disk.old seat
             → CountsAcked (record { party = seat.party; task = task } ∷ []) report.old report.new) }
     {
         let Some(noted) = party.client.notes().noted_task(task) else {
@@ -130,7 +131,8 @@ impl Stations {
         requires ready { IsReady D.Disk store.old disk.old }
         requires some { 1 ≤ task }
         ensures looks { LooksOnly D.Disk store.old store.new disk.old disk.new }
-        ensures kept { IfOk result (λ is_kept. (seat : Seat) → IsAtEnd self.now party.now store.old seat
+        ensures kept { IfOk result (λ is_kept. (seat : Seat)
+            → IsAtEnd D.Disk self.now party.now store.old disk.old seat
             → HoldsAck seat.party task number → is_kept ≡ true) }
     {
         parts_law();
@@ -158,7 +160,8 @@ impl Stations {
     }
 }
 
-/// The octets of the complete file of this number, of this caller; none where there is no such one. Takes memory.
+/// The octets of the complete file of this number, of this caller; none where there is no such one. What they are is
+/// promised where it is known what the store's files hold. Takes memory.
 fn octets_of<D: Disk>(
     alloc: Global,
     store: &mut FileStore,
@@ -168,9 +171,11 @@ fn octets_of<D: Disk>(
 ) -> Result<Vec<u8>, OutOfMemory>
     requires { IsReady D.Disk store.old disk.old }
     ensures looks { LooksOnly D.Disk store.old store.new disk.old disk.new }
-    ensures octets { IfOk result (λ octets. (file : List ℕ) → IsKept (store_in store.old) number file caller
+    ensures octets { IfOk result (λ octets. IsKnown D.Disk disk.old → (file : List ℕ)
+        → IsKept (store_on D.Disk store.old disk.old) number file caller
         → IsStampedFor file number caller octets.items) }
 {
+    told_law(store, disk);
     match store.info(number) {
         Some(info) if info.complete && info.caller == caller => {
             read_all(alloc, store, disk, number, info)
@@ -179,7 +184,7 @@ fn octets_of<D: Disk>(
     }
 }
 
-/// The octets of the complete file of this number. Takes memory.
+/// The octets of the complete file of this number, as its disk has them. Takes memory.
 fn read_all<D: Disk>(
     alloc: Global,
     store: &mut FileStore,
@@ -191,8 +196,10 @@ fn read_all<D: Disk>(
     requires there { option_map info_of (entry_of (store_in store.old) number) ≡ Some info }
     requires complete { info.complete ≡ true }
     ensures looks { LooksOnly D.Disk store.old store.new disk.old disk.new }
-    ensures octets { IfOk result (λ octets. octets.items ≡ octets_at (entry_of (store_in store.old) number)) }
+    ensures octets { IfOk result (λ octets. IsKnown D.Disk disk.old
+        → octets.items ≡ octets_at (entry_of (store_on D.Disk store.old disk.old) number)) }
 {
+    told_law(store, disk);
     let mut octets = Vec::new(alloc);
     octets.resize(info.held as usize, 0)?;
     match store.read_at(disk, number, 0, octets.as_mut_slice()) {

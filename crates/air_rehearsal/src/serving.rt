@@ -4,6 +4,8 @@ ghost use Rattle.std.specs.Prelude.{◌≡◌, ℕ, suc, [], ◌∷◌, slice_ge
 ghost use Rattle.ax25_frames.specs.FrameText.{FrameText, FrameValue};
 ghost use Rattle.ax25_link.specs.Window.{IsGoodK};
 ghost use Rattle.disk_model.specs.Cuts.{cuts_by};
+ghost use Rattle.file_store.specs.State.{IsKnown};
+ghost use Rattle.file_store.specs.Store.{Store};
 ghost use Rattle.ftl0_server.specs.Calls.{SameStore};
 ghost use Rattle.ftl0_server.specs.Server.{Server as ServerValue};
 ghost use Rattle.ftl0_server.specs.ServerState.{IsServer, server_pending};
@@ -155,8 +157,9 @@ impl Stations {
         ensures keeps { KeepsClients self.old self.new }
         ensures cut { self.new.cut ≡ self.old.cut }
         ensures faults { CountsOn D.Disk disk.old disk.new }
-        ensures takes { (world : World) → Sound world → PlaysWorld self.old server.old world
-            → self.old.moment ≡ next_moment world → IsAllowed world (to_server (suc c) (suc place))
+        ensures takes { (world : World) → Sound world → PlaysWorld D.Disk self.old server.old disk.old world
+            → IsKnown D.Disk disk.old → self.old.moment ≡ next_moment world
+            → IsAllowed world (to_server (suc c) (suc place))
             → IsTaken D.Disk world (to_server (suc c) (suc place)) (serving self.old server.old disk.old)
             (serving self.new server.new disk.new) result }
     {
@@ -212,10 +215,11 @@ impl Stations {
         ensures ready { OnOk result (IsReadyServer D.Disk self.new server.new _disk.new) }
         ensures keeps { KeepsClients self.old self.new }
         ensures cut { self.new.cut ≡ self.old.cut }
+        ensures same { SameStore server.old server.new }
         ensures disk { _disk.new ≡ _disk.old }
-        ensures replies { OnOk result ((it : ServerValue) (party : PartyState) → IsServer server.old it
-            → slice_get self.old.parties.items c ≡ Some party
-            → RepliesAt c it server.new party self.old.parties.items self.new.parties.items) }
+        ensures replies { OnOk result ((store : Store) (it : ServerValue) (party : PartyState)
+            → IsServer store server.old it → slice_get self.old.parties.items c ≡ Some party
+            → RepliesAt store c it server.new party self.old.parties.items self.new.parties.items) }
     {
         match self.parties.get_mut(c) {
             Some(party) => reply_all(server, &mut party.attempt),
@@ -230,9 +234,10 @@ impl Stations {
         ensures ready { OnOk result (IsReadyServer D.Disk self.new server.new _disk.new) }
         ensures keeps { KeepsClients self.old self.new }
         ensures cut { self.new.cut ≡ self.old.cut }
+        ensures same { SameStore server.old server.new }
         ensures disk { _disk.new ≡ _disk.old }
-        ensures says { OnOk result ((it : ServerValue) → IsServer server.old it
-            → SendsByTimer it server.new self.old.parties.items self.new.parties.items) }
+        ensures says { OnOk result ((store : Store) (it : ServerValue) → IsServer store server.old it
+            → SendsByTimer store it server.new self.old.parties.items self.new.parties.items) }
     {
         let mut out = ArrayVec::new();
         while server.next_out(&mut out) {
@@ -275,8 +280,8 @@ fn send_to(party: &mut Party, dest: Call, octets: &[u8]) -> Result<(), OutOfMemo
 fn reply_all(server: &mut Server, attempt: &mut Attempt) -> Result<(), OutOfMemory>
     ensures silent { OnOk result (server_pending server.new ≡ false) }
     ensures same { SameStore server.old server.new }
-    ensures replies { OnOk result ((it : ServerValue) → IsServer server.old it
-        → SendsReplies it server.new attempt.old attempt.new) }
+    ensures replies { OnOk result ((store : Store) (it : ServerValue) → IsServer store server.old it
+        → SendsReplies store it server.new attempt.old attempt.new) }
 {
     let mut out = ArrayVec::new();
     while server.next_out(&mut out) {

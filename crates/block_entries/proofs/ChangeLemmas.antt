@@ -12,12 +12,13 @@ use Rattle.block_entries.specs.IsPlaced.{IsPlaced, IsPlacedFile}
 use Rattle.block_entries.specs.KeptLaws.{drop_placed, grow_placed, grows_full, seal_placed}
 use Rattle.block_entries.specs.Placed.{Placed, Seal, has_number, placed_from, placed_of, run_of, runs_of}
 use Rattle.block_entries.specs.PlacedCommand.{can_grow, grown, is_free, is_partial, sealed, with_changed, with_grown, with_sealed, without_file}
-use Rattle.block_entries.specs.PlacedFiles.{AreKept, Becomes, ChangesRest, IsLowest, IsPlace, KeepsRests, PlacedFile, PlacedFiles, Waits, entries_of, file_of, files_from, in_runs, lacks_octets, rest_of, seal_of, seal_value, store_of, with_run}
+use Rattle.block_entries.specs.PlacedFiles.{AreKept, Becomes, ChangesRest, IsLowest, IsPlace, KeepsRests, PlacedFile, PlacedFiles, Waits, entries_of, file_of, files_from, in_runs, lacks_octets, rest_of, seal_of, store_of, with_run}
 use Rattle.block_entries.specs.Reading.{StandsIn}
-use Rattle.block_entries.specs.Sealed.{Sealed}
+use Rattle.block_entries.specs.Sealed.{HasRuns, ReadsSealed, Sealed, sealed_file}
 use Rattle.block_entries.specs.TestLaws.{Grows, MayGrow, Passes, TakesSeal, may_grow}
 use Rattle.block_entries.proofs.PlacesLemmas.{at_place, find_entries, found_at, remove_entries, remove_here, remove_other, set_entries_changed, set_entries_same, set_here, set_other}
 use Rattle.block_entries.proofs.RunsLemmas.{in_runs_at, in_runs_both, in_runs_file, in_runs_remove, length_in_runs, runs_at, runs_remove, runs_set}
+use Rattle.block_entries.proofs.SealedLemmas.{reads_sealed}
 use Rattle.block_entries.specs.declared.stored_file.SealMark.{SealMark}
 use Rattle.block_table.specs.Table.{Run, Table, new_run, times_of, with_block}
 use Rattle.file_entries.specs.Store.{blocks_for}
@@ -65,9 +66,6 @@ pub mark_there : (o : Option SealMark) (mark : Seal) → seal_of o ≡ Some mark
 mark_there None mark is = absurd (cc)
 mark_there (Some m) mark is = refl
 
-pub mark_value : (o : Option SealMark) (m : SealMark) (mark : Seal) → o ≡ Some m → seal_of o ≡ Some mark → seal_value m ≡ mark
-mark_value o m mark there is = let same = ap seal_of (sym there) ∙ is in cc
-
 -- a file of which a seal is told is there
 pub sealed_found : (files : PlacedFiles) (number : ℕ) → file_of files.files number ≡ None → Sealed (store_of files) number → ⊥
 sealed_found files number none sealed = never_some _ (no_entry files number none) (subst (λ (o : Option Placed). IsSome o) (sym sealed.found) refl)
@@ -84,6 +82,10 @@ module _ (runs : List Run) (items : List PlacedFile) (next blocks : ℕ) (kept :
 
   pub rules_now : IsPlaced (store_of now)
   rules_now = subst (λ (n : PlacedFiles). IsPlaced (store_of n)) view kept.rules
+
+  -- the runs are those of the store's files
+  pub own_runs : runs ≡ runs_of (store_of now).entries
+  own_runs = sym kept.runs_are ∙ ap (λ (n : PlacedFiles). runs_of (store_of n).entries) view
 
   module _ (number place : ℕ) (o : Option ℕ) (is : o ≡ Some place) (some : IfSome o (IsPlace now.files number)) where
     there : IsPlace zs number place
@@ -227,11 +229,19 @@ module _ (runs : List Run) (items : List PlacedFile) (next blocks : ℕ) (kept :
           })
 
       -- a seal of its number is its own
-      pub sealed_here : (sealed : Sealed (store_of now) number) (mark : Option SealMark) → seal_of mark ≡ x.entry.seal
-          → (sealed.file ≡ z.entry) × (seal_of mark ≡ Some sealed.mark)
+      pub sealed_here : (sealed : Sealed (store_of now) number) (mark : Option SealMark) → seal_of mark ≡ x.entry.seal → seal_of mark ≡ Some sealed.mark
       sealed_here sealed mark is =
           let same : sealed.file ≡ z.entry = let here = sealed.found in let also = entry_now in cc in
-          (same, is ∙ ap (λ (e : Placed). e.seal) (sym same) ∙ sealed.is)
+          is ∙ ap (λ (e : Placed). e.seal) (sym same) ∙ sealed.is
+
+      -- what is read of it, where it is sealed
+      pub sealed_reads : (mark : Option SealMark) (m : SealMark) → mark ≡ Some m → seal_of mark ≡ x.entry.seal → (table : Table) → HasRuns table (store_of now)
+          → ReadsSealed table (store_of now) number (sealed_file place m x.entry)
+      sealed_reads mark m mark_is is table has =
+          let same : table.runs ≡ runs = has ∙ sym own_runs in
+          reads_sealed table (store_of now) number rules_now place m z.entry entry_now (sym is ∙ ap seal_of mark_is)
+          (subst (λ (rs : List Run). place < length rs) (sym same) (omega (arith, in_range, kept.count)))
+          (ap (λ (rs : List Run). get_or rs place (new_run 0)) same ∙ run_is)
 
       -- what a test tells of the file that passes it
       passes_z : (test : Placed → Bool) → Passes (store_of now) number test → IsTrue (test z.entry)

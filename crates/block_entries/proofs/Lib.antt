@@ -4,6 +4,7 @@ mod BlankedLemmas
 mod BlockRunLemmas
 mod ChangeLemmas
 mod HalvingLemmas
+mod LengthLemmas
 mod LikeLemmas
 mod NextLemmas
 mod NumberLemmas
@@ -14,6 +15,7 @@ mod ReadLemmas
 mod RecordLemmas
 mod RulesLemmas
 mod RunsLemmas
+mod SealedLemmas
 mod SeenLemmas
 mod StampedHeaderLemmas
 mod StampedPartLemmas

@@ -34,11 +34,12 @@ length-file content table limit file stands =
     let all = length-blocks (whole_block held) (length-whole held) (blocks_of table file) in
     length-take-le file.held (flat_map (whole_block held) (blocks_of table file)) (omega (arith, all, stands.fits))
 
-pub file_octets : (content : Option (List ℕ)) (table : Table) (file : FileBlocks) → IfSome content IsOctets → IsTold content
-    → IsOctets (octets_on content table file)
-file_octets None table file are told = absurd (false≢true told)
-file_octets (Some octets) table file are told =
-    All-take (λ (octet : ℕ). octet < 256) file.held (flat_map (whole_block (blocks_on (Some octets))) (blocks_of table file)) (each (blocks_of table file))
+-- those of blocks of a disk that tells are octets
+pub told_octets : (content : Option (List ℕ)) (count : ℕ) (blocks : List ℕ) → IfSome content IsOctets → IsTold content
+    → IsOctets (take count (flat_map (whole_block (blocks_on content)) blocks))
+told_octets None count blocks are told = absurd (false≢true told)
+told_octets (Some octets) count blocks are told =
+    All-take (λ (octet : ℕ). octet < 256) count (flat_map (whole_block (blocks_on (Some octets))) blocks) (each blocks)
   where
     each : (blocks : List ℕ) → IsOctets (flat_map (whole_block (blocks_on (Some octets))) blocks)
     each [] = All-nil (λ (octet : ℕ). octet < 256)
@@ -49,6 +50,10 @@ file_octets (Some octets) table file are told =
         (octets_joined (blocks_on (Some octets) block) zeros (octets_part octets (16 + 512 * block) 512 are)
         (All-replicate (λ (octet : ℕ). octet < 256) 512 0 (lit< tt))))
         (each blocks)
+
+pub file_octets : (content : Option (List ℕ)) (table : Table) (file : FileBlocks) → IfSome content IsOctets → IsTold content
+    → IsOctets (octets_on content table file)
+file_octets content table file are told = told_octets content file.held (blocks_of table file) are told
 
 -- ---- in the body
 

@@ -1,5 +1,6 @@
 -- The commands as records of a store's journal. All numbers have least significant octets first.
-use Rattle.std.specs.Prelude.{◌≡◌, ℕ, ◌^◌, ◌<◌, ◌==◌, List, [], ◌∷◌, ◌++◌, length, if◌then◌else◌, Option, None, Some}
+use Rattle.std.specs.Prelude.{◌≡◌, ℕ, ◌+◌, ◌^◌, ◌<◌, ◌==◌, List, [], ◌∷◌, ◌++◌, length, if◌then◌else◌}
+use Rattle.std.specs.Prelude.{Option, None, Some}
 use Rattle.std.specs.Option.{option_and_then}
 use Rattle.block_entries.specs.IsPlaced.{IsPlaced}
 use Rattle.block_entries.specs.Placed.{Decides, PlacedStore, Uses, no_entries}
@@ -13,7 +14,7 @@ use Rattle.file_entries.specs.Store.{Store}
 use Rattle.file_journal.specs.Form.{Form, record_calls}
 use Rattle.file_journal.specs.Layout.{Blocks, block_in}
 use Rattle.file_journal.specs.Records.{Record, record_of}
-use Rattle.file_journal.specs.Steps.{Steps, walked}
+use Rattle.file_journal.specs.Steps.{PutBlock, Steps, block_calls, walked}
 use Rattle.file_journal.specs.Walk.{see}
 use Rattle.file_journal.specs.declared.layout.Layout.TheVariants as layout
 use Rattle.px_base.specs.Numbers.{le16, le16_octets, le32, le32_octets}
@@ -93,10 +94,15 @@ placed_steps =
       decides = Decides;
     }
 
--- how many calls of the disk a command takes: two more where octets are put in a block before its record
+-- these octets put in a block, whichever it is
+abbrev pub put_somewhere : List ℕ → Option PutBlock
+put_somewhere octets = Some (record { number = 0; octets = octets })
+
+-- how many calls of the disk a command takes: those of its record, and where octets are put in a block before it, those
+-- of that block
 abbrev pub calls_for : Command → ℕ
 calls_for (file.begin number caller file_length moment) = record_calls
-calls_for (file.grow number octets) = 6
+calls_for (file.grow number octets) = block_calls (put_somewhere octets) + record_calls
 calls_for (file.seal number moment) = record_calls
 calls_for (file.drop_entry number) = record_calls
 

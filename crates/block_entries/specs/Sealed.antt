@@ -1,14 +1,15 @@
 -- What a sealed file is, by the octets in its blocks.
-use Rattle.std.specs.Prelude.{◌≡◌, ℕ, List, Option, Some}
+use Rattle.std.specs.Prelude.{◌≡◌, ℕ, ◌≤◌, List, Option, Some}
 use Rattle.block_entries.specs.Checking.{IsSealable, stamp_of}
-use Rattle.block_entries.specs.Placed.{Placed, PlacedStore, Seal, placed_of}
-use Rattle.block_entries.specs.Reading.{octets_on}
+use Rattle.block_entries.specs.IsPlaced.{KeepsSeals}
+use Rattle.block_entries.specs.Placed.{Placed, PlacedStore, Seal, placed_of, runs_of}
+use Rattle.block_entries.specs.Reading.{StandsIn, octets_on}
 use Rattle.block_entries.specs.Seen.{octets_in, stamp_at}
 use Rattle.block_entries.specs.declared.sealed_file.SealedFile.{SealedFile}
 use Rattle.block_entries.specs.declared.stored_file.SealMark.{SealMark}
 use Rattle.block_table.specs.Table.{Table}
-use Rattle.file_entries.specs.Headers.{IsWholeHeader, header_octets}
-use Rattle.file_journal.specs.Layout.{Blocks}
+use Rattle.file_entries.specs.Headers.{IsHeaderOf, IsWholeHeader}
+use Rattle.file_journal.specs.Layout.{Blocks, blocks_on}
 use Rattle.pfh_items.specs.Stamp.{stamped}
 
 -- these octets, as they were uploaded, are the file's
@@ -40,7 +41,26 @@ pub record Sealed (store : PlacedStore) (number : ℕ) : Type 0 where
 abbrev pub octets_given : {store : PlacedStore} → {number : ℕ} → Blocks → Sealed store number → List ℕ
 octets_given held sealed = stamped (stamp_at sealed.mark.moment sealed.file) (octets_in held sealed.file)
 
--- these octets are the header that the file begins with, and nothing else, and are read as one
+-- The file keeps all rules; these octets are the header that it begins with, and nothing else, and are read as one.
 pub record IsSealedHeader (file octets : List ℕ) : Type 0 where
-  pub header : octets ≡ header_octets file
+  pub header : IsHeaderOf file octets
   pub whole : IsWholeHeader octets
+
+-- the runs of the table are those of the store's files
+abbrev pub HasRuns : Table → PlacedStore → Type 0
+HasRuns table store = table.runs ≡ runs_of store.entries
+
+-- This is the sealed file of this number, as it is read of a table that has the store's runs: it stands there, its
+-- header is no longer, its octets are those of a sealed file where the seals are kept, and what is given of it is what
+-- the store's file is seen as.
+pub record ReadsSealed (table : Table) (store : PlacedStore) (number : ℕ) (file : SealedFile) : Type 0 where
+  pub stands : StandsIn table store.blocks file.blocks
+  pub inside : file.header_len ≤ file.blocks.held
+  pub is :
+      (content : Option (List ℕ)) → KeepsSeals (blocks_on content) store
+      → IsSealedFile file (octets_on content table file.blocks)
+  pub held : (sealed : Sealed store number) → file.blocks.held ≡ sealed.file.held
+  pub header : (sealed : Sealed store number) → file.header_len ≡ sealed.mark.header
+  pub octets :
+      (content : Option (List ℕ)) (sealed : Sealed store number)
+      → sealed_octets content table file ≡ octets_given (blocks_on content) sealed

@@ -11,10 +11,11 @@ ghost use Rattle.block_entries.specs.PlacedCommand.{with_sealed, without_file};
 ghost use Rattle.block_entries.specs.PlacedFiles.{Becomes, ChangesRest, IsLowest, IsNextSealed, IsOut, IsPlace};
 ghost use Rattle.block_entries.specs.PlacedFiles.{NothingOut, Waits, file_of, is_sealed_file, lacks_octets};
 ghost use Rattle.block_entries.specs.PlacedFiles.{placed_info, rest_of, rest_with, rest_without, store_of};
-ghost use Rattle.block_entries.specs.Sealed.{IsSealedHeader, Sealed, octets_given};
+ghost use Rattle.block_entries.specs.Sealed.{HasRuns, IsSealedHeader, ReadsSealed, Sealed, octets_given};
 ghost use Rattle.block_entries.specs.Seen.{seen};
-ghost use Rattle.disk_model.specs.Disk.{FillsRoom, IsTold};
 ghost use Rattle.block_entries.specs.TestLaws.{Grows, Passes, TakesSeal};
+ghost use Rattle.block_table.specs.Table.{Table};
+ghost use Rattle.disk_model.specs.Disk.{FillsRoom, IsTold};
 ghost use Rattle.file_entries.specs.Bars.{Bars};
 ghost use Rattle.file_entries.specs.Command.{MayBegin};
 ghost use Rattle.file_entries.specs.Files.{octets_or_none};
@@ -24,8 +25,8 @@ ghost use Rattle.file_journal.specs.Layout.{Blocks, blocks_on};
 use crate::limits::blocks_of_length;
 use crate::stored_file::StoredFile;
 use crate::{
-    BlockReader, CheckFault, CheckedHeader, FileBlocks, ReadHeaderFault, Stamp, check_file,
-    read_header, read_stamped,
+    BlockReader, CheckFault, CheckedHeader, FileBlocks, ReadHeaderFault, SealedFile, Stamp,
+    check_file, read_header, read_stamped,
 };
 use block_table::BlockTable;
 use disk_model::{Disk, DiskFault};
@@ -110,12 +111,12 @@ impl Entries {
         None
     }
 
-    /// Makes room in memory for one more entry; the entries stay as they are. Where there is no memory, what room there
-    /// was stays. Takes memory.
+    /// Makes room in memory for one more entry; the entries stay as they are, and so does what room there was. Takes
+    /// memory.
     pub fn reserve(&mut self) -> Result<(), OutOfMemory>
         ensures files { self.new.files ≡ self.old.files }
         ensures ok { OnOk result (1 ≤ self.new.spare) }
-        ensures err { OnErr result (self.old.spare ≤ self.new.spare) }
+        ensures spare { self.old.spare ≤ self.new.spare }
     {
         self.files.reserve(1)?;
         self.table.reserve(1)?;
@@ -147,8 +148,8 @@ impl Entries {
         self.files[place].take_out();
     }
 
-    /// The upload of this entry that is out, if there is one, is given up; the octets that wait are lost. Takes no
-    /// memory.
+    /// The upload of this entry that is out, if there is one, is given up; the octets that wait are lost, and their
+    /// memory stays the entry's. Takes no memory.
     pub fn park(&mut self, number: u32)
         ensures { ChangesRest self.old.files self.new.files number None }
     {
@@ -158,7 +159,8 @@ impl Entries {
     }
 
     /// Octets come of the upload of this entry that is out, behind those that wait; or nothing changes where there is
-    /// no memory. Takes memory. The work is that of the octets that come, and of finding the entry.
+    /// no memory. Takes memory. The work is that of the octets that come, and of finding the entry; and that of those
+    /// that wait, where others became held since the last ones came.
     pub fn bring(&mut self, number: u32, bytes: &[u8]) -> Result<(), OutOfMemory>
         requires { IsOut self.old.files number }
         ensures ok { OnOk result
@@ -188,7 +190,7 @@ impl Entries {
     }
 
     /// The first octets that wait become held, in the lowest block that no file has: a Grow, whose condition holds.
-    /// Takes no memory.
+    /// Takes no memory. The work is that of finding the entry, however many octets wait.
     pub fn hold(&mut self, number: u32, block: u32, count: usize)
         requires waits { Waits self.old.files number count }
         requires allowed { Grows (store_of self.old.files) number block count }
@@ -291,11 +293,8 @@ impl Entries {
             → FillsRoom (octets_given (blocks_on (D.content disk.old)) sealed) offset (length room.old) room.new) }
         ensures reads { Reads D.Disk (IsErr result) disk.old disk.new }
     {
-        let place = self.place_of(number).unwrap();
-        let file = &self.files[place];
-        let mark = file.mark().unwrap();
-        let sealed = file.sealed_in(place, mark);
-        read_stamped(reader, disk, &self.table, &sealed, offset, room)
+        let file = self.sealed_file(number);
+        read_stamped(reader, disk, &self.table, &file, offset, room)
     }
 
     /// Puts the header of a sealed file, with its stamp, into `header`, in the place of what stands there. It reads the
@@ -324,11 +323,8 @@ impl Entries {
         ensures capacity { vec_capacity header.old ≤ vec_capacity header.new }
         ensures reads { Reads D.Disk (IsErrOf result ReadHeaderFault.Disk) disk.old disk.new }
     {
-        let place = self.place_of(number).unwrap();
-        let file = &self.files[place];
-        let mark = file.mark().unwrap();
-        let sealed = file.sealed_in(place, mark);
-        read_header(reader, disk, &self.table, &sealed, header)
+        let file = self.sealed_file(number);
+        read_header(reader, disk, &self.table, &file, header)
     }
 
     /// Drops a file under way. Takes no memory.
@@ -380,6 +376,18 @@ impl Entries {
     {
         let place = self.files.partition_point(|file| file.number() <= above);
         first_complete(&self.files[place..])
+    }
+
+    /// The sealed file of this number, as it is read of a table of the runs in which the files stand.
+    fn sealed_file(&self, number: u32) -> SealedFile
+        requires { Sealed (store_of self.now.files) number }
+        ensures { (table : Table) → HasRuns table (store_of self.now.files)
+            → ReadsSealed table (store_of self.now.files) number result }
+    {
+        let place = self.place_of(number).unwrap();
+        let file = &self.files[place];
+        let mark = file.mark().unwrap();
+        file.sealed_in(place, mark)
     }
 
     /// The place of the file of this number, found by halving.

@@ -36,8 +36,8 @@ pub fn journal_law()
     ensures { IsSeenBy placed_steps seen placed_form }
 {}
 
-/// What octets stand for: what the store after the commands that their records are is seen as, and no other. A store for
-/// which octets stand keeps its rules and its seals.
+/// What octets stand for: what the store after the commands that their records are is seen as, and no other. A store
+/// for which octets stand keeps its rules and its seals.
 pub fn standing_law()
     ensures { StandingLaw }
 {}

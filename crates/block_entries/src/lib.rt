@@ -22,6 +22,7 @@ mod reading;
 mod sealed_file;
 mod stamp;
 mod stored_file;
+mod waiting_octets;
 mod writing;
 
 pub use check_fault::CheckFault;

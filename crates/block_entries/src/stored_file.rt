@@ -8,6 +8,7 @@ ghost use Rattle.block_entries.specs.PlacedFiles.{brought, placed_info, seal_of}
 ghost use Rattle.block_entries.specs.Sealed.{sealed_file};
 ghost use Rattle.file_entries.specs.Files.{octets_or_none};
 
+use crate::waiting_octets::WaitingOctets;
 use crate::{FileBlocks, SealedFile, Stamp};
 use file_entries::Info;
 use px_base::{Call, OutOfMemory};
@@ -35,7 +36,7 @@ pub(crate) struct StoredFile {
     /// How many octets are held.
     held: u32,
     /// The octets that came of an upload that is out and aren't held yet.
-    waiting: Vec<u8>,
+    waiting: WaitingOctets,
     /// Whether an upload of the file is out.
     out: bool,
     /// The file's seal.
@@ -58,7 +59,7 @@ impl Model for StoredFile {
         blocks = [];
         seal = seal_of a.mark;
       };
-      rest = rest_when a.out a.waiting.items;
+      rest = rest_when a.out a.waiting;
     } };
 }
 
@@ -79,7 +80,7 @@ impl StoredFile {
             length: file_length,
             begun: moment,
             held: 0,
-            waiting: Vec::new(alloc),
+            waiting: WaitingOctets::new(alloc),
             out: false,
             mark: None,
         }
@@ -165,7 +166,8 @@ impl StoredFile {
         self.out = true;
     }
 
-    /// The upload that is out is given up, if there is one; the octets that aren't held yet are lost.
+    /// The upload that is out is given up, if there is one; the octets that aren't held yet are lost. Their memory
+    /// stays the file's.
     pub(crate) fn park(&mut self)
         ensures { self.new ≡ record self.old { rest = None } }
     {
@@ -179,7 +181,7 @@ impl StoredFile {
         ensures ok { OnOk result (self.new ≡ brought self.old bytes.now) }
         ensures err { OnErr result (self.new ≡ self.old) }
     {
-        self.waiting.extend_from_slice(bytes)?;
+        self.waiting.push(bytes)?;
         Ok(())
     }
 
@@ -192,9 +194,7 @@ impl StoredFile {
           rest = option_map (drop count) self.old.rest;
         } }
     {
-        let left = self.waiting.len() - count;
-        self.waiting.as_mut_slice().copy_within(count.., 0);
-        self.waiting.truncate(left);
+        self.waiting.pass(count);
         self.held += count as u32;
     }
 

@@ -67,11 +67,12 @@ impl BlockTable {
         })
     }
 
-    /// Makes room in memory for so many more runs, or changes nothing. Takes memory.
+    /// Makes room in memory for so many more runs, or changes nothing. What room there was stays. Takes memory.
     pub fn reserve(&mut self, runs: usize) -> Result<(), OutOfMemory>
         ensures runs { self.new.runs ≡ self.old.runs }
         ensures limit { self.new.limit ≡ self.old.limit }
         ensures ok { OnOk result (runs ≤ self.new.spare) }
+        ensures spare { self.old.spare ≤ self.new.spare }
         ensures err { OnErr result (self.new ≡ self.old) }
     {
         self.runs.reserve(runs)?;

@@ -1,9 +1,8 @@
 -- What the commands of one upload leave of the entries.
-use Rattle.std.proofs.Common.{◌≡◌, ◌≢◌, ℕ, zero, suc, not, List, [], ◌∷◌, ◌++◌, take, drop, map, filter, refl, ap, sym, ◌∙◌, subst, Option, None, Some, inl, inr, ◌==◌}
+use Rattle.std.proofs.Common.{◌≡◌, ℕ, zero, suc, not, List, [], ◌∷◌, ◌++◌, take, drop, map, filter, refl, ap, sym, ◌∙◌, subst, Option, None, Some, inl, inr, ◌==◌}
 use Rattle.std.specs.Prelude.{find, ⊤}
 use Rattle.std.proofs.lemmas.Bool.Decides.{eqb_tells}
 use Rattle.file_entries.specs.Command.{Command, begin, grow, seal, drop_entry, after, after_all, changed, grown, grows, last_grow, sealed, with_holding}
-use Rattle.file_entries.specs.Faults.{fault_code}
 use Rattle.file_entries.specs.Store.{Entry, Holding, Store, entry_of}
 use Rattle.file_entries.proofs.Offered.{find-filter_other, find-map-changed, find-map-changed_other, has_number}
 use Rattle.file_store.specs.Kept.{ChangesEntry}

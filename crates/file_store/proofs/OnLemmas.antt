@@ -1,5 +1,5 @@
 -- A store on its disk, and the same as far as memory tells.
-use Rattle.std.proofs.Common.{◌≡◌, List, [], ◌∷◌, refl, ap, sym, subst}
+use Rattle.std.proofs.Common.{◌≡◌, List, [], ◌∷◌, refl, sym, subst}
 use Rattle.disk_model.specs.declared.disk.Disk.{Ghosts}
 use Rattle.block_entries.specs.Outlined.{AreLike, IsAsFar, IsEntryLike, IsStoreLike}
 use Rattle.file_journal.specs.Calls.{TellsAlike}

@@ -1,13 +1,12 @@
 -- What the commands of one upload keep of the others, and what becomes of it.
-use Rattle.std.proofs.Common.{◌≡◌, ◌≢◌, ℕ, zero, suc, ◌+◌, ◌-◌, ◌*◌, ◌/◌, ◌≤◌, Bool, true, List, [], ◌∷◌, ◌++◌, length, take, drop, Option, None, Some, inl, inr, refl, sym, ◌∙◌, ap, subst, arith, length-append, length-drop}
+use Rattle.std.proofs.Common.{◌≡◌, ◌≢◌, ℕ, ◌+◌, ◌-◌, ◌*◌, ◌/◌, ◌≤◌, Bool, true, List, [], ◌∷◌, ◌++◌, length, take, drop, Option, None, Some, inl, inr, refl, sym, ◌∙◌, ap, subst, arith, length-append, length-drop}
 use Rattle.std.specs.Prelude.{IsTrue}
-use Rattle.std.specs.List.{AllByRecursion}
 use Rattle.std.specs.Option.{option_and_then, option_map}
 use Rattle.std.proofs.lemmas.Bool.Decides.{eqb_tells, nat_tests}
 use Rattle.std.proofs.lemmas.List.{length-take-le}
 use Rattle.disk_model.specs.declared.disk.Disk.{Ghosts}
 use Rattle.px_base.specs.CallSign.{CallSign}
-use Rattle.file_entries.specs.Command.{Command, after, after_all, begin, drop_entry, grow, grown, grows, last_grow, seal}
+use Rattle.file_entries.specs.Command.{Command, after, after_all, begin, drop_entry, grow, grown, last_grow, seal}
 use Rattle.file_entries.specs.Files.{ChangesRest, File, Files, KeepsRests, file_of, octets_or_none, rest_of, store_of}
 use Rattle.file_entries.specs.Info.{is_complete}
 use Rattle.file_entries.specs.IsStore.{IsStore}

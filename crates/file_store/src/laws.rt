@@ -25,8 +25,8 @@ pub fn state_law(store: &FileStore)
     let _info = store.info(0);
 }
 
-/// What a store is on a disk where it is known what its files hold: what memory tells of it, with the octets of its files.
-/// Takes no memory.
+/// What a store is on a disk where it is known what its files hold: what memory tells of it, with the octets of its
+/// files. Takes no memory.
 pub fn told_law<D: Disk>(store: &FileStore, disk: &D)
     ensures { ToldLaw D.Disk store.now disk.now }
 {

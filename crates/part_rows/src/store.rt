@@ -2,8 +2,8 @@
 //! NOCALL begins the file at the moment 5, the octets are brought, and the file is ended at the moment 6.
 //!
 //! Printed is how it ended: why the file wasn't begun; `TooMuch`; or, with what the upload tells before the end,
-//! `Sealed` and the receipt's number, `Short`, or `Header` and the code of a fault. Behind ` | ` stands what a store
-//! that is recovered from the disk tells of the file, or `none`.
+//! `Sealed` and the receipt's number, `Short`, `Header` and the code of a fault, or `Read` where a read of the disk
+//! failed. Behind ` | ` stands what a store that is recovered from the disk tells of the file, or `none`.
 
 ghost use Rattle.file_store.specs.State.{StandsOn};
 ghost use Rattle.file_store.specs.Upload.{Holds};
@@ -66,6 +66,7 @@ enum Ended {
     Sealed(Told, u32),
     Short(Told),
     Header(Told, u8),
+    Read(Told),
     Failed,
 }
 
@@ -114,6 +115,10 @@ fn end<D: Disk>(store: &mut FileStore, disk: &mut D, up: OpenUpload) -> Ended
             Ended::Short(told)
         }
         Err(SealRefusal::Header { code }) => Ended::Header(told, code),
+        Err(SealRefusal::Read(up)) => {
+            store.park(up);
+            Ended::Read(told)
+        }
         Err(SealRefusal::Failed | SealRefusal::Disk) => Ended::Failed,
     }
 }

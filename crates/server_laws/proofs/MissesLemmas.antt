@@ -1,6 +1,7 @@
 -- An event that tells of no read that failed is what it is where none fails.
 use Rattle.std.proofs.Common.{◌≡◌, ⊎_elim, ℕ, zero, suc, ◌+◌, ◌≤◌, List, [], ◌∷◌, ◌++◌, Bool, true, false, ◌||◌, Option, None, Some, refl, sym, ap, ◌∙◌, arith}
-use Rattle.std.specs.Prelude.{nat_le, if◌then◌else◌, slice_get}
+use Rattle.std.specs.Prelude.{Ok, nat_le, if◌then◌else◌, slice_get}
+use Rattle.std.proofs.lemmas.Option.{none-some, same_Some}
 use Rattle.std.proofs.Math.Bool.{or-false}
 use Rattle.px_base.specs.CallSign.{CallSign}
 use Rattle.ax25_frames.specs.FrameText.{FrameValue}
@@ -11,15 +12,17 @@ use Rattle.ax25_link.specs.Ends.{LinkEnd, free_octets}
 use Rattle.ax25_link.specs.Rows.{after_frame, heard_of}
 use Rattle.ax25_link.specs.Window.{Window}
 use Rattle.ftl0_packets.specs.Items.{texts}
-use Rattle.ftl0_packets.specs.Layout.{Item}
+use Rattle.ftl0_packets.specs.Layout.{Item, data_end}
 use Rattle.ftl0_packets.specs.Reading.{packets_of}
 use Rattle.packet_link.specs.Queuing.{enough_free, fits, on_due}
 use Rattle.file_store.specs.Command.{after_all}
-use Rattle.file_store.specs.Store.{Store}
+use Rattle.file_store.specs.Store.{Store, entry_of}
 use Rattle.ftl0_session.specs.Lists.Lists.{CallerList}
 use Rattle.ftl0_session.specs.Run.{Session, session_over}
-use Rattle.ftl0_session.specs.Table.{DuePacket, Row, failed_reads_told, next_due, row_at, session_row}
+use Rattle.ftl0_session.specs.Table.{DuePacket, Row, by_upload, failed_reads_told, next_due, row_at, session_row, upload_part}
 use Rattle.ftl0_session.specs.Uploads.Failures.{Failure, NoReadFails, failed_reads, read_fails, write_fails}
+use Rattle.ftl0_session.specs.Uploads.Session as upload
+use Rattle.ftl0_session.specs.Uploads.Session.{is_all}
 use Rattle.ftl0_session.proofs.WorkingLemmas.{writes-behind, writes-unlisted}
 use Rattle.ftl0_server.specs.Connection.Connected.{Connected, caller_of}
 use Rattle.ftl0_server.specs.Connection.Hearing.{hearing, parts_as, parts_of_frame, progressed, rest_of_frame}
@@ -39,6 +42,15 @@ both-none some more none = (omega arith, omega arith)
 abbrev behind_row : Session → Row → Session
 behind_row session row = session_over (after_all session.store row.commands) row.lists row.state
 
+-- the row of a file that can't be read tells of one read
+unread-told : (store : Store) (part : upload.State) (item : Item) (row : upload.Row) → upload.row_unread store part item ≡ Some row → failed_reads_told row.replies ≡ 1
+unread-told store (upload.receiving n rest) (Ok data_end) row is = by (is_all (entry_of store n) rest) is
+  where
+    by : (b : Bool) → (if b then Some (upload.unread_row n rest) else None) ≡ Some row → failed_reads_told row.replies ≡ 1
+    by true same = ap (λ (r : upload.Row). failed_reads_told r.replies) (sym (same_Some (upload.unread_row n rest) row same))
+    by false same = absurd (none-some row same)
+unread-told store part item row is = absurd (none-some row is)
+
 -- The same writes fail by both, and by the second no read.
 record AreAlike (some others : List Failure) : Type 0 where
   pub writes : (part : ℕ) → write_fails some part ≡ write_fails others part
@@ -55,8 +67,20 @@ module _ (rows : ReadsLaw) (due : DueReadsLaw) (some others : List Failure) (ali
     row-by session item false none = refl
     row-by session item true none =
         ⊎_elim (λ same. same)
-        (λ told. absurd (let one : failed_reads_told (failed_row session.lists session.state).replies ≡ 0 = ap (λ (row : Row). failed_reads_told row.replies) (sym told) ∙ none in omega (arith, one)))
+        (λ told.
+        ⊎_elim
+        (λ (failed : made ≡ failed_row session.lists session.state).
+        absurd (let one : failed_reads_told (failed_row session.lists session.state).replies ≡ 0 = ap (λ (row : Row). failed_reads_told row.replies) (sym failed) ∙ none in omega (arith, one)))
+        (λ (one : (row : upload.Row) × (unread ≡ Some row) × (made ≡ by_upload session.lists row)).
+        absurd (let one_told : failed_reads_told one.0.replies ≡ 1 = unread-told session.store (upload_part session.state) item one.0 one.1 in
+        let none_told : failed_reads_told one.0.replies ≡ 0 = ap (λ (row : Row). failed_reads_told row.replies) (sym one.2) ∙ none in omega (arith, one_told, none_told))) told)
         (rows caller moment session.store session.lists session.state item)
+      where
+        made : Row
+        made = session_row caller moment session.store session.lists session.state item true
+
+        unread : Option upload.Row
+        unread = upload.row_unread session.store (upload_part session.state) item
 
     row-alike : (session : Session) (item : Item) (part : ℕ) → failed_reads_told (row_at caller moment session.store session.lists session.state item some part).replies ≡ 0
         → row_at caller moment session.store session.lists session.state item some part ≡ row_at caller moment session.store session.lists session.state item others part

@@ -5,7 +5,7 @@ use Rattle.std.proofs.lemmas.Bool.{cond_both, not-false}
 use Rattle.std.proofs.lemmas.Bool.Decides.{nat_tests}
 use Rattle.std.proofs.lemmas.Option.{same_Some}
 use Rattle.std.specs.Prelude.{Ok, IfSome, if◌then◌else◌, ◌==◌, ◌/◌, ◌*◌, take}
-use Rattle.std.specs.Option.{option_map}
+use Rattle.std.specs.Option.{option_map, option_or}
 use Rattle.px_base.specs.CallSign.{CallSign, IsCall}
 use Rattle.ax25_frames.specs.FrameText.{FrameValue}
 use Rattle.ax25_link.specs.Calls.{after_push}
@@ -133,14 +133,37 @@ module _ (caller : CallSign) (moment : ℕ) (store : Store) where
   part-receives upload.aborting (Ok data_end) is own = tt
   part-receives part item is own = errors part item own
 
-  uploads-receive : (state : State) (item : Item) → IsStore store → ReceivesOwn caller store state
-      → IfSome (upload_row caller moment store state item) Receives
-  uploads-receive command item is own = part-receives upload.command item is own
-  uploads-receive (receiving number rest) item is own = part-receives (upload.receiving number rest) item is own
-  uploads-receive aborting item is own = part-receives upload.aborting item is own
-  uploads-receive (sending number place last) item is own = tt
-  uploads-receive waiting item is own = tt
-  uploads-receive (listing dues) item is own = tt
+  -- the row of a file that can't be read
+  unread-receives : (part : upload.State) (item : Item) → IfSome (upload.row_unread store part item) Receives
+  unread-receives (upload.receiving n rest) (Ok data_end) = by (is_all (entry_of store n) rest)
+    where
+      by : (b : Bool) → IfSome (if b then Some (upload.unread_row n rest) else None) Receives
+      by true = tt
+      by false = tt
+  unread-receives part item = tt
+
+  or-receives : (one other : Option upload.Row) → IfSome one Receives → IfSome other Receives
+      → IfSome (option_or one other) Receives
+  or-receives None other first second = second
+  or-receives (Some row) other first second = first
+
+  read-receives : (part : upload.State) (item : Item) (fails : Bool) → IsStore store
+      → ReceivesOwn caller store (state_by part download.ready)
+      → IfSome (upload.row_by_read caller moment store part item fails) Receives
+  read-receives part item true is own =
+      or-receives (upload.row_unread store part item) (upload.session_row caller moment store part item)
+      (unread-receives part item) (part-receives part item is own)
+  read-receives part item false is own = part-receives part item is own
+
+  uploads-receive : (state : State) (item : Item) (fails : Bool) → IsStore store → ReceivesOwn caller store state
+      → IfSome (upload_row caller moment store state item fails) Receives
+  uploads-receive command item fails is own = read-receives upload.command item fails is own
+  uploads-receive (receiving number rest) item fails is own =
+      read-receives (upload.receiving number rest) item fails is own
+  uploads-receive aborting item fails is own = read-receives upload.aborting item fails is own
+  uploads-receive (sending number place last) item fails is own = tt
+  uploads-receive waiting item fails is own = tt
+  uploads-receive (listing dues) item fails is own = tt
 
   among-receive : (lists : List CallerList) (state : State) (item : Item) (o : Option upload.Row)
       (other : Option DownloadRow) → ReceivesOwn caller store state → IfSome o Receives
@@ -154,8 +177,8 @@ module _ (caller : CallSign) (moment : ℕ) (store : Store) where
       → ReceivesBehind caller store (session_row caller moment store lists state item fails)
   unfolding session_row
   row-receives lists state item fails is own =
-      among-receive lists state item (upload_row caller moment store state item)
-      (download_row caller store lists state item fails) own (uploads-receive state item is own)
+      among-receive lists state item (upload_row caller moment store state item fails)
+      (download_row caller store lists state item fails) own (uploads-receive state item fails is own)
 
 -- ---- once what is due was queued
 

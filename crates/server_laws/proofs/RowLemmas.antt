@@ -1,9 +1,9 @@
 -- Whose files the commands of a row are of, and what a read that fails changes.
-use Rattle.std.proofs.Common.{◌≡◌, ◌⊎◌, inl, inr, ⊎_elim, ℕ, zero, suc, List, [], ◌∷◌, ◌++◌, length, map, take, drop, refl, ap, sym, ◌∙◌, Bool, true, false, not, Option, None, Some}
+use Rattle.std.proofs.Common.{◌≡◌, ◌⊎◌, inl, inr, ⊎_elim, ℕ, zero, suc, List, [], ◌∷◌, ◌++◌, length, map, take, drop, refl, ap, sym, ◌∙◌, subst, Bool, true, false, not, Option, None, Some}
 use Rattle.std.proofs.lemmas.Bool.Decides.{eqb_tells}
 use Rattle.std.specs.Prelude.{Ok, Err, IfSome, Result, find, if◌then◌else◌, nat_lt, ◌==◌, ◌&&◌, ◌/◌}
 use Rattle.std.specs.List.{list_all}
-use Rattle.std.specs.Option.{option_map}
+use Rattle.std.specs.Option.{option_map, option_or}
 use Rattle.px_base.specs.CallSign.{CallSign}
 use Rattle.pfh_items.specs.Faults.{fault_code}
 use Rattle.ftl0_packets.specs.Items.{kind_of_item}
@@ -20,7 +20,7 @@ use Rattle.ftl0_session.specs.Downloads.Sending as due
 use Rattle.ftl0_session.specs.Downloads.Table as download
 use Rattle.ftl0_session.specs.Downloads.Table.{DownloadRow, Due, files_row, has_file, listed_files, long_due, refused_row, short_due, tree_row}
 use Rattle.ftl0_session.specs.Lists.Lists.{CallerList}
-use Rattle.ftl0_session.specs.Table.{State, aborting, command, download_part, download_row, in_session, listing, receiving, row_among, sending, session_row, state_by, upload_row, waiting}
+use Rattle.ftl0_session.specs.Table.{State, aborting, command, download_part, download_row, in_session, listing, receiving, row_among, sending, session_row, state_by, upload_part, upload_row, waiting}
 use Rattle.ftl0_session.specs.Uploads.Session as upload
 use Rattle.ftl0_session.specs.Uploads.Session.{is_all, is_theirs, is_upload_kind}
 use Rattle.server_laws.specs.Rows.{CallerLaw, DueReadsLaw, ReadsLaw, ReceivesOwn, TellsOfRead, failed_due, failed_row}
@@ -56,6 +56,11 @@ module _ (caller : CallSign) (n : ℕ) where
   own-last : (rest : List ℕ) (last : Command) (store : Store) → ((now : Store) → IsOwnEntry caller now n → IsOf caller now last) → IsOwnEntry caller store n → AreOf caller store (last_grow n rest ++ last ∷ [])
   own-last [] last store is own = (is store own, tt)
   own-last (octet ∷ octets) last store is own = (own, (is (after store (grow n (octet ∷ octets))) (own-grow store (octet ∷ octets) own), tt))
+
+  -- the last octets alone
+  own-held : (rest : List ℕ) (store : Store) → IsOwnEntry caller store n → AreOf caller store (last_grow n rest)
+  own-held [] store own = tt
+  own-held (octet ∷ octets) store own = (own, tt)
 
 module _ (caller : CallSign) (moment : ℕ) (store : Store) where
   abbrev Own : upload.Row → Type 0
@@ -100,13 +105,30 @@ module _ (caller : CallSign) (moment : ℕ) (store : Store) where
   part-own upload.aborting (Ok data_end) own = tt
   part-own part item own = errors part item
 
-  uploads-own : (state : State) (item : Item) → ReceivesOwn caller store state → IfSome (upload_row caller moment store state item) Own
-  uploads-own command item own = part-own upload.command item own
-  uploads-own (receiving number rest) item own = part-own (upload.receiving number rest) item own
-  uploads-own aborting item own = part-own upload.aborting item own
-  uploads-own (sending number place last) item own = tt
-  uploads-own waiting item own = tt
-  uploads-own (listing dues) item own = tt
+  -- the row of a file that can't be read
+  unread-own : (part : upload.State) (item : Item) → ReceivesOwn caller store (state_by part download.ready) → IfSome (upload.row_unread store part item) Own
+  unread-own (upload.receiving n rest) (Ok data_end) own = by (is_all (entry_of store n) rest)
+    where
+      by : (b : Bool) → IfSome (if b then Some (upload.unread_row n rest) else None) Own
+      by true = own-held caller n rest store own
+      by false = tt
+  unread-own part item own = tt
+
+  or-own : (one other : Option upload.Row) → IfSome one Own → IfSome other Own → IfSome (option_or one other) Own
+  or-own None other first second = second
+  or-own (Some row) other first second = first
+
+  read-own : (part : upload.State) (item : Item) (fails : Bool) → ReceivesOwn caller store (state_by part download.ready) → IfSome (upload.row_by_read caller moment store part item fails) Own
+  read-own part item true own = or-own (upload.row_unread store part item) (upload.session_row caller moment store part item) (unread-own part item own) (part-own part item own)
+  read-own part item false own = part-own part item own
+
+  uploads-own : (state : State) (item : Item) (fails : Bool) → ReceivesOwn caller store state → IfSome (upload_row caller moment store state item fails) Own
+  uploads-own command item fails own = read-own upload.command item fails own
+  uploads-own (receiving number rest) item fails own = read-own (upload.receiving number rest) item fails own
+  uploads-own aborting item fails own = read-own upload.aborting item fails own
+  uploads-own (sending number place last) item fails own = tt
+  uploads-own waiting item fails own = tt
+  uploads-own (listing dues) item fails own = tt
 
   among-own : (lists : List CallerList) (state : State) (item : Item) (o : Option upload.Row) (other : Option DownloadRow) → IfSome o Own → AreOf caller store (row_among lists state item o other).commands
   among-own lists state item (Some row) other own = own
@@ -116,7 +138,7 @@ module _ (caller : CallSign) (moment : ℕ) (store : Store) where
 pub commands_own : CallerLaw
 unfolding session_row
 commands_own caller moment store lists state item fails own =
-    among-own caller moment store lists state item (upload_row caller moment store state item) (download_row caller store lists state item fails) (uploads-own caller moment store state item own)
+    among-own caller moment store lists state item (upload_row caller moment store state item fails) (download_row caller store lists state item fails) (uploads-own caller moment store state item fails own)
 
 -- ---- what a read that fails changes
 
@@ -171,16 +193,44 @@ module _ (caller : CallSign) (store : Store) (lists : List CallerList) where
   download-tells waiting (Err malformed) = inl refl
   download-tells (listing dues) (Err malformed) = inl refl
 
-  among-tells : (state : State) (item : Item) (o : Option upload.Row) (other : Bool → Option DownloadRow) → TellsReady state other → TellsOfRead lists state (λ fails. row_among lists state item o (other fails))
-  among-tells state item (Some row) other tells = inl refl
-  among-tells state item None other tells =
-      ⊎_elim (λ same. inl (ap (λ (o : Option DownloadRow). row_among lists state item None o) same))
-      (λ told. inr (ap (λ (o : Option DownloadRow). row_among lists state item None o) told.1 ∙ ap (λ (s : State). failed_row lists s) (sym told.0))) tells
+  -- the row of uploading is the same, or that of a file that can't be read
+  abbrev TellsUnread : Option upload.Row → (Bool → Option upload.Row) → Type 0
+  TellsUnread unread row = (row true ≡ row false) ⊎ ((one : upload.Row) × (unread ≡ Some one) × (row true ≡ Some one))
+
+  unread-tells : (unread row : Option upload.Row) → TellsUnread unread (λ fails. option_or (if fails then unread else None) row)
+  unread-tells None row = inl refl
+  unread-tells (Some one) row = inr (one, refl, refl)
+
+  upload-tells : (moment : ℕ) (state : State) (item : Item) → TellsUnread (upload.row_unread store (upload_part state) item) (λ fails. upload_row caller moment store state item fails)
+  upload-tells moment command item = unread-tells (upload.row_unread store upload.command item) (upload.session_row caller moment store upload.command item)
+  upload-tells moment (receiving n rest) item = unread-tells (upload.row_unread store (upload.receiving n rest) item) (upload.session_row caller moment store (upload.receiving n rest) item)
+  upload-tells moment aborting item = unread-tells (upload.row_unread store upload.aborting item) (upload.session_row caller moment store upload.aborting item)
+  upload-tells moment (sending number place last) item = inl refl
+  upload-tells moment waiting item = inl refl
+  upload-tells moment (listing dues) item = inl refl
+
+  module _ (state : State) (item : Item) (unread : Option upload.Row) (other : Bool → Option DownloadRow) (tells : TellsReady state other) where
+    -- with this row of uploading where a read fails, and this one where none does
+    abbrev TellsAmong : Option upload.Row → Option upload.Row → Type 0
+    TellsAmong failed fine =
+        TellsOfRead lists state unread (λ fails. if fails then row_among lists state item failed (other true) else row_among lists state item fine (other false))
+
+    among-same : (o : Option upload.Row) → TellsAmong o o
+    among-same (Some row) = inl refl
+    among-same None =
+        ⊎_elim (λ same. inl (ap (λ (o : Option DownloadRow). row_among lists state item None o) same))
+        (λ told. inr (inl (ap (λ (o : Option DownloadRow). row_among lists state item None o) told.1 ∙ ap (λ (s : State). failed_row lists s) (sym told.0)))) tells
+
+    among-tells : (uploads : Bool → Option upload.Row) → TellsUnread unread uploads → TellsAmong (uploads true) (uploads false)
+    among-tells uploads of_uploading =
+        ⊎_elim (λ same. subst (λ (o : Option upload.Row). TellsAmong o (uploads false)) (sym same) (among-same (uploads false)))
+        (λ one. inr (inr (one.0, one.1, ap (λ (o : Option upload.Row). row_among lists state item o (other true)) one.2))) of_uploading
 
 pub reads_told : ReadsLaw
 unfolding session_row
 reads_told caller moment store lists state item =
-    among-tells caller store lists state item (upload_row caller moment store state item) (λ fails. download_row caller store lists state item fails) (download-tells caller store lists state item)
+    among-tells caller store lists state item (upload.row_unread store (upload_part state) item) (λ fails. download_row caller store lists state item fails)
+    (download-tells caller store lists state item) (λ fails. upload_row caller moment store state item fails) (upload-tells caller store lists moment state item)
 
 -- ---- what is sent next
 

@@ -1,6 +1,6 @@
 -- Laws of the rows of a session's table: whose files their commands are of, whose file is received after them, and what
 -- a read that fails changes.
-use Rattle.std.specs.Prelude.{◌≡◌, ◌⊎◌, ℕ, List, [], ◌∷◌, Bool, true, false, Some, ⊤}
+use Rattle.std.specs.Prelude.{◌≡◌, ◌⊎◌, ℕ, List, [], ◌∷◌, Bool, true, false, Option, Some, ⊤}
 use Rattle.px_base.specs.CallSign.{CallSign, IsCall}
 use Rattle.ax25_frames.specs.FrameText.{FrameValue}
 use Rattle.ax25_link.specs.Window.{Window}
@@ -10,9 +10,10 @@ use Rattle.file_entries.specs.IsStore.{IsStore}
 use Rattle.file_store.specs.Command.{AreAllowed, after_all}
 use Rattle.file_store.specs.Store.{Store}
 use Rattle.ftl0_session.specs.Lists.Lists.{CallerList}
-use Rattle.ftl0_session.specs.Table.{DuePacket, Row, State, aborting, command, listing, next_due, receiving, sending}
-use Rattle.ftl0_session.specs.Table.{session_row, waiting}
+use Rattle.ftl0_session.specs.Table.{DuePacket, Row, State, aborting, by_upload, command, listing, next_due, receiving}
+use Rattle.ftl0_session.specs.Table.{sending, session_row, upload_part, waiting}
 use Rattle.ftl0_session.specs.Uploads.Failures.{Failure}
+use Rattle.ftl0_session.specs.Uploads.Session as upload
 use Rattle.ftl0_server.specs.Connection.Connected.{Connected, caller_of}
 use Rattle.ftl0_server.specs.Connection.Hearing.{Happened, hearing}
 use Rattle.ftl0_server.specs.Connection.Taking.{Progress, queued}
@@ -68,15 +69,19 @@ abbrev pub failed_row : List CallerList → State → Row
 failed_row lists state =
     record { state = state; lists = lists; commands = []; replies = dl_error_resp 3 ∷ [] }
 
--- the row where a read fails is the one where none does; or it tells of it by code 3, and does nothing else
-abbrev pub TellsOfRead : List CallerList → State → (Bool → Row) → Type 0
-TellsOfRead lists state row = (row true ≡ row false) ⊎ (row true ≡ failed_row lists state)
+-- The row where a read fails is the one where none does; or it tells of it by code 3, and does nothing else; or it is
+-- this row of a file that can't be read, where there is one.
+abbrev pub TellsOfRead : List CallerList → State → Option upload.Row → (Bool → Row) → Type 0
+TellsOfRead lists state unread row =
+    (row true ≡ row false) ⊎ ((row true ≡ failed_row lists state)
+    ⊎ ((one : upload.Row) × (unread ≡ Some one) × (row true ≡ by_upload lists one)))
 
--- so is each row of the table
+-- So is each row of the table. A file can't be read only at DATA_END of a whole one.
 abbrev pub ReadsLaw : Type 0
 ReadsLaw =
     (caller : CallSign) (moment : ℕ) (store : Store) (lists : List CallerList) (state : State) (item : Item)
-    → TellsOfRead lists state (session_row caller moment store lists state item)
+    → TellsOfRead lists state (upload.row_unread store (upload_part state) item)
+    (session_row caller moment store lists state item)
 
 -- DL_ERROR_RESP 3 in the place of what was due, and the session waits for a command
 abbrev pub failed_due : DuePacket

@@ -31,8 +31,9 @@ pub fn receives_law()
     ensures { ReceivesLaw }
 {}
 
-/// A row where a read of the disk fails is the row where none does, or tells of it by code 3 and does nothing else. So
-/// it is of what is sent next, with code 3 in its place.
+/// A row where a read of the disk fails is the row where none does, or replies DL_ERROR_RESP 3 and does nothing else,
+/// or, at DATA_END of a whole file, is the row of one that can't be read. What is sent next is what it is where none
+/// fails, or DL_ERROR_RESP 3 in its place.
 pub fn reads_law()
     ensures rows { ReadsLaw }
     ensures due { DueReadsLaw }

@@ -14,7 +14,7 @@ use pfh_items::sum16;
 use std::alloc::Global;
 
 /// How many blocks of 512 octets a store has, where its octets don't say.
-const BLOCKS: u32 = 65_536;
+const BLOCKS: u32 = 64;
 
 /// What octets stand for as a store of files, as a recovery of a disk with them finds it.
 pub fn standing_text(alloc: Global, octets: &[u8]) -> Result<String> {

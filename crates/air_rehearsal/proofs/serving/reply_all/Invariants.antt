@@ -1,4 +1,5 @@
 -- The server has sent some frames, as replies in the attempt, and has fewer to give out.
+use Rattle.file_store.specs.Store.{Store}
 use Rattle.ftl0_server.specs.Calls.{SameStore}
 use Rattle.ftl0_server.specs.Server.{Server}
 use Rattle.ftl0_server.specs.ServerState.{IsServer, server_most}
@@ -8,7 +9,8 @@ use Rattle.air_rehearsal.proofs.serving.reply_all.Given as goal
 abbrev pub invariant-loop-out : goal.invariant-loop-out
 invariant-loop-out l =
     SameStore l.fn.server l.server
-    × ((it : Server) → IsServer l.fn.server it → RepliesSoFar it l.server l.fn.attempt l.attempt)
+    × ((store : Store) (it : Server) → IsServer store l.fn.server it
+    → RepliesSoFar store it l.server l.fn.attempt l.attempt)
 
 abbrev pub decreases-loop-out : goal.decreases-loop-out
 decreases-loop-out l = server_most l.server

@@ -6,13 +6,13 @@ use Rattle.std.specs.List.{flat_map}
 use Rattle.std.proofs.lemmas.List.{flat_map_more}
 use Rattle.std.proofs.lemmas.Option.{same_Some}
 use Rattle.std.proofs.Math.Seq.{take-length}
-use Rattle.file_store.specs.State.{store_in}
 use Rattle.air_attempt.specs.Party.{Party}
-use Rattle.air_rehearsal.specs.Ending.{CountsAcked, IsAtEnd}
+use Rattle.air_rehearsal.specs.Ending.{CountsAcked}
 use Rattle.air_rehearsal.specs.Report.{ClientTask, tasks_of}
+use Rattle.air_rehearsal.specs.TakingPart.{Seat}
 use Rattle.air_rehearsal.specs.declared.party.Party.{Party as StoredParty}
 use Rattle.air_rehearsal.proofs.AckedLemmas.{counts-append}
-use Rattle.air_rehearsal.proofs.LooksLemmas.{looks-on}
+use Rattle.air_rehearsal.proofs.LooksLemmas.{looks-at-end, looks-on}
 use Rattle.air_rehearsal.proofs.PartiesLemmas.{parties-count, party-of}
 use Rattle.air_rehearsal.proofs.ReadyLemmas.{read_at}
 use Rattle.air_rehearsal.proofs.stations.Stations.count_all.Goals as goal
@@ -30,7 +30,7 @@ loop-party-preserved g c = record {
   looks =
       looks-on g.D.Disk g.met.D.Disk.lasts_on c.args.store.now c.loop-party.store c.count_tasks.new.store
       c.args.disk.now c.loop-party.disk c.count_tasks.new.disk c.loop-party.invariant.looks c.count_tasks.ensures.looks;
-  counts = λ world sound plays store_is.
+  counts = λ world sound plays known store_is.
       let place = c.loop-party.party-index in
       let stored = c.party-item.result in
       let within : place < length c.deref-party-items.result.now = search rules in
@@ -39,14 +39,18 @@ loop-party-preserved g c = record {
       ∙ read_at c.deref-party-items.result.now place stored within c.party-item.is
       in
       let found = party-of c.args.self.now world plays place stored there in
-      let at : IsAtEnd c.args.self.now stored c.loop-party.store (record { world = world; c = place; party = found.0 }) =
-      record {
+      let seat : Seat = record { world = world; c = place; party = found.0 } in
+      let at =
+      looks-at-end g.D.Disk c.args.store.now c.loop-party.store c.args.disk.now c.loop-party.disk c.args.self.now stored
+      seat c.loop-party.invariant.looks
+      (record {
         sound = sound;
         stations = plays;
         is_party = found.1;
         plays = found.2;
-        store_is = ap store_in c.loop-party.invariant.looks.stays.same ∙ store_is;
-      }
+        known = known;
+        store_is = store_is;
+      })
       in
       let more =
       ap (flat_map tasks_of) (taken-more world.parties place found.0 found.1)
@@ -54,15 +58,15 @@ loop-party-preserved g c = record {
       in
       subst (λ (tasks : List ClientTask). CountsAcked tasks c.args.report.now c.count_tasks.new.report) (sym more)
       (counts-append (flat_map tasks_of (take place world.parties)) (tasks_of found.0) c.args.report.now
-      c.loop-party.report c.count_tasks.new.report (c.loop-party.invariant.counts world sound plays store_is)
-      (c.in_ok-count_tasks.ensures.counts (record { world = world; c = place; party = found.0 }) at));
+      c.loop-party.report c.count_tasks.new.report (c.loop-party.invariant.counts world sound plays known store_is)
+      (c.in_ok-count_tasks.ensures.counts seat at));
 }
 
 pub returns-clause-counts : goal.returns-clause-counts
-returns-clause-counts g c world sound plays store_is =
+returns-clause-counts g c world sound plays known store_is =
     let as_many = parties-count c.args.self.now world plays in
     let items = ap length c.deref-party-items.ensures.value in
     let all : c.loop-party.party-index ≡ length world.parties = omega (arith, as_many, items) in
     subst (λ (parties : List Party). CountsAcked (flat_map tasks_of parties) c.args.report.now c.loop-party.report)
     (ap (λ n. take n world.parties) all ∙ take-length world.parties)
-    (c.loop-party.invariant.counts world sound plays store_is)
+    (c.loop-party.invariant.counts world sound plays known store_is)

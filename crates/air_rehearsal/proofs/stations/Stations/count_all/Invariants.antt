@@ -1,7 +1,7 @@
 -- The tasks of the clients so far are counted, and nothing but reads was made.
 use Rattle.std.specs.Prelude.{◌≡◌, take}
 use Rattle.std.specs.List.{flat_map}
-use Rattle.file_store.specs.State.{store_in}
+use Rattle.file_store.specs.State.{IsKnown, store_on}
 use Rattle.air_world.specs.Sound.{Sound}
 use Rattle.air_world.specs.World.{World}
 use Rattle.air_rehearsal.specs.Ending.{CountsAcked, LooksOnly}
@@ -14,6 +14,7 @@ invariant-loop-party g l =
     record {
       looks : LooksOnly g.D.Disk l.fn.store l.store l.fn.disk l.disk;
       counts :
-          (world : World) → Sound world → PlaysStations l.self world → store_in l.fn.store ≡ world.server.store
+          (world : World) → Sound world → PlaysStations l.self world → IsKnown g.D.Disk l.fn.disk
+          → store_on g.D.Disk l.fn.store l.fn.disk ≡ world.server.store
           → CountsAcked (flat_map tasks_of (take l.party-index world.parties)) l.fn.report l.report;
     }

@@ -2,11 +2,10 @@
 use Rattle.std.proofs.Common.{ℕ, ◌+◌, List, [], ◌∷◌, map, sym, subst, arith}
 use Rattle.std.specs.List.{range_with_len}
 use Rattle.std.proofs.lemmas.List.FromFn.{map-range_with_len_more}
-use Rattle.file_store.specs.State.{StoreState}
-use Rattle.air_rehearsal.specs.Ending.{CountsAcked, IsAtEnd}
+use Rattle.air_rehearsal.specs.Ending.{CountsAcked}
 use Rattle.air_rehearsal.specs.Report.{ClientTask}
 use Rattle.air_rehearsal.proofs.AckedLemmas.{counts-append}
-use Rattle.air_rehearsal.proofs.LooksLemmas.{looks-on}
+use Rattle.air_rehearsal.proofs.LooksLemmas.{looks-at-end, looks-on}
 use Rattle.air_rehearsal.proofs.stations.Stations.count_tasks.Goals as goal
 
 pub loop-before-preserved : goal.loop-before-preserved
@@ -18,8 +17,8 @@ loop-before-preserved g c = record {
       let before = c.loop-before.before in
       let of : ℕ → ClientTask = λ (task : ℕ). record { party = seat.party; task = task } in
       let here =
-      subst (λ (store : StoreState). IsAtEnd c.args.self.now c.args.party.now store seat)
-      (sym c.loop-before.invariant.looks.stays.same) at
+      looks-at-end g.D.Disk c.args.store.now c.loop-before.store c.args.disk.now c.loop-before.disk c.args.self.now
+      c.args.party.now seat c.loop-before.invariant.looks at
       in
       let more = map-range_with_len_more of 1 before (before + 1) (omega arith) in
       subst (λ (tasks : List ClientTask). CountsAcked tasks c.args.report.now c.count_task.new.report) (sym more)

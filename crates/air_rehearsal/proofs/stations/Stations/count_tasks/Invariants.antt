@@ -10,7 +10,7 @@ invariant-loop-before g l =
     record {
       looks : LooksOnly g.D.Disk l.fn.store l.store l.fn.disk l.disk;
       counts :
-          (seat : Seat) → IsAtEnd l.self l.party l.fn.store seat
+          (seat : Seat) → IsAtEnd g.D.Disk l.self l.party l.fn.store l.fn.disk seat
           → CountsAcked (map (λ task. record { party = seat.party; task = task }) (range_with_len 1 l.before))
           l.fn.report l.report;
     }

@@ -24,7 +24,7 @@ returns-then-c-len-clause-keeps g c = record {
 }
 
 pub returns-then-c-len-clause-takes : goal.returns-then-c-len-clause-takes
-returns-then-c-len-clause-takes g c = λ world sound plays moment allowed.
+returns-then-c-len-clause-takes g c = λ world sound plays known moment allowed.
     let within = client-there world c.args.c c.args.place allowed c.args.self.now.parties.items plays.stations.parties
     in
     let no : ⊥ = omega (arith, within, c.if-c-len.true, c.len.ensures) in
@@ -48,7 +48,7 @@ returns-in_default-clause-keeps g c =
     }
 
 pub returns-in_default-clause-takes : goal.returns-in_default-clause-takes
-returns-in_default-clause-takes g c = λ world sound plays moment allowed.
+returns-in_default-clause-takes g c = λ world sound plays known moment allowed.
     let all = c.args.self.now.parties.items in
     let self = c.index_mut.result.now in
     let marked = record self { attempt = record self.attempt { from_client = c.deliver.new.self } } in
@@ -81,7 +81,7 @@ returns-in-Some-frame_for-clause-keeps g c =
     }
 
 pub returns-in-Some-frame_for-clause-takes : goal.returns-in-Some-frame_for-clause-takes
-returns-in-Some-frame_for-clause-takes g c = λ world sound plays moment allowed.
+returns-in-Some-frame_for-clause-takes g c = λ world sound plays known moment allowed.
     let all = c.args.self.now.parties.items in
     let self = c.index_mut.result.now in
     let marked = record self { attempt = record self.attempt { from_client = c.deliver.new.self } } in
@@ -103,7 +103,7 @@ returns-in-Some-frame_for-clause-takes g c = λ world sound plays moment allowed
     let for = is-for g.D.Disk world sound c.args.c c.args.place before after c.hear.result plays moment self at it
     c.deliver.new.self lane in
     taken-so g.D.Disk world sound c.args.c c.args.place before after c.hear.result plays moment self at it
-    c.deliver.new.self lane (value_of c.in-Some-frame_for.frame)
+    c.deliver.new.self lane known (value_of c.in-Some-frame_for.frame)
     (c.in-Some-frame_for.ensures.only it.t.frame text for) c.hear.ensures refl refl refl refl refl
 
 pub returns-in-None-clause-keeps : goal.returns-in-None-clause-keeps
@@ -124,7 +124,7 @@ returns-in-None-clause-keeps g c =
     }
 
 pub returns-in-None-clause-takes : goal.returns-in-None-clause-takes
-returns-in-None-clause-takes g c = λ world sound plays moment allowed.
+returns-in-None-clause-takes g c = λ world sound plays known moment allowed.
     let all = c.args.self.now.parties.items in
     let self = c.index_mut.result.now in
     let marked = record self { attempt = record self.attempt { from_client = c.deliver.new.self } } in

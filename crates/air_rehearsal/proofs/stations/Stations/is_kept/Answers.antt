@@ -2,7 +2,7 @@
 use Rattle.std.proofs.Common.{◌≡◌, List, ℕ, Some, sym, subst, ◌∙◌}
 use Rattle.std.proofs.lemmas.Option.{same_Some}
 use Rattle.px_base.specs.CallSign.{CallSign}
-use Rattle.file_store.specs.State.{store_in}
+use Rattle.file_store.specs.State.{store_on}
 use Rattle.file_store.specs.Store.{Store}
 use Rattle.air_files.specs.Kept.{IsKept}
 use Rattle.air_rehearsal.specs.Ending.{IsStampedFor, IsUpload}
@@ -29,11 +29,11 @@ returns-clause-kept g c seat at holds =
     let by_file : IsKept seat.world.server.store number c.in-Some.file c.me-caller.result =
     subst (λ (it : List ℕ). IsKept seat.world.server.store number it c.me-caller.result) file by_caller
     in
-    let here : IsKept (store_in c.args.store.now) number c.in-Some.file c.me-caller.result =
+    let here : IsKept (store_on g.D.Disk c.args.store.now c.args.disk.now) number c.in-Some.file c.me-caller.result =
     subst (λ (it : Store). IsKept it number c.in-Some.file c.me-caller.result) (sym at.store_is) by_file
     in
     let octets : IsStampedFor c.in-Some.file number c.me-caller.result c.as_slice.result.now =
     subst (λ (it : List ℕ). IsStampedFor c.in-Some.file number c.me-caller.result it) (sym c.as_slice.ensures.value)
-    (c.in_ok-kept.ensures.octets c.in-Some.file here)
+    (c.in_ok-kept.ensures.octets at.known c.in-Some.file here)
     in
     c.is_stamped.ensures upload octets

@@ -30,13 +30,13 @@ returns-in-Some-clause-replies g c =
     let self = c.in-Some.party.now in
     let now = c.reply_all.new.attempt in
     on-ok-more c.reply_all.result
-    (λ replies it party is at.
+    (λ replies store it party is at.
     let same : self ≡ party =
     same_Some self party (sym (get-some all all c.args.c self refl c.in-Some.ensures.item.3) ∙ at) in
     record {
       attempt_now = now;
       replies =
-          subst (λ (p : Party). SendsReplies it c.reply_all.new.server p.attempt now) same (replies it is);
+          subst (λ (p : Party). SendsReplies store it c.reply_all.new.server p.attempt now) same (replies store it is);
       parties_are = ap (λ (p : Party). slice_set all c.args.c (record p { attempt = now })) same;
     }) c.reply_all.ensures.replies
 
@@ -54,7 +54,7 @@ pub returns-in-None-clause-replies : goal.returns-in-None-clause-replies
 returns-in-None-clause-replies g c =
     let all = c.args.self.now.parties.items in
     on-ok c.all_sent.result
-    (λ it party is at.
+    (λ store it party is at.
     let none = get-none all all c.args.c refl c.in-None.ensures.item.3 in
     let no : ⊥ = let e = sym none ∙ at in cc in
     absurd no)

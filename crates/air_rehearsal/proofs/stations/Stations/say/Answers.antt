@@ -12,7 +12,8 @@ loop-out-init g c = (
   c.requires,
   keeps-self c.args.self.now,
   refl,
-  λ it is. says-first it c.args.server.now c.args.self.now.parties.items is,
+  record { store = refl; me = refl },
+  λ store it is. says-first store it c.args.server.now c.args.self.now.parties.items is,
 )
 
 pub loop-out-preserved : goal.loop-out-preserved
@@ -27,10 +28,14 @@ loop-out-preserved g c =
       },
       keeps-then c.args.self.now c.loop-out.self c.send.new.self c.loop-out.invariant.1 keeps,
       c.in_ok-send.ensures.cut ∙ c.loop-out.invariant.2,
-      λ it is.
-          says-more it c.loop-out.server c.next_out.new.self c.args.self.now.parties.items
+      record {
+        store = same.store ∙ c.loop-out.invariant.3.store;
+        me = same.me ∙ c.loop-out.invariant.3.me;
+      },
+      λ store it is.
+          says-more store it c.loop-out.server c.next_out.new.self c.args.self.now.parties.items
           c.loop-out.self.parties.items c.send.new.self.parties.items c.loop-out.out.items c.next_out.new.out.items
-          c.next_out.result (c.loop-out.invariant.3 it is) c.loop-out-test.true c.next_out.ensures.next
+          c.next_out.result (c.loop-out.invariant.4 store it is) c.loop-out-test.true (c.next_out.ensures.next store)
           (λ frame text.
           c.in_ok-send.ensures.timed frame
           (subst (λ (o : List ℕ). FrameText frame o) (sym c.as_slice.ensures.value) text)),
@@ -42,7 +47,7 @@ returns-in_err-send-clause-keeps g c =
 
 pub returns-clause-says : goal.returns-clause-says
 returns-clause-says g c =
-    on-ok c.all_sent.result (λ it is.
-    says-all it c.loop-out.server c.next_out.new.self c.args.self.now.parties.items c.loop-out.self.parties.items
-    c.loop-out.out.items c.next_out.new.out.items c.next_out.result (c.loop-out.invariant.3 it is)
-    c.loop-out-test.false c.next_out.ensures.next c.next_out.ensures.settles)
+    on-ok c.all_sent.result (λ store it is.
+    says-all store it c.loop-out.server c.next_out.new.self c.args.self.now.parties.items c.loop-out.self.parties.items
+    c.loop-out.out.items c.next_out.new.out.items c.next_out.result (c.loop-out.invariant.4 store it is)
+    c.loop-out-test.false (c.next_out.ensures.next store) (c.next_out.ensures.settles store))

@@ -1,5 +1,7 @@
 -- The server still stands on its disk, has sent some frames, and has fewer to give out.
 use Rattle.std.proofs.Common.{◌≡◌}
+use Rattle.file_store.specs.Store.{Store}
+use Rattle.ftl0_server.specs.Calls.{SameStore}
 use Rattle.ftl0_server.specs.Server.{Server}
 use Rattle.ftl0_server.specs.ServerState.{IsServer, server_most}
 use Rattle.air_rehearsal.specs.Ready.{IsUp, KeepsClients}
@@ -9,8 +11,9 @@ use Rattle.air_rehearsal.proofs.stations.Stations.say.Given as goal
 abbrev pub invariant-loop-out : goal.invariant-loop-out
 invariant-loop-out g l =
     IsUp g.D.Disk l.self l.server l._disk × KeepsClients l.fn.self l.self × (l.self.cut ≡ l.fn.self.cut)
-    × ((it : Server) → IsServer l.fn.server it
-    → SaysSoFar it l.server l.fn.self.parties.items l.self.parties.items)
+    × SameStore l.fn.server l.server
+    × ((store : Store) (it : Server) → IsServer store l.fn.server it
+    → SaysSoFar store it l.server l.fn.self.parties.items l.self.parties.items)
 
 abbrev pub decreases-loop-out : goal.decreases-loop-out
 decreases-loop-out g l = server_most l.server

@@ -15,6 +15,7 @@ use Rattle.air_rehearsal.specs.Stations.{acts, the_server}
 use Rattle.air_rehearsal.specs.declared.cuts.Cut.{Cut}
 use Rattle.air_rehearsal.specs.declared.stations.Stations.{Stations}
 use Rattle.air_rehearsal.proofs.LaneLaws.{ticking_lanes}
+use Rattle.air_rehearsal.proofs.SameContent.{arms-content, plays-armed}
 use Rattle.air_rehearsal.proofs.Served.{serves-cut}
 use Rattle.air_rehearsal.proofs.ServedHeard.{keeps-no-cut, serves-ticked, ticks-taken}
 use Rattle.air_rehearsal.proofs.HalfwayServer.{cutting_counts, on_err_of, stops_cut, stops_whole}
@@ -37,11 +38,14 @@ returns-in-Ok-clause-serves g c = λ world awaits.
     c.arm-cut.ensures.arms in
     let old = serving c.args.self.now c.args.server c.args.disk.now in
     let mid = serving c.args.self.now c.tick-came.new.self c.tick-came.new._disk in
+    let content =
+    arms-content g.B.Disk cuts c.args.self.now.cut c.args.disk.now c.arm-cut.new.disk c.arm-cut.ensures.arms in
     let new = serving c.say.new.self c.say.new.server c.say.new._disk in
+    let known = plays-armed g.B.Disk cuts world old c.arm-cut.new.disk awaits content in
     let hears = subst
     (λ d. Hears g.B.Disk (happening world.server (ticks c.args.self.now.moment)) c.args.server c.tick-came.new.self d
     c.tick-came.new._disk c.tick-came.result) disk
-    (c.tick-came.ensures.takes.hears world.server awaits.plays.server) in
+    (c.tick-came.ensures.takes.hears known.1 world.server known.0.server) in
     let at_moment = subst
     (λ (m : ℕ). Hears g.B.Disk (happening world.server (ticks m)) c.args.server c.tick-came.new.self c.args.disk.now
     c.tick-came.new._disk c.tick-came.result) awaits.moment hears in
@@ -57,6 +61,7 @@ returns-in-Ok-clause-serves g c = λ world awaits.
       uploads = c.in-Ok.ensures.keeps.uploads;
       cut = c.in-Ok.ensures.cut ∙ sym none;
       disk = c.in-Ok.ensures.disk;
+      store = c.in-Ok.ensures.same.store;
     }) at_moment awaits.plays.stations ok memory c.in-Ok.ensures.says
 
 pub returns-in-Some-clause-serves : goal.returns-in-Some-clause-serves
@@ -68,12 +73,15 @@ returns-in-Some-clause-serves g c =
     let old = serving c.args.self.now c.args.server c.args.disk.now in
     let armed = serving c.args.self.now c.args.server c.arm-cut.new.disk in
     let mid = serving c.args.self.now c.tick-came.new.self c.tick-came.new._disk in
+    let content =
+    arms-content g.B.Disk cuts c.args.self.now.cut c.args.disk.now c.arm-cut.new.disk c.arm-cut.ensures.arms in
     if-ok-more _ _ c.be_cut.result
     (λ later gone world awaits.
+    let known = plays-armed g.B.Disk cuts world old c.arm-cut.new.disk awaits content in
     let at_moment = subst
     (λ (m : ℕ). Hears g.B.Disk (happening world.server (ticks m)) c.args.server c.tick-came.new.self
     c.arm-cut.new.disk c.tick-came.new._disk c.tick-came.result) awaits.moment
-    (c.tick-came.ensures.takes.hears world.server awaits.plays.server) in
+    (c.tick-came.ensures.takes.hears known.1 world.server known.0.server) in
     serves-cut g.B.Disk cuts g.met.B.CutDisk.lasts_so g.met.B.Disk.content_is_image g.met.B.Disk.counts_now world
     tick_event g.met.B.Disk.lasts_on c.misses_law.ensures c.front_of_event_law.ensures old mid
     (serving (record c.args.self.now { cut = None }) later c.be_cut.new.disk) c.in-Some.cut c.arm-cut.new.disk
@@ -139,17 +147,20 @@ returns-in-Some-clause-stops g c =
     let old = serving c.args.self.now c.args.server c.args.disk.now in
     let armed = serving c.args.self.now c.args.server c.arm-cut.new.disk in
     let mid = serving c.args.self.now c.tick-came.new.self c.tick-came.new._disk in
+    let content =
+    arms-content g.B.Disk cuts c.args.self.now.cut c.args.disk.now c.arm-cut.new.disk c.arm-cut.ensures.arms in
     on_err_of c.be_cut.result _
     (λ world awaits.
+    let known = plays-armed g.B.Disk cuts world old c.arm-cut.new.disk awaits content in
     let at_moment = subst
     (λ (m : ℕ). Hears g.B.Disk (happening world.server (ticks m)) c.args.server c.tick-came.new.self
     c.arm-cut.new.disk c.tick-came.new._disk c.tick-came.result) awaits.moment
-    (c.tick-came.ensures.takes.hears world.server awaits.plays.server) in
+    (c.tick-came.ensures.takes.hears known.1 world.server known.0.server) in
     stops_cut g.B.Disk cuts g.met.B.CutDisk.lasts_so g.met.B.Disk.lasts_on c.misses_law.ensures
     c.front_of_event_law.ensures world tick_event old mid c.arm-cut.new.disk c.tick-came.result awaits
     (ticks-taken g.B.Disk cuts g.met.B.CutDisk.lasts_so g.met.B.Disk.content_is_image g.met.B.Disk.counts_now
-    c.misses_law.ensures world armed mid c.tick-came.result at_moment awaits.plays.stations) arms.reads c.in-Some.cut
-    c.be_cut.new.disk waits arms c.be_cut.ensures.stops)
+    c.misses_law.ensures world armed mid c.tick-came.result at_moment awaits.plays.stations) arms.reads content
+    c.in-Some.cut c.be_cut.new.disk waits arms c.be_cut.ensures.stops)
 
 pub returns-after-is_ok-clause-stops : goal.returns-after-is_ok-clause-stops
 returns-after-is_ok-clause-stops g c = λ world awaits.
@@ -160,16 +171,19 @@ returns-after-is_ok-clause-stops g c = λ world awaits.
     let old = serving c.args.self.now c.args.server c.args.disk.now in
     let armed = serving c.args.self.now c.args.server c.arm-cut.new.disk in
     let mid = serving c.args.self.now c.tick-came.new.self c.tick-came.new._disk in
+    let content =
+    arms-content g.B.Disk cuts c.args.self.now.cut c.args.disk.now c.arm-cut.new.disk c.arm-cut.ensures.arms in
+    let known = plays-armed g.B.Disk cuts world old c.arm-cut.new.disk awaits content in
     let at_moment = subst
     (λ (m : ℕ). Hears g.B.Disk (happening world.server (ticks m)) c.args.server c.tick-came.new.self
     c.arm-cut.new.disk c.tick-came.new._disk c.tick-came.result) awaits.moment
-    (c.tick-came.ensures.takes.hears world.server awaits.plays.server) in
+    (c.tick-came.ensures.takes.hears known.1 world.server known.0.server) in
     let stops =
     stops_whole g.B.Disk cuts g.met.B.CutDisk.lasts_so g.met.B.Disk.lasts_on c.misses_law.ensures
     c.front_of_event_law.ensures world tick_event old mid c.arm-cut.new.disk c.tick-came.result awaits
     (ticks-taken g.B.Disk cuts g.met.B.CutDisk.lasts_so g.met.B.Disk.content_is_image g.met.B.Disk.counts_now
     c.misses_law.ensures world armed mid c.tick-came.result at_moment awaits.plays.stations)
-    (ap (λ d. g.B.Disk.read_faults d) disk) disk none in
+    (ap (λ d. g.B.Disk.read_faults d) disk) content disk none in
     elim c.if-is_ok.branch [
       | then-is_ok+then-not-starved+in_default w ↦
           subst

@@ -12,6 +12,7 @@ use Rattle.air_rehearsal.specs.Stations.{acts, the_server}
 use Rattle.air_rehearsal.specs.declared.cuts.Cut.{Cut}
 use Rattle.air_rehearsal.specs.declared.stations.Stations.{Stations}
 use Rattle.air_rehearsal.proofs.LaneLaws.{hearing_lanes}
+use Rattle.air_rehearsal.proofs.SameContent.{arms-content, plays-armed}
 use Rattle.air_rehearsal.proofs.Served.{serves-cut}
 use Rattle.air_rehearsal.proofs.ServedHeard.{keeps-no-cut, serves-heard}
 use Rattle.air_rehearsal.proofs.HalfwayServer.{cutting_counts, on_err_of, stops_cut, stops_whole}
@@ -35,10 +36,13 @@ returns-in-Ok-clause-serves g c = λ world awaits allowed.
     c.arm-cut.ensures.arms in
     let old = serving c.args.self.now c.args.server c.args.disk.now in
     let mid = serving c.hear-came.new.self c.hear-came.new.server c.hear-came.new.disk in
+    let content =
+    arms-content g.B.Disk cuts c.args.self.now.cut c.args.disk.now c.arm-cut.new.disk c.arm-cut.ensures.arms in
     let new = serving c.reply.new.self c.reply.new.server c.reply.new._disk in
+    let armed = plays-armed g.B.Disk cuts world old c.arm-cut.new.disk awaits content in
     let taken = subst
     (λ d. IsTaken g.B.Disk world event (serving c.args.self.now c.args.server d) mid c.hear-came.result) disk
-    (c.hear-came.ensures.takes world awaits.sound awaits.plays awaits.moment allowed) in
+    (c.hear-came.ensures.takes world awaits.sound armed.0 armed.1 awaits.moment allowed) in
     let ok : is_ok c.hear-came.result ≡ true = sym c.is_ok.ensures.value ∙ c.if-is_ok.true in
     let memory : g.B.CutDisk.is_starved c.hear-came.new.disk ≡ false = grind (arith, common_steps) in
     serves-heard g.B.Disk cuts g.met.B.CutDisk.lasts_so g.met.B.Disk.content_is_image g.met.B.Disk.counts_now
@@ -51,6 +55,7 @@ returns-in-Ok-clause-serves g c = λ world awaits allowed.
       uploads = c.in-Ok.ensures.keeps.uploads;
       cut = c.in-Ok.ensures.cut ∙ sym (c.hear-came.ensures.cut ∙ none);
       disk = c.in-Ok.ensures.disk;
+      store = c.in-Ok.ensures.same.store;
     }) taken ok memory c.in-Ok.ensures.replies
 
 pub returns-in-Some-clause-serves : goal.returns-in-Some-clause-serves
@@ -62,13 +67,16 @@ returns-in-Some-clause-serves g c =
     c.arm-cut.ensures.arms in
     let old = serving c.args.self.now c.args.server c.args.disk.now in
     let mid = serving c.hear-came.new.self c.hear-came.new.server c.hear-came.new.disk in
+    let content =
+    arms-content g.B.Disk cuts c.args.self.now.cut c.args.disk.now c.arm-cut.new.disk c.arm-cut.ensures.arms in
     if-ok-more _ _ c.be_cut.result
     (λ later gone world awaits allowed.
+    let armed = plays-armed g.B.Disk cuts world old c.arm-cut.new.disk awaits content in
     serves-cut g.B.Disk cuts g.met.B.CutDisk.lasts_so g.met.B.Disk.content_is_image g.met.B.Disk.counts_now world event
     g.met.B.Disk.lasts_on c.misses_law.ensures c.front_of_event_law.ensures old mid
     (serving (record c.hear-came.new.self { cut = None }) later c.be_cut.new.disk) c.in-Some.cut c.arm-cut.new.disk
     c.hear-came.result awaits waits arms
-    (c.hear-came.ensures.takes world awaits.sound awaits.plays awaits.moment allowed) gone refl
+    (c.hear-came.ensures.takes world awaits.sound armed.0 armed.1 awaits.moment allowed) gone refl
     c.hear-came.ensures.keeps.me c.hear-came.ensures.keeps.k) c.be_cut.ensures.cuts
 
 pub returns-after-is_ok-clause-keeps : goal.returns-after-is_ok-clause-keeps
@@ -122,12 +130,15 @@ returns-in-Some-clause-stops g c =
     c.arm-cut.ensures.arms in
     let old = serving c.args.self.now c.args.server c.args.disk.now in
     let mid = serving c.hear-came.new.self c.hear-came.new.server c.hear-came.new.disk in
+    let content =
+    arms-content g.B.Disk cuts c.args.self.now.cut c.args.disk.now c.arm-cut.new.disk c.arm-cut.ensures.arms in
     on_err_of c.be_cut.result _
     (λ world awaits allowed.
+    let armed = plays-armed g.B.Disk cuts world old c.arm-cut.new.disk awaits content in
     stops_cut g.B.Disk cuts g.met.B.CutDisk.lasts_so g.met.B.Disk.lasts_on c.misses_law.ensures
     c.front_of_event_law.ensures world event old mid c.arm-cut.new.disk c.hear-came.result awaits
-    (c.hear-came.ensures.takes world awaits.sound awaits.plays awaits.moment allowed) arms.reads c.in-Some.cut
-    c.be_cut.new.disk waits arms c.be_cut.ensures.stops)
+    (c.hear-came.ensures.takes world awaits.sound armed.0 armed.1 awaits.moment allowed) arms.reads content
+    c.in-Some.cut c.be_cut.new.disk waits arms c.be_cut.ensures.stops)
 
 pub returns-after-is_ok-clause-stops : goal.returns-after-is_ok-clause-stops
 returns-after-is_ok-clause-stops g c = λ world awaits allowed.
@@ -138,11 +149,14 @@ returns-after-is_ok-clause-stops g c = λ world awaits allowed.
     c.arm-cut.ensures.arms in
     let old = serving c.args.self.now c.args.server c.args.disk.now in
     let mid = serving c.hear-came.new.self c.hear-came.new.server c.hear-came.new.disk in
+    let content =
+    arms-content g.B.Disk cuts c.args.self.now.cut c.args.disk.now c.arm-cut.new.disk c.arm-cut.ensures.arms in
+    let armed = plays-armed g.B.Disk cuts world old c.arm-cut.new.disk awaits content in
     let stops =
     stops_whole g.B.Disk cuts g.met.B.CutDisk.lasts_so g.met.B.Disk.lasts_on c.misses_law.ensures
     c.front_of_event_law.ensures world event old mid c.arm-cut.new.disk c.hear-came.result awaits
-    (c.hear-came.ensures.takes world awaits.sound awaits.plays awaits.moment allowed)
-    (ap (λ d. g.B.Disk.read_faults d) disk) disk none in
+    (c.hear-came.ensures.takes world awaits.sound armed.0 armed.1 awaits.moment allowed)
+    (ap (λ d. g.B.Disk.read_faults d) disk) content disk none in
     elim c.if-is_ok.branch [
       | then-is_ok+then-not-starved+in_default w ↦
           subst

@@ -1,73 +1,39 @@
-use Rattle.std.proofs.Common.{◌+◌, ◌≤◌, ℕ, length, refl, ap, sym, ◌∙◌, subst, arith}
+use Rattle.std.proofs.Common.{◌+◌, ◌≤◌, ℕ, List, length, ap, sym, subst}
 use Rattle.std.proofs.lemmas.Result.{on_ok_weaker}
-use Rattle.block_entries.specs.Checking.{IsSealable}
-use Rattle.block_entries.specs.Placed.{Placed, Seal}
-use Rattle.block_entries.specs.PlacedFiles.{EntriesState, PlacedFiles, store_of}
-use Rattle.block_entries.specs.Reading.{StandsIn, octets_on}
-use Rattle.block_entries.specs.Sealed.{IsSealedFile, sealed_octets}
-use Rattle.block_entries.specs.Seen.{octets_in, stamp_at}
-use Rattle.block_entries.proofs.ChangeLemmas.{has_place, in_range, mark_there, mark_value, sealed_found, sealed_here, stands_in}
-use Rattle.block_entries.proofs.RulesLemmas.{sealed_keeps}
+use Rattle.block_entries.specs.PlacedFiles.{EntriesState}
+use Rattle.block_entries.specs.Reading.{StandsIn}
+use Rattle.block_entries.proofs.ChangeLemmas.{own_runs}
 use Rattle.block_entries.proofs.entries.Entries.read_sealed.Goals as goal
 use Rattle.disk_model.specs.Disk.{FillsRoom}
-use Rattle.block_entries.specs.declared.sealed_file.SealedFile.{SealedFile}
-use Rattle.file_journal.specs.Layout.{blocks_on}
-use Rattle.pfh_items.specs.Stamp.{stamped}
-
-pub unwrap-place-requires : goal.unwrap-place-requires
-unwrap-place-requires g c =
-    has_place c.args.self.now.files.files c.args.number c.place_of.result c.place_of.ensures.none
-    (λ none. sealed_found c.args.self.now.files c.args.number none c.requires.there)
-
-pub index-file-requires : goal.index-file-requires
-index-file-requires g c =
-    let view = ap (λ (s : EntriesState). s.files) c.self.view_is in
-    let inside = in_range c.self.inside.table.runs c.self.inside.files.items c.self.inside.next c.self.inside.table.limit c.self.invariant _ view c.args.number _ c.place_of.result c.unwrap-place.ensures c.place_of.ensures.some in
-    omega (arith, inside, c.self.inside.files.ok.0)
-
-pub unwrap-mark-requires : goal.unwrap-mark-requires
-unwrap-mark-requires g c =
-    let view = ap (λ (s : EntriesState). s.files) c.self.view_is in
-    mark_there c.mark.result c.requires.there.mark (sealed_here c.self.inside.table.runs c.self.inside.files.items c.self.inside.next c.self.inside.table.limit c.self.invariant _ view c.args.number _ c.place_of.result c.unwrap-place.ensures c.place_of.ensures.some c.index-file.result.now c.index-file.ensures c.requires.there c.mark.result c.mark.ensures).1
 
 pub read_stamped-requires-clause-stands : goal.read_stamped-requires-clause-stands
 read_stamped-requires-clause-stands g c =
     let view = ap (λ (s : EntriesState). s.files) c.self.view_is in
-    let stands = stands_in c.self.inside.table.runs c.self.inside.files.items c.self.inside.next c.self.inside.table.limit c.self.invariant _ view c.args.number _ c.place_of.result c.unwrap-place.ensures c.place_of.ensures.some c.index-file.result.now c.index-file.ensures c.self.inside.table refl refl in
-    let count = ap (λ (n : PlacedFiles). n.blocks) view ∙ sym c.requires.blocks in
-    subst (λ (s : SealedFile). StandsIn c.self.inside.table (g.R.BlockReader.block_count c.args.reader.now) s.blocks) (sym c.sealed_in-sealed.ensures)
-    (subst (λ (n : ℕ). StandsIn c.self.inside.table n (record { run = c.unwrap-place.result; held = c.index-file.result.now.entry.held })) count stands)
+    let own = own_runs c.self.inside.table.runs c.self.inside.files.items c.self.inside.next c.self.inside.table.limit c.self.invariant _ view in
+    let reads = c.sealed_file-file.ensures c.self.inside.table own in
+    subst (λ (n : ℕ). StandsIn c.self.inside.table n c.sealed_file-file.result.blocks) (sym c.requires.blocks) reads.stands
 
 pub read_stamped-requires-clause-sealed : goal.read_stamped-requires-clause-sealed
-read_stamped-requires-clause-sealed g c = λ told.
+read_stamped-requires-clause-sealed g c told =
     let view = ap (λ (s : EntriesState). s.files) c.self.view_is in
-    let content = g.D.Disk.content c.args.disk.now in
-    let sealed = c.requires.there in
-    let here = sealed_here c.self.inside.table.runs c.self.inside.files.items c.self.inside.next c.self.inside.table.limit c.self.invariant _ view c.args.number _ c.place_of.result c.unwrap-place.ensures c.place_of.ensures.some c.index-file.result.now c.index-file.ensures sealed c.mark.result c.mark.ensures in
-    let same = mark_value c.mark.result c.unwrap-mark.result sealed.mark c.unwrap-mark.ensures here.1 in
-    subst (λ (s : SealedFile). IsSealedFile s (octets_on content c.self.inside.table s.blocks)) (sym c.sealed_in-sealed.ensures)
-    (subst (λ (m : Seal). IsSealable (stamp_at m.moment c.index-file.result.now.entry)
-    (octets_on content c.self.inside.table (record { run = c.unwrap-place.result; held = c.index-file.result.now.entry.held })) m.sum m.header) (sym same)
-    (subst (λ (f : Placed). IsSealable (stamp_at sealed.mark.moment f) (octets_in (blocks_on content) f) sealed.mark.sum sealed.mark.header) here.0
-    (sealed_keeps (blocks_on content) (store_of c.args.self.now.files) c.args.number (c.requires.seals told) sealed)))
+    let own = own_runs c.self.inside.table.runs c.self.inside.files.items c.self.inside.next c.self.inside.table.limit c.self.invariant _ view in
+    let reads = c.sealed_file-file.ensures c.self.inside.table own in
+    reads.is (g.D.Disk.content c.args.disk.now) (c.requires.seals told)
 
 pub read_stamped-requires-clause-inside : goal.read_stamped-requires-clause-inside
 read_stamped-requires-clause-inside g c =
     let view = ap (λ (s : EntriesState). s.files) c.self.view_is in
-    let sealed = c.requires.there in
-    let here = sealed_here c.self.inside.table.runs c.self.inside.files.items c.self.inside.next c.self.inside.table.limit c.self.invariant _ view c.args.number _ c.place_of.result c.unwrap-place.ensures c.place_of.ensures.some c.index-file.result.now c.index-file.ensures sealed c.mark.result c.mark.ensures in
-    subst (λ (h : ℕ). c.args.offset + length c.args.room.now ≤ h)
-    (ap (λ (f : Placed). f.held) here.0 ∙ ap (λ (s : SealedFile). s.blocks.held) (sym c.sealed_in-sealed.ensures)) (c.requires.inside sealed)
+    let own = own_runs c.self.inside.table.runs c.self.inside.files.items c.self.inside.next c.self.inside.table.limit c.self.invariant _ view in
+    let reads = c.sealed_file-file.ensures c.self.inside.table own in
+    subst (λ (n : ℕ). c.args.offset + length c.args.room.now ≤ n) (sym (reads.held c.requires.there)) (c.requires.inside c.requires.there)
 
 pub returns-clause-room : goal.returns-clause-room
 returns-clause-room g c =
     let view = ap (λ (s : EntriesState). s.files) c.self.view_is in
-    let content = g.D.Disk.content c.args.disk.now in
+    let own = own_runs c.self.inside.table.runs c.self.inside.files.items c.self.inside.next c.self.inside.table.limit c.self.invariant _ view in
+    let reads = c.sealed_file-file.ensures c.self.inside.table own in
     on_ok_weaker c.read_stamped.result
     (λ given told sealed.
-    let here = sealed_here c.self.inside.table.runs c.self.inside.files.items c.self.inside.next c.self.inside.table.limit c.self.invariant _ view c.args.number _ c.place_of.result c.unwrap-place.ensures c.place_of.ensures.some c.index-file.result.now c.index-file.ensures sealed c.mark.result c.mark.ensures in
-    let same = mark_value c.mark.result c.unwrap-mark.result sealed.mark c.unwrap-mark.ensures here.1 in
-    subst (λ (f : Placed). FillsRoom (stamped (stamp_at sealed.mark.moment f) (octets_in (blocks_on content) f)) c.args.offset (length c.args.room.now) c.read_stamped.new.room) (sym here.0)
-    (subst (λ (m : Seal). FillsRoom (stamped (stamp_at m.moment c.index-file.result.now.entry) (octets_on content c.self.inside.table (record { run = c.unwrap-place.result; held = c.index-file.result.now.entry.held }))) c.args.offset (length c.args.room.now) c.read_stamped.new.room) same
-    (subst (λ (s : SealedFile). FillsRoom (sealed_octets content c.self.inside.table s) c.args.offset (length c.args.room.now) c.read_stamped.new.room) c.sealed_in-sealed.ensures (given told))))
+    subst (λ (os : List ℕ). FillsRoom os c.args.offset (length c.args.room.now) c.read_stamped.new.room)
+    (reads.octets (g.D.Disk.content c.args.disk.now) sealed) (given told))
     c.read_stamped.ensures.room

@@ -1,0 +1,60 @@
+-- What is read of a sealed file, where a table has its run.
+use Rattle.std.proofs.Common.{◌≡◌, ℕ, ◌*◌, ◌≤◌, ◌<◌, List, length, take, Option, Some, ap, sym, ◌∙◌, subst, arith}
+use Rattle.std.specs.Prelude.{All}
+use Rattle.std.specs.List.{flat_map}
+use Rattle.block_entries.specs.Checking.{IsSealable}
+use Rattle.block_entries.specs.FilesLaws.{found_holds}
+use Rattle.block_entries.specs.IsPlaced.{IsPlaced, IsPlacedFile}
+use Rattle.block_entries.specs.Placed.{Placed, PlacedStore, Seal, placed_of, run_of}
+use Rattle.block_entries.specs.PlacedFiles.{seal_value}
+use Rattle.block_entries.specs.Reading.{octets_on}
+use Rattle.block_entries.specs.Sealed.{ReadsSealed, Sealed, sealed_file}
+use Rattle.block_entries.specs.Seen.{octets_in, stamp_at, whole_block}
+use Rattle.block_entries.specs.declared.sealed_file.SealedFile.{SealedFile}
+use Rattle.block_entries.specs.declared.stored_file.SealMark.{SealMark}
+use Rattle.block_entries.proofs.RulesLemmas.{sealed_inside, sealed_keeps}
+use Rattle.block_table.specs.Table.{Run, Table, run_at}
+use Rattle.file_journal.specs.Layout.{blocks_on}
+use Rattle.pfh_items.specs.Stamp.{stamped}
+
+module _ (table : Table) (store : PlacedStore) (number : ℕ) (rules : IsPlaced store) (run : ℕ) (mark : SealMark) (f : Placed) (found : placed_of store number ≡ Some f)
+    (is : f.seal ≡ Some (seal_value mark)) (inside : run < length table.runs) (there : run_at table run ≡ run_of f) where
+  -- what it is read as
+  abbrev file : SealedFile
+  file = sealed_file run mark f
+
+  one : IsPlacedFile store.blocks f
+  one = found_holds (IsPlacedFile store.blocks) number store.entries f rules.files found
+
+  abbrev own : Sealed store number
+  own = record { file = f; found = found; mark = seal_value mark; is = is }
+
+  octets_are : (content : Option (List ℕ)) → octets_on content table file.blocks ≡ octets_in (blocks_on content) f
+  octets_are content = ap (λ (r : Run). take f.held (flat_map (whole_block (blocks_on content)) r.blocks)) there
+
+  -- no other file is sealed with this number, nor with another seal
+  same_file : (sealed : Sealed store number) → sealed.file ≡ f
+  same_file sealed = let here = sealed.found in cc
+
+  same_mark : (sealed : Sealed store number) → sealed.mark ≡ seal_value mark
+  same_mark sealed = let both = sym sealed.is ∙ ap (λ (g : Placed). g.seal) (same_file sealed) ∙ is in cc
+
+  pub reads_sealed : ReadsSealed table store number file
+  reads_sealed = record {
+    stands = record {
+      there = inside;
+      below = subst (λ (r : Run). All (λ b. b < store.blocks) r.blocks) (sym there) one.below;
+      fits = subst (λ (r : Run). f.held ≤ 512 * length r.blocks) (sym there) (omega (arith, one.count));
+      short = omega (arith, one.fits, one.short);
+    };
+    inside = sealed_inside store number rules own;
+    is = λ content keeps.
+        subst (λ (os : List ℕ). IsSealable (stamp_at mark.moment f) os mark.sum mark.header_len) (sym (octets_are content))
+        (sealed_keeps (blocks_on content) store number keeps own);
+    held = λ sealed. ap (λ (g : Placed). g.held) (sym (same_file sealed));
+    header = λ sealed. ap (λ (s : Seal). s.header) (sym (same_mark sealed));
+    octets = λ content sealed.
+        ap (stamped (stamp_at mark.moment f)) (octets_are content)
+        ∙ ap (λ (s : Seal). stamped (stamp_at s.moment f) (octets_in (blocks_on content) f)) (sym (same_mark sealed))
+        ∙ ap (λ (g : Placed). stamped (stamp_at sealed.mark.moment g) (octets_in (blocks_on content) g)) (sym (same_file sealed));
+  }
