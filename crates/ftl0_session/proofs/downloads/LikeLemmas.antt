@@ -1,18 +1,27 @@
 -- What downloading makes of two stores that are like each other but for the octets of their files.
-use Rattle.std.proofs.Common.{◌≡◌, ℕ, ◌==◌, List, [], ◌∷◌, length, Bool, ◌&&◌, Option, None, Some, refl, sym, ap, ap₂, ◌∙◌, arith, length-append}
-use Rattle.std.specs.Prelude.{is_some, if◌then◌else◌}
+use Rattle.std.proofs.Common.{◌≡◌, ℕ, ◌==◌, ◌<◌, List, [], ◌∷◌, length, take, Bool, true, false, true≢false, ◌&&◌, Option, None, Some, refl, sym, ap, ap₂, ◌∙◌, arith, length-append}
+use Rattle.std.specs.Prelude.{Err, IsErrOf, Result, is_some, if◌then◌else◌}
 use Rattle.std.specs.List.{list_all}
 use Rattle.std.specs.Option.{option_map}
+use Rattle.std.proofs.lemmas.Bool.Decides.{nat_tests}
+use Rattle.std.proofs.lemmas.List.{append-nil}
 use Rattle.std.proofs.lemmas.List.Elements.{All-weaker}
 use Rattle.px_base.specs.CallSign.{CallSign}
+use Rattle.disk_model.specs.declared.disk.Disk.{Ghosts}
+use Rattle.ftl0_packets.specs.Layout.{data_end, data_part, dl_error_resp, packet_text}
+use Rattle.file_store.specs.Calls.{Reads}
 use Rattle.file_store.specs.Info.{IsCompleteIn}
 use Rattle.file_store.specs.Outlined.{IsStoreLike}
+use Rattle.file_store.specs.State.{IsKnown}
 use Rattle.file_store.specs.Store.{Entry, Holding, Store, complete, entry_of, octets_at, partial}
-use Rattle.file_store.proofs.Offered.{like_complete, like_entry, like_none, like_octets_length, like_partial, like_whole}
+use Rattle.file_store.specs.declared.refusals.HeaderFault.{HeaderFault}
+use Rattle.file_store.specs.declared.refusals.HeaderFault.TheVariants as fault
+use Rattle.file_store.proofs.Offered.{like_complete, like_entry, like_none, like_octets_length, like_partial, like_whole, reads_same}
 use Rattle.ftl0_session.specs.Lists.Lists.{CallerList}
 use Rattle.ftl0_session.specs.Downloads.Needs.{AreFiles, AreStored, IsDueIn, IsStored, LiesIn}
-use Rattle.ftl0_session.specs.Downloads.Sending.{due_octets, joined, octets_due}
-use Rattle.ftl0_session.specs.Downloads.Table.{DownloadState, Due, asked_file, asked_row, complete_octets, download_cmd_row, file_of, file_row, has_file, kept, listing, octets_in, ready, refused_row, sending, stored, waiting}
+use Rattle.ftl0_session.specs.Downloads.Sending.{due_octets, due_packet, is_due, is_read, joined, next_due, octets_due, state_after, state_at_end}
+use Rattle.ftl0_session.specs.Downloads.Table.{DownloadRow, DownloadState, Due, asked_file, asked_row, complete_octets, directory_row, download_cmd_row, file_of, file_row, files_row, has_file, kept, listed_files, listing, lists_after, octets_in, ready, refused_row, sending, stored, waiting}
+use Rattle.ftl0_session.specs.Downloads.Taking.{Made, MakesRow, made, made_by}
 use Rattle.ftl0_session.proofs.downloads.DueLemmas.{length-due, length-stored}
 use Rattle.ftl0_session.proofs.downloads.FileLemmas.{file_in}
 
@@ -122,3 +131,77 @@ module _ (one other : Store) (like : IsStoreLike one other) where
 
   pub files-like : (numbers : List ℕ) → AreFiles one numbers → AreFiles other numbers
   files-like numbers are = All-weaker (IsCompleteIn one) (IsCompleteIn other) (λ number is. like_complete one other like number is) numbers are
+
+-- ---- the row of a directory command, by what memory tells of its files
+
+module _ (caller : CallSign) (files : Store) (lists : List CallerList) (asked : ℕ) (due : Store → List ℕ → List Due) (numbers : List ℕ) (listed : listed_files lists caller asked ≡ numbers)
+    (some : (length numbers == 0) ≡ false) where
+  pub row-missing : (fails : Bool) → list_all (has_file files) numbers ≡ false → directory_row caller files lists asked due fails ≡ refused_row lists 4
+  row-missing fails missing = ap (λ (l : List ℕ). files_row caller files lists asked due fails l) listed ∙ rw (some, missing) refl
+
+  pub row-unread_header : list_all (has_file files) numbers ≡ true → directory_row caller files lists asked due true ≡ refused_row lists 3
+  row-unread_header all = ap (λ (l : List ℕ). files_row caller files lists asked due true l) listed ∙ rw (some, all) refl
+
+  pub row-listed : list_all (has_file files) numbers ≡ true
+      → directory_row caller files lists asked due false ≡ record { state = listing (due files numbers); lists = lists_after lists caller asked (length numbers); replies = [] }
+  row-listed all = ap (λ (l : List ℕ). files_row caller files lists asked due false l) listed ∙ rw (some, all) refl
+
+-- what a refusal makes
+pub made-refused : (state : DownloadState) (lists : List CallerList) (code : ℕ) (replies : List ℕ) → state ≡ ready → replies ≡ packet_text (dl_error_resp code)
+    → made state lists replies ≡ made_by (refused_row lists code)
+made-refused state lists code replies is text =
+    ap (λ (s : DownloadState). made s lists replies) is ∙ ap (λ (l : List ℕ). made ready lists l) (text ∙ sym (append-nil (packet_text (dl_error_resp code))))
+
+pub made-is : (state next : DownloadState) (lists lists_now : List CallerList) (replies said : List ℕ) → state ≡ next → lists ≡ lists_now → replies ≡ said → made state lists replies ≡ made next lists_now said
+made-is state next lists lists_now replies said state_is lists_are text =
+    ap (λ (s : DownloadState). made s lists replies) state_is ∙ ap (λ (l : List CallerList). made next l replies) lists_are ∙ ap (λ (r : List ℕ). made next lists_now r) text
+
+-- a header couldn't be read: code 3, where it is known what the store's files hold only of a read that failed
+pub header-refused : {D T : Type 0} (g : Ghosts D) (disk disk_now : D) (row : Bool → DownloadRow) (lists : List CallerList) (now : Made) (why : HeaderFault) (result : Result T HeaderFault) → result ≡ Err why
+    → Reads g (IsErrOf result fault.Disk) disk disk_now → (IsErrOf result fault.NoHeader → ¬ IsKnown g disk) → (IsKnown g disk → row true ≡ refused_row lists 3) → now ≡ made_by (refused_row lists 3)
+    → MakesRow g disk disk_now row now
+header-refused g disk disk_now row lists now fault.Disk result is reads there given made_now = record {
+  fails = true;
+  reads = reads_same g disk disk_now (IsErrOf result fault.Disk) (true ≡ true) (λ e. refl) (λ e. is) reads;
+  told = λ known failed. ap (λ (r : DownloadRow). r.replies) (given known);
+  is_row = λ known. made_now ∙ sym (ap made_by (given known));
+}
+header-refused g disk disk_now row lists now fault.NoHeader result is reads there given made_now = record {
+  fails = false;
+  reads = reads_same g disk disk_now (IsErrOf result fault.Disk) (false ≡ true) (λ e. absurd (let other = sym is ∙ e in cc)) (λ e. absurd (true≢false (sym e))) reads;
+  told = λ known failed. absurd (true≢false (sym failed));
+  is_row = λ known. absurd (there is known);
+}
+
+-- ---- what is due next
+
+module _ (files : Store) (state : DownloadState) (here : is_due state ≡ true) where
+  abbrev octets : List ℕ
+  octets = octets_due files state
+
+  next-is : (fails : Bool) → next_due files state fails ≡ Some (due_packet files state fails)
+  next-is fails = rw here refl
+
+  -- code 3
+  pub next-error : 0 < length octets → is_read state ≡ true → next_due files state true ≡ Some (record { packet = dl_error_resp 3; state = ready })
+  next-error some read =
+      let test : (length octets == 0) ≡ false = grind (arith, nat_tests, some) in
+      next-is true ∙ rw (test, read) refl
+
+  -- DATA_END
+  pub next-end : length octets ≡ 0 → next_due files state false ≡ Some (record { packet = data_end; state = state_at_end state })
+  next-end none =
+      let test : (length octets == 0) ≡ true = grind (arith, nat_tests, none) in
+      next-is false ∙ rw test refl
+
+  -- DATA
+  pub next-data : 0 < length octets → next_due files state false ≡ Some (record { packet = data_part (take 254 octets); state = state_after 254 state })
+  next-data some =
+      let test : (length octets == 0) ≡ false = grind (arith, nat_tests, some) in
+      next-is false ∙ rw test refl
+
+pub end-after : (state : DownloadState) → state_at_end (state_after 254 state) ≡ state_at_end state
+end-after ready = refl
+end-after (sending number place last) = refl
+end-after waiting = refl
+end-after (listing dues) = refl

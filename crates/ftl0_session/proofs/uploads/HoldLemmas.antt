@@ -14,14 +14,14 @@ use Rattle.file_store.specs.Outlined.{IsStoreLike}
 use Rattle.file_store.specs.State.{StoreState, store_in}
 use Rattle.file_store.specs.Store.{Entry, Store, entry_of, partial}
 use Rattle.file_store.specs.Upload.{Holds, Upload, came, ending, entry_for, octets_come, sealing, waiting, with_bytes}
-use Rattle.file_store.proofs.Offered.{changes-same, in_parked, like_entry, like_partial}
+use Rattle.file_store.proofs.Offered.{in_parked, like_entry, like_partial}
 use Rattle.ftl0_session.specs.declared.uploads.phase.Phase.{Phase}
 use Rattle.ftl0_session.specs.Uploads.Session.{Row, aborting, command, row_by_read, session_row, taken_row, unread_row, whole_row}
 use Rattle.ftl0_session.specs.Uploads.SessionState.{NoOtherOut, PhaseIsHeld, number_of, receiving_of, state_of}
 use Rattle.ftl0_session.specs.Uploads.Taking.{AnsweredAlone}
 use Rattle.ftl0_session.specs.Uploads.Events.{packet_of}
 use Rattle.ftl0_session.proofs.uploads.DoesLemmas.{some-at_end}
-use Rattle.ftl0_session.proofs.uploads.OtherLemmas.{only-none, others-kept}
+use Rattle.ftl0_session.proofs.uploads.OtherLemmas.{changes-same, only-none, others-kept}
 use Rattle.ftl0_session.proofs.uploads.UploadRows.{row-short, row-taken, row-too_much, row-unread, row-whole}
 
 -- what would be a contradiction if it were more is no more

@@ -1,9 +1,9 @@
 -- What a call on one upload leaves of the other entries.
-use Rattle.std.proofs.Common.{◌≡◌, ℕ, ap, sym, ◌∙◌, subst, None, Some, inl, inr}
+use Rattle.std.proofs.Common.{◌≡◌, ℕ, refl, ap, sym, ◌∙◌, subst, None, Some, inl, inr}
 use Rattle.std.proofs.lemmas.Bool.Decides.{eqb_tells}
 use Rattle.px_base.specs.CallSign.{CallSign}
 use Rattle.file_store.specs.Files.{KeepsRests}
-use Rattle.file_store.specs.Store.{Entry, entry_of, partial}
+use Rattle.file_store.specs.Store.{Entry, Store, entry_of, partial}
 use Rattle.file_store.specs.Kept.{ChangesEntry, KeepsOthers}
 use Rattle.file_store.specs.State.{StoreState, rest_in, store_in}
 use Rattle.file_store.specs.Upload.{entry_for}
@@ -12,6 +12,10 @@ use Rattle.ftl0_session.specs.Uploads.SessionState.{NoOtherOut}
 
 pub never_some : {X : Type 0} (x : X) → None ≡ Some x → ⊥
 never_some x same = cc
+
+-- a store that is the same has the same entries
+pub changes-same : (n : ℕ) (before now : Store) → now ≡ before → ChangesEntry before now n
+changes-same n before now same number e found = (e, ap (λ (s : Store). entry_of s number) (sym same) ∙ found, refl, λ ne. refl)
 
 -- ---- the entries and uploads of other callers
 

@@ -1,10 +1,15 @@
-use Rattle.std.proofs.Common.{◌≡◌, ◌==◌, ◌<◌, false, length, sym, subst, arith, rules, true}
-use Rattle.file_store.specs.State.{StoreState, store_in}
+use Rattle.std.proofs.Common.{◌≡◌, ◌==◌, ◌<◌, ◌-◌, ◌++◌, ℕ, List, length, min, take, refl, ap, sym, ◌∙◌, subst, arith, rules, true, false, true≢false, Bool, Some}
+use Rattle.std.proofs.lemmas.Bool.Decides.{nat_tests}
+use Rattle.ftl0_packets.specs.Layout.{data_end, data_part, dl_error_resp, packet_text}
+use Rattle.file_store.specs.State.{IsKnown, StoreState, store_in, store_on}
+use Rattle.file_store.specs.Store.{Store}
+use Rattle.file_store.proofs.Offered.{on_like, reads_same}
 use Rattle.ftl0_session.specs.Downloads.Needs.{IsDueIn}
-use Rattle.ftl0_session.specs.Downloads.Table.{DownloadState}
-use Rattle.ftl0_session.specs.Downloads.Sending.{is_due, octets_due, octets_left}
+use Rattle.ftl0_session.specs.Downloads.Table.{DownloadState, ready}
+use Rattle.ftl0_session.specs.Downloads.Sending.{is_due, next_due, octets_due, octets_left, state_after, state_at_end}
 use Rattle.ftl0_session.proofs.AnsweringLemmas.{left-after, left-some}
 use Rattle.ftl0_session.proofs.downloads.DueLemmas.{due-after}
+use Rattle.ftl0_session.proofs.downloads.LikeLemmas.{due-length-like, end-after, next-data, next-end, next-error}
 use Rattle.ftl0_session.proofs.downloads.downloads.Downloads.fill.Goals as goal
 
 pub returns-in-Ok-2-clause-may : goal.returns-in-Ok-2-clause-may
@@ -26,3 +31,63 @@ returns-in-Ok-2-clause-fewer g c = λ put.
     let some : (length (octets_due store state) == 0) ≡ false = search rules in
     subst (λ (d : DownloadState). octets_left store d < octets_left store state) (sym c.in-Ok.ensures.state)
     (omega (arith, left-after store state here c.requires.due some, left-some store state here))
+
+pub returns-in-Err-clause-puts : goal.returns-in-Err-clause-puts
+returns-in-Err-clause-puts g c =
+    let D = g.D.Disk in
+    let store = c.args.store.now in
+    let disk = c.args.disk.now in
+    let state = c.args.self.now in
+    let files : Store = store_on D store disk in
+    let here : is_due state ≡ true = search rules in
+    let next : IsKnown D disk → next_due files state true ≡ Some (record { packet = dl_error_resp 3; state = ready }) =
+    λ known.
+    next-error files state here
+    (omega (arith, c.in-Err.ensures.some, due-length-like (store_in store) files (on_like D store disk c.requires.ready known) state c.requires.due)) c.in-Err.ensures.read in
+    record {
+      fails = true;
+      reads = reads_same D disk c.read_part.new.disk _ (true ≡ true) (λ e. refl) (λ e. refl) c.in-Err.ensures.reads.reads;
+      told = λ known failed. rw (next known) refl;
+      is_due = λ known. rw (next known) (refl, search rules, c.write_packet.ensures.text);
+    }
+
+pub returns-in-Ok-clause-puts : goal.returns-in-Ok-clause-puts
+returns-in-Ok-clause-puts g c =
+    let D = g.D.Disk in
+    let store = c.args.store.now in
+    let disk = c.args.disk.now in
+    let state = c.args.self.now in
+    let files : Store = store_on D store disk in
+    let here : is_due state ≡ true = search rules in
+    let none : length (octets_due (store_in store) state) ≡ 0 = search rules in
+    let next : IsKnown D disk → next_due files state false ≡ Some (record { packet = data_end; state = state_at_end state }) =
+    λ known.
+    next-end files state here (omega (arith, none, due-length-like (store_in store) files (on_like D store disk c.requires.ready known) state c.requires.due)) in
+    record {
+      fails = false;
+      reads = reads_same D disk c.read_part.new.disk _ (false ≡ true) (λ e. absurd cc) (λ e. absurd (true≢false (sym e))) c.in-Ok.ensures.reads.reads;
+      told = λ known failed. absurd (true≢false (sym failed));
+      is_due = λ known. rw (next known) (refl, c.end.ensures ∙ ap state_at_end c.in-Ok.ensures.state ∙ end-after state, c.write_packet-in-Ok.ensures.text);
+    }
+
+pub returns-in-Ok-2-clause-puts : goal.returns-in-Ok-2-clause-puts
+returns-in-Ok-2-clause-puts g c =
+    let D = g.D.Disk in
+    let store = c.args.store.now in
+    let disk = c.args.disk.now in
+    let state = c.args.self.now in
+    let files : Store = store_on D store disk in
+    let here : is_due state ≡ true = search rules in
+    let test : (length (octets_due (store_in store) state) == 0) ≡ false = search rules in
+    let some : 0 < length (octets_due (store_in store) state) = grind (arith, nat_tests, test) in
+    let next : IsKnown D disk → next_due files state false ≡ Some (record { packet = data_part (take 254 (octets_due files state)); state = state_after 254 state }) =
+    λ known.
+    next-data files state here (omega (arith, some, due-length-like (store_in store) files (on_like D store disk c.requires.ready known) state c.requires.due)) in
+    record {
+      fails = false;
+      reads = reads_same D disk c.read_part.new.disk _ (false ≡ true) (λ e. absurd cc) (λ e. absurd (true≢false (sym e))) c.in-Ok.ensures.reads.reads;
+      told = λ known failed. absurd (true≢false (sym failed));
+      is_due = λ known.
+          let part : c.deref.result.now ≡ take 254 (octets_due files state) = c.deref.ensures.0 ∙ c.in-Ok.ensures.octets known in
+          rw (next known) (refl, c.in-Ok.ensures.state, c.write_packet-in-Ok-2.ensures.text ∙ ap (λ (l : List ℕ). packet_text (data_part l)) part);
+    }
