@@ -1,19 +1,21 @@
 -- A session over a fresh disk in memory.
 use Rattle.std.proofs.Common.{◌≡◌, ℕ, List, [], refl, ap, sym, subst, ◌∙◌, inl, inr}
-use Rattle.std.specs.Prelude.{Option, Some, IfSome, Result, Err}
+use Rattle.std.specs.Prelude.{Option, Some, IfSome, Result, Err, ⊤}
 use Rattle.px_base.specs.declared.air.Air.{Ghosts as AirGhosts}
 use Rattle.disk_model.specs.Calls.{new_state}
+use Rattle.disk_model.specs.Disk.{IsTold}
 use Rattle.disk_model.specs.Memory.{read_faults, state as disk_state}
 use Rattle.disk_model.specs.declared.disk.Disk.{Ghosts}
 use Rattle.disk_model.specs.declared.memory_disk.MemoryDisk.{MemoryDisk}
 use Rattle.file_store.specs.Journal.{journal_of}
 use Rattle.file_store.specs.Walk.{state}
 use Rattle.file_store.specs.Store.{Store, empty_store}
-use Rattle.file_store.specs.State.{standing_of}
+use Rattle.file_store.specs.State.{IsKnown, standing_of}
 use Rattle.file_store.specs.Working.{CountsSome}
 use Rattle.file_store.specs.StoreFault.{StoreFault}
 use Rattle.file_store.specs.StoreFault.TheVariants as fault
 use Rattle.node.specs.Lent.{lent, seen}
+use Rattle.server_node.specs.Served.{Run}
 use Rattle.server_node.specs.Sessions.SessionRan.{SessionEnds, SessionRan}
 use Rattle.node.specs.Stops.{stop_of_fault}
 use Rattle.server_node.specs.Stops.{HasAirCause, EndsExactly, RefusesSession}
@@ -39,6 +41,34 @@ no-refusal blocks ended exact found is = let told = sym (fresh-stands blocks) �
 no-damage : (blocks : ℕ) (ended : Result Served NodeStop) → EndsExactly blocks [] ended → (at : ℕ) → ended ≡ Err (stop.Damaged at) → ⊥
 no-damage blocks ended exact at is = let told = sym (fresh-stands blocks) ∙ (exact.damaged at).0 is in absurd (cc)
 
+-- where it is known what octets the store's files have, all is told
+all-told : (K : Type 0) → K → (terms : SessionTerms) (start : Store) (run : Run) (ended : Result Served NodeStop) → SessionRan K terms start run ended → SessionRan ⊤ terms start run ended
+all-told K known terms start run ended h = record {
+  one_each = h.one_each;
+  events = h.events;
+  rest = h.rest;
+  brings = h.brings;
+  stream = h.stream;
+  bound = h.bound;
+  ends = h.ends;
+  said =
+      elim h.said [
+        | inl none ↦ inl none
+        | inr greeted ↦
+            inr
+            (record {
+              replies = greeted.replies;
+              text_is = greeted.text_is;
+              earlier = greeted.earlier;
+              but_last = greeted.but_last;
+              least = greeted.least;
+              left = greeted.left;
+              brought = greeted.brought;
+              ends_over = λ always. greeted.ends_over known;
+            })
+      ];
+}
+
 module _ {A C : Type 0} (g : Ghosts MemoryDisk) (air : AirGhosts A) (given : C → Option (List ℕ)) (disk disk_now : MemoryDisk) (before now : A) (clock clock_n : C) (terms : SessionTerms) (ended : Result Served NodeStop)
     (fresh : g.content disk ≡ Some []) (refuses : RefusesSession terms.limits.blocks (g.content disk) ended) (counts : HasAirCause air.read_faults air.write_faults before now ended) where
   exact : (why : NodeStop) → ended ≡ Err why → (why ≡ stop.Disk → ⊥) → (why ≡ stop.OutOfMemory → ⊥) → EndsExactly terms.limits.blocks [] ended
@@ -60,7 +90,8 @@ module _ {A C : Type 0} (g : Ghosts MemoryDisk) (air : AirGhosts A) (given : C �
   over-memory is_new counts_so (inr h) =
       let P : Option (List ℕ) → Type 0 = λ o. IfSome o (λ octets. standing_of terms.limits.blocks octets ≡ state h.start) in
       let start_is = state-same h.start (empty_store terms.limits.blocks) (sym (subst P fresh h.stood) ∙ fresh-stands terms.limits.blocks) in
-      let Q : Store → Type 0 = λ s. SessionRan terms s h.run ended in
+      let Q : Store → Type 0 = λ s. SessionRan ⊤ terms s h.run ended in
+      let known : IsKnown g disk = inr (subst (λ (c : Option (List ℕ)). IsTold c) (sym fresh) refl) in
       inr
       (record {
         ended = ended;
@@ -69,14 +100,14 @@ module _ {A C : Type 0} (g : Ghosts MemoryDisk) (air : AirGhosts A) (given : C �
         moments_given = h.moments_given;
         text_said = h.text_said;
         is_unsaid = h.is_unsaid;
-        ran = subst Q start_is h.ran;
+        ran = subst Q start_is (all-told (IsKnown g disk) known terms h.start h.run ended h.ran);
         fresh = disk;
         is_fresh = is_new;
         used = disk_now;
         reads =
             let at_first : ℕ → Type 0 = λ n. CountsSome n (read_faults disk_now) h.run.all.missed in
             let at_last : ℕ → Type 0 = λ n. CountsSome (g.read_faults disk) n h.run.all.missed in
-            subst at_first (counts_so disk) (subst at_last (counts_so disk_now) h.reads);
+            subst at_first (counts_so disk) (subst at_last (counts_so disk_now) (h.reads known));
         counts = counts;
         status_is = refl;
       })

@@ -1,5 +1,5 @@
 -- What a run of the program did for a session, by its words, by what was heard, and by its disk.
-use Rattle.std.specs.Prelude.{◌≡◌, ◌⊎◌, ◌↔◌, ℕ, ◌≤◌, ◌++◌, List, [], ◌∷◌, length, Bool, true, false, Option, Some, IfSome, IsTrue, Result, IsErrOf}
+use Rattle.std.specs.Prelude.{◌≡◌, ◌⊎◌, ◌↔◌, ℕ, ◌≤◌, ◌++◌, List, [], ◌∷◌, length, Bool, true, false, Option, Some, IfSome, IsTrue, Result, IsErrOf, ⊤}
 use Rattle.std.specs.List.{AllByRecursion}
 use Rattle.px_base.specs.Moments.{MomentsOf}
 use Rattle.px_base.specs.Outside.{Gains, Rose}
@@ -86,7 +86,7 @@ pub record InMemory {A C : Type 0} (air : AirGhosts A) (given : C → Option (Li
   pub moments_given : MomentsOf terms.moment (given clock) (given clock_now) run.moments
   pub text_said : Gains (air.said before) (air.said now) run.all.text
   pub is_unsaid : IsUnsaid run.unsaid (air.write_faults before) (air.write_faults now)
-  pub ran : SessionRan terms (empty_store terms.limits.blocks) run ended
+  pub ran : SessionRan ⊤ terms (empty_store terms.limits.blocks) run ended
   pub fresh : MemoryDisk
   pub is_fresh : state fresh ≡ new_state [] []
   pub used : MemoryDisk
