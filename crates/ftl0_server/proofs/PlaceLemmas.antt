@@ -16,13 +16,16 @@ use Rattle.ftl0_session.specs.Uploads.SessionState.{IsOnlyOut}
 use Rattle.ftl0_session.specs.SessionState.{caller_of, working_on}
 use Rattle.disk_model.specs.declared.halt.Halt.{Halt as Stop}
 use Rattle.disk_model.specs.declared.halt.Halt.TheVariants as stop
-use Rattle.ftl0_server.specs.Connection.ConnectionState.{ConnectionState, HearsBy, IsConnection}
-use Rattle.ftl0_server.specs.declared.connection.fate.Fate.TheVariants.{Ends}
+use Rattle.ftl0_server.specs.Connection.ConnectionState.{ConnectionState, Hears, HearsBy, IsConnection, with_reads}
+use Rattle.ftl0_server.specs.declared.connection.fate.Fate.{Fate}
+use Rattle.ftl0_server.specs.declared.connection.fate.Fate.TheVariants.{Ends, Stays}
+use Rattle.ftl0_server.specs.Connection.Connected.{Connected}
 use Rattle.ftl0_server.specs.Connection.Hearing.{Happened}
-use Rattle.ftl0_server.specs.AtPlace.{GivesUp, IsOver, IsPlace, PlaceHearsBy, Works}
+use Rattle.ftl0_server.specs.AtPlace.{GivesUp, IsOver, IsPlace, PlaceHears, PlaceHearsBy, Works}
+use Rattle.ftl0_server.specs.declared.place.Place.{Place}
 use Rattle.ftl0_server.specs.declared.place.Place.TheVariants.{Leaving, Talking}
 use Rattle.ftl0_server.specs.ServerState.{SendsAs}
-use Rattle.ftl0_server.specs.Slots.{left_by, slot_after}
+use Rattle.ftl0_server.specs.Slots.{connected, left_by, slot_after}
 
 -- What two events one after another leave of the files of other callers.
 pub others-then : (before mid now : StoreState) (caller : CallSign) → KeepsOtherCallers before mid caller → KeepsOtherCallers mid now caller
@@ -36,7 +39,7 @@ module _ {D : Type 0} (g : Ghosts D) (w : Window) (event : List Failure → Happ
       → SendsAs w (Leaving connection.link) (slot_after happened)
   left happened over stands = subst (λ (b : Bool). SendsAs w (Leaving connection.link) (left_by b happened.after)) (sym over) stands
 
-  pub heard-over : (result : Result ⊤ Stop) → HearsBy g w event (at store disk) (working_on mid lists disk_now) connection Ends result
+  heard-over : (result : Result ⊤ Stop) → HearsBy g w event (at store disk) (working_on mid lists disk_now) connection Ends result
       → PlaceHearsBy g w event (at store disk) (working_on now lists disk_now) (Leaving connection.link) result
   heard-over (Ok done) by = (
     by.0,
@@ -59,6 +62,42 @@ module _ {D : Type 0} (g : Ghosts D) (w : Window) (event : List Failure → Happ
   going : (happened : Happened) → happened.over ≡ false → IsConnection w now connection happened.after
       → IsPlace w now (Talking connection) (slot_after happened)
   going happened over is = grind (arith, common_steps)
+
+  heard-on : (result : Result ⊤ Stop) → HearsBy g w event (at store disk) (working_on now lists disk_now) connection Stays result
+      → PlaceHearsBy g w event (at store disk) (working_on now lists disk_now) (Talking connection) result
+  heard-on (Ok done) by = (by.0, by.1.0, going (event []) by.1.1.0 by.1.1.1, by.2)
+  heard-on (Err stop.Disk) by = (by.0, by.1, (going (event (failed_write by.0)) by.2.1.0 by.2.1.1).0, by.3)
+  heard-on (Err stop.OutOfMemory) by = (by.0, by.1, by.3)
+
+-- its session is over
+pub hears-over : {D : Type 0} (g : Ghosts D) (w : Window) (event : List Failure → Happened) (store mid now : StoreState) (lists : List CallerList) (disk disk_now : D) (connection : ConnectionState)
+    (told : Fate × Result ⊤ Stop) → GivesUp mid now → told.0 ≡ Ends → Hears g w event (at store disk) (working_on mid lists disk_now) connection told
+    → PlaceHears g w event (at store disk) (working_on now lists disk_now) (Leaving connection.link) told.1
+hears-over g w event store mid now lists disk disk_now connection told gives_up ends heard =
+    let here : Fate → Type 0 = λ fate. HearsBy g w (with_reads event heard.parts) (at store disk) (working_on mid lists disk_now) connection fate told.1 in
+    record {
+      parts = heard.parts;
+      by = heard-over g w (with_reads event heard.parts) store mid now lists disk disk_now connection gives_up told.1 (subst here ends heard.by);
+      since = heard.since;
+    }
+
+-- it goes on
+pub hears-on : {D : Type 0} (g : Ghosts D) (w : Window) (event : List Failure → Happened) (store now : StoreState) (lists : List CallerList) (disk disk_now : D) (connection : ConnectionState)
+    (told : Fate × Result ⊤ Stop) → told.0 ≡ Stays → Hears g w event (at store disk) (working_on now lists disk_now) connection told
+    → PlaceHears g w event (at store disk) (working_on now lists disk_now) (Talking connection) told.1
+hears-on g w event store now lists disk disk_now connection told stays heard =
+    let here : Fate → Type 0 = λ fate. HearsBy g w (with_reads event heard.parts) (at store disk) (working_on now lists disk_now) connection fate told.1 in
+    record {
+      parts = heard.parts;
+      by = heard-on g w (with_reads event heard.parts) store now lists disk disk_now connection told.1 (subst here stays heard.by);
+      since = heard.since;
+    }
+
+-- the place that has a connection stands for what that stands for
+pub talks-as : (w : Window) (store : StoreState) (place : Place) (connection : ConnectionState) (d : Connected) → place ≡ Talking connection → IsPlace w store place (connected d)
+    → IsConnection w store connection d
+talks-as w store place connection d is here =
+    let talks = subst (λ (p : Place). IsPlace w store p (connected d)) is here in record { link = talks.0; rest = talks.1.rest; state = talks.1.state }
 
 -- an event ends the session at a place
 pub works-over : (before mid now : StoreState) (old then : ConnectionState) → caller_of then.session ≡ caller_of old.session

@@ -7,13 +7,12 @@ use Rattle.std.proofs.lemmas.Option.{same_Some, slice_get_within}
 use Rattle.px_base.specs.CallSign.{CallSign}
 use Rattle.ax25_link.specs.Kept.{Kept}
 use Rattle.ax25_link.proofs.Offered.{slice_get-set_other, slice_get-set_same}
-use Rattle.file_store.specs.Files.{octets_or_none}
 use Rattle.file_store.specs.EntriesKept.{KeepsComplete}
 use Rattle.file_store.specs.Store.{partial}
 use Rattle.file_store.specs.State.{StoreState, store_in}
 use Rattle.file_store.specs.Upload.{entry_for}
 use Rattle.ftl0_session.specs.Uploads.Others.{KeepsOtherCallers}
-use Rattle.ftl0_session.specs.Uploads.Session.{is_same_call, receiving}
+use Rattle.ftl0_session.specs.Uploads.Session.{is_same_call}
 use Rattle.ftl0_session.specs.Uploads.SessionState.{NoOtherOut, PhaseIsHeld, state_of}
 use Rattle.ftl0_session.specs.declared.uploads.phase.Phase.{Phase}
 use Rattle.ftl0_session.specs.declared.uploads.phase.Phase.TheVariants as phase
@@ -49,7 +48,7 @@ module _ (before now : StoreState) (caller : CallSign) (others : KeepsOtherCalle
       let theirs : up.caller ≢ caller = λ same. ne (sym held.1 ∙ same) in
       let holds = others.uploads up theirs held.0 in
       let rest = (others.entries up.number (entry_for up holds.begun (partial holds.held)) theirs holds.entry).1 in
-      ap (λ (o : Option (List ℕ)). receiving up.number (octets_or_none o)) rest
+      rw rest refl
   state-kept other ne phase.Aborting held = refl
 
   pub out-kept : (other : CallSign) (number : Option ℕ) → other ≢ caller → NoOtherOut before other number → NoOtherOut now other number

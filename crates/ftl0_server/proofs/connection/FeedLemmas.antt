@@ -77,7 +77,24 @@ module _ {D : Type 0} (g : Ghosts D) where
     pub fit-then : (before : AtDisk StoreState D) (between now : WorkingOn D) (link link_m link_n : Kept) (session session_m session_n : SessionState) (told : Fate × Result ⊤ Stop)
         → LeavesFit g before between link link_m session session_m (Stays, Ok tt) → LeavesFit g (at between.store between.disk) now link_m link_n session_m session_n told
         → LeavesFit g before now link link_n session session_n told
-    fit-then before between now link link_m link_n session session_m session_n told first second = grind (arith, common_steps, puts-among-then, stations-then)
+    fit-then before between now link link_m link_n session session_m session_n told first second =
+        let later = rw first.caller at second.others in
+        record {
+          puts = puts-among-then g on (fine ≡ Err stop.Disk) (told.1 ≡ Err stop.Disk) before.disk between.disk now.disk no-fault first.puts second.puts;
+          kept = λ number e found complete. second.kept number e (first.kept number e found complete) complete;
+          others = record {
+            uploads = λ up theirs holds. later.uploads up theirs (first.others.uploads up theirs holds);
+            entries = λ number e theirs found.
+                let last = later.entries number e theirs found in
+                let before_it = first.others.entries number e theirs last.0 in
+                (before_it.0, last.1 ∙ before_it.1);
+          };
+          healthy = second.healthy;
+          fit = second.fit;
+          up = second.up;
+          caller = second.caller ∙ first.caller;
+          stations = stations-then link link_m link_n first.stations second.stations;
+        }
 
     -- packets, and then what is due behind them
     pub fit-queued : (before : AtDisk StoreState D) (between now : WorkingOn D) (link : Kept) (session : SessionState) (mid new : ConnectionState) → now.lists ≡ between.lists
