@@ -11,7 +11,6 @@ mod ReceiptLemmas
 mod RecoveryLemmas
 mod SealLemmas
 mod SealedLemmas
-mod ShortLemmas
 mod StandingLemmas
 mod TokenLemmas
 mod ToldLemmas

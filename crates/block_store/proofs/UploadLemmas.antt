@@ -87,6 +87,9 @@ module _ {D : Type 0} (g : Ghosts D) (old new : StoreState) (disk_now : D) (comm
         entries = grows-change (store_in old) (store_in new) up.number commands are part;
       }
 
+pub changes-same : (number : ℕ) (before now : Store) → now ≡ before → ChangesEntry before now number
+changes-same number before now same other entry found = (entry, ap (λ (s : Store). entry_of s other) (sym same) ∙ found, refl, λ ne. refl)
+
 -- a call that changes no entry keeps them
 pub keeps-parked : {D : Type 0} (g : Ghosts D) (old new : StoreState) (disk : D) (number : ℕ) → store_of new.files ≡ store_of old.files → new.journal ≡ old.journal → StandsOn g old disk
     → KeepsRests old.files new.files number → KeepsOtherFiles g old new disk number
@@ -97,7 +100,7 @@ keeps-parked g old new disk number same journal stands rests =
       uploads = entries-uploads old new number entries rests;
       rests = rests;
       kept = λ other entry found whole. ap (λ (s : Store). entry_of s other) (in_parked old new same) ∙ found;
-      entries = λ other entry found. (entry, ap (λ (s : Store). entry_of s other) (sym (in_parked old new same)) ∙ found, refl, λ ne. refl);
+      entries = changes-same number (store_in old) (store_in new) (in_parked old new same);
     }
 
 -- what the blocks of an upload that became held make of what memory tells, of the store before its octets came

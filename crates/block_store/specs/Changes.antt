@@ -4,7 +4,8 @@ use Rattle.block_entries.specs.Checking.{IsSealable}
 use Rattle.block_entries.specs.IsPlaced.{IsPlaced}
 use Rattle.block_entries.specs.Placed.{PlacedStore, new_placed, placed_of}
 use Rattle.block_entries.specs.PlacedCommand as placed
-use Rattle.block_entries.specs.PlacedCommand.{PlacedCommand, is_partial, seal_with, with_grown, with_new, with_sealed, without_file}
+use Rattle.block_entries.specs.PlacedCommand.{PlacedCommand, is_partial, seal_with, with_grown, with_new, with_sealed}
+use Rattle.block_entries.specs.PlacedCommand.{without_file}
 use Rattle.block_entries.specs.PlacedFiles.{Becomes, EntriesState, IsLowest, PlacedFiles, Waits, rest_of, rest_without}
 use Rattle.block_entries.specs.PlacedFiles.{store_of}
 use Rattle.block_entries.specs.Seen.{octets_in, seen, stamp_at}
@@ -51,8 +52,8 @@ puts_by (change.Hold number block count) files =
 puts_by (change.Seal number moment header) files = None
 puts_by (change.Drop number) files = None
 
--- what the blocks have to hold for it: the octets of a file that is sealed keep the rules, and its header is the one that
--- was found
+-- what the blocks have to hold for it: the octets of a file that is sealed keep the rules, and its header is the one
+-- that was found
 abbrev pub LetsBy : EntriesChange → PlacedFiles → Blocks → Type 0
 LetsBy (change.Begin caller file_length moment) files held = ⊤
 LetsBy (change.Hold number block count) files held = ⊤

@@ -43,8 +43,8 @@ IsWhole old new number =
     → (held : List ℕ) × (entry_of (store_in new) number ≡ Some (record entry { holding = partial held }))
     × (length held ≡ entry.length) × (rest_in new number ≡ Some [])
 
--- what became of the file of this number: it is complete; or gone, with this code of its first fault; or as it was, with
--- all of its octets held
+-- what became of the file of this number: it is complete; or gone, with this code of its first fault; or as it was,
+-- with all of its octets held
 abbrev pub EndsAs : {D : Type 0} → Ghosts D → StoreState → StoreState → D → ℕ → End → Type 0
 EndsAs g old new disk number end.Sealed =
     IsCompleteIn (store_in new) number × (rest_in new number ≡ None)
@@ -68,8 +68,8 @@ end_commands result rest number moment code =
     if end_misses result then last_grow number rest
     else last_grow number rest ++ ending number moment code ∷ []
 
--- The commands that end the file of this number were done, with reads among them, or the disk failed. Which they are the
--- first fault of the octets that came decides, where it is known which these are. Each other file is as it was.
+-- The commands that end the file of this number were done, with reads among them, or the disk failed. Which they are
+-- the first fault of the octets that came decides, where it is known which these are. Each other file is as it was.
 pub record EndsFile {D : Type 0} (g : Ghosts D) (result : Result End DiskFault) (old new : StoreState)
     (disk disk_now : D) (number moment : ℕ) : Type 0 where
   pub code : Option ℕ

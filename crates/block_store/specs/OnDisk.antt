@@ -22,8 +22,8 @@ MakesBetween low high store commands image = kept_commands.MakesBetween store_fo
 abbrev pub MakesFirst : Store → List Command → List ℕ → Type 0
 MakesFirst store commands image = kept_commands.MakesFirst store_form store commands image
 
--- Each command takes the calls of the disk that the form of a store says. Since the first so many commands are done, one
--- at least, no crash leaves fewer of them. The first of them began at the moment `start`.
+-- Each command takes the calls of the disk that the form of a store says. Since the first so many commands are done,
+-- one at least, no crash leaves fewer of them. The first of them began at the moment `start`.
 abbrev pub StayDone : {D : Type 0} → Ghosts D → ℕ → ℕ → Store → List Command → D → Type 0
 StayDone g start done store commands disk_now =
     kept_commands.StayDone g store_form (done_at store_form start commands) done store commands disk_now

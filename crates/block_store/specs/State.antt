@@ -42,13 +42,13 @@ state_from files journal = record { files = files; journal = journal }
 abbrev pub placed_in : StoreState → PlacedStore
 placed_in self = store_of self.files
 
--- the store that it is as far as memory tells: which files there are, how long they are and how far they have come, with
--- zeros in place of their octets
+-- the store that it is as far as memory tells: which files there are, how long they are and how far they have come,
+-- with zeros in place of their octets
 abbrev pub store_in : StoreState → Store
 store_in self = outlined (placed_in self)
 
--- the store that it is on this disk, with the octets that its blocks hold; they are the store's where the disk tells its
--- content
+-- the store that it is on this disk, with the octets that its blocks hold; they are the store's where the disk tells
+-- its content
 abbrev pub store_on : {D : Type 0} → Ghosts D → StoreState → D → Store
 store_on g self disk = seen (blocks_on (g.content disk)) (placed_in self)
 

@@ -97,8 +97,8 @@ abbrev pub ending : ℕ → ℕ → Option ℕ → Command
 ending number moment None = seal number moment
 ending number moment (Some code) = drop_entry number
 
--- the commands that end the file of this number: those that wait become held, and it is sealed, or dropped where it has a
--- fault
+-- the commands that end the file of this number: those that wait become held, and it is sealed, or dropped where it has
+-- a fault
 abbrev pub sealing_of : Store → StoreState → ℕ → ℕ → List Command
 sealing_of store self number moment =
     last_grow number (octets_or_none (rest_in self number))

@@ -117,9 +117,8 @@ impl Change<Entries> for EntriesChange {
                 block,
                 octets: &entries.waiting(number)[..count],
             }),
-            EntriesChange::Begin { .. } | EntriesChange::Seal { .. } | EntriesChange::Drop { .. } => {
-                None
-            }
+            EntriesChange::Begin { .. } | EntriesChange::Seal { .. } | EntriesChange::Drop { .. } =>
+                { None }
         }
     }
 

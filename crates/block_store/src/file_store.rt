@@ -1,6 +1,7 @@
 //! The store of files.
 
-ghost use Rattle.std.specs.Prelude.{◌≡◌, ◌↔◌, ℕ, ◌+◌, ◌≤◌, ◌<◌, ◌/◌, ◌*◌, ◌⊎◌, List, [], ◌∷◌, ◌++◌, drop, length, true, false, take, IsTrue, IsErr, IsErrOf, IfOk, IfErr, IfSome, OnOk, OnErr, None, Some};
+ghost use Rattle.std.specs.Prelude.{◌≡◌, ◌↔◌, ℕ, ◌+◌, ◌≤◌, ◌<◌, ◌/◌, ◌*◌, ◌⊎◌, List, [], ◌∷◌, ◌++◌, drop, length, true};
+ghost use Rattle.std.specs.Prelude.{false, take, IsTrue, IsErr, IsErrOf, IfOk, IfErr, IfSome, OnOk, OnErr, None, Some};
 ghost use Rattle.std.specs.Borrow.{sem};
 ghost use Rattle.std.specs.Io.BufRead.{Rests};
 ghost use Rattle.std.specs.Option.{option_map};
@@ -14,7 +15,8 @@ ghost use Rattle.disk_model.specs.Disk.{FillsRoom};
 ghost use Rattle.file_entries.specs.Faults.{fault_code};
 ghost use Rattle.file_journal.specs.Calls.{Leaves, Reads, Runs, TakesStep};
 ghost use Rattle.file_journal.specs.Journal.{IsAfterRecovery};
-ghost use Rattle.file_entries.specs.Command.{after, begin, drop_entry, fault_at, grow, grows, is_allowed, last_grow, seal, unfilled_block};
+ghost use Rattle.file_entries.specs.Command.{after, begin, drop_entry, fault_at, grow, grows, is_allowed, last_grow};
+ghost use Rattle.file_entries.specs.Command.{seal, unfilled_block};
 ghost use Rattle.file_entries.specs.Files.{octets_or_none};
 ghost use Rattle.file_entries.specs.Headers.{IsHeaderOf, IsWholeHeader};
 ghost use Rattle.file_entries.specs.Info.{IsNextComplete, info_of};
@@ -31,9 +33,13 @@ ghost use Rattle.block_store.specs.Ending.{EndsFile, LeavesOthers};
 ghost use Rattle.block_store.specs.OnDisk.{Does, DoesTo};
 ghost use Rattle.block_store.specs.Reads.{MayRead, OnlyReads};
 ghost use Rattle.block_store.specs.Recovery.{IsRecovered, LeavesAlikeSinceSync, RefusesRecovery, StandsAlike};
-ghost use Rattle.block_store.specs.State.{IsKnown, IsRead, IsReady, StandsOn, placed_in, rest_in, store_in, store_layout, store_magic, store_on};
+ghost use Rattle.block_store.specs.State.{IsKnown, IsRead, IsReady, StandsOn, placed_in, rest_in, store_in};
+ghost use Rattle.block_store.specs.State.{store_layout, store_magic, store_on};
 ghost use Rattle.block_store.specs.Working.{CountsSome, DoesAmongReads, PutsAmongReads};
-ghost use Rattle.block_store.specs.Upload.{FillsBlock, FitsWaiting, HasEntry, Holds, IsHeldWhole, IsWholeWaiting, MayResume, Upload, WaitFew, appended, appending, came, come_of, ending, kept_file, new_upload, octets_come, sealing, sealing_of, upload_of, with_bytes};
+ghost use Rattle.block_store.specs.Upload.{FillsBlock, FitsWaiting, HasEntry, Holds, IsHeldWhole, IsWholeWaiting};
+ghost use Rattle.block_store.specs.Upload.{MayResume, Upload, WaitFew, appended, appending, came, come_of, ending};
+ghost use Rattle.block_store.specs.Upload.{kept_file, new_upload, octets_come, sealing, sealing_of, upload_of};
+ghost use Rattle.block_store.specs.Upload.{with_bytes};
 
 use crate::change::EntriesChange;
 use crate::end::End;
@@ -44,8 +50,8 @@ use crate::{
     AppendRefusal, BeginRefusal, HeaderFault, Info, Limits, OpenUpload, Receipt, ResumeRefusal,
     SealRefusal, StoreFault,
 };
-use disk_model::{Disk, DiskFault};
 use block_entries::{CheckFault, CheckedHeader, Entries};
+use disk_model::{Disk, DiskFault};
 use file_journal::Kept;
 use px_base::{Call, OutOfMemory};
 use std::alloc::Global;
@@ -54,8 +60,8 @@ use std::marker::Model;
 /// The octets in a block.
 const BLOCK: usize = 512;
 
-/// Which files there are, and where their octets and their commands stand on a disk, which it doesn't hold. Contracts see
-/// it as a `StoreState`.
+/// Which files there are, and where their octets and their commands stand on a disk, which it doesn't hold. Contracts
+/// see it as a `StoreState`.
 #[derive(Drop)]
 pub struct FileStore {
     kept: Kept<Entries>,
@@ -77,14 +83,14 @@ impl Model for FileStore {
 impl FileStore {
     ghost use Rattle.block_store.specs.contracts.file_store.FileStore.{the_row};
 
-    /// Recovers the store from whatever a crash, a fault or a killed program left on the disk: the store that its content
-    /// stands for. It syncs before it reads. A disk of at most 16 octets is formatted with the limits' block number; one
-    /// whose formatting was interrupted is formatted to its end. It may be cut at any of its writes and syncs, and is then
-    /// done again. It reads each record once, and for each sealed file its octets once. Takes memory: of the files what is
-    /// told of them and in which blocks they stand, and none of their octets.
+    /// Recovers the store from whatever a crash, a fault or a killed program left on the disk: the store that its
+    /// content stands for. It syncs before it reads. A disk of at most 16 octets is formatted with the limits' block
+    /// number; one whose formatting was interrupted is formatted to its end. It may be cut at any of its writes and
+    /// syncs, and is then done again. It reads each record once, and for each sealed file its octets once. Takes
+    /// memory: of the files what is told of them and in which blocks they stand, and none of their octets.
     ///
-    /// `NotAStore` and `Damaged` leave the content as it was. After `Disk` and `OutOfMemory` the disk is to be recovered
-    /// again.
+    /// `NotAStore` and `Damaged` leave the content as it was. After `Disk` and `OutOfMemory` the disk is to be
+    /// recovered again.
     pub fn recover<D: Disk>(
         alloc: Global,
         disk: &mut D,
@@ -106,8 +112,8 @@ impl FileStore {
             → D.content disk.new ≡ D.content disk.old }
         ensures runs { Runs D.Disk (IsErrOf result StoreFault.Disk) disk.old disk.new }
 
-        // A crash since the start leaves what it might have left before, or what stands for the same, and a content of 18
-        // octets or more as it is; since the end of the first sync the latter, but where that sync failed.
+        // A crash since the start leaves what it might have left before, or what stands for the same, and a content of
+        // 18 octets or more as it is; since the end of the first sync the latter, but where that sync failed.
         ensures since_start { Leaves D.Disk disk.old disk.new (StandsAlike limits.blocks) }
         ensures since_sync { LeavesAlikeSinceSync D.Disk limits.blocks result disk.old disk.new }
     {
@@ -117,7 +123,8 @@ impl FileStore {
         Ok(FileStore { kept, header })
     }
 
-    /// Begins a file of `length` octets: an entry of the next number, of which no octet is held. Its upload is out then.
+    /// Begins a file of `length` octets: an entry of the next number, of which no octet is held. Its upload is out
+    /// then.
     ///
     /// The refusals are looked for in the order of `BeginRefusal`. Takes memory, before it touches the disk.
     pub fn begin<D: Disk>(
@@ -134,7 +141,8 @@ impl FileStore {
         ensures can { IfOk result (λ _. RefusesBegin self.old length BeginRefusal.OutOfMemory) }
         ensures untouched { IsTrue (begin_reaches result) ⊎ ((self.new ≡ self.old) × (disk.new ≡ disk.old)) }
 
-        // The command is on the disk before the answer, and a crash at any moment leaves the store before it or after it.
+        // The command is on the disk before the answer, and a crash at any moment leaves the store before it or after
+        // it.
         ensures does { IsTrue (begin_reaches result) → Does D.Disk (IsErr result) self.old self.new disk.old disk.new
             (begin (store_in self.old).next caller length moment ∷ []) }
         ensures upload { IfOk result (λ up. up ≡ new_upload (store_in self.old).next caller length) }
@@ -165,15 +173,16 @@ impl FileStore {
             length,
             moment,
         };
-        // A crash before the record's gate is synced leaves the store without the file, and its number is given again: the
-        // caller hasn't been told of it.
+        // A crash before the record's gate is synced leaves the store without the file, and its number is given again:
+        // the caller hasn't been told of it.
         put_change(&mut self.kept, disk, &begin)?;
         self.kept.ledger.take_out(number);
         Ok(OpenUpload::new(number, caller, length, 0))
     }
 
-    /// Goes on with the upload of this number, caller and length, which isn't out: its entry is under way, and the upload
-    /// says how many octets are held of it. The refusals are looked for in the order of `ResumeRefusal`. Takes no memory.
+    /// Goes on with the upload of this number, caller and length, which isn't out: its entry is under way, and the
+    /// upload says how many octets are held of it. The refusals are looked for in the order of `ResumeRefusal`. Takes
+    /// no memory.
     pub fn resume(
         &mut self,
         number: u32,
@@ -207,11 +216,12 @@ impl FileStore {
         Ok(OpenUpload::new(number, caller, length, info.held))
     }
 
-    /// Adds octets to an upload. Each whole 512 of those that wait then become held; the others, fewer than 512, wait on.
+    /// Adds octets to an upload. Each whole 512 of those that wait then become held; the others, fewer than 512, wait
+    /// on.
     ///
-    /// `TooMuch`, where more octets would come than the file has, is looked at first, then `Failed`. Takes memory, before
-    /// it touches the disk. The work is that of finding the entry and of the octets that come, however many are held; the
-    /// disk takes three writes and three syncs for each 512.
+    /// `TooMuch`, where more octets would come than the file has, is looked at first, then `Failed`. Takes memory,
+    /// before it touches the disk. The work is that of finding the entry and of the octets that come, however many are
+    /// held; the disk takes three writes and three syncs for each 512.
     pub fn append<D: Disk>(
         &mut self,
         disk: &mut D,
@@ -265,8 +275,8 @@ impl FileStore {
     /// number, its caller and this moment. The entry of one with a fault is dropped, and the answer is the code of its
     /// first fault. Takes no memory.
     ///
-    /// `Short`, where fewer octets came than the file has, is looked at first, then `Failed`. `Read`: a read failed, and
-    /// the file stays under way.
+    /// `Short`, where fewer octets came than the file has, is looked at first, then `Failed`. `Read`: a read failed,
+    /// and the file stays under way.
     pub fn seal<D: Disk>(
         &mut self,
         disk: &mut D,
@@ -284,8 +294,8 @@ impl FileStore {
         ensures failed { IsErrOf result SealRefusal.Failed
             → ChangesRest self.old.files self.new.files up.number None × (self.new.journal ≡ self.old.journal) }
 
-        // The commands are on the disk before the answer; a crash at any moment leaves the first of them. Which they are
-        // the octets of the file decide, where they are known.
+        // The commands are on the disk before the answer; a crash at any moment leaves the first of them. Which they
+        // are the octets of the file decide, where they are known.
         ensures does { IsTrue (seal_reaches result) → IsKnown D.Disk disk.old
             → DoesAmongReads D.Disk (IsErrOf result SealRefusal.Disk) (seal_missed result) self.old self.new
             disk.old disk.new (seal_commands result (store_on D.Disk self.old disk.old) self.old up moment) }
@@ -410,10 +420,10 @@ impl FileStore {
         self.kept.ledger.next_complete(after)
     }
 
-    /// Fills the room with the octets from this place on of a complete file; they have to be there. Behind the header it
-    /// reads these octets, with one read for each block; in the header those before them too. The fault comes only where
-    /// a read of the disk failed, and leaves the store and the disk's content as they were, and the room open. Takes no
-    /// memory.
+    /// Fills the room with the octets from this place on of a complete file; they have to be there. Behind the header
+    /// it reads these octets, with one read for each block; in the header those before them too. The fault comes only
+    /// where a read of the disk failed, and leaves the store and the disk's content as they were, and the room open.
+    /// Takes no memory.
     pub fn read_at<D: Disk>(
         &mut self,
         disk: &mut D,
@@ -431,11 +441,11 @@ impl FileStore {
         read_file(&self.kept, disk, number, offset, room)
     }
 
-    /// Lends the header of a complete file: its octets up to and with the end item (PFH 1990), which [`header_in`] reads.
-    /// The header is read, and never the body. Takes no memory.
+    /// Lends the header of a complete file: its octets up to and with the end item (PFH 1990), which [`header_in`]
+    /// reads. The header is read, and never the body. Takes no memory.
     ///
-    /// `Disk`: a read of the disk failed. `NoHeader`: what the file's blocks hold is no header any more, which never comes
-    /// where it is known what they hold. Both leave the store and the disk's content as they were.
+    /// `Disk`: a read of the disk failed. `NoHeader`: what the file's blocks hold is no header any more, which never
+    /// comes where it is known what they hold. Both leave the store and the disk's content as they were.
     ///
     /// [`header_in`]: crate::header_in
     pub fn header<D: Disk>(&mut self, disk: &mut D, number: u32) -> Result<&[u8], HeaderFault>
@@ -509,13 +519,13 @@ impl FileStore {
             block,
             count,
         };
-        // A crash before the record's gate is synced leaves the octets not held: the entry says that they are only after
-        // it, and the block that they were put in is used by no file.
+        // A crash before the record's gate is synced leaves the octets not held: the entry says that they are only
+        // after it, and the block that they were put in is used by no file.
         put_change(&mut self.kept, disk, &hold)
     }
 
-    /// Ends the file of this number, of which all octets came: those that wait become held, and it is sealed, or dropped
-    /// where it has a fault; or it stays under way and out, where a read failed.
+    /// Ends the file of this number, of which all octets came: those that wait become held, and it is sealed, or
+    /// dropped where it has a fault; or it stays under way and out, where a read failed.
     fn end_file<D: Disk>(
         &mut self,
         disk: &mut D,
@@ -540,8 +550,8 @@ impl FileStore {
         }
     }
 
-    /// The octets that wait of the upload of this number, of whose file all came, become held, by one Grow where there are
-    /// any.
+    /// The octets that wait of the upload of this number, of whose file all came, become held, by one Grow where there
+    /// are any.
     fn hold_rest<D: Disk>(&mut self, disk: &mut D, number: u32) -> Result<(), DiskFault>
         requires ready { IsReady D.Disk self.old disk.old }
         requires whole { IsWholeWaiting self.old number }
@@ -578,8 +588,8 @@ impl FileStore {
             moment,
             header,
         };
-        // A crash before the record's gate is synced leaves the file whole and under way: the caller goes on with it and
-        // ends it again. No receipt is given before.
+        // A crash before the record's gate is synced leaves the file whole and under way: the caller goes on with it
+        // and ends it again. No receipt is given before.
         put_change(&mut self.kept, disk, &seal)
     }
 

@@ -7,9 +7,9 @@ use crate::LONGEST_FILE;
 use px_base::Call;
 use std::marker::Model;
 
-/// An upload under way: the way to its entry in the store. It must be spent, by `seal` or `park`. It knows only what stays
-/// whatever becomes of other uploads: in every image of the disk its entry is under way, and holds at least the octets
-/// that it says. Contracts see it as an `Upload`.
+/// An upload under way: the way to its entry in the store. It must be spent, by `seal` or `park`. It knows only what
+/// stays whatever becomes of other uploads: in every image of the disk its entry is under way, and holds at least the
+/// octets that it says. Contracts see it as an `Upload`.
 pub struct OpenUpload {
     number: u32,
     caller: Call,

@@ -13,7 +13,7 @@ returns-in_err-hold_rest g c =
     let new = c.hold_rest.new.self in
     record {
       ends = ends-err D c.from_residual.result self new c.args.disk.now c.hold_rest.new.disk c.args.number c.args.moment c.from_residual.ensures.0
-      (λ e. ends-cut D self c.args.disk.now c.args.number c.args.moment c.requires.whole c.requires.ready e new c.hold_rest.new.disk c.in_err-hold_rest.ensures.does);
+          (λ e. ends-cut D self c.args.disk.now c.args.number c.args.moment c.requires.whole c.requires.ready e new c.hold_rest.new.disk c.in_err-hold_rest.ensures.does);
     }
 
 pub check_file-requires-clause-there : goal.check_file-requires-clause-there
@@ -40,8 +40,8 @@ returns-in_err-seal_entry-in-Ok g c =
     let found = subst (λ (s : StoreState). ChecksFile (D.content c.hold_rest.new.disk) (placed_of (placed_in s) number) moment c.in-Ok.header) c.self.view_is c.in-Ok.ensures.header in
     record {
       ends = ends-err D c.from_residual-in_err-seal_entry-in-Ok.result self new c.args.disk.now c.seal_entry.new.disk number moment c.from_residual-in_err-seal_entry-in-Ok.ensures.0
-      (λ e. ends-uncertain D self c.args.disk.now number moment c.requires.whole c.requires.ready g.met.D.Disk.lasts_on c.hold_rest.new.self c.hold_rest.new.disk c.check_file.new.disk
-      c.in_ok-hold_rest.ensures.does _ (λ is. cc is) c.in-Ok.ensures.reads new c.seal_entry.new.disk c.seal_entry.ensures.leaves c.in-Ok.header found e c.in_err-seal_entry-in-Ok.ensures.does);
+          (λ e. ends-uncertain D self c.args.disk.now number moment c.requires.whole c.requires.ready g.met.D.Disk.lasts_on c.hold_rest.new.self c.hold_rest.new.disk c.check_file.new.disk
+          c.in_ok-hold_rest.ensures.does _ (λ is. cc is) c.in-Ok.ensures.reads new c.seal_entry.new.disk c.seal_entry.ensures.leaves c.in-Ok.header found e c.in_err-seal_entry-in-Ok.ensures.does);
     }
 
 pub drop_entry-requires-clause-partial : goal.drop_entry-requires-clause-partial
@@ -60,8 +60,8 @@ returns-in_err-drop_entry-in-Err-Header g c =
     let found = subst (λ (s : StoreState). HasFault (D.content c.hold_rest.new.disk) (placed_of (placed_in s) number) code) c.self.view_is (c.in-Err-Header.ensures.fault code (ap Err c.in-Err-Header.field-0-is)) in
     record {
       ends = ends-err D c.from_residual-in_err-drop_entry-in-Err-Header.result self new c.args.disk.now c.drop_entry.new.disk number moment c.from_residual-in_err-drop_entry-in-Err-Header.ensures.0
-      (λ e. ends-doubtful D self c.args.disk.now number moment c.requires.whole c.requires.ready g.met.D.Disk.lasts_on c.hold_rest.new.self c.hold_rest.new.disk c.check_file.new.disk
-      c.in_ok-hold_rest.ensures.does _ (λ is. let same = c.in-Err-Header.field-0-is in cc) c.in-Err-Header.ensures.reads new c.drop_entry.new.disk c.drop_entry.ensures.leaves code found e c.in_err-drop_entry-in-Err-Header.ensures.does);
+          (λ e. ends-doubtful D self c.args.disk.now number moment c.requires.whole c.requires.ready g.met.D.Disk.lasts_on c.hold_rest.new.self c.hold_rest.new.disk c.check_file.new.disk
+          c.in_ok-hold_rest.ensures.does _ (λ is. let same = c.in-Err-Header.field-0-is in cc) c.in-Err-Header.ensures.reads new c.drop_entry.new.disk c.drop_entry.ensures.leaves code found e c.in_err-drop_entry-in-Err-Header.ensures.does);
     }
 
 pub returns-in_ok-seal_entry-in-Ok : goal.returns-in_ok-seal_entry-in-Ok
@@ -72,8 +72,8 @@ returns-in_ok-seal_entry-in-Ok g c =
     let found = subst (λ (s : StoreState). ChecksFile (D.content c.hold_rest.new.disk) (placed_of (placed_in s) number) moment c.in-Ok.header) c.self.view_is c.in-Ok.ensures.header in
     record {
       ends = ends-sealed D c.args.self.now c.args.disk.now number moment c.requires.whole c.requires.ready g.met.D.Disk.lasts_on c.hold_rest.new.self c.hold_rest.new.disk c.check_file.new.disk
-      c.in_ok-hold_rest.ensures.does _ (λ is. cc is) c.in-Ok.ensures.reads c.seal_entry.new.self c.seal_entry.new.disk c.seal_entry.ensures.leaves c.in-Ok.header found
-      c.in_ok-seal_entry-in-Ok.ensures.does c.in_ok-seal_entry-in-Ok.ensures.sealed c.in_ok-seal_entry-in-Ok.ensures.rest;
+          c.in_ok-hold_rest.ensures.does _ (λ is. cc is) c.in-Ok.ensures.reads c.seal_entry.new.self c.seal_entry.new.disk c.seal_entry.ensures.leaves c.in-Ok.header found
+          c.in_ok-seal_entry-in-Ok.ensures.does c.in_ok-seal_entry-in-Ok.ensures.sealed c.in_ok-seal_entry-in-Ok.ensures.rest;
     }
 
 pub returns-in_ok-drop_entry-in-Err-Header : goal.returns-in_ok-drop_entry-in-Err-Header
@@ -85,8 +85,8 @@ returns-in_ok-drop_entry-in-Err-Header g c =
     let found = subst (λ (s : StoreState). HasFault (D.content c.hold_rest.new.disk) (placed_of (placed_in s) number) code) c.self.view_is (c.in-Err-Header.ensures.fault code (ap Err c.in-Err-Header.field-0-is)) in
     record {
       ends = ends-dropped D c.args.self.now c.args.disk.now number moment c.requires.whole c.requires.ready g.met.D.Disk.lasts_on c.hold_rest.new.self c.hold_rest.new.disk c.check_file.new.disk
-      c.in_ok-hold_rest.ensures.does _ (λ is. let same = c.in-Err-Header.field-0-is in cc) c.in-Err-Header.ensures.reads c.drop_entry.new.self c.drop_entry.new.disk c.drop_entry.ensures.leaves code found
-      c.in_ok-drop_entry-in-Err-Header.ensures.does c.in_ok-drop_entry-in-Err-Header.ensures.gone c.in_ok-drop_entry-in-Err-Header.ensures.rest (c.in-Err-Header.ensures.code code (ap Err c.in-Err-Header.field-0-is));
+          c.in_ok-hold_rest.ensures.does _ (λ is. let same = c.in-Err-Header.field-0-is in cc) c.in-Err-Header.ensures.reads c.drop_entry.new.self c.drop_entry.new.disk c.drop_entry.ensures.leaves code found
+          c.in_ok-drop_entry-in-Err-Header.ensures.does c.in_ok-drop_entry-in-Err-Header.ensures.gone c.in_ok-drop_entry-in-Err-Header.ensures.rest (c.in-Err-Header.ensures.code code (ap Err c.in-Err-Header.field-0-is));
     }
 
 pub returns-in-Err-Disk : goal.returns-in-Err-Disk
@@ -95,5 +95,5 @@ returns-in-Err-Disk g c =
     let ready = subst (λ (s : StoreState). IsReady D s c.check_file.new.disk) c.self.view_is c.in-Err-Disk.ensures.ready in
     record {
       ends = ends-unread D c.args.self.now c.args.disk.now c.args.number c.args.moment c.requires.whole c.requires.ready g.met.D.Disk.lasts_on c.hold_rest.new.self c.hold_rest.new.disk c.check_file.new.disk
-      c.in_ok-hold_rest.ensures.does _ (λ is. refl) (λ is. ap Err c.in-Err-Disk.field-0-is) c.in-Err-Disk.ensures.reads ready.stands_on c.in_ok-hold_rest.ensures.rest;
+          c.in_ok-hold_rest.ensures.does _ (λ is. refl) (λ is. ap Err c.in-Err-Disk.field-0-is) c.in-Err-Disk.ensures.reads ready.stands_on c.in_ok-hold_rest.ensures.rest;
     }
