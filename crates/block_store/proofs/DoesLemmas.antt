@@ -61,12 +61,6 @@ module _ {D : Type 0} (g : Ghosts D) where
       → Does g P old new disk disk_now (a ++ b)
   Does-longer P old new disk disk_now a b failed allowed = does_longer g store_form P a b (kept_at g old disk) (kept_at g new disk_now) failed allowed
 
-  -- whether the disk failed or not, the first of the commands were done
-  pub Does-first : (b : Bool) (old new : StoreState) (disk disk_now : D) (commands : List Command) → IsKnown g disk → Does g (b ≡ true) old new disk disk_now commands
-      → (count : ℕ) × (store_on g new disk_now ≡ after_first count (store_on g old disk) commands)
-  Does-first true old new disk disk_now commands known does = let some = does.cut refl in (some.count, some.state known)
-  Does-first false old new disk disk_now commands known does = (length commands, (does.done (λ e. cc e)).0 known ∙ sym (after_first-all commands (store_on g old disk)))
-
   -- ---- among reads
 
   pub reads-only : (failed : Bool) (self : StoreState) (old new : D) → Reads g (failed ≡ true) old new → IsReady g self old

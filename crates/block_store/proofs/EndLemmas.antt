@@ -213,13 +213,3 @@ module _ (self mid : StoreState) (number : ℕ) (whole : IsWholeWaiting self num
     where
       octets-same : (a b : List ℕ) (e : Entry) → Some (record e { holding = partial a }) ≡ Some (record e { holding = partial b }) → a ≡ b
       octets-same a b e same = ap (λ (o : Option Entry). octets_at o) same
-
--- ---- other files
-
--- they stay as they are
-pub last-leaves : (number : ℕ) (rest : List ℕ) (count : ℕ) (store : Store) → KeepsEntries store (after_first count store (outlined_all (last_grow number rest))) number
-last-leaves number [] zero store other e ne found = found
-last-leaves number [] (suc count) store other e ne found = found
-last-leaves number (x ∷ xs) zero store other e ne found = found
-last-leaves number (x ∷ xs) (suc zero) store other e ne found = after-other store (outlined_command (grow number (x ∷ xs))) other e ne found
-last-leaves number (x ∷ xs) (suc (suc count)) store other e ne found = after-other store (outlined_command (grow number (x ∷ xs))) other e ne found

@@ -46,12 +46,6 @@ module _ (self : StoreState) (number : ℕ) (sealed : Sealed (placed_in self) nu
       ap octets_at (entry_seen held (placed_in self) number sealed.file sealed.found)
       ∙ ap (λ (s : Option Seal). octets_of (holding_with s sealed.file (octets_in held sealed.file))) sealed.is
 
-  -- no more octets than it has are its header
-  pub sealed-header : IsPlaced (placed_in self) → sealed.mark.header ≤ sealed.file.held
-  sealed-header rules =
-      let file = found_holds (IsPlacedFile (placed_in self).blocks) number (placed_in self).entries sealed.file rules.files sealed.found in
-      subst (λ (s : Option Seal). IfSome s (λ m. m.header ≤ sealed.file.held)) sealed.is file.header
-
 -- ---- answers
 
 pub then-ok : {T E : Type 0} (result : Result T E) (P Q : Type 0) → (P → Q) → OnOk result P → OnOk result Q

@@ -22,12 +22,3 @@ recovery-refuses {T} blocks content e result is refuses healthy room =
 
     same : {P : Type 0} (f : StoreFault) → IsErrOf {T = T} (Err e) f ↔ P → IsErrOf result f ↔ P
     same f both = (λ was. both.0 (to f was), λ stands. from f (both.1 stands))
-
-pub reads-none : {D : Type 0} (g : Ghosts D) (disk : D) → ChangesReads g disk disk
-reads-none g disk = record {
-  same_content = refl;
-  same_images = λ image. (λ here. here, λ here. here);
-  same_moment = refl;
-  same_past = λ t image. (λ here. here, λ here. here);
-  same_write_faults = refl;
-}

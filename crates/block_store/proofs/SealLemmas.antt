@@ -322,11 +322,6 @@ pub rest-grow : (number count : ℕ) (waits : List ℕ) → count ≡ length wai
 rest-grow number count [] all some = absurd (some all)
 rest-grow number count (x ∷ xs) all some = ap (λ (octets : List ℕ). grow number octets ∷ []) (take_all count (x ∷ xs) (omega (arith, all)))
 
--- none
-pub rest-none-waits : (number : ℕ) (waits : List ℕ) → length waits ≡ 0 → last_grow number waits ≡ []
-rest-none-waits number [] none = refl
-rest-none-waits number (x ∷ xs) none = absurd (omega (arith, none))
-
 -- what was answered is that the disk failed
 pub ends-err : {D : Type 0} (g : Ghosts D) (result : Result End DiskFault) (old new : StoreState) (disk disk_now : D) (number moment : ℕ) → IsErr result
     → ((e : DiskFault) → EndsFile g (Err e) old new disk disk_now number moment) → EndsFile g result old new disk disk_now number moment

@@ -38,10 +38,6 @@ module _ (store : Store) (self : StoreState) (up : Upload) (moment begun : ℕ) 
       ∙ find-map-changed up.number (sealed moment) middle.entries entry then_is
       ∙ ap (λ (octets : List ℕ). Some (entry_for up begun (complete (stamped (upload_stamp up moment) octets) moment))) (sym come)
 
-  pub sealed-holding : (now : Store) → now ≡ after_all store (sealing store self up moment) → fault_code (octets_come store self up) ≡ None
-      → holding_of_number now up.number ≡ Some (complete (kept_file store self up moment) moment)
-  sealed-holding now made good = ap (option_map (λ (e : Entry). e.holding)) (sealed-entry now made good)
-
 -- ---- what the end of the upload's file leaves of it
 
 module _ {D : Type 0} (g : Ghosts D) (self new : StoreState) (disk disk_now : D) (up : Upload) (moment : ℕ) (h : Holds self up) where

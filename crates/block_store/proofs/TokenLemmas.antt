@@ -86,6 +86,3 @@ module _ {D : Type 0} (g : Ghosts D) (self : StoreState) (disk : D) (healthy : s
 
   pub entry-each : (number : ℕ) (entry : Entry) → entry_of (store_on g self disk) number ≡ Some entry → StandsInEach g number entry disk
   entry-each number entry found = told_weaker (g.content disk) _ _ (λ now told each image here. (store_on g self disk, each image here, found)) stands-each
-
-  pub kept-each : (up : Upload) (begun moment : ℕ) (octets : List ℕ) → entry_of (store_on g self disk) up.number ≡ Some (entry_for up begun (complete octets moment)) → IsKeptInEach g up octets moment disk
-  kept-each up begun moment octets found = told_weaker (g.content disk) _ _ (λ now told each image here. (store_on g self disk, begun, each image here, found)) stands-each

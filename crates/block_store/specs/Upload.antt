@@ -145,11 +145,3 @@ pub record IsWholeWaiting (self : StoreState) (number : ℕ) : Type 0 where
   pub waits : FitsWaiting self number
   pub few : length waits.rest < 512
   pub all : length waits.held + length waits.rest ≡ waits.entry.length
-
--- All octets of the file of this number are held, and it is under way.
-pub record IsHeldWhole (self : StoreState) (number : ℕ) : Type 0 where
-  pub entry : Entry
-  pub is_entry : entry_of (store_in self) number ≡ Some entry
-  pub held : List ℕ
-  pub partial_is : entry.holding ≡ partial held
-  pub all : length held ≡ entry.length

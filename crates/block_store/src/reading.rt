@@ -1,6 +1,6 @@
 //! What a store reads of its files from the blocks of its disk.
 
-ghost use Rattle.std.specs.Prelude.{◌≡◌, ℕ, ◌+◌, ◌≤◌, length, vec_capacity, IsErr, IsErrOf, IsSome, IsSomeAnd, IsTrue};
+ghost use Rattle.std.specs.Prelude.{ℕ, ◌+◌, ◌≤◌, length, vec_capacity, IsErr, IsErrOf, IsSome, IsSomeAnd, IsTrue};
 ghost use Rattle.std.specs.Prelude.{IfOk, IfSome, OnOk, ◌↔◌};
 ghost use Rattle.block_entries.specs.Checking.{ChecksFile, HasFault, IsFaultCode};
 ghost use Rattle.block_entries.specs.Placed.{placed_of};
