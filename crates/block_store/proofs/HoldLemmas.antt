@@ -1,11 +1,11 @@
 -- Octets that wait become held.
-use Rattle.std.proofs.Common.{◌≡◌, ℕ, zero, suc, ◌+◌, ◌-◌, ◌*◌, ◌<◌, ◌≤◌, List, [], ◌∷◌, ◌++◌, length, map, replicate, take, drop, Some, refl, sym, ◌∙◌, ap, subst, arith, inl, zero-add, length-append, length-drop, drop-drop}
+use Rattle.std.proofs.Common.{◌≡◌, ℕ, zero, suc, ◌+◌, ◌-◌, ◌*◌, ◌<◌, ◌≤◌, List, [], ◌∷◌, ◌++◌, length, replicate, take, drop, Some, refl, sym, ◌∙◌, ap, subst, arith, inl, zero-add, length-append, length-drop, drop-drop}
 use Rattle.std.specs.Option.{option_map}
 use Rattle.std.proofs.Math.Seq.{take-nil}
 use Rattle.std.proofs.lemmas.List.{append_assoc, length-replicate, length-take-le, map-append}
 use Rattle.disk_model.specs.declared.disk.Disk.{Ghosts}
 use Rattle.block_entries.specs.IsPlaced.{IsPlaced}
-use Rattle.file_entries.specs.Command.{AreAllowed, Command, after, after_all, grow, grown, grows, with_more}
+use Rattle.file_entries.specs.Command.{AreAllowed, Command, after_all, grow, grown, grows, with_more}
 use Rattle.file_entries.specs.Files.{octets_or_none}
 use Rattle.file_entries.specs.Store.{Store, entry_of, partial}
 use Rattle.file_entries.proofs.Offered.{after_all-append, find-map-changed, grows-allowed}

@@ -1,10 +1,8 @@
 -- What is read of a complete file.
 use Rattle.std.proofs.Common.{◌≡◌, ℕ, ◌≤◌, List, length, replicate, Option, None, Some, Result, Ok, Err, OnOk, refl, sym, ◌∙◌, ap, subst}
-use Rattle.std.specs.Prelude.{IfSome, IsSomeAnd, IsTrue, is_some}
+use Rattle.std.specs.Prelude.{IsSomeAnd, IsTrue, is_some}
 use Rattle.std.proofs.lemmas.List.{length-replicate}
 use Rattle.std.specs.Option.{option_map}
-use Rattle.block_entries.specs.IsPlaced.{IsPlaced, IsPlacedFile}
-use Rattle.block_entries.specs.FilesLaws.{found_holds}
 use Rattle.block_entries.specs.Outlined.{outlined_entry}
 use Rattle.block_entries.specs.Placed.{Placed, Seal, placed_of}
 use Rattle.block_entries.specs.PlacedFiles.{IsSealedIn}

@@ -1,7 +1,5 @@
 -- The recovery of a store, said as the store says it.
-use Rattle.std.proofs.Common.{◌≡◌, ◌↔◌, ℕ, List, Option, Result, Err, IsErrOf, refl, sym, ◌∙◌, ap}
-use Rattle.disk_model.specs.declared.disk.Disk.{Ghosts}
-use Rattle.file_journal.specs.Calls.{ChangesReads}
+use Rattle.std.proofs.Common.{◌≡◌, ◌↔◌, ℕ, List, Option, Result, Err, IsErrOf, sym, ◌∙◌, ap}
 use Rattle.file_journal.proofs.Offered.{told_weaker}
 use Rattle.block_store.specs.Recovery.{RefusesRecovery}
 use Rattle.file_journal.specs.declared.faults.StoreFault.{StoreFault}

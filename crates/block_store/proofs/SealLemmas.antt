@@ -25,8 +25,8 @@ use Rattle.file_entries.specs.Command.{Command, after_all, drop_entry, grow, las
 use Rattle.file_entries.specs.Faults.{fault_code}
 use Rattle.file_entries.specs.Files.{octets_or_none}
 use Rattle.file_entries.specs.Info.{IsCompleteIn}
-use Rattle.file_entries.specs.Store.{Entry, Store, entry_of}
-use Rattle.block_store.specs.Ending.{EndsFile, KeepsEntries, LeavesOthers}
+use Rattle.file_entries.specs.Store.{Entry, entry_of}
+use Rattle.block_store.specs.Ending.{EndsFile, LeavesOthers}
 use Rattle.block_store.specs.Kept.{ChangesEntry, KeepsOtherFiles}
 use Rattle.block_store.specs.OnDisk.{Does, DoesTo, outlined_all}
 use Rattle.block_store.specs.State.{IsKnown, IsReady, StandsOn, StoreState, placed_in, rest_in, store_in, store_on}

@@ -1,5 +1,5 @@
 -- What stands in every image of a disk on which a store stands.
-use Rattle.std.proofs.Common.{◌≡◌, ℕ, ◌≤◌, false, List, length, replicate, Option, None, Some, IfSome, refl, sym, ◌∙◌, ap, arith}
+use Rattle.std.proofs.Common.{◌≡◌, ℕ, false, List, length, replicate, Option, None, Some, IfSome, refl, sym, ◌∙◌, ap, arith}
 use Rattle.std.specs.Prelude.{IsSome}
 use Rattle.std.specs.Option.{option_map}
 use Rattle.std.proofs.lemmas.List.{length-replicate}
@@ -8,15 +8,15 @@ use Rattle.block_entries.specs.IsPlaced.{IsPlaced}
 use Rattle.block_entries.specs.Outlined.{outlined, outlined_entry}
 use Rattle.block_entries.specs.Placed.{Placed, PlacedStore, Seal, placed_of}
 use Rattle.block_entries.specs.PlacedLaws.{placed_seen}
-use Rattle.block_entries.specs.Seen.{entry_with, holding_with, octets_in, seen, seen_entry}
+use Rattle.block_entries.specs.Seen.{entry_with, holding_with, octets_in, seen}
 use Rattle.block_entries.proofs.Offered.{entry_seen, found_length, outlined_found}
 use Rattle.file_journal.specs.Calls.{images_now}
 use Rattle.file_journal.specs.Layout.{Blocks, blocks_on}
 use Rattle.file_journal.proofs.Offered.{images_here, told_weaker}
-use Rattle.file_entries.specs.Store.{Entry, Holding, complete, entry_of, holding_of, octets_of, partial}
-use Rattle.block_store.specs.Laws.{HoldsInEach, IsKeptInEach, StandsInEach}
+use Rattle.file_entries.specs.Store.{Entry, Holding, entry_of, holding_of, octets_of, partial}
+use Rattle.block_store.specs.Laws.{HoldsInEach, StandsInEach}
 use Rattle.block_store.specs.OnDisk.{kept_at}
-use Rattle.block_store.specs.State.{StandsFor, StandsOn, StoreState, placed_in, store_form, store_in, store_on}
+use Rattle.block_store.specs.State.{StandsFor, StandsOn, StoreState, placed_in, store_form, store_on}
 use Rattle.block_store.specs.Upload.{Holds, Upload, entry_for}
 use Rattle.block_store.proofs.DoesLemmas.{kept-on}
 

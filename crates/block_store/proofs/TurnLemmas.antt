@@ -1,34 +1,34 @@
 -- A change of the entries as a turn of the kept state: its record, and what that makes.
-use Rattle.std.proofs.Common.{◌≡◌, ◌+◌, ℕ, ◌≤◌, ◌<◌, ◌==◌, Bool, true, false, List, [], length, take, nat_le, nat_lt, Option, None, Some, refl, sym, ◌∙◌, ap, subst, arith, inl, inr}
+use Rattle.std.proofs.Common.{◌≡◌, ◌+◌, ℕ, ◌≤◌, ◌==◌, Bool, true, false, List, [], length, take, nat_le, nat_lt, Option, None, Some, refl, sym, ◌∙◌, ap, subst, arith}
 use Rattle.std.specs.Prelude.{IfSome, IsTrue, ◌&&◌, if◌then◌else◌}
 use Rattle.std.specs.Option.{option_and_then}
 use Rattle.std.proofs.lemmas.Bool.{eq-eqb}
 use Rattle.std.proofs.lemmas.Bool.Decides.{nat_tests}
-use Rattle.std.proofs.lemmas.List.{length-map, length-take-le}
+use Rattle.std.proofs.lemmas.List.{length-take-le}
 use Rattle.block_entries.specs.Checking.{IsSealable}
 use Rattle.block_entries.specs.IsPlaced.{IsPlaced}
 use Rattle.block_entries.specs.KeptLaws.{after_placed, blocks_seen, drop_placed, grow_placed, seal_placed}
-use Rattle.block_entries.specs.Placed.{Placed, PlacedStore, new_placed, placed_of, runs_of}
+use Rattle.block_entries.specs.Placed.{PlacedStore, placed_of}
 use Rattle.block_entries.specs.PlacedCommand as placed
 use Rattle.block_entries.specs.PlacedCommand.{PlacedCommand, after, can_seal, is_partial, is_whole, seal_with, with_grown, with_new, with_sealed, without_file}
 use Rattle.block_entries.specs.PlacedFiles.{EntriesState, PlacedFiles, rest_of, store_of}
 use Rattle.block_entries.specs.PlacedRecords.{IsWritable, placed_after, placed_form, placed_in, placed_step, placed_steps, record_of_placed}
-use Rattle.block_entries.specs.Seen.{octets_in, seen, seen_entry, stamp_at}
+use Rattle.block_entries.specs.Seen.{octets_in, seen, stamp_at}
 use Rattle.block_entries.specs.TestLaws.{Grows, Passes, passes_found}
-use Rattle.block_entries.proofs.Offered.{grows_allowed, placed_records, put_there, seal_step, seen_after, seen_allowed, seen_may_grow, seen_put, seen_sealed, written_record}
+use Rattle.block_entries.proofs.Offered.{grows_allowed, placed_records, seal_step, seen_after, seen_allowed, seen_may_grow, seen_put, seen_sealed, written_record}
 use Rattle.file_entries.specs.Command as file
 use Rattle.file_entries.specs.Command.{IsAllowed, MayBegin, can_begin}
 use Rattle.file_entries.specs.Files.{octets_or_none}
 use Rattle.file_entries.specs.Limits.{last_next, longest_file, most_entries}
-use Rattle.file_entries.specs.Store.{Entry, Store, blocks_for, blocks_of, free_blocks}
+use Rattle.file_entries.specs.Store.{Store, blocks_for, blocks_of}
 use Rattle.file_entries.proofs.Offered.{both-true}
 use Rattle.file_journal.specs.Layout.{Blocks}
 use Rattle.file_journal.specs.Records.{Record}
-use Rattle.file_journal.specs.Steps.{HasPut, PutBlock, WritesTurn}
-use Rattle.block_store.specs.Changes.{HasFor, LetsBy, MayMake, command_by, next_by, placed_by, puts_by, turn_by, waiting_front}
+use Rattle.file_journal.specs.Steps.{HasPut, WritesTurn}
+use Rattle.block_store.specs.Changes.{LetsBy, MayMake, placed_by, turn_by, waiting_front}
 use Rattle.block_store.specs.declared.change.EntriesChange.{EntriesChange}
 use Rattle.block_store.specs.declared.change.EntriesChange.TheVariants as change
-use Rattle.px_base.specs.CallSign.{CallSign, IsCall}
+use Rattle.px_base.specs.CallSign.{CallSign}
 
 -- ---- the conditions
 

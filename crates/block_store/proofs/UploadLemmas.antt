@@ -1,11 +1,11 @@
 -- What the commands of one upload keep of the others, and what becomes of it.
-use Rattle.std.proofs.Common.{◌≡◌, ◌≢◌, ℕ, ◌+◌, ◌-◌, ◌*◌, ◌/◌, ◌<◌, ◌≤◌, ◌==◌, List, [], ◌∷◌, ◌++◌, length, take, drop, map, replicate, Option, None, Some, inl, inr, refl, sym, ◌∙◌, ap, subst, arith, length-append, length-drop}
+use Rattle.std.proofs.Common.{◌≡◌, ◌≢◌, ℕ, ◌+◌, ◌-◌, ◌*◌, ◌/◌, ◌≤◌, List, [], ◌∷◌, ◌++◌, length, take, drop, replicate, Option, None, Some, inl, inr, refl, sym, ◌∙◌, ap, subst, arith, length-append, length-drop}
 use Rattle.std.specs.Prelude.{IsTrue, find}
 use Rattle.std.specs.Option.{option_and_then, option_map}
 use Rattle.std.proofs.lemmas.Bool.Decides.{eqb_tells, nat_tests}
 use Rattle.std.proofs.lemmas.List.{length-replicate, length-take-le}
 use Rattle.disk_model.specs.declared.disk.Disk.{Ghosts}
-use Rattle.block_entries.specs.Placed.{Placed, has_number, placed_of}
+use Rattle.block_entries.specs.Placed.{has_number, placed_of}
 use Rattle.block_entries.specs.PlacedFiles.{KeepsRests, PlacedFile, PlacedFiles, entries_of, file_of, rest_of, store_of}
 use Rattle.px_base.specs.CallSign.{CallSign}
 use Rattle.file_entries.specs.Command.{Command, after, after_all, begin, grown, grows}

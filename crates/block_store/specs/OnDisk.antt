@@ -1,5 +1,5 @@
 -- What the commands of a call do to the disk, at every moment of it.
-use Rattle.std.specs.Prelude.{◌≡◌, ℕ, List, length, map, replicate, None}
+use Rattle.std.specs.Prelude.{◌≡◌, ℕ, List, length, map, replicate}
 use Rattle.disk_model.specs.declared.disk.Disk.{Ghosts}
 use Rattle.file_journal.specs.Commands as kept_commands
 use Rattle.file_journal.specs.Commands.{done_at}
@@ -8,7 +8,7 @@ use Rattle.file_journal.specs.Kept.{KeptOn, kept_on}
 use Rattle.file_entries.specs.Command.{Command, after_all, begin, drop_entry, grow, seal}
 use Rattle.block_entries.specs.PlacedFiles.{KeepsRests}
 use Rattle.file_entries.specs.Store.{Store}
-use Rattle.block_store.specs.State.{StandsOn, StoreState, rest_in, store_form, store_in, store_on}
+use Rattle.block_store.specs.State.{StandsOn, StoreState, store_form, store_in, store_on}
 
 -- the store after the first so many of these commands
 abbrev pub after_first : ℕ → Store → List Command → Store

@@ -1,4 +1,4 @@
-use Rattle.std.proofs.Common.{◌≡◌, sym, arith}
+use Rattle.std.proofs.Common.{sym, arith}
 use Rattle.file_journal.specs.Layout.{blocks_on}
 use Rattle.block_store.specs.State.{StoreState, state_from}
 use Rattle.block_store.proofs.OnLemmas.{known_told, on-seals, told_known}

@@ -1,11 +1,10 @@
-use Rattle.std.proofs.Common.{◌≡◌, ℕ, ◌/◌, ◌++◌, true, false, List, length, Some, refl, sym, ◌∙◌, ap, subst, arith, rules}
+use Rattle.std.proofs.Common.{◌≡◌, ℕ, ◌/◌, ◌++◌, true, List, length, Some, refl, sym, ◌∙◌, ap, subst, arith, rules}
 use Rattle.std.specs.Option.{option_map}
-use Rattle.block_entries.specs.PlacedFiles.{KeepsRests, store_of}
+use Rattle.block_entries.specs.PlacedFiles.{store_of}
 use Rattle.file_entries.specs.Command.{Command, grows, unfilled_block, whole_grows}
 use Rattle.file_entries.specs.Files.{octets_or_none}
-use Rattle.block_store.specs.Kept.{KeepsOtherFiles}
 use Rattle.block_store.specs.OnDisk.{Does}
-use Rattle.block_store.specs.State.{StandsOn, StoreState, rest_in, state_from, store_in}
+use Rattle.block_store.specs.State.{StoreState, rest_in, state_from, store_in}
 use Rattle.block_store.specs.Upload.{Holds, Upload, appended, appending, with_bytes}
 use Rattle.block_store.proofs.DoesLemmas.{Does-moved}
 use Rattle.block_store.proofs.OnLemmas.{in_parked, stands_parked}

@@ -1,4 +1,4 @@
-use Rattle.std.proofs.Common.{◌≡◌, ℕ, true, false, [], ◌∷◌, IsErr, Option, None, Some, is_some, refl, sym, ◌∙◌, ap, subst, arith, rules}
+use Rattle.std.proofs.Common.{◌≡◌, ℕ, true, false, [], ◌∷◌, IsErr, None, Some, is_some, refl, sym, ◌∙◌, ap, subst, arith, rules}
 use Rattle.block_entries.specs.Outlined.{outlined}
 use Rattle.block_entries.specs.Placed.{PlacedStore, new_placed, placed_of}
 use Rattle.block_entries.specs.PlacedCommand.{with_new}
@@ -6,17 +6,15 @@ use Rattle.block_entries.specs.PlacedFiles.{KeepsRests, PlacedFiles, rest_of, st
 use Rattle.block_entries.specs.Seen.{seen}
 use Rattle.block_entries.proofs.Offered.{new_is_found, none_past, outlined_new, outlined_rules}
 use Rattle.px_base.specs.CallSign.{CallSign}
-use Rattle.file_entries.specs.Bars.{Bars}
 use Rattle.file_entries.specs.Command.{Command, MayBegin, after, begin}
 use Rattle.file_entries.specs.IsStore.{IsStore}
 use Rattle.file_entries.specs.Kept.{KeepsComplete}
 use Rattle.file_entries.specs.Store.{Store}
-use Rattle.file_entries.specs.declared.entries.BeginBar.{BeginBar}
 use Rattle.file_entries.proofs.Offered.{begin-KeepsComplete}
 use Rattle.file_journal.specs.Layout.{Blocks}
 use Rattle.block_store.specs.Answers.{RefusesBegin}
 use Rattle.block_store.specs.OnDisk.{Does}
-use Rattle.block_store.specs.State.{StandsOn, StoreState, placed_in, rest_in, state_from, store_in}
+use Rattle.block_store.specs.State.{StoreState, placed_in, rest_in, state_from, store_in}
 use Rattle.block_store.specs.Upload.{Holds, Upload, new_upload}
 use Rattle.block_store.specs.declared.refusals.BeginRefusal.{BeginRefusal}
 use Rattle.block_store.specs.declared.refusals.BeginRefusal.TheVariants as refusal

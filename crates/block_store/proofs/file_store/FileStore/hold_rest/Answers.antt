@@ -1,4 +1,4 @@
-use Rattle.std.proofs.Common.{◌≡◌, ℕ, List, length, IsErr, ◌∙◌, ap, subst, arith, rules}
+use Rattle.std.proofs.Common.{◌≡◌, List, length, IsErr, ◌∙◌, ap, subst, arith}
 use Rattle.file_entries.specs.Command.{Command}
 use Rattle.file_entries.specs.Files.{octets_or_none}
 use Rattle.block_store.specs.OnDisk.{DoesTo}

@@ -1,11 +1,8 @@
 use Rattle.std.proofs.Common.{sym, subst}
-use Rattle.std.specs.Prelude.{OnOk}
 use Rattle.block_entries.specs.PlacedCommand.{seal_with}
-use Rattle.block_entries.specs.PlacedFiles.{PlacedFiles}
 use Rattle.block_entries.specs.TestLaws.{TakesSeal}
-use Rattle.file_entries.specs.Info.{IsCompleteIn}
 use Rattle.block_store.specs.Ending.{LeavesOthers}
-use Rattle.block_store.specs.State.{StoreState, placed_in, state_from, store_in}
+use Rattle.block_store.specs.State.{StoreState, placed_in, state_from}
 use Rattle.block_store.proofs.PutLemmas.{err-files}
 use Rattle.block_store.proofs.SealLemmas.{put-sealed}
 use Rattle.block_store.proofs.file_store.FileStore.seal_entry.Goals as goal
