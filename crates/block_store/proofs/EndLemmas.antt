@@ -11,7 +11,7 @@ use Rattle.block_entries.specs.Placed.{Placed, Seal, placed_of}
 use Rattle.block_entries.specs.PlacedCommand.{is_partial as placed_partial, is_whole}
 use Rattle.block_entries.specs.Seen.{holding_with, octets_in, seen, seen_entry}
 use Rattle.block_entries.specs.TestLaws.{Passes}
-use Rattle.block_entries.proofs.Offered.{entry_seen, found_length, outlined_found}
+use Rattle.block_entries.proofs.Offered.{entry_seen, found_length}
 use Rattle.file_entries.specs.Faults.{fault_code}
 use Rattle.file_entries.specs.Command.{AreAllowed, after_all, grown, is_allowed, is_good, is_partial, last_grow, passes, with_more}
 use Rattle.file_entries.specs.Files.{octets_or_none}
@@ -22,6 +22,7 @@ use Rattle.block_store.specs.Ending.{IsWhole}
 use Rattle.block_store.specs.OnDisk.{outlined_all}
 use Rattle.block_store.specs.State.{StoreState, placed_in, rest_in, store_in}
 use Rattle.block_store.specs.Upload.{IsWholeWaiting, come_of, ending}
+use Rattle.block_store.proofs.TokenLemmas.{file-under}
 
 -- ---- the commands, over a store
 
@@ -60,27 +61,10 @@ pub record IsUnder (self : StoreState) (number : ℕ) (entry : Entry) : Type 0 w
   pub seal : file.seal ≡ None
   pub is : entry ≡ outlined_entry file
 
-no-seal : (octets held : List ℕ) (o : Option ℕ) → holding_of octets o ≡ partial held → o ≡ None
-no-seal octets held None is = refl
-no-seal octets held (Some moment) is = absurd (cc is)
-
-unsealed : (s : Option Seal) → option_map (λ (m : Seal). m.moment) s ≡ None → s ≡ None
-unsealed None is = refl
-unsealed (Some m) is = absurd (cc is)
-
 pub under : (self : StoreState) (number : ℕ) (entry : Entry) (held : List ℕ) → entry_of (store_in self) number ≡ Some entry → entry.holding ≡ partial held → IsUnder self number entry
-under self number entry held found is = by (placed_of (placed_in self) number) refl (sym (outlined_found (placed_in self) number) ∙ found)
-  where
-    by : (o : Option Placed) → placed_of (placed_in self) number ≡ o → option_map outlined_entry o ≡ Some entry → IsUnder self number entry
-    by None same same_entry = absurd (cc same_entry)
-    by (Some f) same same_entry =
-        let here : entry ≡ outlined_entry f = let e : outlined_entry f ≡ entry = cc same_entry in sym e in
-        record {
-          file = f;
-          found = same;
-          seal = unsealed f.seal (no-seal (replicate f.held 0) held _ (sym (ap (λ (e : Entry). e.holding) here) ∙ is));
-          is = here;
-        }
+under self number entry held found is =
+    let one = file-under (placed_in self) number entry held is found in
+    record { file = one.file; found = one.found; seal = one.seal; is = sym one.shown }
 
 module _ (self : StoreState) (number : ℕ) (entry : Entry) (one : IsUnder self number entry) where
   abbrev file : Placed
@@ -134,9 +118,6 @@ module _ (self : StoreState) (number : ℕ) (whole : IsWholeWaiting self number)
 
     pub come-is : come_of (seen held (placed_in self)) self number ≡ octets ++ rest
     come-is = ap (λ (o : Option Entry). octets_at o ++ rest) (under-on self number entry whole-under held)
-
-    pub come-length : length (octets ++ rest) ≡ entry.length
-    come-length = omega (arith, length-append octets rest, octets-length, rest-length, whole.all)
 
     pub sealing-allowed : (moment : ℕ) (code : Option ℕ) → code ≡ fault_code (come_of (seen held (placed_in self)) self number)
         → AreAllowed (seen held (placed_in self)) (last_grow number rest ++ ending number moment code ∷ [])
