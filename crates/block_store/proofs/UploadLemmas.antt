@@ -1,0 +1,257 @@
+-- What the commands of one upload keep of the others, and what becomes of it.
+use Rattle.std.proofs.Common.{◌≡◌, ◌≢◌, ℕ, ◌+◌, ◌-◌, ◌*◌, ◌/◌, ◌≤◌, List, [], ◌∷◌, ◌++◌, length, take, drop, replicate, Option, None, Some, inl, inr, refl, sym, ◌∙◌, ap, subst, arith, length-append, length-drop}
+use Rattle.std.specs.Prelude.{IsTrue, find}
+use Rattle.std.specs.Option.{option_and_then, option_map}
+use Rattle.std.proofs.lemmas.Bool.Decides.{eqb_tells, nat_tests}
+use Rattle.std.proofs.lemmas.List.{length-replicate, length-take-le}
+use Rattle.disk_model.specs.declared.disk.Disk.{Ghosts}
+use Rattle.block_entries.specs.Placed.{has_number, placed_of}
+use Rattle.block_entries.specs.PlacedFiles.{KeepsRests, PlacedFile, PlacedFiles, entries_of, file_of, rest_of, store_of}
+use Rattle.px_base.specs.CallSign.{CallSign}
+use Rattle.file_entries.specs.Command.{Command, after, after_all, begin, grown, grows}
+use Rattle.file_entries.specs.Files.{octets_or_none}
+use Rattle.file_entries.specs.Info.{is_complete}
+use Rattle.file_entries.specs.IsStore.{IsStore}
+use Rattle.file_entries.specs.Kept.{KeepsComplete}
+use Rattle.file_entries.specs.Store.{Entry, Store, entry_of, new_entry, partial}
+use Rattle.file_entries.proofs.Offered.{find-append_found, find-map-changed, find-push, find_past, grows-after, has_number as has_entry_number, never-both}
+use Rattle.block_store.specs.Ending.{KeepsEntries}
+use Rattle.block_store.specs.Kept.{ChangesEntry, KeepsOtherFiles, KeepsOthers, KeepsUploads}
+use Rattle.block_store.specs.OnDisk.{after_first, outlined_all}
+use Rattle.block_store.specs.State.{StandsOn, StoreState, rest_in, store_in}
+use Rattle.block_store.specs.Upload.{FillsBlock, FitsWaiting, Holds, IsWholeWaiting, Upload, appended, appending, came, entry_for, new_upload, waiting, with_bytes}
+use Rattle.block_store.proofs.GrowsLemmas.{AreGrows, grows-are, others-same, outlined-are, outlined-grows, own-before, take-are}
+use Rattle.block_store.proofs.OnLemmas.{in_parked, stands_parked}
+
+pub appending-are : (self : StoreState) (up : Upload) (bytes : List ℕ) → AreGrows up.number (appending self up bytes)
+appending-are self up bytes = grows-are up.number (length (with_bytes self up bytes) / 512) (with_bytes self up bytes)
+
+-- ---- what a call keeps
+
+pub entries-uploads : (old new : StoreState) (number : ℕ) → KeepsEntries (store_in old) (store_in new) number → KeepsRests old.files new.files number → KeepsOthers old new number
+entries-uploads old new number entries rests other ne h = record {
+  begun = h.begun;
+  held = h.held;
+  entry = entries other.number _ ne h.entry;
+  count = h.count;
+  rest = h.rest;
+  out = rests other.number ne ∙ h.out;
+  few = h.few;
+  came = h.came;
+}
+
+pub entries-complete : (before now : Store) (number : ℕ) (entry : Entry) (held : List ℕ) → entry_of before number ≡ Some entry → entry.holding ≡ partial held → KeepsEntries before now number
+    → KeepsComplete before now
+entries-complete before now number entry held is partial_is entries other found there whole =
+    elim (eqb_tells other number) [
+      | inl w ↦
+          let same : found ≡ entry = let f = subst (λ (n : ℕ). entry_of before n ≡ Some found) w.1 there in cc (sym f ∙ is) in
+          absurd (never-both entry.holding held partial_is (subst (λ (e : Entry). IsTrue (is_complete e.holding)) same whole))
+      | inr w ↦ entries other found w.1 there
+    ]
+
+-- what Grows of one number make of the entries
+module _ (before now : Store) (number : ℕ) (commands : List Command) (are : AreGrows number commands) (part : (count : ℕ) × (now ≡ after_first count before (outlined_all commands))) where
+  abbrev first : List Command
+  first = take part.0 (outlined_all commands)
+
+  first-are : AreGrows number first
+  first-are = take-are part.0 number (outlined_all commands) (outlined-are number commands are)
+
+  pub grows-leave : (other : ℕ) → other ≢ number → entry_of now other ≡ entry_of before other
+  grows-leave other ne = ap (λ (s : Store). entry_of s other) part.1 ∙ others-same first before number other first-are ne
+
+  pub grows-entries : KeepsEntries before now number
+  grows-entries other entry ne found = grows-leave other ne ∙ found
+
+  pub grows-change : ChangesEntry before now number
+  grows-change other entry found =
+      elim (eqb_tells other number) [
+        | inl w ↦
+            let there : entry_of (after_all before first) number ≡ Some entry = ap (λ (s : Store). entry_of s number) (sym part.1) ∙ ap (entry_of now) (sym w.1) ∙ found in
+            let was = own-before first before number entry first-are there in
+            (was.0, ap (entry_of before) w.1 ∙ was.1, was.2, λ ne. absurd (ne w.1))
+        | inr w ↦ (entry, sym (grows-leave other w.1) ∙ found, refl, λ ne. refl)
+      ]
+
+module _ {D : Type 0} (g : Ghosts D) (old new : StoreState) (disk_now : D) (commands : List Command) (up : Upload) (h : Holds old up) (are : AreGrows up.number commands)
+    (part : (count : ℕ) × (store_in new ≡ after_first count (store_in old) (outlined_all commands))) where
+  pub does-keeps : StandsOn g new disk_now → KeepsRests old.files new.files up.number → KeepsOtherFiles g old new disk_now up.number
+  does-keeps stands rests =
+      let entries = grows-entries (store_in old) (store_in new) up.number commands are part in
+      record {
+        stands_on = stands;
+        uploads = entries-uploads old new up.number entries rests;
+        rests = rests;
+        kept = entries-complete (store_in old) (store_in new) up.number _ h.held h.entry refl entries;
+        entries = grows-change (store_in old) (store_in new) up.number commands are part;
+      }
+
+pub changes-same : (number : ℕ) (before now : Store) → now ≡ before → ChangesEntry before now number
+changes-same number before now same other entry found = (entry, ap (λ (s : Store). entry_of s other) (sym same) ∙ found, refl, λ ne. refl)
+
+-- a call that changes no entry keeps them
+pub keeps-parked : {D : Type 0} (g : Ghosts D) (old new : StoreState) (disk : D) (number : ℕ) → store_of new.files ≡ store_of old.files → new.journal ≡ old.journal → StandsOn g old disk
+    → KeepsRests old.files new.files number → KeepsOtherFiles g old new disk number
+keeps-parked g old new disk number same journal stands rests =
+    let entries : KeepsEntries (store_in old) (store_in new) number = λ other entry ne found. ap (λ (s : Store). entry_of s other) (in_parked old new same) ∙ found in
+    record {
+      stands_on = stands_parked g old new disk same journal stands;
+      uploads = entries-uploads old new number entries rests;
+      rests = rests;
+      kept = λ other entry found whole. ap (λ (s : Store). entry_of s other) (in_parked old new same) ∙ found;
+      entries = changes-same number (store_in old) (store_in new) (in_parked old new same);
+    }
+
+-- what the blocks of an upload that became held make of what memory tells, of the store before its octets came
+module _ (self brought held new : StoreState) (these those : List Command) (first : store_in brought ≡ store_in self) (last : store_in new ≡ store_in held) (same : these ≡ those) where
+  pub append-part : (count : ℕ) × (store_in held ≡ after_first count (store_in brought) (outlined_all these)) → (count : ℕ) × (store_in new ≡ after_first count (store_in self) (outlined_all those))
+  append-part part = (
+    part.0,
+    last ∙ part.1 ∙ ap (λ (s : Store). after_first part.0 s (outlined_all these)) first ∙ ap (λ (cs : List Command). after_first part.0 (store_in self) (outlined_all cs)) same,
+  )
+
+  pub append-whole : store_in held ≡ after_all (store_in brought) (outlined_all these) → store_in new ≡ after_all (store_in self) (outlined_all those)
+  append-whole whole =
+      last ∙ whole ∙ ap (λ (s : Store). after_all s (outlined_all these)) first ∙ ap (λ (cs : List Command). after_all (store_in self) (outlined_all cs)) same
+
+-- ---- octets that come
+
+pub waiting-is : (self : StoreState) (up : Upload) (h : Holds self up) → waiting self up ≡ h.rest
+waiting-is self up h = ap octets_or_none h.out
+
+-- the entry has room for those that came too
+pub brought-fits : (self mid : StoreState) (up : Upload) (bytes : List ℕ) (number : ℕ) → number ≡ up.number → Holds self up → came self up + length bytes ≤ up.length
+    → store_in mid ≡ store_in self → rest_in mid number ≡ option_map (λ rest. rest ++ bytes) (rest_in self number) → FitsWaiting mid number
+brought-fits self mid up bytes number same h room store rest =
+    let long : length (waiting self up) ≡ length h.rest = ap length (waiting-is self up h) in
+    let count = h.count in
+    let sum : length (h.rest ++ bytes) ≡ length h.rest + length bytes = length-append h.rest bytes in
+    record {
+      entry = entry_for up h.begun (partial h.held);
+      is_entry = ap (λ (s : Store). entry_of s number) store ∙ ap (λ (n : ℕ). entry_of (store_in self) n) same ∙ h.entry;
+      held = h.held;
+      partial_is = refl;
+      rest = h.rest ++ bytes;
+      out = rest ∙ ap (option_map (λ (r : List ℕ). r ++ bytes)) (ap (λ (n : ℕ). rest_in self n) same ∙ h.out);
+      fits = omega arith;
+    }
+
+-- and what waits then
+pub brought-waits : (self mid : StoreState) (up : Upload) (bytes : List ℕ) (number : ℕ) → number ≡ up.number → Holds self up
+    → rest_in mid number ≡ option_map (λ rest. rest ++ bytes) (rest_in self number) → octets_or_none (rest_in mid number) ≡ with_bytes self up bytes
+brought-waits self mid up bytes number same h rest =
+    ap octets_or_none (rest ∙ ap (option_map (λ (r : List ℕ). r ++ bytes)) (ap (λ (n : ℕ). rest_in self n) same ∙ h.out)) ∙ ap (λ (r : List ℕ). r ++ bytes) (sym (waiting-is self up h))
+
+-- the upload with the blocks that became held
+pub appended-holds : (self new : StoreState) (up : Upload) (bytes : List ℕ) → Holds self up → came self up + length bytes ≤ up.length
+    → store_in new ≡ after_all (store_in self) (outlined_all (appending self up bytes)) → rest_in new up.number ≡ Some (drop (512 * (length (with_bytes self up bytes) / 512)) (with_bytes self up bytes))
+    → Holds new (appended self up bytes)
+appended-holds self new up bytes h room made rest =
+    let all : List ℕ = with_bytes self up bytes in
+    let zeros : List ℕ = replicate (length all) 0 in
+    let n : ℕ = length all / 512 in
+    let front : List ℕ = take (512 * n) zeros in
+    let long : length (waiting self up) ≡ length h.rest = ap length (waiting-is self up h) in
+    let sum : length all ≡ length (waiting self up) + length bytes = length-append (waiting self up) bytes in
+    let zeros_long : length zeros ≡ length all = length-replicate {A = ℕ} (length all) 0 in
+    let front_long : length front ≡ 512 * n = length-take-le (512 * n) zeros (omega arith) in
+    let left : length (drop (512 * n) all) ≡ length all - 512 * n = length-drop (512 * n) all in
+    let grown_is : store_in new ≡ after_all (store_in self) (grows up.number n zeros) =
+    made ∙ ap (after_all (store_in self)) (outlined-grows up.number n all) in
+    record {
+      begun = h.begun;
+      held = h.held ++ front;
+      entry = ap (λ (s : Store). entry_of s up.number) (grown_is ∙ grows-after up.number n zeros (store_in self)) ∙ find-map-changed up.number (grown front) (store_in self).entries _ h.entry;
+      count = length-append h.held front ∙ ap (λ (k : ℕ). k + length front) h.count ∙ ap (λ (k : ℕ). up.held + k) front_long;
+      rest = drop (512 * n) all;
+      out = rest;
+      few = omega arith;
+      came = omega arith;
+    }
+
+-- ---- the end
+
+-- all octets came
+abbrev pub whole-waiting : (self : StoreState) (up : Upload) (number : ℕ) → number ≡ up.number → Holds self up → came self up ≡ up.length → IsWholeWaiting self number
+whole-waiting self up number same h all =
+    let long : length (waiting self up) ≡ length h.rest = ap length (waiting-is self up h) in
+    let count = h.count in
+    record {
+      waits = record {
+        entry = entry_for up h.begun (partial h.held);
+        is_entry = ap (λ (n : ℕ). entry_of (store_in self) n) same ∙ h.entry;
+        held = h.held;
+        partial_is = refl;
+        rest = h.rest;
+        out = ap (λ (n : ℕ). rest_in self n) same ∙ h.out;
+        fits = omega arith;
+      };
+      few = h.few;
+      all = omega arith;
+    }
+
+-- those that wait are all that the file lacks
+pub whole-fills : (self : StoreState) (number count : ℕ) → IsWholeWaiting self number → 1 ≤ count → count ≡ length (octets_or_none (rest_in self number)) → FillsBlock self number count
+whole-fills self number count whole some all =
+    let long : length (octets_or_none (rest_in self number)) ≡ length whole.waits.rest = ap (λ (o : Option (List ℕ)). length (octets_or_none o)) whole.waits.out in
+    let few = whole.few in
+    let full = whole.all in
+    record { waits = whole.waits; some = some; most = omega arith; there = omega arith; fills = inr (omega arith) }
+
+-- ---- a file that was just begun
+
+pub begun-entry : (store : Store) (caller : CallSign) (file_length moment : ℕ) → IsStore store
+    → entry_of (after store (begin store.next caller file_length moment)) store.next ≡ Some (new_entry store.next caller file_length moment)
+begun-entry store caller file_length moment is =
+    find-push (has_entry_number store.next) store.entries _ (find_past store.next 1 store.next store.entries is.entries (omega arith)) (grind (arith, nat_tests))
+
+find-files : (number : ℕ) (files : List PlacedFile) → find (has_number number) (entries_of files) ≡ option_map (λ f. f.entry) (file_of files number)
+find-files number [] = refl
+find-files number (f ∷ fs) =
+    elim (eqb_tells f.entry.number number) [
+      | inl w ↦ rw w.0 refl
+      | inr w ↦ rw w.0 (find-files number fs)
+    ]
+
+-- no upload of a number without an entry is out
+pub rest-none : (files : PlacedFiles) (number : ℕ) → placed_of (store_of files) number ≡ None → rest_of files number ≡ None
+rest-none files number none = by (file_of files.files number) refl
+  where
+    by : (o : Option PlacedFile) → file_of files.files number ≡ o → rest_of files number ≡ None
+    by None is = ap (option_and_then (λ (f : PlacedFile). f.rest)) is
+    by (Some file) is =
+        let there : placed_of (store_of files) number ≡ Some file.entry = find-files number files.files ∙ ap (option_map (λ (f : PlacedFile). f.entry)) is in
+        absurd (cc (sym there ∙ none))
+
+pub begun-holds : (self new : StoreState) (caller : CallSign) (file_length moment : ℕ) → IsStore (store_in self)
+    → store_in new ≡ after (store_in self) (begin (store_in self).next caller file_length moment) → rest_in new (store_in self).next ≡ Some []
+    → Holds new (new_upload (store_in self).next caller file_length)
+begun-holds self new caller file_length moment is made rest = record {
+  begun = moment;
+  held = [];
+  entry = ap (λ (s : Store). entry_of s (store_in self).next) made ∙ begun-entry (store_in self) caller file_length moment is;
+  count = refl;
+  rest = [];
+  out = rest;
+  few = omega arith;
+  came = omega arith;
+}
+
+pub begun-uploads : (self new : StoreState) (caller : CallSign) (file_length moment : ℕ) → IsStore (store_in self)
+    → store_in new ≡ after (store_in self) (begin (store_in self).next caller file_length moment) → KeepsRests self.files new.files (store_in self).next → KeepsUploads self new
+begun-uploads self new caller file_length moment is made rests other h =
+    let ne : other.number ≢ (store_in self).next = λ same.
+    let none = find_past (store_in self).next 1 (store_in self).next (store_in self).entries is.entries (omega arith) in
+    let there = subst (λ (n : ℕ). entry_of (store_in self) n ≡ Some (entry_for other h.begun (partial h.held))) same h.entry in
+    cc (sym there ∙ none) in
+    record {
+      begun = h.begun;
+      held = h.held;
+      entry = ap (λ (s : Store). entry_of s other.number) made ∙ find-append_found (has_entry_number other.number) (store_in self).entries _ _ h.entry;
+      count = h.count;
+      rest = h.rest;
+      out = rests other.number ne ∙ h.out;
+      few = h.few;
+      came = h.came;
+    }

@@ -1,0 +1,14 @@
+use Rattle.std.proofs.Common.{◌∙◌, ap, subst}
+use Rattle.block_entries.specs.PlacedCommand.{PlacedCommand}
+use Rattle.block_entries.specs.PlacedRecords.{IsWritable, record_of_placed}
+use Rattle.file_journal.specs.Records.{record_of}
+use Rattle.block_store.proofs.TurnLemmas.{turn-written}
+use Rattle.block_store.proofs.change.EntriesChangeChangeEntries.write.Goals as goal
+
+pub returns : goal.returns
+returns c =
+    let value = c.command.ensures.value in
+    record {
+      writes = turn-written c.args.self.now c.args.entries.now (record_of c.write.result c.write.new.content) c.requires.may (subst (λ (command : PlacedCommand). IsWritable command) value c.command.ensures.writable)
+          (c.write.ensures ∙ ap record_of_placed value);
+    }

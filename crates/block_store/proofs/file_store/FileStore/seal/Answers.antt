@@ -1,0 +1,81 @@
+use Rattle.std.proofs.Common.{ℕ, Ok, None, refl, sym, subst, arith, rules}
+use Rattle.block_entries.specs.PlacedFiles.{Becomes}
+use Rattle.file_journal.proofs.Offered.{puts_among, puts_none}
+use Rattle.block_store.specs.Ending.{EndsFile, LeavesOthers}
+use Rattle.block_store.specs.State.{StoreState, placed_in, state_from}
+use Rattle.block_store.specs.Upload.{Holds, Upload}
+use Rattle.block_store.specs.declared.end.End.TheVariants as end
+use Rattle.block_store.proofs.OnLemmas.{stands_parked}
+use Rattle.block_store.proofs.SealLemmas.{leaves-keeps, leaves-then, parked-leaves}
+use Rattle.block_store.proofs.SealedLemmas.{ended-each, ended-kept, ended-unread}
+use Rattle.block_store.proofs.UploadLemmas.{keeps-parked, whole-waiting}
+use Rattle.block_store.proofs.file_store.FileStore.seal.Goals as goal
+
+pub returns-then-failed-clause-keeps : goal.returns-then-failed-clause-keeps
+returns-then-failed-clause-keeps g c =
+    keeps-parked g.D.Disk c.args.self.now c.park.new.self c.args.disk.now c.args.up.number c.park.ensures.rest.store_is c.park.ensures.journal c.requires.stands_on c.park.ensures.rest.others
+
+pub end_file-requires-clause-whole : goal.end_file-requires-clause-whole
+end_file-requires-clause-whole g c =
+    whole-waiting c.args.self.now c.args.up c.number-number.result c.number-number.ensures c.requires.holds (omega (arith, c.missing.ensures.missing, c.if-missing-gt0.false))
+
+pub returns-in-Ok-Sealed-clause-complete : goal.returns-in-Ok-Sealed-clause-complete
+returns-in-Ok-Sealed-clause-complete g c =
+    let D = g.D.Disk in
+    let self = c.args.self.now in
+    let ends : EndsFile D (Ok end.Sealed) self c.end_file.new.self c.args.disk.now c.end_file.new.disk c.args.up.number c.args.moment = search rules in
+    ended-kept D self c.end_file.new.self c.args.disk.now c.end_file.new.disk c.args.up c.args.moment c.requires.holds ends
+
+pub returns-in-Ok-Sealed-clause-every_image : goal.returns-in-Ok-Sealed-clause-every_image
+returns-in-Ok-Sealed-clause-every_image g c =
+    let D = g.D.Disk in
+    let self = c.args.self.now in
+    let ends : EndsFile D (Ok end.Sealed) self c.end_file.new.self c.args.disk.now c.end_file.new.disk c.args.up.number c.args.moment = search rules in
+    ended-each D self c.end_file.new.self c.args.disk.now c.end_file.new.disk c.args.up c.args.moment c.requires.holds ends
+
+pub returns-in-Ok-Sealed-clause-keeps : goal.returns-in-Ok-Sealed-clause-keeps
+returns-in-Ok-Sealed-clause-keeps g c =
+    let D = g.D.Disk in
+    let self = c.args.self.now in
+    let ends : EndsFile D (Ok end.Sealed) self c.end_file.new.self c.args.disk.now c.end_file.new.disk c.args.up.number c.args.moment = search rules in
+    leaves-keeps D self c.end_file.new.self c.end_file.new.disk c.args.up c.requires.holds ends.leaves
+
+pub returns-in-Ok-Dropped-clause-keeps : goal.returns-in-Ok-Dropped-clause-keeps
+returns-in-Ok-Dropped-clause-keeps g c =
+    let D = g.D.Disk in
+    let self = c.args.self.now in
+    let leaves : LeavesOthers D self c.end_file.new.self c.end_file.new.disk c.args.up.number = search rules in
+    leaves-keeps D self c.end_file.new.self c.end_file.new.disk c.args.up c.requires.holds leaves
+
+pub returns-in-Ok-Unread-clause-back : goal.returns-in-Ok-Unread-clause-back
+returns-in-Ok-Unread-clause-back g c =
+    let D = g.D.Disk in
+    let self = c.args.self.now in
+    let ends : EndsFile D (Ok end.Unread) self c.end_file.new.self c.args.disk.now c.end_file.new.disk c.args.up.number c.args.moment = search rules in
+    subst (λ (u : Upload). Holds c.end_file.new.self u) (sym c.whole.ensures) (ended-unread D self c.end_file.new.self c.args.disk.now c.end_file.new.disk c.args.up c.args.moment c.requires.holds ends)
+
+pub returns-in-Ok-Unread-clause-keeps : goal.returns-in-Ok-Unread-clause-keeps
+returns-in-Ok-Unread-clause-keeps g c =
+    let D = g.D.Disk in
+    let self = c.args.self.now in
+    let leaves : LeavesOthers D self c.end_file.new.self c.end_file.new.disk c.args.up.number = search rules in
+    leaves-keeps D self c.end_file.new.self c.end_file.new.disk c.args.up c.requires.holds leaves
+
+pub returns-then-failed-clause-puts : goal.returns-then-failed-clause-puts
+returns-then-failed-clause-puts g c = puts_among g.D.Disk _ c.args.disk.now c.args.disk.now (puts_none g.D.Disk c.args.disk.now _ (λ is. cc is) (g.met.D.Disk.lasts_same c.args.disk.now))
+
+pub returns-in-Err-clause-keeps : goal.returns-in-Err-clause-keeps
+returns-in-Err-clause-keeps g c =
+    let D = g.D.Disk in
+    let self = c.args.self.now in
+    let up = c.args.up in
+    let disk_now = c.end_file.new.disk in
+    let journal = c.self-2.inside.kept.journal in
+    let mid : StoreState = state_from c.self-2.inside.kept.ledger.files journal in
+    let new : StoreState = state_from c.park-in-Err.new.self.files journal in
+    let ended : LeavesOthers D self c.end_file.new.self disk_now up.number = search rules in
+    let leaves = subst (λ (s : StoreState). LeavesOthers D self s disk_now up.number) (sym c.self-2.view_is) ended in
+    let parked = subst (λ (n : ℕ). Becomes mid.files new.files (placed_in mid) n None) c.end-in-Err.ensures c.park-in-Err.ensures in
+    let stands = stands_parked D mid new disk_now parked.store_is refl leaves.stands_on in
+    leaves-keeps D self new disk_now up c.requires.holds
+    (leaves-then D self mid new disk_now disk_now up.number leaves (parked-leaves D mid new disk_now up.number stands parked))

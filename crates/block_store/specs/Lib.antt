@@ -1,0 +1,34 @@
+pub mod Answers
+pub mod ChangeLaws
+pub mod Changes
+pub mod Ending
+pub mod Kept
+pub mod Laws
+pub mod OnDisk
+pub mod Reads
+pub mod Recovery
+pub mod Refusals
+pub mod State
+pub mod Upload
+pub mod Working
+pub use Rattle.file_entries.specs.Bars
+pub use Rattle.file_entries.specs.Command
+pub use Rattle.block_entries.specs.PlacedFiles as Files
+pub use Rattle.block_entries.specs.Outlined
+pub use Rattle.block_entries.specs.Laws as EntriesLaws
+pub use Rattle.file_entries.specs.Headers
+pub use Rattle.file_entries.specs.Info
+pub use Rattle.file_entries.specs.IsStore
+pub use Rattle.file_entries.specs.Kept as EntriesKept
+pub use Rattle.file_entries.specs.Store
+pub use Rattle.file_entries.specs.declared.entries.BeginBar
+pub use Rattle.file_entries.specs.declared.info.Info as EntriesInfo
+pub use Rattle.file_entries.specs.Limits
+pub use Rattle.file_journal.specs.Calls
+pub use Rattle.file_journal.specs.Journal
+pub use Rattle.file_journal.specs.Position
+pub use Rattle.file_journal.specs.Records as JournalRecords
+pub use Rattle.file_journal.specs.Recovery as JournalRecovery
+pub use Rattle.file_journal.specs.Walk
+pub use Rattle.file_journal.specs.declared.faults.StoreFault
+pub use Rattle.file_journal.specs.declared.layout.Layout

@@ -1,0 +1,37 @@
+-- What a recovery of the store makes of a disk, what it answers, and what a crash in it leaves.
+use Rattle.std.specs.Prelude.{◌≡◌, ℕ, List, Option, IfSome, Result}
+use Rattle.disk_model.specs.declared.disk.Disk.{Ghosts}
+use Rattle.block_entries.specs.PlacedFiles.{NothingOut}
+use Rattle.file_journal.specs.Calls.{IsQuietNow}
+use Rattle.file_journal.specs.Restoring as restoring
+use Rattle.file_journal.specs.Walk.{state}
+use Rattle.block_store.specs.State.{IsReady, StoreState, standing_of, store_form, store_on}
+use Rattle.file_journal.specs.declared.faults.StoreFault.{StoreFault}
+
+-- The store that a recovery gives is the one that the content stood for. No upload is out, and the store is ready on
+-- the disk, which is quiet.
+pub record IsRecovered {D : Type 0} (g : Ghosts D) (blocks : ℕ) (disk disk_now : D) (self : StoreState) : Type 0 where
+  pub content : IfSome (g.content disk) (λ before. standing_of blocks before ≡ state (store_on g self disk_now))
+  pub nothing_out : NothingOut self.files
+  pub ready : IsReady g self disk_now
+  pub quiet : IsQuietNow g disk_now
+
+-- each refusal comes exactly where the content stands for it
+abbrev pub RefusesExactly : {T : Type 0} → ℕ → List ℕ → Result T StoreFault → Type 0
+RefusesExactly blocks before result = restoring.RefusesExactly store_form blocks before result
+
+-- but for a fault of the disk and want of memory, and where the content is told
+abbrev pub RefusesRecovery : {T : Type 0} → ℕ → Option (List ℕ) → Result T StoreFault → Type 0
+RefusesRecovery blocks content result = restoring.RefusesRecovery store_form blocks content result
+
+-- The octets stand for what these stand for, and differ from them only as the journal's recovery may leave them: 18
+-- octets or more are left as they are.
+abbrev pub StandsAlike : ℕ → List ℕ → List ℕ → Type 0
+StandsAlike blocks before image = restoring.StandsAlike store_form blocks before image
+
+-- Since the end of the first sync a crash leaves what stands for the same as the content before, and a content of 18
+-- octets or more as it is; only where that sync failed, and the answer is that fault, a crash may leave what it might
+-- have left before.
+abbrev pub LeavesAlikeSinceSync : {D T : Type 0} → Ghosts D → ℕ → Result T StoreFault → D → D → Type 0
+LeavesAlikeSinceSync g blocks result disk disk_now =
+    restoring.LeavesAlikeSinceSync g store_form blocks result disk disk_now

@@ -1,0 +1,12 @@
+-- The refusals of crates below as those of the store.
+use Rattle.file_entries.specs.declared.entries.BeginBar.{BeginBar}
+use Rattle.file_entries.specs.declared.entries.BeginBar.TheVariants as bar
+use Rattle.block_store.specs.declared.refusals.BeginRefusal.{BeginRefusal}
+use Rattle.block_store.specs.declared.refusals.BeginRefusal.TheVariants as refusal
+
+-- why a file can't be begun
+abbrev pub refusal_of_bar : BeginBar → BeginRefusal
+refusal_of_bar bar.TooLong = refusal.TooLong
+refusal_of_bar bar.TooMany = refusal.TooMany
+refusal_of_bar bar.NumbersGone = refusal.NumbersGone
+refusal_of_bar (bar.NoRoom blocks free) = refusal.NoRoom blocks free

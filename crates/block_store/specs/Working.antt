@@ -1,0 +1,26 @@
+-- What a run of a store's calls does to the disk where reads come among its commands.
+use Rattle.std.specs.Prelude.{ℕ, List}
+use Rattle.disk_model.specs.AtDisk.{AtDisk}
+use Rattle.disk_model.specs.declared.disk.Disk.{Ghosts}
+use Rattle.file_journal.specs.AmongReads as among
+use Rattle.file_entries.specs.Command.{Command}
+use Rattle.block_store.specs.OnDisk.{kept_at}
+use Rattle.block_store.specs.State.{StoreState, store_form}
+pub use Rattle.file_journal.specs.AmongReads.{CountsSome, PutsAmongReads, StopsAtFailedWrite, one_if}
+
+-- A store that hadn't failed did these commands, each in the calls of the disk that the form of a store says, or the
+-- disk failed in one of them; and reads came before, between and behind them, of which so many failed at least, or none
+-- did. A crash since it began leaves the store after the first of the commands, for some number of them, and no fewer
+-- than were done when it came. Without commands the disk is as reads leave it.
+abbrev pub DoesAmongReads :
+    {D : Type 0} → Ghosts D → Type 0 → ℕ → StoreState → StoreState → D → D → List Command → Type 0
+DoesAmongReads g failed missed old new disk disk_now commands =
+    among.DoesAmongReads g store_form failed missed commands (kept_at g old disk) (kept_at g new disk_now)
+
+-- The store did the first of these commands on its disk, and then the others, or the disk failed in one of these. Reads
+-- came among the first, of which so many failed at least, or none did, and among the others, of which none failed.
+pub record CutsOffAmongReads {D : Type 0} (g : Ghosts D) (failed : Type 0) (missed : ℕ)
+    (before now : AtDisk StoreState D) (done cut : List Command) : Type 0 where
+  pub then_is : AtDisk StoreState D
+  pub first : DoesAmongReads g ⊥ missed before.it then_is.it before.disk then_is.disk done
+  pub second : DoesAmongReads g failed 0 then_is.it now.it then_is.disk now.disk cut

@@ -1,0 +1,155 @@
+//! The changes of the entries, each of which is one command.
+
+ghost use Rattle.std.specs.Prelude.{◌≡◌};
+ghost use Rattle.block_entries.specs.Placed.{PlacedStore};
+ghost use Rattle.block_entries.specs.PlacedCommands.{placed_value};
+ghost use Rattle.block_entries.specs.PlacedFiles.{store_of};
+ghost use Rattle.block_entries.specs.PlacedLaws.{placed_seen};
+ghost use Rattle.block_entries.specs.PlacedRecords.{IsWritable, placed_form, placed_steps};
+ghost use Rattle.block_entries.specs.Seen.{seen};
+ghost use Rattle.file_entries.specs.Command.{Command as StoreCommand};
+ghost use Rattle.file_entries.specs.Store.{Store};
+ghost use Rattle.file_journal.specs.Form.{same_form};
+ghost use Rattle.block_store.specs.ChangeLaws.{lets_same};
+ghost use Rattle.block_store.specs.Changes.{MakesOf, MayMake, placed_by, turn_by};
+
+use block_entries::{CheckedHeader, Entries, PlacedCommand};
+use file_journal::{BlockPut, Change, RecordContent};
+use px_base::Call;
+
+/// A change of the entries, which is one command.
+#[derive(Clone, Copy)]
+pub(crate) enum EntriesChange {
+    /// A file is begun, with the next number. There is room for it in memory.
+    Begin {
+        caller: Call,
+        length: u32,
+        moment: u32,
+    },
+    /// So many of the octets that wait of the upload of this number become held, 1 to 512, in the lowest block that no
+    /// file has.
+    Hold {
+        number: u32,
+        block: u32,
+        count: usize,
+    },
+    /// The file of this number is whole, no upload of it is out, and a check found its header so.
+    Seal {
+        number: u32,
+        moment: u32,
+        header: CheckedHeader,
+    },
+    /// The file of this number is given up.
+    Drop {
+        number: u32,
+    },
+}
+
+impl EntriesChange {
+    /// Its command.
+    fn command(self, entries: &Entries) -> PlacedCommand
+        requires { MayMake self entries.now }
+        ensures value { placed_value result ≡ placed_by self entries.now.files }
+        ensures writable { IsWritable (placed_value result) }
+    {
+        match self {
+            EntriesChange::Begin {
+                caller,
+                length,
+                moment,
+            } => PlacedCommand::Begin {
+                number: entries.next(),
+                caller,
+                length,
+                moment,
+            },
+            EntriesChange::Hold {
+                number,
+                block,
+                count,
+            } => PlacedCommand::Grow {
+                number,
+                block,
+                used: count as u16,
+            },
+            EntriesChange::Seal {
+                number,
+                moment,
+                header,
+            } => PlacedCommand::Seal {
+                number,
+                moment,
+                sum: header.sum,
+            },
+            EntriesChange::Drop { number } => PlacedCommand::Drop { number },
+        }
+    }
+}
+
+impl Change<Entries> for EntriesChange {
+    ghost State = { PlacedStore };
+
+    ghost Seen = { Store };
+
+    ghost Command = { StoreCommand };
+
+    ghost form = { placed_form };
+
+    ghost steps = { placed_steps };
+
+    ghost seen = { seen };
+
+    ghost state = { λ entries. store_of entries.files };
+
+    ghost turn = { λ change entries. turn_by change entries.files };
+
+    ghost may = { MayMake };
+
+    ghost makes = { λ change old new. MakesOf change old.files new.files };
+
+    fn block<'a>(&'a self, entries: &'a Entries) -> Option<BlockPut<'a>> {
+        match *self {
+            EntriesChange::Hold {
+                number,
+                block,
+                count,
+            } => Some(BlockPut {
+                block,
+                octets: &entries.waiting(number)[..count],
+            }),
+            EntriesChange::Begin { .. } | EntriesChange::Seal { .. } | EntriesChange::Drop { .. } =>
+                { None }
+        }
+    }
+
+    fn write(&self, entries: &Entries, content: &mut RecordContent) -> u8 {
+        self.command(entries).write(content)
+    }
+
+    fn make(&self, entries: &mut Entries) {
+        match *self {
+            EntriesChange::Begin {
+                caller,
+                length,
+                moment,
+            } => entries.begin(caller, length, moment),
+            EntriesChange::Hold {
+                number,
+                block,
+                count,
+            } => entries.hold(number, block, count),
+            EntriesChange::Seal {
+                number,
+                moment,
+                header,
+            } => entries.seal(number, moment, header.sum, header.len),
+            EntriesChange::Drop { number } => entries.drop_entry(number),
+        }
+    }
+
+    ghost is_seen = { placed_seen };
+
+    ghost lets_same = { λ change entries one other same. lets_same change entries.files one other same };
+
+    ghost of_ledger = { same_form placed_form (λ held entries. seen held (store_of entries.files)) };
+}
