@@ -1,18 +1,22 @@
 -- What a store's commands do to its disk: what file_journal proves of a state that is kept, at the store's form.
-use Rattle.std.proofs.Common.{◌≡◌, ℕ, ◌+◌, ◌≤◌, Bool, true, false, List, [], ◌++◌, length, refl, sym, ◌∙◌, subst}
+use Rattle.std.proofs.Common.{◌≡◌, ℕ, ◌+◌, ◌≤◌, Bool, true, false, List, [], ◌++◌, length, Option, refl, sym, ap, subst}
 use Rattle.std.proofs.Math.Nat.{add-zero}
 use Rattle.disk_model.specs.AtDisk.{AtDisk}
 use Rattle.disk_model.specs.declared.disk.Disk.{Ghosts}
 use Rattle.file_journal.specs.AmongReads as among
 use Rattle.file_journal.specs.Calls.{Reads}
 use Rattle.file_journal.specs.Kept as kept
-use Rattle.file_journal.specs.Kept.{KeptOn}
-use Rattle.file_journal.proofs.Offered.{among_does, among_same, among_then, does_longer, does_none, does_same, does_then, first_all, first_then, makes_first, makes_within, puts_among_then, reads_only, same_on}
+use Rattle.file_journal.specs.Kept.{IsKept, KeptOn, kept_on}
+use Rattle.file_journal.specs.Layout.{blocks_on}
+use Rattle.file_journal.proofs.Offered.{among_does, among_same, among_then, does_longer, does_none, does_same, does_then, first_all, first_then, held_kept, makes_first, makes_within, puts_among_then, reads_only, same_on}
 use Rattle.file_entries.specs.Command.{AreAllowed, Command, after_all}
-use Rattle.file_entries.specs.Files.{store_of}
+use Rattle.block_entries.specs.PlacedFiles.{store_of}
+use Rattle.block_entries.specs.PlacedLaws.{placed_seen}
+use Rattle.block_entries.specs.PlacedRecords.{placed_steps}
+use Rattle.block_entries.specs.Seen.{seen}
 use Rattle.file_entries.specs.Store.{Store}
 use Rattle.file_store.specs.OnDisk.{Does, MakesBetween, after_first, kept_at}
-use Rattle.file_store.specs.State.{IsKnown, IsReady, StoreState, store_form, store_on}
+use Rattle.file_store.specs.State.{IsKnown, IsReady, StandsOn, StoreState, placed_in, store_form, store_on}
 use Rattle.file_store.specs.Working.{CutsOffAmongReads, DoesAmongReads, PutsAmongReads, one_if}
 
 -- ---- the first of some commands
@@ -31,14 +35,18 @@ pub makes-within : (low high least most : ℕ) (store : Store) (commands : List 
 makes-within = makes_within store_form
 
 module _ {D : Type 0} (g : Ghosts D) where
+  -- what a store stands for on its disk, where it stands there
+  pub kept-on : (self : StoreState) (disk : D) → StandsOn g self disk → IsKept g store_form (kept_at g self disk)
+  kept-on self disk stands = held_kept g placed_steps seen store_form placed_seen self.journal (placed_in self) disk stands
+
   -- a store that is the same, with the same journal
   at-same : (self other : StoreState) (disk : D) → store_of other.files ≡ store_of self.files → other.journal ≡ self.journal → kept_at g self disk ≡ kept_at g other disk
-  at-same self other disk store journal = same_on (store_on g self disk) (store_on g other disk) self.journal other.journal disk (sym store) (sym journal)
+  at-same self other disk store journal = same_on (store_on g self disk) (store_on g other disk) self.journal other.journal disk (ap (seen (blocks_on (g.content disk))) (sym store)) (sym journal)
 
   -- ---- commands alone
 
   pub Does-none : (P : Type 0) (self : StoreState) (disk : D) → ¬ P → IsReady g self disk → g.lasts disk disk → Does g P self self disk disk []
-  Does-none P self disk fine ready = does_none g store_form P (store_on g self disk) self.journal disk fine ready.stands_on ready.healthy
+  Does-none P self disk fine ready = does_none g store_form P (store_on g self disk) self.journal disk fine (kept-on self disk ready.stands_on) ready.healthy
 
   pub Does-same : (P Q : Type 0) (old new : StoreState) (disk disk_now : D) (commands : List Command) → (P → Q) → (Q → P) → Does g P old new disk disk_now commands → Does g Q old new disk disk_now commands
   Does-same P Q old new disk disk_now commands = does_same g store_form P Q commands (kept_at g old disk) (kept_at g new disk_now)
@@ -49,21 +57,18 @@ module _ {D : Type 0} (g : Ghosts D) where
       subst (λ (k : KeptOn D Store). kept.Does g store_form P commands k (kept_at g after disk_now)) (at-same old before disk first from)
       (subst (λ (k : KeptOn D Store). kept.Does g store_form P commands (kept_at g old disk) k) (at-same new after disk_now last journal) does)
 
-  pub Does-longer : (P : Type 0) (old new : StoreState) (disk disk_now : D) (a b : List Command) → P → AreAllowed (store_on g old disk) (a ++ b) → Does g P old new disk disk_now a
+  pub Does-longer : (P : Type 0) (old new : StoreState) (disk disk_now : D) (a b : List Command) → P → (IsKnown g disk → AreAllowed (store_on g old disk) (a ++ b)) → Does g P old new disk disk_now a
       → Does g P old new disk disk_now (a ++ b)
-  Does-longer P old new disk disk_now a b failed allowed = does_longer g store_form P a b (kept_at g old disk) (kept_at g new disk_now) failed (λ known. allowed)
-
-  -- whether the disk failed or not, the first of the commands were done
-  pub Does-first : (b : Bool) (old new : StoreState) (disk disk_now : D) (commands : List Command) → IsKnown g disk → Does g (b ≡ true) old new disk disk_now commands
-      → (count : ℕ) × (store_on g new disk_now ≡ after_first count (store_on g old disk) commands)
-  Does-first true old new disk disk_now commands known does = let some = does.cut refl in (some.count, some.state known)
-  Does-first false old new disk disk_now commands known does = (length commands, (does.done (λ e. cc e)).0 known ∙ sym (after_first-all commands (store_on g old disk)))
+  Does-longer P old new disk disk_now a b failed allowed = does_longer g store_form P a b (kept_at g old disk) (kept_at g new disk_now) failed allowed
 
   -- ---- among reads
 
   pub reads-only : (failed : Bool) (self : StoreState) (old new : D) → Reads g (failed ≡ true) old new → IsReady g self old
       → DoesAmongReads g ⊥ (one_if failed) self self old new []
-  reads-only failed self old new reads ready = reads_only g store_form failed (store_on g self old) self.journal old new reads ready.healthy ready.stands_on
+  reads-only failed self old new reads ready =
+      subst (λ (k : KeptOn D Store). among.DoesAmongReads g store_form ⊥ (one_if failed) [] (kept_at g self old) k)
+      (ap (λ (o : Option (List ℕ)). kept_on (seen (blocks_on o) (placed_in self)) self.journal new) (sym reads.only.same_content))
+      (reads_only g store_form failed (store_on g self old) self.journal old new reads ready.healthy (kept-on self old ready.stands_on))
 
   pub does-among : (P : Type 0) (old new : StoreState) (disk disk_now : D) (commands : List Command) → Does g P old new disk disk_now commands → DoesAmongReads g P 0 old new disk disk_now commands
   does-among P old new disk disk_now commands = among_does g store_form P commands (kept_at g old disk) (kept_at g new disk_now)
@@ -138,5 +143,5 @@ module _ {D : Type 0} (g : Ghosts D) where
     first = does;
     second =
         does-among F now.it now.it now.disk now.disk []
-        (Does-none F now.it now.disk fine (record { healthy = among-healthy missed old.it now.it old.disk now.disk done does; stands_on = does.stands_on }) lasts);
+        (does_none g store_form F (store_on g now.it now.disk) now.it.journal now.disk fine does.stands_on (among-healthy missed old.it now.it old.disk now.disk done does) lasts);
   }

@@ -1,13 +1,18 @@
 mod DoesLemmas
 mod EndLemmas
-mod EntryLemmas
+mod GrowsLemmas
+mod HeaderLemmas
 mod HoldLemmas
-mod OnLemmas
 pub mod Offered
+mod OnLemmas
+mod PutLemmas
+mod ReadLemmas
 mod ReceiptLemmas
 mod RecoveryLemmas
+mod SealLemmas
 mod SealedLemmas
 mod StandingLemmas
 mod TokenLemmas
 mod ToldLemmas
+mod TurnLemmas
 mod UploadLemmas

@@ -1,7 +1,5 @@
 -- The recovery of a store, said as the store says it.
-use Rattle.std.proofs.Common.{◌≡◌, ◌↔◌, ℕ, List, Option, Result, Err, IsErrOf, refl, sym, ◌∙◌, ap}
-use Rattle.disk_model.specs.declared.disk.Disk.{Ghosts}
-use Rattle.file_journal.specs.Calls.{ChangesReads}
+use Rattle.std.proofs.Common.{◌≡◌, ◌↔◌, ℕ, List, Option, Result, Err, IsErrOf, sym, ◌∙◌, ap}
 use Rattle.file_journal.proofs.Offered.{told_weaker}
 use Rattle.file_store.specs.Recovery.{RefusesRecovery}
 use Rattle.file_journal.specs.declared.faults.StoreFault.{StoreFault}
@@ -22,12 +20,3 @@ recovery-refuses {T} blocks content e result is refuses healthy room =
 
     same : {P : Type 0} (f : StoreFault) → IsErrOf {T = T} (Err e) f ↔ P → IsErrOf result f ↔ P
     same f both = (λ was. both.0 (to f was), λ stands. from f (both.1 stands))
-
-pub reads-none : {D : Type 0} (g : Ghosts D) (disk : D) → ChangesReads g disk disk
-reads-none g disk = record {
-  same_content = refl;
-  same_images = λ image. (λ here. here, λ here. here);
-  same_moment = refl;
-  same_past = λ t image. (λ here. here, λ here. here);
-  same_write_faults = refl;
-}

@@ -1,61 +1,32 @@
 -- What the commands of one upload keep of the others, and what becomes of it.
-use Rattle.std.proofs.Common.{◌≡◌, ◌≢◌, ℕ, ◌+◌, ◌-◌, ◌*◌, ◌/◌, ◌≤◌, Bool, true, List, [], ◌∷◌, ◌++◌, length, take, drop, Option, None, Some, inl, inr, refl, sym, ◌∙◌, ap, subst, arith, length-append, length-drop}
-use Rattle.std.specs.Prelude.{IsTrue}
+use Rattle.std.proofs.Common.{◌≡◌, ◌≢◌, ℕ, ◌+◌, ◌-◌, ◌*◌, ◌/◌, ◌≤◌, List, [], ◌∷◌, ◌++◌, length, take, drop, replicate, Option, None, Some, inl, inr, refl, sym, ◌∙◌, ap, subst, arith, length-append, length-drop}
+use Rattle.std.specs.Prelude.{IsTrue, find}
 use Rattle.std.specs.Option.{option_and_then, option_map}
 use Rattle.std.proofs.lemmas.Bool.Decides.{eqb_tells, nat_tests}
-use Rattle.std.proofs.lemmas.List.{length-take-le}
+use Rattle.std.proofs.lemmas.List.{length-replicate, length-take-le}
 use Rattle.disk_model.specs.declared.disk.Disk.{Ghosts}
+use Rattle.block_entries.specs.Placed.{has_number, placed_of}
+use Rattle.block_entries.specs.PlacedFiles.{KeepsRests, PlacedFile, PlacedFiles, entries_of, file_of, rest_of, store_of}
 use Rattle.px_base.specs.CallSign.{CallSign}
-use Rattle.file_entries.specs.Command.{Command, after, after_all, begin, drop_entry, grow, grown, last_grow, seal}
-use Rattle.file_entries.specs.Files.{ChangesRest, File, Files, KeepsRests, file_of, octets_or_none, rest_of, store_of}
+use Rattle.file_entries.specs.Command.{Command, after, after_all, begin, grown, grows}
+use Rattle.file_entries.specs.Files.{octets_or_none}
 use Rattle.file_entries.specs.Info.{is_complete}
 use Rattle.file_entries.specs.IsStore.{IsStore}
 use Rattle.file_entries.specs.Kept.{KeepsComplete}
 use Rattle.file_entries.specs.Store.{Entry, Store, entry_of, new_entry, partial}
-use Rattle.file_entries.proofs.Offered.{after-other, entry-of-file, find-append_found, find-map-changed, find-push, find_past, grows-after, has_number, never-both, number_of}
+use Rattle.file_entries.proofs.Offered.{find-append_found, find-map-changed, find-push, find_past, grows-after, has_number as has_entry_number, never-both}
+use Rattle.file_store.specs.Ending.{KeepsEntries}
 use Rattle.file_store.specs.Kept.{ChangesEntry, KeepsOtherFiles, KeepsOthers, KeepsUploads}
-use Rattle.file_store.specs.OnDisk.{Does}
+use Rattle.file_store.specs.OnDisk.{after_first, outlined_all}
 use Rattle.file_store.specs.State.{StandsOn, StoreState, rest_in, store_in}
-use Rattle.file_store.specs.Upload.{FitsWaiting, Holds, IsWholeWaiting, Upload, appended, appending, came, ending, entry_for, new_upload, sealing_of, waiting, with_bytes}
-use Rattle.file_store.proofs.DoesLemmas.{Does-first}
-use Rattle.file_store.proofs.EntryLemmas.{AreOf, IsOf, are-grows, are-take, changes-all, changes-same}
+use Rattle.file_store.specs.Upload.{FillsBlock, FitsWaiting, Holds, IsWholeWaiting, Upload, appended, appending, came, entry_for, new_upload, waiting, with_bytes}
+use Rattle.file_store.proofs.GrowsLemmas.{AreGrows, grows-are, others-same, outlined-are, outlined-grows, own-before, take-are}
 use Rattle.file_store.proofs.OnLemmas.{in_parked, stands_parked}
 
--- ---- commands of one number
-
-pub appending-of : (self : StoreState) (up : Upload) (bytes : List ℕ) → AreOf up.number (appending self up bytes)
-appending-of self up bytes = are-grows up.number (length (with_bytes self up bytes) / 512) (with_bytes self up bytes)
-
-ending-of : (number moment : ℕ) (code : Option ℕ) → IsOf number (ending number moment code)
-ending-of number moment None = refl
-ending-of number moment (Some code) = refl
-
-last-of : (number : ℕ) (rest : List ℕ) (command : Command) → IsOf number command → AreOf number (last_grow number rest ++ command ∷ [])
-last-of number [] command is = (is, tt)
-last-of number (octet ∷ octets) command is = (refl, (is, tt))
-
-pub sealing-of : (store : Store) (self : StoreState) (number moment : ℕ) → AreOf number (sealing_of store self number moment)
-sealing-of store self number moment = last-of number _ _ (ending-of number moment _)
-
--- such a command has the number
-is-number : (number : ℕ) (command : Command) → IsOf number command → number_of command ≡ number
-is-number number (begin other caller file_length moment) is = absurd is
-is-number number (grow other octets) is = is
-is-number number (seal other moment) is = is
-is-number number (drop_entry other) is = is
-
--- they leave each other entry
-pub others-after : (commands : List Command) (store : Store) (number other : ℕ) (entry : Entry) → AreOf number commands → other ≢ number → entry_of store other ≡ Some entry
-    → entry_of (after_all store commands) other ≡ Some entry
-others-after [] store number other entry are ne found = found
-others-after (command ∷ commands) store number other entry are ne found =
-    others-after commands (after store command) number other entry are.1 ne (after-other store command other entry (subst (λ (n : ℕ). other ≢ n) (sym (is-number number command are.0)) ne) found)
+pub appending-are : (self : StoreState) (up : Upload) (bytes : List ℕ) → AreGrows up.number (appending self up bytes)
+appending-are self up bytes = grows-are up.number (length (with_bytes self up bytes) / 512) (with_bytes self up bytes)
 
 -- ---- what a call keeps
-
--- each other entry stands as it was
-abbrev pub KeepsEntries : Store → Store → ℕ → Type 0
-KeepsEntries before now number = (other : ℕ) (entry : Entry) → other ≢ number → entry_of before other ≡ Some entry → entry_of now other ≡ Some entry
 
 pub entries-uploads : (old new : StoreState) (number : ℕ) → KeepsEntries (store_in old) (store_in new) number → KeepsRests old.files new.files number → KeepsOthers old new number
 entries-uploads old new number entries rests other ne h = record {
@@ -79,48 +50,70 @@ entries-complete before now number entry held is partial_is entries other found 
       | inr w ↦ entries other found w.1 there
     ]
 
-module _ {D : Type 0} (g : Ghosts D) (b : Bool) (old new : StoreState) (disk disk_now : D) (commands : List Command) (up : Upload) (h : Holds old up) (are : AreOf up.number commands)
-    (does : Does g (b ≡ true) old new disk disk_now commands) where
-  does-entries : KeepsEntries (store_in old) (store_in new) up.number
-  does-entries other entry ne found =
-      let first = Does-first g b old new disk disk_now commands (inl refl) does in
-      ap (λ (s : Store). entry_of s other) first.1 ∙ others-after (take first.0 commands) (store_in old) up.number other entry (are-take up.number first.0 commands are) ne found
+-- what Grows of one number make of the entries
+module _ (before now : Store) (number : ℕ) (commands : List Command) (are : AreGrows number commands) (part : (count : ℕ) × (now ≡ after_first count before (outlined_all commands))) where
+  abbrev first : List Command
+  first = take part.0 (outlined_all commands)
 
-  changes-entries : ChangesEntry (store_in old) (store_in new) up.number
-  changes-entries =
-      let first = Does-first g b old new disk disk_now commands (inl refl) does in
-      subst (λ (s : Store). ChangesEntry (store_in old) s up.number) (sym first.1)
-      (changes-all up.number (store_in old) (take first.0 commands) (are-take up.number first.0 commands are))
+  first-are : AreGrows number first
+  first-are = take-are part.0 number (outlined_all commands) (outlined-are number commands are)
 
-  pub does-keeps : KeepsRests old.files new.files up.number → KeepsOtherFiles g old new disk_now up.number
-  does-keeps rests = record {
-    stands_on = does.stands_on;
-    uploads = entries-uploads old new up.number does-entries rests;
-    rests = rests;
-    kept = entries-complete (store_in old) (store_in new) up.number _ h.held h.entry refl does-entries;
-    entries = changes-entries;
-  }
+  pub grows-leave : (other : ℕ) → other ≢ number → entry_of now other ≡ entry_of before other
+  grows-leave other ne = ap (λ (s : Store). entry_of s other) part.1 ∙ others-same first before number other first-are ne
 
--- what a call keeps that changes nothing
-pub same-keeps : {D : Type 0} (g : Ghosts D) (self : StoreState) (disk : D) (number : ℕ) → StandsOn g self disk → KeepsOtherFiles g self self disk number
-same-keeps g self disk number stands = record {
-  stands_on = stands;
-  uploads = λ other ne holds. holds;
-  rests = λ other ne. refl;
-  kept = λ other entry found whole. found;
-  entries = changes-same number (store_in self) (store_in self) refl;
-}
+  pub grows-entries : KeepsEntries before now number
+  grows-entries other entry ne found = grows-leave other ne ∙ found
 
--- and one by which an upload is given up
-pub parked-keeps : {D : Type 0} (g : Ghosts D) (old new : StoreState) (disk : D) (number : ℕ) → StandsOn g old disk → ChangesRest old.files new.files number None → new.journal ≡ old.journal → KeepsOthers old new number
-    → KeepsOtherFiles g old new disk number
-parked-keeps g old new disk number stands changes journal uploads = record {
-  stands_on = stands_parked g old new disk changes.store journal stands;
-  uploads = uploads;
-  rests = changes.others;
-  kept = subst (λ (s : Store). KeepsComplete (store_in old) s) (sym (in_parked old new changes.store)) (λ other entry found whole. found);
-  entries = changes-same number (store_in old) (store_in new) (in_parked old new changes.store);
-}
+  pub grows-change : ChangesEntry before now number
+  grows-change other entry found =
+      elim (eqb_tells other number) [
+        | inl w ↦
+            let there : entry_of (after_all before first) number ≡ Some entry = ap (λ (s : Store). entry_of s number) (sym part.1) ∙ ap (entry_of now) (sym w.1) ∙ found in
+            let was = own-before first before number entry first-are there in
+            (was.0, ap (entry_of before) w.1 ∙ was.1, was.2, λ ne. absurd (ne w.1))
+        | inr w ↦ (entry, sym (grows-leave other w.1) ∙ found, refl, λ ne. refl)
+      ]
+
+module _ {D : Type 0} (g : Ghosts D) (old new : StoreState) (disk_now : D) (commands : List Command) (up : Upload) (h : Holds old up) (are : AreGrows up.number commands)
+    (part : (count : ℕ) × (store_in new ≡ after_first count (store_in old) (outlined_all commands))) where
+  pub does-keeps : StandsOn g new disk_now → KeepsRests old.files new.files up.number → KeepsOtherFiles g old new disk_now up.number
+  does-keeps stands rests =
+      let entries = grows-entries (store_in old) (store_in new) up.number commands are part in
+      record {
+        stands_on = stands;
+        uploads = entries-uploads old new up.number entries rests;
+        rests = rests;
+        kept = entries-complete (store_in old) (store_in new) up.number _ h.held h.entry refl entries;
+        entries = grows-change (store_in old) (store_in new) up.number commands are part;
+      }
+
+pub changes-same : (number : ℕ) (before now : Store) → now ≡ before → ChangesEntry before now number
+changes-same number before now same other entry found = (entry, ap (λ (s : Store). entry_of s other) (sym same) ∙ found, refl, λ ne. refl)
+
+-- a call that changes no entry keeps them
+pub keeps-parked : {D : Type 0} (g : Ghosts D) (old new : StoreState) (disk : D) (number : ℕ) → store_of new.files ≡ store_of old.files → new.journal ≡ old.journal → StandsOn g old disk
+    → KeepsRests old.files new.files number → KeepsOtherFiles g old new disk number
+keeps-parked g old new disk number same journal stands rests =
+    let entries : KeepsEntries (store_in old) (store_in new) number = λ other entry ne found. ap (λ (s : Store). entry_of s other) (in_parked old new same) ∙ found in
+    record {
+      stands_on = stands_parked g old new disk same journal stands;
+      uploads = entries-uploads old new number entries rests;
+      rests = rests;
+      kept = λ other entry found whole. ap (λ (s : Store). entry_of s other) (in_parked old new same) ∙ found;
+      entries = changes-same number (store_in old) (store_in new) (in_parked old new same);
+    }
+
+-- what the blocks of an upload that became held make of what memory tells, of the store before its octets came
+module _ (self brought held new : StoreState) (these those : List Command) (first : store_in brought ≡ store_in self) (last : store_in new ≡ store_in held) (same : these ≡ those) where
+  pub append-part : (count : ℕ) × (store_in held ≡ after_first count (store_in brought) (outlined_all these)) → (count : ℕ) × (store_in new ≡ after_first count (store_in self) (outlined_all those))
+  append-part part = (
+    part.0,
+    last ∙ part.1 ∙ ap (λ (s : Store). after_first part.0 s (outlined_all these)) first ∙ ap (λ (cs : List Command). after_first part.0 (store_in self) (outlined_all cs)) same,
+  )
+
+  pub append-whole : store_in held ≡ after_all (store_in brought) (outlined_all these) → store_in new ≡ after_all (store_in self) (outlined_all those)
+  append-whole whole =
+      last ∙ whole ∙ ap (λ (s : Store). after_all s (outlined_all these)) first ∙ ap (λ (cs : List Command). after_all (store_in self) (outlined_all cs)) same
 
 -- ---- octets that come
 
@@ -152,20 +145,24 @@ brought-waits self mid up bytes number same h rest =
 
 -- the upload with the blocks that became held
 pub appended-holds : (self new : StoreState) (up : Upload) (bytes : List ℕ) → Holds self up → came self up + length bytes ≤ up.length
-    → store_in new ≡ after_all (store_in self) (appending self up bytes) → rest_in new up.number ≡ Some (drop (512 * (length (with_bytes self up bytes) / 512)) (with_bytes self up bytes))
+    → store_in new ≡ after_all (store_in self) (outlined_all (appending self up bytes)) → rest_in new up.number ≡ Some (drop (512 * (length (with_bytes self up bytes) / 512)) (with_bytes self up bytes))
     → Holds new (appended self up bytes)
 appended-holds self new up bytes h room made rest =
     let all : List ℕ = with_bytes self up bytes in
+    let zeros : List ℕ = replicate (length all) 0 in
     let n : ℕ = length all / 512 in
-    let front : List ℕ = take (512 * n) all in
+    let front : List ℕ = take (512 * n) zeros in
     let long : length (waiting self up) ≡ length h.rest = ap length (waiting-is self up h) in
     let sum : length all ≡ length (waiting self up) + length bytes = length-append (waiting self up) bytes in
-    let front_long : length front ≡ 512 * n = length-take-le (512 * n) all (omega arith) in
+    let zeros_long : length zeros ≡ length all = length-replicate {A = ℕ} (length all) 0 in
+    let front_long : length front ≡ 512 * n = length-take-le (512 * n) zeros (omega arith) in
     let left : length (drop (512 * n) all) ≡ length all - 512 * n = length-drop (512 * n) all in
+    let grown_is : store_in new ≡ after_all (store_in self) (grows up.number n zeros) =
+    made ∙ ap (after_all (store_in self)) (outlined-grows up.number n all) in
     record {
       begun = h.begun;
       held = h.held ++ front;
-      entry = ap (λ (s : Store). entry_of s up.number) (made ∙ grows-after up.number n all (store_in self)) ∙ find-map-changed up.number (grown front) (store_in self).entries _ h.entry;
+      entry = ap (λ (s : Store). entry_of s up.number) (grown_is ∙ grows-after up.number n zeros (store_in self)) ∙ find-map-changed up.number (grown front) (store_in self).entries _ h.entry;
       count = length-append h.held front ∙ ap (λ (k : ℕ). k + length front) h.count ∙ ap (λ (k : ℕ). up.held + k) front_long;
       rest = drop (512 * n) all;
       out = rest;
@@ -194,20 +191,38 @@ whole-waiting self up number same h all =
       all = omega arith;
     }
 
+-- those that wait are all that the file lacks
+pub whole-fills : (self : StoreState) (number count : ℕ) → IsWholeWaiting self number → 1 ≤ count → count ≡ length (octets_or_none (rest_in self number)) → FillsBlock self number count
+whole-fills self number count whole some all =
+    let long : length (octets_or_none (rest_in self number)) ≡ length whole.waits.rest = ap (λ (o : Option (List ℕ)). length (octets_or_none o)) whole.waits.out in
+    let few = whole.few in
+    let full = whole.all in
+    record { waits = whole.waits; some = some; most = omega arith; there = omega arith; fills = inr (omega arith) }
+
 -- ---- a file that was just begun
 
 pub begun-entry : (store : Store) (caller : CallSign) (file_length moment : ℕ) → IsStore store
     → entry_of (after store (begin store.next caller file_length moment)) store.next ≡ Some (new_entry store.next caller file_length moment)
 begun-entry store caller file_length moment is =
-    find-push (has_number store.next) store.entries _ (find_past store.next 1 store.next store.entries is.entries (omega arith)) (grind (arith, nat_tests))
+    find-push (has_entry_number store.next) store.entries _ (find_past store.next 1 store.next store.entries is.entries (omega arith)) (grind (arith, nat_tests))
+
+find-files : (number : ℕ) (files : List PlacedFile) → find (has_number number) (entries_of files) ≡ option_map (λ f. f.entry) (file_of files number)
+find-files number [] = refl
+find-files number (f ∷ fs) =
+    elim (eqb_tells f.entry.number number) [
+      | inl w ↦ rw w.0 refl
+      | inr w ↦ rw w.0 (find-files number fs)
+    ]
 
 -- no upload of a number without an entry is out
-pub rest-none : (files : Files) (number : ℕ) → entry_of (store_of files) number ≡ None → rest_of files number ≡ None
+pub rest-none : (files : PlacedFiles) (number : ℕ) → placed_of (store_of files) number ≡ None → rest_of files number ≡ None
 rest-none files number none = by (file_of files.files number) refl
   where
-    by : (o : Option File) → file_of files.files number ≡ o → rest_of files number ≡ None
-    by None is = ap (option_and_then (λ (f : File). f.rest)) is
-    by (Some file) is = let there = entry-of-file files number file is in absurd (cc (sym there ∙ none))
+    by : (o : Option PlacedFile) → file_of files.files number ≡ o → rest_of files number ≡ None
+    by None is = ap (option_and_then (λ (f : PlacedFile). f.rest)) is
+    by (Some file) is =
+        let there : placed_of (store_of files) number ≡ Some file.entry = find-files number files.files ∙ ap (option_map (λ (f : PlacedFile). f.entry)) is in
+        absurd (cc (sym there ∙ none))
 
 pub begun-holds : (self new : StoreState) (caller : CallSign) (file_length moment : ℕ) → IsStore (store_in self)
     → store_in new ≡ after (store_in self) (begin (store_in self).next caller file_length moment) → rest_in new (store_in self).next ≡ Some []
@@ -233,7 +248,7 @@ begun-uploads self new caller file_length moment is made rests other h =
     record {
       begun = h.begun;
       held = h.held;
-      entry = ap (λ (s : Store). entry_of s other.number) made ∙ find-append_found (has_number other.number) (store_in self).entries _ _ h.entry;
+      entry = ap (λ (s : Store). entry_of s other.number) made ∙ find-append_found (has_entry_number other.number) (store_in self).entries _ _ h.entry;
       count = h.count;
       rest = h.rest;
       out = rests other.number ne ∙ h.out;

@@ -1,5 +1,6 @@
 -- The answers of the store's calls, and where each comes.
-use Rattle.std.specs.Prelude.{◌≡◌, ℕ, ◌+◌, ◌<◌, List, length, Bool, true, false, if◌then◌else◌, Option, None, Some, Result, Ok, Err}
+use Rattle.std.specs.Prelude.{◌≡◌, ℕ, ◌+◌, ◌<◌, List, length, Bool, true, false, if◌then◌else◌, Option, None, Some}
+use Rattle.std.specs.Prelude.{Result, Ok, Err}
 use Rattle.disk_model.specs.declared.disk.Disk.{Ghosts}
 use Rattle.block_entries.specs.Checking.{IsFaultCode}
 use Rattle.px_base.specs.CallSign.{CallSign}
@@ -56,7 +57,8 @@ RefusesResume self number caller file_length resume_refusal.Bad = IsAnothers sel
 RefusesResume self number caller file_length resume_refusal.Complete =
     (entry : Entry) × IsTheirs self number caller file_length entry × (is_complete entry.holding ≡ true)
 RefusesResume self number caller file_length resume_refusal.Failed =
-    (entry : Entry) × IsTheirs self number caller file_length entry × (is_complete entry.holding ≡ false) × HasFailed self
+    (entry : Entry) × IsTheirs self number caller file_length entry × (is_complete entry.holding ≡ false)
+    × HasFailed self
 
 -- the entry with which the upload goes on
 abbrev pub Resumes : StoreState → ℕ → CallSign → ℕ → Entry → Type 0

@@ -1,58 +1,108 @@
 -- The code's changes of the entries as commands of the store.
-use Rattle.std.specs.Prelude.{◌≡◌, ℕ, ◌≤◌, List, Option, None, IsTrue, ⊤}
-use Rattle.file_entries.specs.Command.{Command, MayBegin, after, begin, drop_entry, is_allowed, seal}
-use Rattle.file_entries.specs.Files.{Becomes, EntriesState, Files, Waits, grow_waiting, rest_of, rest_without, store_of}
-use Rattle.file_entries.specs.Store.{Store}
-use Rattle.file_journal.specs.Steps.{Turn}
+use Rattle.std.specs.Prelude.{◌≡◌, ℕ, ◌≤◌, List, take, Option, None, Some, IfSome, ⊤}
+use Rattle.block_entries.specs.Checking.{IsSealable}
+use Rattle.block_entries.specs.IsPlaced.{IsPlaced}
+use Rattle.block_entries.specs.Placed.{PlacedStore, new_placed, placed_of}
+use Rattle.block_entries.specs.PlacedCommand as placed
+use Rattle.block_entries.specs.PlacedCommand.{PlacedCommand, is_partial, seal_with, with_grown, with_new, with_sealed}
+use Rattle.block_entries.specs.PlacedCommand.{without_file}
+use Rattle.block_entries.specs.PlacedFiles.{Becomes, EntriesState, IsLowest, PlacedFiles, Waits, rest_of, rest_without}
+use Rattle.block_entries.specs.PlacedFiles.{store_of}
+use Rattle.block_entries.specs.Seen.{octets_in, seen, stamp_at}
+use Rattle.block_entries.specs.TestLaws.{Grows, Passes, TakesSeal}
+use Rattle.file_entries.specs.Command.{Command, MayBegin, begin, drop_entry, grow, seal}
+use Rattle.file_entries.specs.Files.{octets_or_none}
+use Rattle.file_journal.specs.Layout.{Blocks}
+use Rattle.file_journal.specs.Steps.{PutBlock, Turn}
 use Rattle.file_store.specs.declared.change.EntriesChange.{EntriesChange}
 use Rattle.file_store.specs.declared.change.EntriesChange.TheVariants as change
 
+-- so many of the octets of this number that wait, from the first on
+abbrev pub waiting_front : PlacedFiles → ℕ → ℕ → List ℕ
+waiting_front files number count = take count (octets_or_none (rest_of files number))
+
 -- the command that it is of these files
-abbrev pub command_by : EntriesChange → Files → Command
+abbrev pub command_by : EntriesChange → PlacedFiles → Command
 command_by (change.Begin caller file_length moment) files = begin files.next caller file_length moment
-command_by (change.Hold number count) files = grow_waiting files number count
-command_by (change.Seal number moment) files = seal number moment
+command_by (change.Hold number block count) files = grow number (waiting_front files number count)
+command_by (change.Seal number moment header) files = seal number moment
 command_by (change.Drop number) files = drop_entry number
 
--- the same as a change of a kept state, with nothing in a block
-abbrev pub turn_by : EntriesChange → Files → Turn Store Command
+-- the same as a command of the placed files
+abbrev pub placed_by : EntriesChange → PlacedFiles → PlacedCommand
+placed_by (change.Begin caller file_length moment) files = placed.begin files.next caller file_length moment
+placed_by (change.Hold number block count) files = placed.grow number block count
+placed_by (change.Seal number moment header) files = placed.seal number moment header.sum
+placed_by (change.Drop number) files = placed.drop_entry number
+
+-- the entries after it
+abbrev pub next_by : EntriesChange → PlacedFiles → PlacedStore
+next_by (change.Begin caller file_length moment) files =
+    with_new (store_of files) (new_placed files.next caller file_length moment)
+next_by (change.Hold number block count) files = with_grown (store_of files) number block count
+next_by (change.Seal number moment header) files =
+    with_sealed (store_of files) number (seal_with moment header.sum header.len)
+next_by (change.Drop number) files = without_file (store_of files) number
+
+-- what it puts in a block before its record
+abbrev pub puts_by : EntriesChange → PlacedFiles → Option PutBlock
+puts_by (change.Begin caller file_length moment) files = None
+puts_by (change.Hold number block count) files =
+    Some (record { number = block; octets = waiting_front files number count })
+puts_by (change.Seal number moment header) files = None
+puts_by (change.Drop number) files = None
+
+-- what the blocks have to hold for it: the octets of a file that is sealed keep the rules, and its header is the one
+-- that was found
+abbrev pub LetsBy : EntriesChange → PlacedFiles → Blocks → Type 0
+LetsBy (change.Begin caller file_length moment) files held = ⊤
+LetsBy (change.Hold number block count) files held = ⊤
+LetsBy (change.Seal number moment header) files held =
+    IfSome (placed_of (store_of files) number)
+    (λ f. IsSealable (stamp_at moment f) (octets_in held f) header.sum header.len)
+LetsBy (change.Drop number) files held = ⊤
+
+-- the same as a change of a kept state
+abbrev pub turn_by : EntriesChange → PlacedFiles → Turn PlacedStore Command
 turn_by change files =
     record {
       command = command_by change files;
-      next = after (store_of files) (command_by change files);
-      puts = None;
-      lets = λ held. ⊤;
+      next = next_by change files;
+      puts = puts_by change files;
+      lets = LetsBy change files;
     }
 
 -- the number of the file that it changes
-abbrev pub number_by : EntriesChange → Files → ℕ
+abbrev pub number_by : EntriesChange → PlacedFiles → ℕ
 number_by (change.Begin caller file_length moment) files = files.next
-number_by (change.Hold number count) files = number
-number_by (change.Seal number moment) files = number
+number_by (change.Hold number block count) files = number
+number_by (change.Seal number moment header) files = number
 number_by (change.Drop number) files = number
 
 -- what waits of that file then, where an upload of it is out
-abbrev pub rest_by : EntriesChange → Files → Option (List ℕ)
+abbrev pub rest_by : EntriesChange → PlacedFiles → Option (List ℕ)
 rest_by (change.Begin caller file_length moment) files = None
-rest_by (change.Hold number count) files = rest_without files number count
-rest_by (change.Seal number moment) files = None
+rest_by (change.Hold number block count) files = rest_without files number count
+rest_by (change.Seal number moment header) files = None
 rest_by (change.Drop number) files = None
 
 -- what it makes of these files
-abbrev pub MakesOf : EntriesChange → Files → Files → Type 0
+abbrev pub MakesOf : EntriesChange → PlacedFiles → PlacedFiles → Type 0
 MakesOf change files files_now =
-    Becomes files files_now (after (store_of files) (command_by change files)) (number_by change files)
-    (rest_by change files)
+    Becomes files files_now (next_by change files) (number_by change files) (rest_by change files)
 
--- what it needs beside its command's condition
+-- its condition, but for what the blocks hold, and what else it needs is there
 abbrev pub HasFor : EntriesChange → EntriesState → Type 0
 HasFor (change.Begin caller file_length moment) entries =
-    MayBegin (store_of entries.files) file_length × (1 ≤ entries.spare)
-HasFor (change.Hold number count) entries = (1 ≤ count) × (count ≤ 512) × Waits entries.files number count
-HasFor (change.Seal number moment) entries = rest_of entries.files number ≡ None
-HasFor (change.Drop number) entries = ⊤
+    ((held : Blocks) → MayBegin (seen held (store_of entries.files)) file_length) × (1 ≤ entries.spare)
+HasFor (change.Hold number block count) entries =
+    Waits entries.files number count × Grows (store_of entries.files) number block count
+    × IsLowest (store_of entries.files) block
+HasFor (change.Seal number moment header) entries =
+    TakesSeal (store_of entries.files) number header.len × (rest_of entries.files number ≡ None)
+HasFor (change.Drop number) entries = Passes (store_of entries.files) number is_partial
 
--- its command's condition holds, and what else it needs is there
+-- the entries keep their rules, and it may be made of them
 pub record MayMake (change : EntriesChange) (entries : EntriesState) : Type 0 where
-  pub allowed : IsTrue (is_allowed (store_of entries.files) (command_by change entries.files))
+  pub rules : IsPlaced (store_of entries.files)
   pub has : HasFor change entries

@@ -1,7 +1,7 @@
 -- What each call of the store keeps.
 use Rattle.std.specs.Prelude.{◌≡◌, ◌≢◌, ℕ, Some}
 use Rattle.disk_model.specs.declared.disk.Disk.{Ghosts}
-use Rattle.file_entries.specs.Files.{KeepsRests}
+use Rattle.block_entries.specs.PlacedFiles.{KeepsRests}
 use Rattle.file_entries.specs.Kept.{KeepsComplete}
 use Rattle.file_entries.specs.Store.{Entry, Store, entry_of}
 use Rattle.file_store.specs.State.{StandsOn, StoreState, store_in}
@@ -15,15 +15,14 @@ KeepsUploads before now = (other : Upload) → Holds before other → Holds now 
 abbrev pub KeepsOthers : StoreState → StoreState → ℕ → Type 0
 KeepsOthers before now number = (other : Upload) → other.number ≢ number → Holds before other → Holds now other
 
--- each entry now was one before, of the same caller; but for that of this number it is as it was
+-- Each entry now was one before, of the same caller; but for that of this number it is as it was.
 abbrev pub ChangesEntry : Store → Store → ℕ → Type 0
 ChangesEntry before now number =
     (other : ℕ) (entry : Entry) → entry_of now other ≡ Some entry
-    → (old : Entry) × (entry_of before other ≡ Some old) × (old.caller ≡ entry.caller)
-    × (other ≢ number → old ≡ entry)
+    → (old : Entry) × (entry_of before other ≡ Some old) × (old.caller ≡ entry.caller) × (other ≢ number → old ≡ entry)
 
 -- A call on the upload of this number leaves the store on its disk. It keeps each upload of another number with what
--- waits of it, each other entry, and each complete one.
+-- waits of it, and each complete entry; it makes no entry, and changes none of another number.
 pub record KeepsOtherFiles {D : Type 0} (g : Ghosts D) (before now : StoreState) (disk_now : D) (number : ℕ) :
     Type 0 where
   pub stands_on : StandsOn g now disk_now

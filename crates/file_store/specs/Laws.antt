@@ -1,37 +1,34 @@
 -- Laws of a store on a disk.
-use Rattle.std.specs.Prelude.{◌≡◌, ◌⊎◌, ◌↔◌, ℕ, ◌≤◌, List, length, map, Option, None, Some, IfSome, IsTrue}
-use Rattle.std.specs.List.{AllByRecursion}
+use Rattle.std.specs.Prelude.{◌≡◌, ◌↔◌, ℕ, ◌≤◌, List, length, Some, IfSome, IsTrue}
 use Rattle.px_base.specs.Octets.{IsOctets}
 use Rattle.disk_model.specs.Moments.{ChangesNothing}
 use Rattle.disk_model.specs.declared.disk.Disk.{Ghosts}
 use Rattle.file_journal.specs.Calls.{images_now}
-use Rattle.file_journal.specs.Journal.{journal_of, store}
-use Rattle.file_journal.specs.Records.{whole}
-use Rattle.file_entries.specs.Command.{AreAllowed, Command, after_all}
+use Rattle.file_journal.specs.Layout.{block_in}
+use Rattle.file_entries.specs.Command.{AreAllowed, Command}
 use Rattle.file_entries.specs.Info.{is_complete}
 use Rattle.file_entries.specs.IsStore.{IsStore}
-use Rattle.file_entries.specs.Records.{IsWritable, record_of_command}
-use Rattle.file_entries.specs.Store.{Entry, Store, complete, empty_store, entry_of, holding_of_number, partial}
+use Rattle.file_entries.specs.Store.{Entry, Store, complete, entry_of, holding_of_number, partial}
+use Rattle.block_entries.specs.Laws.{IsPlacedAfter}
 use Rattle.block_entries.specs.Outlined.{IsStoreLike}
+use Rattle.block_entries.specs.Placed.{PlacedStore}
+use Rattle.block_entries.specs.PlacedCommand.{PlacedCommand}
+use Rattle.block_entries.specs.Seen.{seen}
 use Rattle.file_store.specs.OnDisk.{MakesBetween}
-use Rattle.file_store.specs.State.{IsKnown, IsReady, StandsFor, StandsOn, StoreState, store_in, store_layout, store_magic, store_on}
+use Rattle.file_store.specs.State.{IsKnown, IsReady, StandsFor, StandsOn, StoreState, store_in, store_on}
 use Rattle.file_store.specs.Upload.{Upload, entry_for, kept_file}
 
--- The octets are a journal of this block number, or have none yet, and its records are these commands, each of which the
--- store before it allows, from the empty store on; and this is the store after them.
-pub record IsStoreAfter (octets : List ℕ) (files : Store) (commands : List Command) : Type 0 where
-  pub number : Option ℕ
-  pub is_number : (number ≡ None) ⊎ (number ≡ Some files.blocks)
-  pub records : journal_of store_magic store_layout octets ≡ store number (whole (map record_of_command commands))
-  pub writable : AllByRecursion IsWritable commands
-  pub allowed : AreAllowed (empty_store files.blocks) commands
-  pub after : files ≡ after_all (empty_store files.blocks) commands
+-- The records of the octets are these commands, each of which the entries before it allow with what the blocks hold;
+-- these are the entries after them, and with the octets that the blocks hold they are this store.
+abbrev pub IsStoreAfter : List ℕ → Store → PlacedStore → List PlacedCommand → Type 0
+IsStoreAfter octets files now commands = IsPlacedAfter octets now commands × (files ≡ seen (block_in octets) now)
 
 -- octets stand for a store exactly where they are the records of commands that make it
 abbrev pub StandingLaw : Type 0
 StandingLaw =
     (octets : List ℕ) (files : Store) → IsOctets octets
-    → StandsFor octets files ↔ ((commands : List Command) × IsStoreAfter octets files commands)
+    → StandsFor octets files
+    ↔ ((now : PlacedStore) × (commands : List PlacedCommand) × IsStoreAfter octets files now commands)
 
 -- in the store that the image stands for, the upload's entry is under way and holds at least as many octets as it says
 abbrev pub HoldsIn : Upload → List ℕ → Type 0
@@ -77,8 +74,8 @@ IsKeptOn g old new disk disk_now up moment =
     holding_of_number (store_on g new disk_now) up.number
     ≡ Some (complete (kept_file (store_on g old disk) old up moment) moment)
 
--- Where it is known what its files hold, a store that hasn't failed is on its disk what memory tells, but for the octets
--- of its files, and keeps the rules of a store.
+-- Where it is known what its files hold, a store that hasn't failed is on its disk what memory tells, but for the
+-- octets of its files, and keeps the rules of a store.
 pub record ToldLaw {D : Type 0} (g : Ghosts D) (self : StoreState) (disk : D) : Type 0 where
   pub like : IsReady g self disk → IsKnown g disk → IsStoreLike (store_in self) (store_on g self disk)
   pub rules : IsReady g self disk → IsKnown g disk → IsStore (store_on g self disk)

@@ -1,5 +1,7 @@
 pub mod Answers
+pub mod ChangeLaws
 pub mod Changes
+pub mod Ending
 pub mod Kept
 pub mod Laws
 pub mod OnDisk
@@ -11,8 +13,9 @@ pub mod Upload
 pub mod Working
 pub use Rattle.file_entries.specs.Bars
 pub use Rattle.file_entries.specs.Command
-pub use Rattle.file_entries.specs.Files
+pub use Rattle.block_entries.specs.PlacedFiles as Files
 pub use Rattle.block_entries.specs.Outlined
+pub use Rattle.block_entries.specs.Laws as EntriesLaws
 pub use Rattle.file_entries.specs.Headers
 pub use Rattle.file_entries.specs.Info
 pub use Rattle.file_entries.specs.IsStore

@@ -1,14 +1,14 @@
 -- What the commands of a call do to the disk, at every moment of it.
-use Rattle.std.specs.Prelude.{◌≡◌, ℕ, List, None}
+use Rattle.std.specs.Prelude.{◌≡◌, ℕ, List, length, map, replicate}
 use Rattle.disk_model.specs.declared.disk.Disk.{Ghosts}
 use Rattle.file_journal.specs.Commands as kept_commands
 use Rattle.file_journal.specs.Commands.{done_at}
 use Rattle.file_journal.specs.Kept as kept
 use Rattle.file_journal.specs.Kept.{KeptOn, kept_on}
-use Rattle.file_entries.specs.Command.{Command}
-use Rattle.file_entries.specs.Files.{KeepsRests}
+use Rattle.file_entries.specs.Command.{Command, after_all, begin, drop_entry, grow, seal}
+use Rattle.block_entries.specs.PlacedFiles.{KeepsRests}
 use Rattle.file_entries.specs.Store.{Store}
-use Rattle.file_store.specs.State.{StoreState, rest_in, store_form, store_on}
+use Rattle.file_store.specs.State.{StandsOn, StoreState, store_form, store_in, store_on}
 
 -- the store after the first so many of these commands
 abbrev pub after_first : ℕ → Store → List Command → Store
@@ -22,8 +22,8 @@ MakesBetween low high store commands image = kept_commands.MakesBetween store_fo
 abbrev pub MakesFirst : Store → List Command → List ℕ → Type 0
 MakesFirst store commands image = kept_commands.MakesFirst store_form store commands image
 
--- Each command takes the calls of the disk that the form of a store says. Since the first so many commands are done, one
--- at least, no crash leaves fewer of them. The first of them began at the moment `start`.
+-- Each command takes the calls of the disk that the form of a store says. Since the first so many commands are done,
+-- one at least, no crash leaves fewer of them. The first of them began at the moment `start`.
 abbrev pub StayDone : {D : Type 0} → Ghosts D → ℕ → ℕ → Store → List Command → D → Type 0
 StayDone g start done store commands disk_now =
     kept_commands.StayDone g store_form (done_at store_form start commands) done store commands disk_now
@@ -41,14 +41,22 @@ abbrev pub Does :
 Does g failed old new disk disk_now commands =
     kept.Does g store_form failed commands (kept_at g old disk) (kept_at g new disk_now)
 
--- So a call on the file of this number: what waits of other files stays.
+-- the command as far as memory tells: with zeros in place of the octets that become held
+abbrev pub outlined_command : Command → Command
+outlined_command (begin number caller file_length moment) = begin number caller file_length moment
+outlined_command (grow number octets) = grow number (replicate (length octets) 0)
+outlined_command (seal number moment) = seal number moment
+outlined_command (drop_entry number) = drop_entry number
+
+abbrev pub outlined_all : List Command → List Command
+outlined_all commands = map outlined_command commands
+
+-- So a call on the file of this number: what waits of other files stays. What memory tells is the store after these
+-- commands, or after the first of them where the disk failed, whether it is known what the files hold or not.
 pub record DoesTo {D : Type 0} (g : Ghosts D) (failed : Type 0) (old new : StoreState) (disk disk_now : D)
     (commands : List Command) (number : ℕ) : Type 0 where
   pub does : Does g failed old new disk disk_now commands
+  pub stands_on : StandsOn g new disk_now
+  pub part : (count : ℕ) × (store_in new ≡ after_first count (store_in old) (outlined_all commands))
+  pub whole : ¬ failed → store_in new ≡ after_all (store_in old) (outlined_all commands)
   pub rests : KeepsRests old.files new.files number
-
--- So a call that ends that file: no upload of it is out then.
-pub record EndsFile {D : Type 0} (g : Ghosts D) (failed : Type 0) (old new : StoreState) (disk disk_now : D)
-    (commands : List Command) (number : ℕ) : Type 0 where
-  pub does_to : DoesTo g failed old new disk disk_now commands number
-  pub rest : ¬ failed → rest_in new number ≡ None

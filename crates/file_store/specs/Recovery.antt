@@ -1,15 +1,15 @@
 -- What a recovery of the store makes of a disk, what it answers, and what a crash in it leaves.
 use Rattle.std.specs.Prelude.{◌≡◌, ℕ, List, Option, IfSome, Result}
 use Rattle.disk_model.specs.declared.disk.Disk.{Ghosts}
-use Rattle.file_entries.specs.Files.{NothingOut}
+use Rattle.block_entries.specs.PlacedFiles.{NothingOut}
 use Rattle.file_journal.specs.Calls.{IsQuietNow}
 use Rattle.file_journal.specs.Restoring as restoring
 use Rattle.file_journal.specs.Walk.{state}
 use Rattle.file_store.specs.State.{IsReady, StoreState, standing_of, store_form, store_on}
 use Rattle.file_journal.specs.declared.faults.StoreFault.{StoreFault}
 
--- The store that a recovery gives is the one that the content stood for. No upload is out, and the store is ready on the
--- disk, which is quiet.
+-- The store that a recovery gives is the one that the content stood for. No upload is out, and the store is ready on
+-- the disk, which is quiet.
 pub record IsRecovered {D : Type 0} (g : Ghosts D) (blocks : ℕ) (disk disk_now : D) (self : StoreState) : Type 0 where
   pub content : IfSome (g.content disk) (λ before. standing_of blocks before ≡ state (store_on g self disk_now))
   pub nothing_out : NothingOut self.files
@@ -33,4 +33,5 @@ StandsAlike blocks before image = restoring.StandsAlike store_form blocks before
 -- octets or more as it is; only where that sync failed, and the answer is that fault, a crash may leave what it might
 -- have left before.
 abbrev pub LeavesAlikeSinceSync : {D T : Type 0} → Ghosts D → ℕ → Result T StoreFault → D → D → Type 0
-LeavesAlikeSinceSync g blocks result disk disk_now = restoring.LeavesAlikeSinceSync g store_form blocks result disk disk_now
+LeavesAlikeSinceSync g blocks result disk disk_now =
+    restoring.LeavesAlikeSinceSync g store_form blocks result disk disk_now

@@ -1,13 +1,17 @@
 -- A store of files on a disk as contracts see it, and what octets on a disk stand for as one.
 use Rattle.std.specs.Prelude.{◌≡◌, ℕ, List, Option, false, true}
 use Rattle.disk_model.specs.declared.disk.Disk.{Ghosts}
-use Rattle.file_entries.specs.Files.{Files, rest_of, store_of}
+use Rattle.block_entries.specs.Outlined.{outlined}
+use Rattle.block_entries.specs.Placed.{PlacedStore}
+use Rattle.block_entries.specs.PlacedFiles.{PlacedFiles, rest_of, store_of}
+use Rattle.block_entries.specs.PlacedRecords.{placed_form, placed_magic, placed_steps}
+use Rattle.block_entries.specs.Seen.{seen}
 use Rattle.file_entries.specs.Command.{Command}
-use Rattle.file_entries.specs.Records as records
 use Rattle.file_entries.specs.Store.{Store}
 use Rattle.file_journal.specs.Form as form
 use Rattle.file_journal.specs.Form.{Form}
-use Rattle.file_journal.specs.Kept.{IsKept, kept_on}
+use Rattle.file_journal.specs.Kept.{StandsAt}
+use Rattle.file_journal.specs.Layout.{blocks_on}
 use Rattle.file_journal.specs.Position.{Position}
 use Rattle.file_journal.specs.Steps.{Knows}
 use Rattle.file_journal.specs.Walk.{Stands}
@@ -16,30 +20,37 @@ use Rattle.file_journal.specs.declared.layout.Layout.TheVariants as layout
 
 -- what a journal of the store keeps, its first eight octets, and where the parts of such a disk stand
 abbrev pub store_form : Form Store Command
-store_form = records.store_form
+store_form = placed_form
 
 abbrev pub store_magic : List ℕ
-store_magic = records.store_magic
+store_magic = placed_magic
 
 abbrev pub store_layout : Layout
-store_layout = layout.Growing
+store_layout = layout.Blocks
 
--- the entries with the uploads that are out, and the journal of their commands
+-- what the code has in memory: of each entry in which blocks its octets stand, and what waits of an upload that is out;
+-- and the journal of the commands
 pub record StoreState : Type 0 where
-  pub files : Files
+  pub files : PlacedFiles
   pub journal : Position
 
 -- a store by its parts
-abbrev pub state_from : Files → Position → StoreState
+abbrev pub state_from : PlacedFiles → Position → StoreState
 state_from files journal = record { files = files; journal = journal }
 
--- the store that it is
-abbrev pub store_in : StoreState → Store
-store_in self = store_of self.files
+-- its entries, and in which blocks their octets stand
+abbrev pub placed_in : StoreState → PlacedStore
+placed_in self = store_of self.files
 
--- the store that it is on this disk
+-- the store that it is as far as memory tells: which files there are, how long they are and how far they have come,
+-- with zeros in place of their octets
+abbrev pub store_in : StoreState → Store
+store_in self = outlined (placed_in self)
+
+-- the store that it is on this disk, with the octets that its blocks hold; they are the store's where the disk tells
+-- its content
 abbrev pub store_on : {D : Type 0} → Ghosts D → StoreState → D → Store
-store_on g self disk = store_in self
+store_on g self disk = seen (blocks_on (g.content disk)) (placed_in self)
 
 -- what octets the store's files have on this disk is known: they stand in no block, or the disk tells its content
 abbrev pub IsKnown : {D : Type 0} → Ghosts D → D → Type 0
@@ -54,8 +65,8 @@ abbrev pub HasFailed : StoreState → Type 0
 HasFailed self = self.journal.failed ≡ true
 
 -- What octets stand for as a store of files: for none, since they begin with other octets; for damage at this place; or
--- for the store after the commands that their records are, each of which the store before it allows. Octets that have no
--- block number yet stand for the empty store of this one.
+-- for the store after the commands that their records are, each of which the store before it allows, with the octets
+-- that the blocks hold. Octets that have no block number yet stand for the empty store of this one.
 abbrev pub standing_of : ℕ → List ℕ → Stands Store
 standing_of blocks octets = form.standing_of store_form blocks octets
 
@@ -63,17 +74,17 @@ standing_of blocks octets = form.standing_of store_form blocks octets
 abbrev pub StandsFor : List ℕ → Store → Type 0
 StandsFor image store = form.StandsFor store_form store image
 
--- The store has failed; or the disk's content, where it is told, stands for it, and a crash since this moment leaves
--- nothing else.
+-- The journal is a store's, and holds the entries on the disk: it has failed; or the disk's content, where it is told,
+-- stands for them, and a crash since this moment leaves nothing else.
 abbrev pub StandsOn : {D : Type 0} → Ghosts D → StoreState → D → Type 0
-StandsOn g self disk = IsKept g store_form (kept_on (store_in self) self.journal disk)
+StandsOn g self disk = StandsAt g store_form placed_steps self.journal (placed_in self) disk
 
 -- The store hasn't failed, and stands on its disk.
 pub record IsReady {D : Type 0} (g : Ghosts D) (self : StoreState) (disk : D) : Type 0 where
   pub healthy : self.journal.failed ≡ false
   pub stands_on : StandsOn g self disk
 
--- The journal has the store's magic and no blocks, and was read to its end.
+-- The journal has the store's magic and its blocks, and was read to its end.
 pub record IsRead (journal : Position) : Type 0 where
   pub magic_is : journal.magic ≡ store_magic
   pub layout_is : journal.layout ≡ store_layout

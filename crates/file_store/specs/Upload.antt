@@ -1,5 +1,5 @@
 -- An upload that is under way: what its holder knows of the entry.
-use Rattle.std.specs.Prelude.{◌≡◌, ℕ, ◌+◌, ◌*◌, ◌/◌, ◌<◌, ◌≤◌, List, [], ◌∷◌, ◌++◌, length, Some, Option, None}
+use Rattle.std.specs.Prelude.{◌≡◌, ◌⊎◌, ℕ, ◌+◌, ◌*◌, ◌/◌, ◌<◌, ◌≤◌, List, [], ◌∷◌, ◌++◌, length, Some, Option, None}
 use Rattle.px_base.specs.CallSign.{CallSign}
 use Rattle.file_entries.specs.Faults.{fault_code}
 use Rattle.file_entries.specs.Stamp.{StampValue, stamped}
@@ -97,8 +97,8 @@ abbrev pub ending : ℕ → ℕ → Option ℕ → Command
 ending number moment None = seal number moment
 ending number moment (Some code) = drop_entry number
 
--- the commands that end the file of this number: those that wait become held, and it is sealed, or dropped where it has a
--- fault
+-- the commands that end the file of this number: those that wait become held, and it is sealed, or dropped where it has
+-- a fault
 abbrev pub sealing_of : Store → StoreState → ℕ → ℕ → List Command
 sealing_of store self number moment =
     last_grow number (octets_or_none (rest_in self number))
@@ -132,16 +132,16 @@ pub record FitsWaiting (self : StoreState) (number : ℕ) : Type 0 where
   pub out : rest_in self number ≡ Some rest
   pub fits : length held + length rest ≤ entry.length
 
+-- So many octets wait of a file that fits them; they fill a block, or are all that it lacks.
+pub record FillsBlock (self : StoreState) (number count : ℕ) : Type 0 where
+  pub waits : FitsWaiting self number
+  pub some : 1 ≤ count
+  pub most : count ≤ 512
+  pub there : count ≤ length waits.rest
+  pub fills : (count ≡ 512) ⊎ (length waits.held + count ≡ waits.entry.length)
+
 -- All octets of the file came: fewer than 512 wait, and with those held they are as many as the file has.
 pub record IsWholeWaiting (self : StoreState) (number : ℕ) : Type 0 where
   pub waits : FitsWaiting self number
   pub few : length waits.rest < 512
   pub all : length waits.held + length waits.rest ≡ waits.entry.length
-
--- All octets of the file of this number are held, and it is under way.
-pub record IsHeldWhole (self : StoreState) (number : ℕ) : Type 0 where
-  pub entry : Entry
-  pub is_entry : entry_of (store_in self) number ≡ Some entry
-  pub held : List ℕ
-  pub partial_is : entry.holding ≡ partial held
-  pub all : length held ≡ entry.length

@@ -1,16 +1,19 @@
 //! The changes of the entries, each of which is one command.
 
-ghost use Rattle.std.specs.Prelude.{◌≡◌, ◌≤◌, length};
-ghost use Rattle.file_journal.specs.Form.{same_form};
-ghost use Rattle.file_entries.specs.Command.{Command as StoreCommand, grow};
-ghost use Rattle.file_entries.specs.Commands.{command_value};
-ghost use Rattle.file_entries.specs.Files.{store_of};
-ghost use Rattle.file_entries.specs.Records.{IsWritable, store_form, store_steps};
+ghost use Rattle.std.specs.Prelude.{◌≡◌};
+ghost use Rattle.block_entries.specs.Placed.{PlacedStore};
+ghost use Rattle.block_entries.specs.PlacedCommands.{placed_value};
+ghost use Rattle.block_entries.specs.PlacedFiles.{store_of};
+ghost use Rattle.block_entries.specs.PlacedLaws.{placed_seen};
+ghost use Rattle.block_entries.specs.PlacedRecords.{IsWritable, placed_form, placed_steps};
+ghost use Rattle.block_entries.specs.Seen.{seen};
+ghost use Rattle.file_entries.specs.Command.{Command as StoreCommand};
 ghost use Rattle.file_entries.specs.Store.{Store};
-ghost use Rattle.file_entries.specs.StoreLaws.{store_seen};
-ghost use Rattle.file_store.specs.Changes.{MakesOf, MayMake, command_by, turn_by};
+ghost use Rattle.file_journal.specs.Form.{same_form};
+ghost use Rattle.file_store.specs.ChangeLaws.{lets_same};
+ghost use Rattle.file_store.specs.Changes.{MakesOf, MayMake, placed_by, turn_by};
 
-use file_entries::{Command, Entries};
+use block_entries::{CheckedHeader, Entries, PlacedCommand};
 use file_journal::{BlockPut, Change, RecordContent};
 use px_base::Call;
 
@@ -23,15 +26,18 @@ pub(crate) enum EntriesChange {
         length: u32,
         moment: u32,
     },
-    /// So many of the octets that wait of the upload of this number become held, 1 to 512.
+    /// So many of the octets that wait of the upload of this number become held, 1 to 512, in the lowest block that no
+    /// file has.
     Hold {
         number: u32,
+        block: u32,
         count: usize,
     },
-    /// The file of this number is whole, and no upload of it is out.
+    /// The file of this number is whole, no upload of it is out, and a check found its header so.
     Seal {
         number: u32,
         moment: u32,
+        header: CheckedHeader,
     },
     /// The file of this number is given up.
     Drop {
@@ -41,53 +47,57 @@ pub(crate) enum EntriesChange {
 
 impl EntriesChange {
     /// Its command.
-    fn command<'a>(self, entries: &'a Entries) -> Command<'a>
+    fn command(self, entries: &Entries) -> PlacedCommand
         requires { MayMake self entries.now }
-        ensures value { command_value result ≡ command_by self entries.now.files }
-        ensures writable { IsWritable (command_value result) }
+        ensures value { placed_value result ≡ placed_by self entries.now.files }
+        ensures writable { IsWritable (placed_value result) }
     {
         match self {
             EntriesChange::Begin {
                 caller,
                 length,
                 moment,
-            } => Command::Begin {
+            } => PlacedCommand::Begin {
                 number: entries.next(),
                 caller,
                 length,
                 moment,
             },
-            EntriesChange::Hold { number, count } => {
-                grow_of(number, &entries.waiting(number)[..count])
-            }
-            EntriesChange::Seal { number, moment } => Command::Seal { number, moment },
-            EntriesChange::Drop { number } => Command::Drop { number },
+            EntriesChange::Hold {
+                number,
+                block,
+                count,
+            } => PlacedCommand::Grow {
+                number,
+                block,
+                used: count as u16,
+            },
+            EntriesChange::Seal {
+                number,
+                moment,
+                header,
+            } => PlacedCommand::Seal {
+                number,
+                moment,
+                sum: header.sum,
+            },
+            EntriesChange::Drop { number } => PlacedCommand::Drop { number },
         }
     }
 }
 
-/// The Grow of these octets.
-fn grow_of(number: u32, octets: &[u8]) -> Command<'_>
-    requires some { 1 ≤ length octets.now }
-    requires most { length octets.now ≤ 512 }
-    ensures value { command_value result ≡ grow number octets.now }
-    ensures writable { IsWritable (command_value result) }
-{
-    Command::Grow { number, octets }
-}
-
 impl Change<Entries> for EntriesChange {
-    ghost State = { Store };
+    ghost State = { PlacedStore };
 
     ghost Seen = { Store };
 
     ghost Command = { StoreCommand };
 
-    ghost form = { store_form };
+    ghost form = { placed_form };
 
-    ghost steps = { store_steps };
+    ghost steps = { placed_steps };
 
-    ghost seen = { λ held store. store };
+    ghost seen = { seen };
 
     ghost state = { λ entries. store_of entries.files };
 
@@ -97,8 +107,19 @@ impl Change<Entries> for EntriesChange {
 
     ghost makes = { λ change old new. MakesOf change old.files new.files };
 
-    fn block<'a>(&'a self, _entries: &'a Entries) -> Option<BlockPut<'a>> {
-        None
+    fn block<'a>(&'a self, entries: &'a Entries) -> Option<BlockPut<'a>> {
+        match *self {
+            EntriesChange::Hold {
+                number,
+                block,
+                count,
+            } => Some(BlockPut {
+                block,
+                octets: &entries.waiting(number)[..count],
+            }),
+            EntriesChange::Begin { .. } | EntriesChange::Seal { .. } | EntriesChange::Drop { .. } =>
+                { None }
+        }
     }
 
     fn write(&self, entries: &Entries, content: &mut RecordContent) -> u8 {
@@ -112,15 +133,23 @@ impl Change<Entries> for EntriesChange {
                 length,
                 moment,
             } => entries.begin(caller, length, moment),
-            EntriesChange::Hold { number, count } => entries.hold(number, count),
-            EntriesChange::Seal { number, moment } => entries.seal(number, moment),
+            EntriesChange::Hold {
+                number,
+                block,
+                count,
+            } => entries.hold(number, block, count),
+            EntriesChange::Seal {
+                number,
+                moment,
+                header,
+            } => entries.seal(number, moment, header.sum, header.len),
             EntriesChange::Drop { number } => entries.drop_entry(number),
         }
     }
 
-    ghost is_seen = { store_seen };
+    ghost is_seen = { placed_seen };
 
-    ghost lets_same = { λ change entries one other same lets. lets };
+    ghost lets_same = { λ change entries one other same. lets_same change entries.files one other same };
 
-    ghost of_ledger = { same_form store_form (λ held entries. store_of entries.files) };
+    ghost of_ledger = { same_form placed_form (λ held entries. seen held (store_of entries.files)) };
 }

@@ -1,40 +1,53 @@
 //! The store of files.
 
-ghost use Rattle.std.specs.Prelude.{◌≡◌, ◌↔◌, ℕ, ◌+◌, ◌≤◌, ◌<◌, ◌/◌, ◌*◌, ◌⊎◌, List, [], ◌∷◌, ◌++◌, drop, length, true, false, take, IsTrue, IsErr, IsErrOf, IfOk, IfErr, IfSome, OnOk, OnErr, None, Some};
+ghost use Rattle.std.specs.Prelude.{◌≡◌, ◌↔◌, ℕ, ◌+◌, ◌≤◌, ◌<◌, ◌/◌, ◌*◌, ◌⊎◌, List, [], ◌∷◌, drop, length, true};
+ghost use Rattle.std.specs.Prelude.{false, take, IsTrue, IsErr, IsErrOf, IfOk, IfErr, IfSome, OnOk, OnErr, None, Some};
 ghost use Rattle.std.specs.Borrow.{sem};
 ghost use Rattle.std.specs.Io.BufRead.{Rests};
 ghost use Rattle.std.specs.Option.{option_map};
-ghost use Rattle.px_base.specs.CallSign.{CallSign};
 ghost use Rattle.disk_model.specs.Disk.{FillsRoom};
-ghost use Rattle.file_entries.specs.Faults.{fault_code};
 ghost use Rattle.file_journal.specs.Calls.{Leaves, Reads, Runs, TakesStep};
 ghost use Rattle.file_journal.specs.Journal.{IsAfterRecovery};
-ghost use Rattle.file_entries.specs.Command.{after, begin, drop_entry, fault_at, grow, grows, is_allowed, last_grow, seal, unfilled_block};
-ghost use Rattle.file_entries.specs.Files.{ChangesRest, IsOut, KeepsRests, octets_or_none};
+ghost use Rattle.file_entries.specs.Command.{after, begin, drop_entry, grow, grows, last_grow, seal, unfilled_block};
+ghost use Rattle.file_entries.specs.Faults.{fault_code};
+ghost use Rattle.file_entries.specs.Files.{octets_or_none};
 ghost use Rattle.file_entries.specs.Headers.{IsHeaderOf, IsWholeHeader};
 ghost use Rattle.file_entries.specs.Info.{IsCompleteIn, IsNextComplete, info_of};
 ghost use Rattle.file_entries.specs.IsStore.{IsStore};
 ghost use Rattle.file_entries.specs.Kept.{KeepsComplete};
-ghost use Rattle.file_entries.specs.Store.{complete, entry_of, holding_of_number, octets_at};
+ghost use Rattle.file_entries.specs.Store.{complete, entry_of, octets_at};
+ghost use Rattle.block_entries.specs.Checking.{ChecksFile};
+ghost use Rattle.block_entries.specs.Placed.{placed_of};
+ghost use Rattle.block_entries.specs.PlacedCommand.{is_partial};
+ghost use Rattle.block_entries.specs.PlacedFiles.{ChangesRest, IsOut, KeepsRests};
+ghost use Rattle.block_entries.specs.TestLaws.{Passes, TakesSeal};
 ghost use Rattle.file_store.specs.Answers.{MaySeal, RefusesAppend, RefusesBegin, RefusesResume, RefusesSeal, Resumes};
-ghost use Rattle.file_store.specs.Answers.{append_reaches, back_of_append, back_of_seal, begin_reaches, seal_commands, seal_missed, seal_reaches};
+ghost use Rattle.file_store.specs.Answers.{append_reaches, back_of_append, back_of_seal, begin_reaches};
+ghost use Rattle.file_store.specs.Answers.{seal_commands, seal_missed, seal_reaches};
+ghost use Rattle.file_store.specs.Ending.{EndsFile, LeavesOthers};
 ghost use Rattle.file_store.specs.Kept.{KeepsOtherFiles, KeepsOthers, KeepsUploads};
 ghost use Rattle.file_store.specs.Laws.{HoldsInEach, IsKeptInEach, IsKeptOn};
-ghost use Rattle.file_store.specs.OnDisk.{Does, DoesTo, EndsFile};
+ghost use Rattle.file_store.specs.OnDisk.{Does, DoesTo};
 ghost use Rattle.file_store.specs.Reads.{MayRead, OnlyReads};
 ghost use Rattle.file_store.specs.Recovery.{IsRecovered, LeavesAlikeSinceSync, RefusesRecovery, StandsAlike};
-ghost use Rattle.file_store.specs.State.{IsKnown, IsRead, IsReady, StandsOn, rest_in, store_in, store_layout, store_magic, store_on};
-ghost use Rattle.file_store.specs.Upload.{FitsWaiting, HasEntry, Holds, IsHeldWhole, IsWholeWaiting, MayResume, Upload, WaitFew, appended, appending, came, come_of, ending, kept_file, new_upload, octets_come, sealing_of, upload_of, with_bytes};
+ghost use Rattle.file_store.specs.State.{IsKnown, IsRead, IsReady, StandsOn, placed_in, rest_in, store_in};
+ghost use Rattle.file_store.specs.State.{store_layout, store_magic, store_on};
+ghost use Rattle.file_store.specs.Upload.{FillsBlock, FitsWaiting, HasEntry, Holds, IsWholeWaiting, MayResume};
+ghost use Rattle.file_store.specs.Upload.{Upload, WaitFew, appended, appending, came, kept_file, new_upload};
+ghost use Rattle.file_store.specs.Upload.{octets_come, upload_of, with_bytes};
 ghost use Rattle.file_store.specs.Working.{CountsSome, DoesAmongReads, PutsAmongReads};
 
 use crate::change::EntriesChange;
+use crate::end::End;
+use crate::header::header_buffer;
 use crate::put::put_change;
+use crate::reading::{check_file, read_file, read_header};
 use crate::{
     AppendRefusal, BeginRefusal, HeaderFault, Info, Limits, OpenUpload, Receipt, ResumeRefusal,
     SealRefusal, StoreFault,
 };
+use block_entries::{CheckFault, CheckedHeader, Entries};
 use disk_model::{Disk, DiskFault};
-use file_entries::Entries;
 use file_journal::Kept;
 use px_base::{Call, OutOfMemory};
 use std::alloc::Global;
@@ -43,34 +56,37 @@ use std::marker::Model;
 /// The octets in a block.
 const BLOCK: usize = 512;
 
-/// The files that are held, and where their commands stand on a disk, which it doesn't hold. Contracts see it as a
-/// `StoreState`.
+/// Which files there are, and where their octets and their commands stand on a disk, which it doesn't hold. Contracts
+/// see it as a `StoreState`.
 #[derive(Drop)]
 pub struct FileStore {
     kept: Kept<Entries>,
+    /// The header that was read last. It has room for the longest one.
+    header: Vec<u8>,
 }
 
 impl Model for FileStore {
-    ghost use Rattle.std.specs.Prelude.{◌≡◌, true};
+    ghost use Rattle.std.specs.Prelude.{◌≤◌, vec_capacity};
     ghost use Rattle.file_store.specs.State.{IsRead, StoreState, state_from};
 
     ghost Value = { StoreState };
 
     ghost view = { λ a. state_from a.kept.ledger.files a.kept.journal };
 
-    ghost invariant = { λ a. IsRead a.kept.journal };
+    ghost invariant = { λ a. IsRead a.kept.journal × (65535 ≤ vec_capacity a.header) };
 }
 
 impl FileStore {
     ghost use Rattle.file_store.specs.contracts.file_store.FileStore.{the_row};
 
-    /// Recovers the store from whatever a crash, a fault or a killed program left on the disk: the store that its content
-    /// stands for. It syncs before it reads. A disk of at most 16 octets is formatted with the limits' block number; one
-    /// whose formatting was interrupted is formatted to its end. It may be cut at any of its writes and syncs, and is then
-    /// done again. The work is that of the records. Takes memory.
+    /// Recovers the store from whatever a crash, a fault or a killed program left on the disk: the store that its
+    /// content stands for. It syncs before it reads. A disk of at most 16 octets is formatted with the limits' block
+    /// number; one whose formatting was interrupted is formatted to its end. It may be cut at any of its writes and
+    /// syncs, and is then done again. It reads each record once, and for each sealed file its octets once. Takes
+    /// memory: of the files what is told of them and in which blocks they stand, and none of their octets.
     ///
-    /// `NotAStore` and `Damaged` leave the content as it was. After `Disk` and `OutOfMemory` the disk is to be recovered
-    /// again.
+    /// `NotAStore` and `Damaged` leave the content as it was. After `Disk` and `OutOfMemory` the disk is to be
+    /// recovered again.
     pub fn recover<D: Disk>(
         alloc: Global,
         disk: &mut D,
@@ -92,16 +108,19 @@ impl FileStore {
             → D.content disk.new ≡ D.content disk.old }
         ensures runs { Runs D.Disk (IsErrOf result StoreFault.Disk) disk.old disk.new }
 
-        // A crash since the start leaves what it might have left before, or what stands for the same, and a content of 18
-        // octets or more as it is; since the end of the first sync the latter, but where that sync failed.
+        // A crash since the start leaves what it might have left before, or what stands for the same, and a content of
+        // 18 octets or more as it is; since the end of the first sync the latter, but where that sync failed.
         ensures since_start { Leaves D.Disk disk.old disk.new (StandsAlike limits.blocks) }
         ensures since_sync { LeavesAlikeSinceSync D.Disk limits.blocks result disk.old disk.new }
     {
         let kept = Kept::recover(alloc, disk, limits.blocks)?;
-        Ok(FileStore { kept })
+        // Behind the recovery, so that a crash finds the disk synced where there is no memory for it too.
+        let header = header_buffer(alloc)?;
+        Ok(FileStore { kept, header })
     }
 
-    /// Begins a file of `length` octets: an entry of the next number, of which no octet is held. Its upload is out then.
+    /// Begins a file of `length` octets: an entry of the next number, of which no octet is held. Its upload is out
+    /// then.
     ///
     /// The refusals are looked for in the order of `BeginRefusal`. Takes memory, before it touches the disk.
     pub fn begin<D: Disk>(
@@ -118,7 +137,8 @@ impl FileStore {
         ensures can { IfOk result (λ _. RefusesBegin self.old length BeginRefusal.OutOfMemory) }
         ensures untouched { IsTrue (begin_reaches result) ⊎ ((self.new ≡ self.old) × (disk.new ≡ disk.old)) }
 
-        // The command is on the disk before the answer, and a crash at any moment leaves the store before it or after it.
+        // The command is on the disk before the answer, and a crash at any moment leaves the store before it or after
+        // it.
         ensures does { IsTrue (begin_reaches result) → Does D.Disk (IsErr result) self.old self.new disk.old disk.new
             (begin (store_in self.old).next caller length moment ∷ []) }
         ensures upload { IfOk result (λ up. up ≡ new_upload (store_in self.old).next caller length) }
@@ -126,15 +146,15 @@ impl FileStore {
         ensures every_image { IfOk result (λ up. HoldsInEach D.Disk up disk.new) }
         ensures fresh { IfOk result (λ up. rest_in self.old up.number ≡ None) }
 
-        // As far as memory tells, it was begun, or nothing changed.
-        ensures made { OnOk result (store_in self.new
-            ≡ after (store_in self.old) (begin (store_in self.old).next caller length moment)) }
-        ensures unmade { IsErr result → store_in self.new ≡ store_in self.old }
-
         ensures stands_on { StandsOn D.Disk self.new disk.new }
         ensures uploads { KeepsUploads self.old self.new }
         ensures rests { KeepsRests self.old.files self.new.files (store_in self.old).next }
         ensures kept { KeepsComplete (store_in self.old) (store_in self.new) }
+
+        // What memory tells of the entries, whether it is known what the files hold or not.
+        ensures made { OnOk result (store_in self.new
+            ≡ after (store_in self.old) (begin (store_in self.old).next caller length moment)) }
+        ensures unmade { IsErr result → store_in self.new ≡ store_in self.old }
     {
         if let Some(bar) = self.kept.ledger.begin_bar(length) {
             return Err(BeginRefusal::from(bar));
@@ -149,15 +169,16 @@ impl FileStore {
             length,
             moment,
         };
-        // A crash before the record's gate is synced leaves the store without the file, and its number is given again: the
-        // caller hasn't been told of it.
+        // A crash before the record's gate is synced leaves the store without the file, and its number is given again:
+        // the caller hasn't been told of it.
         put_change(&mut self.kept, disk, &begin)?;
         self.kept.ledger.take_out(number);
         Ok(OpenUpload::new(number, caller, length, 0))
     }
 
-    /// Goes on with the upload of this number, caller and length, which isn't out: its entry is under way, and the upload
-    /// says how many octets are held of it. The refusals are looked for in the order of `ResumeRefusal`. Takes no memory.
+    /// Goes on with the upload of this number, caller and length, which isn't out: its entry is under way, and the
+    /// upload says how many octets are held of it. The refusals are looked for in the order of `ResumeRefusal`. Takes
+    /// no memory.
     pub fn resume(
         &mut self,
         number: u32,
@@ -175,7 +196,7 @@ impl FileStore {
         ensures journal { self.new.journal ≡ self.old.journal }
         ensures uploads { KeepsUploads self.old self.new }
     {
-        let Some(info) = self.kept.ledger.info(number) else {
+        let Some(info) = self.info(number) else {
             return Err(ResumeRefusal::NoSuch);
         };
         if !is_theirs(&info, caller, length) {
@@ -191,11 +212,12 @@ impl FileStore {
         Ok(OpenUpload::new(number, caller, length, info.held))
     }
 
-    /// Adds octets to an upload. Each whole 512 of those that wait then become held; the others, fewer than 512, wait on.
+    /// Adds octets to an upload. Each whole 512 of those that wait then become held; the others, fewer than 512, wait
+    /// on.
     ///
-    /// `TooMuch`, where more octets would come than the file has, is looked at first, then `Failed`. Takes memory, before
-    /// it touches the disk. The work is that of finding the entry and of the octets that come, however many are held; the
-    /// disk takes two writes and two syncs for each 512.
+    /// `TooMuch`, where more octets would come than the file has, is looked at first, then `Failed`. Takes memory,
+    /// before it touches the disk. The work is that of finding the entry and of the octets that come, however many are
+    /// held; the disk takes three writes and three syncs for each 512.
     pub fn append<D: Disk>(
         &mut self,
         disk: &mut D,
@@ -244,12 +266,13 @@ impl FileStore {
         }
     }
 
-    /// Seals a file of which all octets came: those that wait become held, and the file is checked by its header (PFH
-    /// 1990). A file without fault is complete from then on, and kept with its stamp: its number, its caller and this
-    /// moment. The entry of one with a fault is dropped, and the answer is the code of its first fault. Takes no memory.
+    /// Seals a file of which all octets came: those that wait become held, the file is read, each octet of it once, and
+    /// checked by its header (PFH 1990). A file without fault is complete from then on, and kept with its stamp: its
+    /// number, its caller and this moment. The entry of one with a fault is dropped, and the answer is the code of its
+    /// first fault. Takes no memory.
     ///
-    /// `Short`, where fewer octets came than the file has, is looked at first, then `Failed`. `Read`: a read failed, and
-    /// the file stays under way.
+    /// `Short`, where fewer octets came than the file has, is looked at first, then `Failed`. `Read`: a read failed,
+    /// and the file stays under way.
     pub fn seal<D: Disk>(
         &mut self,
         disk: &mut D,
@@ -267,8 +290,8 @@ impl FileStore {
         ensures failed { IsErrOf result SealRefusal.Failed
             → ChangesRest self.old.files self.new.files up.number None × (self.new.journal ≡ self.old.journal) }
 
-        // The commands are on the disk before the answer; a crash at any moment leaves the first of them. Which they are
-        // the octets of the file decide, where they are known.
+        // The commands are on the disk before the answer; a crash at any moment leaves the first of them. Which they
+        // are the octets of the file decide, where they are known.
         ensures does { IsTrue (seal_reaches result) → IsKnown D.Disk disk.old
             → DoesAmongReads D.Disk (IsErrOf result SealRefusal.Disk) (seal_missed result) self.old self.new
             disk.old disk.new (seal_commands result (store_on D.Disk self.old disk.old) self.old up moment) }
@@ -299,12 +322,16 @@ impl FileStore {
             self.park(up);
             return Err(SealRefusal::Failed);
         }
-        let number = up.end();
+        let number = up.number();
         match self.end_file(disk, number, moment) {
-            Ok(None) => Ok(Receipt::of(number)),
-            Ok(Some(code)) => Err(SealRefusal::Header { code }),
+            Ok(End::Sealed) => Ok(Receipt::of(up.end())),
+            Ok(End::Dropped { code }) => {
+                up.end();
+                Err(SealRefusal::Header { code })
+            }
+            Ok(End::Unread) => Err(SealRefusal::Read(up.whole())),
             Err(DiskFault) => {
-                self.kept.ledger.park(number);
+                self.kept.ledger.park(up.end());
                 Err(SealRefusal::Disk)
             }
         }
@@ -331,7 +358,7 @@ impl FileStore {
     fn has_entry(&self, up: &OpenUpload) -> bool
         ensures { IsTrue result ↔ HasEntry self.now up.now }
     {
-        let Some(info) = self.kept.ledger.info(up.number()) else {
+        let Some(info) = self.info(up.number()) else {
             return false;
         };
         if info.complete {
@@ -363,6 +390,8 @@ impl FileStore {
         ensures info { result ≡ option_map info_of (entry_of (store_in self.now) number) }
         ensures rules { IsStore (store_in self.now) }
     {
+        // It tells contracts that the entries keep their rules.
+        self.kept.ledger.next();
         self.kept.ledger.info(number)
     }
 
@@ -387,9 +416,10 @@ impl FileStore {
         self.kept.ledger.next_complete(after)
     }
 
-    /// Fills the room with the octets from this place on of a complete file; they have to be there. The fault comes only
-    /// where a read of the disk failed, and leaves the store and the disk's content as they were, and the room open. Takes
-    /// no memory.
+    /// Fills the room with the octets from this place on of a complete file; they have to be there. Behind the header
+    /// it reads these octets, with one read for each block; in the header those before them too. The fault comes only
+    /// where a read of the disk failed, and leaves the store and the disk's content as they were, and the room open.
+    /// Takes no memory.
     pub fn read_at<D: Disk>(
         &mut self,
         disk: &mut D,
@@ -404,17 +434,14 @@ impl FileStore {
 
         ensures reads { OnlyReads D.Disk (IsErr result) self.old self.new disk.old disk.new }
     {
-        let start = offset as usize;
-        let octets = self.kept.ledger.octets(number);
-        room.copy_from_slice(&octets[start..start + room.len()]);
-        Ok(())
+        read_file(&self.kept, disk, number, offset, room)
     }
 
-    /// Lends the header of a complete file: its octets up to and with the end item (PFH 1990), which [`header_in`] reads.
-    /// The header is read, and never the body. Takes no memory.
+    /// Lends the header of a complete file: its octets up to and with the end item (PFH 1990), which [`header_in`]
+    /// reads. The header is read, and never the body. Takes no memory.
     ///
-    /// `Disk`: a read of the disk failed. `NoHeader`: what the file's blocks hold is no header any more, which never comes
-    /// where it is known what they hold. Both leave the store and the disk's content as they were.
+    /// `Disk`: a read of the disk failed. `NoHeader`: what the file's blocks hold is no header any more, which never
+    /// comes where it is known what they hold. Both leave the store and the disk's content as they were.
     ///
     /// [`header_in`]: crate::header_in
     pub fn header<D: Disk>(&mut self, disk: &mut D, number: u32) -> Result<&[u8], HeaderFault>
@@ -433,7 +460,8 @@ impl FileStore {
         ensures ready { IsReady D.Disk self.old disk.new }
         ensures* store { sem 𝓛 (Rests the_row self.entry (λ new. new ≡ self.old)) }
     {
-        Ok(self.kept.ledger.header(number))
+        read_header(&self.kept, disk, number, &mut self.header)?;
+        Ok(&self.header)
     }
 
     /// Its journal has the store's magic, and was read to its end.
@@ -476,44 +504,56 @@ impl FileStore {
     /// The first octets that wait of the upload of this number become held, by one Grow.
     fn hold<D: Disk>(&mut self, disk: &mut D, number: u32, count: usize) -> Result<(), DiskFault>
         requires ready { IsReady D.Disk self.old disk.old }
-        requires fits { FitsWaiting self.old number }
-        requires some { 1 ≤ count }
-        requires most { count ≤ 512 }
-        requires there { count ≤ length (octets_or_none (rest_in self.old number)) }
+        requires fills { FillsBlock self.old number count }
         ensures does { DoesTo D.Disk (IsErr result) self.old self.new disk.old disk.new
             (grow number (take count (octets_or_none (rest_in self.old number))) ∷ []) number }
         ensures rest { OnOk result (rest_in self.new number ≡ option_map (drop count) (rest_in self.old number)) }
     {
-        // A crash before the record's gate is synced leaves the octets not held: the entry says that they are only after it.
-        put_change(&mut self.kept, disk, &EntriesChange::Hold { number, count })
+        let block = self.kept.ledger.lowest_free();
+        let hold = EntriesChange::Hold {
+            number,
+            block,
+            count,
+        };
+        // A crash before the record's gate is synced leaves the octets not held: the entry says that they are only
+        // after it, and the block that they were put in is used by no file.
+        put_change(&mut self.kept, disk, &hold)
     }
 
-    /// Ends the file of this number, of which all octets came: those that wait become held, and it is sealed, or dropped
-    /// where it has a fault, of which this is the code.
+    /// Ends the file of this number, of which all octets came: those that wait become held, and it is sealed, or
+    /// dropped where it has a fault; or it stays under way and out, where a read failed.
     fn end_file<D: Disk>(
         &mut self,
         disk: &mut D,
         number: u32,
         moment: u32,
-    ) -> Result<Option<u8>, DiskFault>
+    ) -> Result<End, DiskFault>
         requires ready { IsReady D.Disk self.old disk.old }
         requires whole { IsWholeWaiting self.old number }
-        ensures ends { EndsFile D.Disk (IsErr result) self.old self.new disk.old disk.new
-            (sealing_of (store_in self.old) self.old number moment) number }
-        ensures fault { IfOk result (λ fault. fault ≡ fault_code (come_of (store_in self.old) self.old number)) }
+        ensures ends { EndsFile D.Disk result self.old self.new disk.old disk.new number moment }
     {
         self.hold_rest(disk, number)?;
-        self.kept.ledger.park(number);
-        self.seal_or_drop(disk, number, moment)
+        match check_file(&self.kept, disk, number, moment) {
+            Ok(header) => {
+                self.seal_entry(disk, number, moment, header)?;
+                Ok(End::Sealed)
+            }
+            Err(CheckFault::Header { code }) => {
+                self.drop_entry(disk, number)?;
+                Ok(End::Dropped { code })
+            }
+            Err(CheckFault::Disk) => Ok(End::Unread),
+        }
     }
 
-    /// The octets that wait of the upload of this number, of whose file all came, become held, by one Grow where there are
-    /// any.
+    /// The octets that wait of the upload of this number, of whose file all came, become held, by one Grow where there
+    /// are any.
     fn hold_rest<D: Disk>(&mut self, disk: &mut D, number: u32) -> Result<(), DiskFault>
         requires ready { IsReady D.Disk self.old disk.old }
         requires whole { IsWholeWaiting self.old number }
         ensures does { DoesTo D.Disk (IsErr result) self.old self.new disk.old disk.new
             (last_grow number (octets_or_none (rest_in self.old number))) number }
+        ensures rest { OnOk result (rest_in self.new number ≡ Some []) }
     {
         let waiting = self.kept.ledger.waiting(number).len();
         if waiting == 0 {
@@ -522,61 +562,41 @@ impl FileStore {
         self.hold(disk, number, waiting)
     }
 
-    /// Seals the file of this number, of which all octets are held, or drops it where it has a fault, of which this is the
-    /// code.
-    fn seal_or_drop<D: Disk>(
-        &mut self,
-        disk: &mut D,
-        number: u32,
-        moment: u32,
-    ) -> Result<Option<u8>, DiskFault>
-        requires ready { IsReady D.Disk self.old disk.old }
-        requires held { IsHeldWhole self.old number }
-        requires in_ { rest_in self.old number ≡ None }
-        ensures ends { EndsFile D.Disk (IsErr result) self.old self.new disk.old disk.new
-            (ending number moment (fault_at (store_in self.old) number) ∷ []) number }
-        ensures fault { IfOk result (λ fault. fault ≡ fault_at (store_in self.old) number) }
-    {
-        match self.kept.ledger.fault(number) {
-            None => {
-                self.seal_entry(disk, number, moment)?;
-                Ok(None)
-            }
-            Some(code) => {
-                self.drop_entry(disk, number)?;
-                Ok(Some(code))
-            }
-        }
-    }
-
-    /// Seals the entry of this number, of which all octets are held and which has no fault.
+    /// Seals the entry of this number, of which all octets are held, which has no fault, and whose header is this one.
     fn seal_entry<D: Disk>(
         &mut self,
         disk: &mut D,
         number: u32,
         moment: u32,
+        header: CheckedHeader,
     ) -> Result<(), DiskFault>
         requires ready { IsReady D.Disk self.old disk.old }
-        requires allowed { IsTrue (is_allowed (store_in self.old) (seal number moment)) }
-        requires in_ { rest_in self.old number ≡ None }
-        ensures ends { EndsFile D.Disk (IsErr result) self.old self.new disk.old disk.new
-            (seal number moment ∷ []) number }
+        requires takes { TakesSeal (placed_in self.old) number header.len }
+        requires found { ChecksFile (D.content disk.old) (placed_of (placed_in self.old) number) moment header }
+        ensures does { Does D.Disk (IsErr result) self.old self.new disk.old disk.new (seal number moment ∷ []) }
+        ensures leaves { LeavesOthers D.Disk self.old self.new disk.new number }
+        ensures sealed { OnOk result (IsCompleteIn (store_in self.new) number) }
+        ensures rest { rest_in self.new number ≡ None }
     {
-        // A crash before the record's gate is synced leaves the file whole and under way: the caller goes on with it and
-        // ends it again. No receipt is given before.
-        put_change(
-            &mut self.kept,
-            disk,
-            &EntriesChange::Seal { number, moment },
-        )
+        self.kept.ledger.park(number);
+        let seal = EntriesChange::Seal {
+            number,
+            moment,
+            header,
+        };
+        // A crash before the record's gate is synced leaves the file whole and under way: the caller goes on with it
+        // and ends it again. No receipt is given before.
+        put_change(&mut self.kept, disk, &seal)
     }
 
     /// Drops the entry of this number, which is under way.
     fn drop_entry<D: Disk>(&mut self, disk: &mut D, number: u32) -> Result<(), DiskFault>
         requires ready { IsReady D.Disk self.old disk.old }
-        requires allowed { IsTrue (is_allowed (store_in self.old) (drop_entry number)) }
-        ensures ends { EndsFile D.Disk (IsErr result) self.old self.new disk.old disk.new
-            (drop_entry number ∷ []) number }
+        requires partial { Passes (placed_in self.old) number is_partial }
+        ensures does { Does D.Disk (IsErr result) self.old self.new disk.old disk.new (drop_entry number ∷ []) }
+        ensures leaves { LeavesOthers D.Disk self.old self.new disk.new number }
+        ensures gone { OnOk result (entry_of (store_in self.new) number ≡ None) }
+        ensures rest { OnOk result (rest_in self.new number ≡ None) }
     {
         // A crash before the record's gate is synced leaves the file whole and under way; it is found faulty again.
         put_change(&mut self.kept, disk, &EntriesChange::Drop { number })

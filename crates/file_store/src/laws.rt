@@ -11,7 +11,8 @@ ghost use Rattle.file_store.specs.Upload.{Holds};
 use crate::{FileStore, OpenUpload};
 use disk_model::Disk;
 
-/// What octets stand for: the store after the commands that their records are, and no other.
+/// What octets stand for: what the commands that their records are make of no entries, with the octets that the blocks
+/// hold, and no other store.
 pub fn standing_law()
     ensures { StandingLaw }
 {}
@@ -33,8 +34,8 @@ pub fn told_law<D: Disk>(store: &FileStore, disk: &D)
     state_law(store);
 }
 
-/// What an upload that is out knows: in every image of a disk on which the store stands, its entry is under way and holds
-/// at least the octets that the upload says. The store hasn't failed. Takes no memory.
+/// What an upload that is out knows: in every image of a disk on which the store stands, its entry is under way and
+/// holds at least the octets that the upload says. The store hasn't failed. Takes no memory.
 pub fn token_law<D: Disk>(store: &FileStore, up: &OpenUpload, disk: &D)
     requires ready { IsReady D.Disk store.now disk.now }
     requires holds { Holds store.now up.now }
@@ -43,8 +44,8 @@ pub fn token_law<D: Disk>(store: &FileStore, up: &OpenUpload, disk: &D)
     store.read_law();
 }
 
-/// What stays of a file that is complete: in every image of a disk on which the store stands, the entry stands as it is.
-/// The store hasn't failed; each of its calls keeps each complete entry. Takes no memory.
+/// What stays of a file that is complete: in every image of a disk on which the store stands, the entry stands as it
+/// is. The store hasn't failed; each of its calls keeps each complete entry. Takes no memory.
 pub fn complete_law<D: Disk>(store: &FileStore, disk: &D)
     requires { IsReady D.Disk store.now disk.now }
     ensures { (number : ℕ) (entry : Entry) → entry_of (store_on D.Disk store.now disk.now) number ≡ Some entry
@@ -53,8 +54,8 @@ pub fn complete_law<D: Disk>(store: &FileStore, disk: &D)
     store.read_law();
 }
 
-/// What a receipt is good for: its file's entry stands as it is in every image that later commands of the store leave, at
-/// every moment of them and whether the disk failed in one or not.
+/// What a receipt is good for: its file's entry stands as it is in every image that later commands of the store leave,
+/// at every moment of them and whether the disk failed in one or not.
 pub fn receipt_law()
     ensures { ReceiptLaw }
 {}

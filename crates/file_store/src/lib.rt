@@ -1,16 +1,21 @@
-//! The store of files on a disk that may lose power at any moment: partial and complete files, and the uploads under way.
+//! The store of files on a disk that may lose power at any moment: partial and complete files, and the uploads under
+//! way.
 //!
-//! The store is a list of entries (crate `file_entries`), and each call does some of its commands. Each command is a record
-//! of a journal (crate `file_journal`): it is on the disk, synced, before the entries change in memory, and so before the
+//! The store is a list of entries, whose octets stand in blocks of the disk (crate `block_entries`), and each call does
+//! some of its commands (crate `file_entries`). Each command is a record of a journal (crate `file_journal`): what it
+//! puts in a block and then its record are on the disk, synced, before the entries change in memory, and so before the
 //! caller can say anything of it. A crash leaves the store after the first of the commands, none skipped.
 #![tactic(auto)]
 
 mod change;
+mod end;
 mod file_store;
+mod header;
 pub mod laws;
 mod limits;
 mod open_upload;
 mod put;
+mod reading;
 mod receipt;
 mod refusals;
 

@@ -7,9 +7,9 @@ use crate::LONGEST_FILE;
 use px_base::Call;
 use std::marker::Model;
 
-/// An upload under way: the way to its entry in the store. It must be spent, by `seal` or `park`. It knows only what stays
-/// whatever becomes of other uploads: in every image of the disk its entry is under way, and holds at least the octets
-/// that it says. Contracts see it as an `Upload`.
+/// An upload under way: the way to its entry in the store. It must be spent, by `seal` or `park`. It knows only what
+/// stays whatever becomes of other uploads: in every image of the disk its entry is under way, and holds at least the
+/// octets that it says. Contracts see it as an `Upload`.
 pub struct OpenUpload {
     number: u32,
     caller: Call,
@@ -28,7 +28,7 @@ impl Model for OpenUpload {
 }
 
 impl OpenUpload {
-    ghost use Rattle.file_store.specs.Upload.{upload_from};
+    ghost use Rattle.file_store.specs.Upload.{held_whole, upload_from};
 
     /// The upload of this entry, of which so many octets are held.
     pub(crate) fn new(number: u32, caller: Call, file_length: u32, held: u32) -> OpenUpload
@@ -89,6 +89,24 @@ impl OpenUpload {
             caller,
             length,
             held: held + more as u32,
+        }
+    }
+
+    /// The upload once all octets of the file are held.
+    pub(crate) fn whole(self) -> OpenUpload
+        ensures { result ≡ held_whole self }
+    {
+        let OpenUpload {
+            number,
+            caller,
+            length,
+            held: _,
+        } = self;
+        OpenUpload {
+            number,
+            caller,
+            length,
+            held: length,
         }
     }
 

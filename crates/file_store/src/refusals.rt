@@ -2,7 +2,8 @@
 
 ghost use Rattle.std.specs.Prelude.{◌≡◌};
 ghost use Rattle.file_store.specs.Refusals.{refusal_of_bar};
-ghost use Rattle.file_store.specs.declared.refusals.BeginRefusal.TheVariants.{Disk as begin_disk, OutOfMemory as begin_memory};
+ghost use Rattle.file_store.specs.declared.refusals.BeginRefusal.TheVariants.{Disk as begin_disk};
+ghost use Rattle.file_store.specs.declared.refusals.BeginRefusal.TheVariants.{OutOfMemory as begin_memory};
 
 use crate::OpenUpload;
 use disk_model::DiskFault;
@@ -93,8 +94,8 @@ pub enum AppendRefusal {
     TooMuch(OpenUpload),
     /// This store answered `Disk` before; it is to be recovered anew. The upload is spent.
     Failed,
-    /// A write or a sync of the disk failed, and its count of write faults rose. Some of the octets may be held. The upload
-    /// is spent.
+    /// A write or a sync of the disk failed, and its count of write faults rose. Some of the octets may be held. The
+    /// upload is spent.
     Disk,
     /// No memory was left for the octets. Neither the store nor its disk was touched.
     OutOfMemory(OpenUpload),
@@ -104,17 +105,19 @@ pub enum AppendRefusal {
 pub enum SealRefusal {
     /// Fewer octets came than the file has. Neither the store nor its disk was touched.
     Short(OpenUpload),
-    /// The file breaks a rule of file headers. Its entry is dropped, and its number never comes again. The upload is spent.
+    /// The file breaks a rule of file headers. Its entry is dropped, and its number never comes again. The upload is
+    /// spent.
     Header {
         /// The code of the first rule that it breaks: 6, 7, 14, 15 or 16 (FTL0 1990, error codes).
         code: u8,
     },
-    /// A read of the disk failed, and its count of read faults rose. All octets of the file are held, and it is under way.
+    /// A read of the disk failed, and its count of read faults rose. All octets of the file are held, and it is under
+    /// way.
     Read(OpenUpload),
     /// This store answered `Disk` before; it is to be recovered anew. The upload is spent.
     Failed,
-    /// A write or a sync of the disk failed, and its count of write faults rose. The file may be complete, dropped or under
-    /// way. The upload is spent.
+    /// A write or a sync of the disk failed, and its count of write faults rose. The file may be complete, dropped or
+    /// under way. The upload is spent.
     Disk,
 }
 

@@ -1,5 +1,8 @@
-use Rattle.file_store.proofs.StandingLemmas.{standing-back, standing-forth}
+use Rattle.block_entries.proofs.Offered.{placed_stands, stands_placed}
 use Rattle.file_store.proofs.laws.standing_law.Goals as goal
 
 pub returns : goal.returns
-returns c octets files are = (standing-forth octets files are, λ is. standing-back octets files is.0 is.1)
+returns c octets files are = (
+  λ stands. let is = stands_placed octets files are stands in (is.0, is.1, (is.2, is.3)),
+  λ is. placed_stands octets files is.0 is.1 is.2.0 is.2.1,
+)

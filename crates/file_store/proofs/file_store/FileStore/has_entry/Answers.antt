@@ -1,10 +1,7 @@
-use Rattle.std.proofs.Common.{◌≡◌, refl, sym, ◌∙◌, ap, subst, rules}
-use Rattle.std.specs.Option.{option_map}
-use Rattle.file_entries.specs.Info.{info_of}
-use Rattle.file_entries.specs.IsStore.{IsStore}
-use Rattle.file_entries.specs.Store.{entry_of, octets_of}
+use Rattle.std.proofs.Common.{◌≡◌, refl, sym, ◌∙◌, rules}
+use Rattle.file_entries.specs.Store.{octets_of}
 use Rattle.file_entries.proofs.Offered.{told}
-use Rattle.file_store.specs.State.{StoreState, store_in}
+use Rattle.file_store.specs.State.{store_in}
 use Rattle.file_store.proofs.ToldLemmas.{has-told, told-count, told-entry}
 use Rattle.file_store.proofs.file_store.FileStore.has_entry.Goals as goal
 
@@ -13,8 +10,7 @@ returns c =
     let self = c.args.self.now in
     let up = c.args.up.now in
     let info = c.in-Some.info in
-    let is = told (store_in self) c.number.result info (subst (λ (s : StoreState). IsStore (store_in s)) c.self.view_is c.info.ensures.rules)
-    (c.in-Some.ensures.info ∙ ap (λ (s : StoreState). option_map info_of (entry_of (store_in s) c.number.result)) c.self.view_is) in
+    let is = told (store_in self) c.number.result info c.info.ensures.rules c.in-Some.ensures.info in
     let held : info.held ≡ up.held = search rules in (
       λ theirs.
           let both = c.is_theirs.ensures.0 theirs in (

@@ -1,11 +1,11 @@
 use Rattle.std.proofs.Common.{◌≡◌, true, false, [], Some, sym, ◌∙◌, ap, subst, arith, rules}
-use Rattle.std.specs.Option.{option_map}
-use Rattle.file_entries.specs.Info.{info_of}
-use Rattle.file_entries.specs.IsStore.{IsStore}
+use Rattle.block_entries.specs.PlacedFiles.{store_of}
 use Rattle.file_entries.specs.Store.{entry_of}
 use Rattle.file_entries.proofs.Offered.{told, told-held}
 use Rattle.file_store.specs.State.{StoreState, rest_in, store_in}
 use Rattle.file_store.specs.Upload.{Holds, Upload}
+use Rattle.file_store.proofs.OnLemmas.{in_parked}
+use Rattle.file_store.proofs.TokenLemmas.{placed-there}
 use Rattle.file_store.proofs.ToldLemmas.{told-caller, told-complete, told-holds, told-length, told-short, told-upload}
 use Rattle.file_store.proofs.file_store.FileStore.resume.Goals as goal
 
@@ -13,8 +13,7 @@ pub returns-then-not-is_theirs-clause-refused : goal.returns-then-not-is_theirs-
 returns-then-not-is_theirs-clause-refused c =
     let self = c.args.self.now in
     let info = c.in-Some.info in
-    let is = told (store_in self) c.args.number info (subst (λ (s : StoreState). IsStore (store_in s)) c.self.view_is c.info.ensures.rules)
-    (c.in-Some.ensures.info ∙ ap (λ (s : StoreState). option_map info_of (entry_of (store_in s) c.args.number)) c.self.view_is) in (
+    let is = told (store_in self) c.args.number info c.info.ensures.rules c.in-Some.ensures.info in (
       is.entry,
       is.found,
       λ both.
@@ -27,8 +26,7 @@ pub new-requires-clause-held : goal.new-requires-clause-held
 new-requires-clause-held c =
     let self = c.args.self.now in
     let info = c.in-Some.info in
-    let is = told (store_in self) c.args.number info (subst (λ (s : StoreState). IsStore (store_in s)) c.self.view_is c.info.ensures.rules)
-    (c.in-Some.ensures.info ∙ ap (λ (s : StoreState). option_map info_of (entry_of (store_in s) c.args.number)) c.self.view_is) in
+    let is = told (store_in self) c.args.number info c.info.ensures.rules c.in-Some.ensures.info in
     let theirs : c.is_theirs.result ≡ true = search rules in
     omega (arith, told-held (store_in self) c.args.number info is, (c.is_theirs.ensures.0 theirs).1)
 
@@ -36,18 +34,15 @@ pub new-requires-clause-file : goal.new-requires-clause-file
 new-requires-clause-file c =
     let self = c.args.self.now in
     let info = c.in-Some.info in
-    let kept : IsStore (store_in self) = subst (λ (s : StoreState). IsStore (store_in s)) c.self.view_is c.info.ensures.rules in
-    let is = told (store_in self) c.args.number info kept
-    (c.in-Some.ensures.info ∙ ap (λ (s : StoreState). option_map info_of (entry_of (store_in s) c.args.number)) c.self.view_is) in
+    let is = told (store_in self) c.args.number info c.info.ensures.rules c.in-Some.ensures.info in
     let theirs : c.is_theirs.result ≡ true = search rules in
-    omega (arith, told-short (store_in self) c.args.number info is kept, (c.is_theirs.ensures.0 theirs).1)
+    omega (arith, told-short (store_in self) c.args.number info is c.info.ensures.rules, (c.is_theirs.ensures.0 theirs).1)
 
 pub returns-clause-resumed : goal.returns-clause-resumed
 returns-clause-resumed c =
     let self = c.args.self.now in
     let info = c.in-Some.info in
-    let is = told (store_in self) c.args.number info (subst (λ (s : StoreState). IsStore (store_in s)) c.self.view_is c.info.ensures.rules)
-    (c.in-Some.ensures.info ∙ ap (λ (s : StoreState). option_map info_of (entry_of (store_in s) c.args.number)) c.self.view_is) in
+    let is = told (store_in self) c.args.number info c.info.ensures.rules c.in-Some.ensures.info in
     let theirs : c.is_theirs.result ≡ true = search rules in
     let both = c.is_theirs.ensures.0 theirs in
     let partial_is : info.complete ≡ false = search rules in
@@ -64,13 +59,19 @@ returns-clause-resumed c =
 pub returns-clause-holds : goal.returns-clause-holds
 returns-clause-holds c =
     let self = c.args.self.now in
+    let inside : StoreState = record { files = c.self.inside.kept.ledger.files; journal = c.self.inside.kept.journal } in
     let new : StoreState = record { files = c.take_out.new.self.files; journal = c.self.inside.kept.journal } in
     let info = c.in-Some.info in
-    let is = told (store_in self) c.args.number info (subst (λ (s : StoreState). IsStore (store_in s)) c.self.view_is c.info.ensures.rules)
-    (c.in-Some.ensures.info ∙ ap (λ (s : StoreState). option_map info_of (entry_of (store_in s) c.args.number)) c.self.view_is) in
+    let is = told (store_in self) c.args.number info c.info.ensures.rules c.in-Some.ensures.info in
     let theirs : c.is_theirs.result ≡ true = search rules in
     let both = c.is_theirs.ensures.0 theirs in
     let partial_is : info.complete ≡ false = search rules in
     let rest = c.take_out.ensures.here in
     subst (λ (u : Upload). Holds new u × (rest_in new u.number ≡ Some [])) (sym c.new.ensures)
-    (told-holds (store_in self) c.args.number info is new c.args.caller c.args.length both.0 both.1 partial_is (c.take_out.ensures.store ∙ ap store_in c.self.view_is) rest, rest)
+    (told-holds (store_in self) c.args.number info is new c.args.caller c.args.length both.0 both.1 partial_is (in_parked inside new c.take_out.ensures.store_is ∙ ap store_in c.self.view_is) rest, rest)
+
+pub take_out-requires-clause-there : goal.take_out-requires-clause-there
+take_out-requires-clause-there c =
+    let info = c.in-Some.info in
+    let is = told (store_in c.args.self.now) c.args.number info c.info.ensures.rules c.in-Some.ensures.info in
+    placed-there (store_of c.self.inside.kept.ledger.files) c.args.number is.entry (ap (λ (s : StoreState). entry_of (store_in s) c.args.number) c.self.view_is ∙ is.found)

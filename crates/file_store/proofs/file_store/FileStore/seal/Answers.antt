@@ -1,92 +1,81 @@
-use Rattle.std.proofs.Common.{inl, refl, ◌≡◌, true, false, None, Some, arith, rules}
-use Rattle.file_entries.specs.Faults.{fault_code}
-use Rattle.file_store.specs.OnDisk.{Does}
-use Rattle.file_store.specs.State.{StoreState, store_in}
-use Rattle.file_store.specs.Upload.{kept_file, octets_come, sealing}
-use Rattle.file_store.proofs.SealedLemmas.{dropped-entry, sealed-complete, sealed-entry, sealed-holding}
-use Rattle.file_store.proofs.TokenLemmas.{kept-each}
-use Rattle.file_store.proofs.UploadLemmas.{does-keeps, parked-keeps, sealing-of, whole-waiting}
+use Rattle.std.proofs.Common.{ℕ, Ok, None, refl, sym, subst, arith, rules}
+use Rattle.block_entries.specs.PlacedFiles.{Becomes}
+use Rattle.file_journal.proofs.Offered.{puts_among, puts_none}
+use Rattle.file_store.specs.Ending.{EndsFile, LeavesOthers}
+use Rattle.file_store.specs.State.{StoreState, placed_in, state_from}
+use Rattle.file_store.specs.Upload.{Holds, Upload}
+use Rattle.file_store.specs.declared.end.End.TheVariants as end
+use Rattle.file_store.proofs.OnLemmas.{stands_parked}
+use Rattle.file_store.proofs.SealLemmas.{leaves-keeps, leaves-then, parked-leaves}
+use Rattle.file_store.proofs.SealedLemmas.{ended-each, ended-kept, ended-unread}
+use Rattle.file_store.proofs.UploadLemmas.{keeps-parked, whole-waiting}
 use Rattle.file_store.proofs.file_store.FileStore.seal.Goals as goal
-
-pub end_file-requires-clause-whole : goal.end_file-requires-clause-whole
-end_file-requires-clause-whole g c =
-    whole-waiting c.args.self.now c.args.up c.end-number.result c.end-number.ensures c.requires.holds (omega (arith, c.missing.ensures.missing, c.if-missing-gt0.false))
 
 pub returns-then-failed-clause-keeps : goal.returns-then-failed-clause-keeps
 returns-then-failed-clause-keeps g c =
-    parked-keeps g.D.Disk c.args.self.now c.park.new.self c.args.disk.now c.args.up.number c.requires.stands_on c.park.ensures.rest c.park.ensures.journal c.park.ensures.uploads
+    keeps-parked g.D.Disk c.args.self.now c.park.new.self c.args.disk.now c.args.up.number c.park.ensures.rest.store_is c.park.ensures.journal c.requires.stands_on c.park.ensures.rest.others
 
-pub returns-in-Ok-None-clause-complete : goal.returns-in-Ok-None-clause-complete
-returns-in-Ok-None-clause-complete g c known =
+pub end_file-requires-clause-whole : goal.end_file-requires-clause-whole
+end_file-requires-clause-whole g c =
+    whole-waiting c.args.self.now c.args.up c.number-number.result c.number-number.ensures c.requires.holds (omega (arith, c.missing.ensures.missing, c.if-missing-gt0.false))
+
+pub returns-in-Ok-Sealed-clause-complete : goal.returns-in-Ok-Sealed-clause-complete
+returns-in-Ok-Sealed-clause-complete g c =
     let D = g.D.Disk in
     let self = c.args.self.now in
-    let up = c.args.up in
-    let moment = c.args.moment in
-    let does : Does D (false ≡ true) self c.end_file.new.self c.args.disk.now c.end_file.new.disk (sealing (store_in self) self up moment) = search rules in
-    let good : fault_code (octets_come (store_in self) self up) ≡ None = search rules in
-    sealed-holding self up moment c.requires.holds (omega (arith, c.missing.ensures.missing, c.if-missing-gt0.false)) (store_in c.end_file.new.self) ((does.done (λ e. cc e)).0 (inl refl)) good
+    let ends : EndsFile D (Ok end.Sealed) self c.end_file.new.self c.args.disk.now c.end_file.new.disk c.args.up.number c.args.moment = search rules in
+    ended-kept D self c.end_file.new.self c.args.disk.now c.end_file.new.disk c.args.up c.args.moment c.requires.holds ends
 
-pub returns-in-Ok-None-clause-sealed : goal.returns-in-Ok-None-clause-sealed
-returns-in-Ok-None-clause-sealed g c =
+pub returns-in-Ok-Sealed-clause-every_image : goal.returns-in-Ok-Sealed-clause-every_image
+returns-in-Ok-Sealed-clause-every_image g c =
     let D = g.D.Disk in
     let self = c.args.self.now in
-    let new = c.end_file.new.self in
-    let up = c.args.up in
-    let moment = c.args.moment in
-    let does : Does D (false ≡ true) self new c.args.disk.now c.end_file.new.disk (sealing (store_in self) self up moment) = search rules in
-    let good : fault_code (octets_come (store_in self) self up) ≡ None = search rules in
-    sealed-complete self up moment c.requires.holds (omega (arith, c.missing.ensures.missing, c.if-missing-gt0.false)) (store_in new) ((does.done (λ e. cc e)).0 (inl refl)) good
+    let ends : EndsFile D (Ok end.Sealed) self c.end_file.new.self c.args.disk.now c.end_file.new.disk c.args.up.number c.args.moment = search rules in
+    ended-each D self c.end_file.new.self c.args.disk.now c.end_file.new.disk c.args.up c.args.moment c.requires.holds ends
 
-pub returns-in-Ok-None-clause-every_image : goal.returns-in-Ok-None-clause-every_image
-returns-in-Ok-None-clause-every_image g c =
+pub returns-in-Ok-Sealed-clause-keeps : goal.returns-in-Ok-Sealed-clause-keeps
+returns-in-Ok-Sealed-clause-keeps g c =
     let D = g.D.Disk in
     let self = c.args.self.now in
-    let new = c.end_file.new.self in
-    let up = c.args.up in
-    let moment = c.args.moment in
-    let does : Does D (false ≡ true) self new c.args.disk.now c.end_file.new.disk (sealing (store_in self) self up moment) = search rules in
-    let good : fault_code (octets_come (store_in self) self up) ≡ None = search rules in
-    let made = does.done (λ e. cc e) in
-    kept-each D new c.end_file.new.disk made.1 does.stands_on up c.requires.holds.begun moment (kept_file (store_in self) self up moment)
-    (sealed-entry self up moment c.requires.holds (omega (arith, c.missing.ensures.missing, c.if-missing-gt0.false)) (store_in new) (made.0 (inl refl)) good)
+    let ends : EndsFile D (Ok end.Sealed) self c.end_file.new.self c.args.disk.now c.end_file.new.disk c.args.up.number c.args.moment = search rules in
+    leaves-keeps D self c.end_file.new.self c.end_file.new.disk c.args.up c.requires.holds ends.leaves
 
-pub returns-in-Ok-None-clause-keeps : goal.returns-in-Ok-None-clause-keeps
-returns-in-Ok-None-clause-keeps g c =
+pub returns-in-Ok-Dropped-clause-keeps : goal.returns-in-Ok-Dropped-clause-keeps
+returns-in-Ok-Dropped-clause-keeps g c =
     let D = g.D.Disk in
     let self = c.args.self.now in
-    let new = c.end_file.new.self in
-    let up = c.args.up in
-    let moment = c.args.moment in
-    let does : Does D (false ≡ true) self new c.args.disk.now c.end_file.new.disk (sealing (store_in self) self up moment) = search rules in
-    does-keeps D false self new c.args.disk.now c.end_file.new.disk (sealing (store_in self) self up moment) up c.requires.holds (sealing-of (store_in self) self up.number moment) does (search rules)
+    let leaves : LeavesOthers D self c.end_file.new.self c.end_file.new.disk c.args.up.number = search rules in
+    leaves-keeps D self c.end_file.new.self c.end_file.new.disk c.args.up c.requires.holds leaves
 
-pub returns-in-Ok-Some-clause-dropped : goal.returns-in-Ok-Some-clause-dropped
-returns-in-Ok-Some-clause-dropped g c code is =
+pub returns-in-Ok-Unread-clause-back : goal.returns-in-Ok-Unread-clause-back
+returns-in-Ok-Unread-clause-back g c =
     let D = g.D.Disk in
     let self = c.args.self.now in
-    let new = c.end_file.new.self in
-    let up = c.args.up in
-    let moment = c.args.moment in
-    let does : Does D (false ≡ true) self new c.args.disk.now c.end_file.new.disk (sealing (store_in self) self up moment) = search rules in
-    let bad : fault_code (octets_come (store_in self) self up) ≡ Some c.in-Ok-Some.code = search rules in
-    dropped-entry self up moment c.in-Ok-Some.code (store_in new) ((does.done (λ e. cc e)).0 (inl refl)) bad
+    let ends : EndsFile D (Ok end.Unread) self c.end_file.new.self c.args.disk.now c.end_file.new.disk c.args.up.number c.args.moment = search rules in
+    subst (λ (u : Upload). Holds c.end_file.new.self u) (sym c.whole.ensures) (ended-unread D self c.end_file.new.self c.args.disk.now c.end_file.new.disk c.args.up c.args.moment c.requires.holds ends)
 
-pub returns-in-Ok-Some-clause-keeps : goal.returns-in-Ok-Some-clause-keeps
-returns-in-Ok-Some-clause-keeps g c =
+pub returns-in-Ok-Unread-clause-keeps : goal.returns-in-Ok-Unread-clause-keeps
+returns-in-Ok-Unread-clause-keeps g c =
     let D = g.D.Disk in
     let self = c.args.self.now in
-    let new = c.end_file.new.self in
-    let up = c.args.up in
-    let moment = c.args.moment in
-    let does : Does D (false ≡ true) self new c.args.disk.now c.end_file.new.disk (sealing (store_in self) self up moment) = search rules in
-    does-keeps D false self new c.args.disk.now c.end_file.new.disk (sealing (store_in self) self up moment) up c.requires.holds (sealing-of (store_in self) self up.number moment) does (search rules)
+    let leaves : LeavesOthers D self c.end_file.new.self c.end_file.new.disk c.args.up.number = search rules in
+    leaves-keeps D self c.end_file.new.self c.end_file.new.disk c.args.up c.requires.holds leaves
+
+pub returns-then-failed-clause-puts : goal.returns-then-failed-clause-puts
+returns-then-failed-clause-puts g c = puts_among g.D.Disk _ c.args.disk.now c.args.disk.now (puts_none g.D.Disk c.args.disk.now _ (λ is. cc is) (g.met.D.Disk.lasts_same c.args.disk.now))
 
 pub returns-in-Err-clause-keeps : goal.returns-in-Err-clause-keeps
 returns-in-Err-clause-keeps g c =
     let D = g.D.Disk in
     let self = c.args.self.now in
-    let new : StoreState = record { files = c.park-in-Err.new.self.files; journal = c.self-2.inside.kept.journal } in
     let up = c.args.up in
-    let moment = c.args.moment in
-    let does : Does D (true ≡ true) self new c.args.disk.now c.end_file.new.disk (sealing (store_in self) self up moment) = search rules in
-    does-keeps D true self new c.args.disk.now c.end_file.new.disk (sealing (store_in self) self up moment) up c.requires.holds (sealing-of (store_in self) self up.number moment) does (search rules)
+    let disk_now = c.end_file.new.disk in
+    let journal = c.self-2.inside.kept.journal in
+    let mid : StoreState = state_from c.self-2.inside.kept.ledger.files journal in
+    let new : StoreState = state_from c.park-in-Err.new.self.files journal in
+    let ended : LeavesOthers D self c.end_file.new.self disk_now up.number = search rules in
+    let leaves = subst (λ (s : StoreState). LeavesOthers D self s disk_now up.number) (sym c.self-2.view_is) ended in
+    let parked = subst (λ (n : ℕ). Becomes mid.files new.files (placed_in mid) n None) c.end-in-Err.ensures c.park-in-Err.ensures in
+    let stands = stands_parked D mid new disk_now parked.store_is refl leaves.stands_on in
+    leaves-keeps D self new disk_now up c.requires.holds
+    (leaves-then D self mid new disk_now disk_now up.number leaves (parked-leaves D mid new disk_now up.number stands parked))

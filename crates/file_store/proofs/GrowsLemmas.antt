@@ -1,0 +1,83 @@
+-- What Grows of one file leave of the others, and what memory tells of it then.
+use Rattle.std.proofs.Common.{◌≡◌, ◌≢◌, ℕ, zero, suc, List, [], ◌∷◌, length, map, replicate, take, drop, Option, None, Some, refl, sym, ◌∙◌, ap, arith}
+use Rattle.std.specs.Prelude.{find, option_map}
+use Rattle.std.specs.List.{AllByRecursion}
+use Rattle.std.proofs.lemmas.Bool.Decides.{nat_tests}
+use Rattle.std.proofs.lemmas.List.{drop-map, take-map}
+use Rattle.std.proofs.lemmas.Simd.{splat_is_map}
+use Rattle.file_entries.specs.Command.{Command, after, after_all, changed, grow, grown, grows}
+use Rattle.file_entries.specs.Store.{Entry, Holding, Store, entry_of}
+use Rattle.file_entries.proofs.Offered.{find-map-changed_other, has_number}
+use Rattle.file_store.specs.OnDisk.{outlined_all, outlined_command}
+
+-- ---- Grows of one number
+
+abbrev pub IsGrow : ℕ → Command → Type 0
+IsGrow number command = (octets : List ℕ) × (command ≡ grow number octets)
+
+abbrev pub AreGrows : ℕ → List Command → Type 0
+AreGrows number commands = AllByRecursion (IsGrow number) commands
+
+pub grows-are : (number n : ℕ) (octets : List ℕ) → AreGrows number (grows number n octets)
+grows-are number zero octets = tt
+grows-are number (suc n) octets = ((take 512 octets, refl), grows-are number n (drop 512 octets))
+
+pub outlined-are : (number : ℕ) (commands : List Command) → AreGrows number commands → AreGrows number (outlined_all commands)
+outlined-are number [] are = tt
+outlined-are number (command ∷ commands) are = ((replicate (length are.0.0) 0, ap outlined_command are.0.1), outlined-are number commands are.1)
+
+pub take-are : (count number : ℕ) (commands : List Command) → AreGrows number commands → AreGrows number (take count commands)
+take-are zero number commands are = tt
+take-are (suc count) number [] are = tt
+take-are (suc count) number (command ∷ commands) are = (are.0, take-are count number commands are.1)
+
+-- ---- the entries after them
+
+find-held : (number : ℕ) (change : Entry → Holding) (entries : List Entry)
+    → find (has_number number) (map (changed number change) entries) ≡ option_map {T = Entry} (λ e. record e { holding = change e }) (find (has_number number) entries)
+find-held number change [] = refl
+find-held number change (x ∷ xs) = grind (arith, nat_tests, find-held number change xs)
+
+-- each other entry is as it was
+pub others-same : (commands : List Command) (store : Store) (number other : ℕ) → AreGrows number commands → other ≢ number → entry_of (after_all store commands) other ≡ entry_of store other
+others-same [] store number other are ne = refl
+others-same (command ∷ commands) store number other are ne =
+    others-same commands (after store command) number other are.1 ne
+    ∙ ap (λ (c : Command). entry_of (after store c) other) are.0.1
+    ∙ find-map-changed_other number other (grown are.0.0) store.entries ne
+
+grown-caller : (octets : List ℕ) (o : Option Entry) (then : Entry) → option_map {T = Entry} (λ x. record x { holding = grown octets x }) o ≡ Some then
+    → (old : Entry) × (o ≡ Some old) × (old.caller ≡ then.caller)
+grown-caller octets None then is = absurd (cc is)
+grown-caller octets (Some old) then is =
+    let one : record old { holding = grown octets old } ≡ then = cc is in
+    (old, refl, ap (λ (e : Entry). e.caller) one)
+
+-- and the one of that number stood before, of the same caller
+pub own-before : (commands : List Command) (store : Store) (number : ℕ) (e : Entry) → AreGrows number commands → entry_of (after_all store commands) number ≡ Some e
+    → (old : Entry) × (entry_of store number ≡ Some old) × (old.caller ≡ e.caller)
+own-before [] store number e are found = (e, found, refl)
+own-before (command ∷ commands) store number e are found =
+    let later = own-before commands (after store command) number e are.1 found in
+    let there = ap (λ (c : Command). entry_of (after store c) number) (sym are.0.1) ∙ later.1 in
+    let before = grown-caller are.0.0 (entry_of store number) later.0 (sym (find-held number (grown are.0.0) store.entries) ∙ there) in
+    (before.0, before.1, before.2 ∙ later.2)
+
+-- ---- as far as memory tells
+
+abbrev zero_of : ℕ → ℕ
+zero_of octet = 0
+
+pub zeros-map : (octets : List ℕ) → replicate (length octets) 0 ≡ map zero_of octets
+zeros-map octets = splat_is_map octets (length octets) 0 refl
+
+outlined-map : (number n : ℕ) (octets : List ℕ) → outlined_all (grows number n octets) ≡ grows number n (map zero_of octets)
+outlined-map number zero octets = refl
+outlined-map number (suc n) octets =
+    ap (λ (os : List ℕ). grow number os ∷ outlined_all (grows number n (drop 512 octets))) (zeros-map (take 512 octets) ∙ sym (take-map zero_of 512 octets))
+    ∙ ap (λ (cs : List Command). grow number (take 512 (map zero_of octets)) ∷ cs)
+    (outlined-map number n (drop 512 octets) ∙ ap (λ (os : List ℕ). grows number n os) (sym (drop-map zero_of 512 octets)))
+
+-- Grows of octets are told of as Grows of as many zeros
+pub outlined-grows : (number n : ℕ) (octets : List ℕ) → outlined_all (grows number n octets) ≡ grows number n (replicate (length octets) 0)
+outlined-grows number n octets = outlined-map number n octets ∙ ap (λ (os : List ℕ). grows number n os) (sym (zeros-map octets))

@@ -1,0 +1,149 @@
+-- A change of the entries as a turn of the kept state: its record, and what that makes.
+use Rattle.std.proofs.Common.{◌≡◌, ◌+◌, ℕ, ◌≤◌, ◌==◌, Bool, true, false, List, [], length, take, nat_le, nat_lt, Option, None, Some, refl, sym, ◌∙◌, ap, subst, arith}
+use Rattle.std.specs.Prelude.{IfSome, IsTrue, ◌&&◌, if◌then◌else◌}
+use Rattle.std.specs.Option.{option_and_then}
+use Rattle.std.proofs.lemmas.Bool.{eq-eqb}
+use Rattle.std.proofs.lemmas.Bool.Decides.{nat_tests}
+use Rattle.std.proofs.lemmas.List.{length-take-le}
+use Rattle.block_entries.specs.Checking.{IsSealable}
+use Rattle.block_entries.specs.IsPlaced.{IsPlaced}
+use Rattle.block_entries.specs.KeptLaws.{after_placed, blocks_seen, drop_placed, grow_placed, seal_placed}
+use Rattle.block_entries.specs.Placed.{PlacedStore, placed_of}
+use Rattle.block_entries.specs.PlacedCommand as placed
+use Rattle.block_entries.specs.PlacedCommand.{PlacedCommand, after, can_seal, is_partial, is_whole, seal_with, with_grown, with_new, with_sealed, without_file}
+use Rattle.block_entries.specs.PlacedFiles.{EntriesState, PlacedFiles, rest_of, store_of}
+use Rattle.block_entries.specs.PlacedRecords.{IsWritable, placed_after, placed_form, placed_in, placed_step, placed_steps, record_of_placed}
+use Rattle.block_entries.specs.Seen.{octets_in, seen, stamp_at}
+use Rattle.block_entries.specs.TestLaws.{Grows, Passes, passes_found}
+use Rattle.block_entries.proofs.Offered.{grows_allowed, placed_records, seal_step, seen_after, seen_allowed, seen_may_grow, seen_put, seen_sealed, written_record}
+use Rattle.file_entries.specs.Command as file
+use Rattle.file_entries.specs.Command.{IsAllowed, MayBegin, can_begin}
+use Rattle.file_entries.specs.Files.{octets_or_none}
+use Rattle.file_entries.specs.Limits.{last_next, longest_file, most_entries}
+use Rattle.file_entries.specs.Store.{Store, blocks_for, blocks_of}
+use Rattle.file_entries.proofs.Offered.{both-true}
+use Rattle.file_journal.specs.Layout.{Blocks}
+use Rattle.file_journal.specs.Records.{Record}
+use Rattle.file_journal.specs.Steps.{HasPut, WritesTurn}
+use Rattle.file_store.specs.Changes.{LetsBy, MayMake, placed_by, turn_by, waiting_front}
+use Rattle.file_store.specs.declared.change.EntriesChange.{EntriesChange}
+use Rattle.file_store.specs.declared.change.EntriesChange.TheVariants as change
+use Rattle.px_base.specs.CallSign.{CallSign}
+
+-- ---- the conditions
+
+can-begin : (store : Store) (file_length : ℕ) → blocks_of store ≤ store.blocks → MayBegin store file_length → IsTrue (can_begin store file_length)
+can-begin store file_length taken may =
+    let short : IsTrue (nat_le file_length longest_file) = let h = may.short in grind (arith, nat_tests) in
+    let few : IsTrue (nat_lt (length store.entries) most_entries) = let h = may.few in grind (arith, nat_tests) in
+    let left : IsTrue (nat_lt store.next last_next) = let h = may.left in grind (arith, nat_tests) in
+    let sum : blocks_of store + blocks_for file_length ≤ store.blocks = omega (arith, may.room, taken) in
+    let room : IsTrue (nat_le (blocks_of store + blocks_for file_length) store.blocks) = grind (arith, nat_tests) in
+    both-true (nat_le file_length longest_file && nat_lt (length store.entries) most_entries && nat_lt store.next last_next) _
+    (both-true (nat_le file_length longest_file && nat_lt (length store.entries) most_entries) _ (both-true (nat_le file_length longest_file) _ short few) left) room
+
+begin-allowed : (held : Blocks) (store : PlacedStore) (caller : CallSign) (file_length moment : ℕ) → IsPlaced store → MayBegin (seen held store) file_length
+    → IsTrue (placed.is_allowed held store (placed.begin store.next caller file_length moment))
+begin-allowed held store caller file_length moment is may =
+    both-true (store.next == store.next) _ (eq-eqb store.next store.next refl) (can-begin (seen held store) file_length (omega (arith, blocks_seen held store, is.rooms)) may)
+
+drop-allowed : (held : Blocks) (store : PlacedStore) (number : ℕ) → Passes store number is_partial → IsTrue (placed.is_allowed held store (placed.drop_entry number))
+drop-allowed held store number passes = passes_found store number is_partial passes.file passes.found ∙ passes.test_is
+
+-- ---- the step of a record
+
+stepped-by : (held : Blocks) (store next : PlacedStore) (command : PlacedCommand) (entry : Record) → IsWritable command → entry ≡ record_of_placed command
+    → placed_after held store command ≡ Some next → placed_step held store entry ≡ Some next
+stepped-by held store next command entry writable is step =
+    let read : placed_in (record_of_placed command) ≡ Some command = (placed_records (record_of_placed command) command (written_record command writable)).1 (writable, refl) in
+    ap (λ (o : Option PlacedCommand). option_and_then (placed_after held store) o) (ap placed_in is ∙ read) ∙ step
+
+-- where its condition holds
+allowed-after : (held : Blocks) (store : PlacedStore) (command : PlacedCommand) → IsTrue (placed.is_allowed held store command) → placed_after held store command ≡ Some (after held store command)
+allowed-after held store command ok = rw ok refl
+
+-- the condition of a command that makes a store holds
+is-allowed-made : (ok : Bool) (made now : PlacedStore) → (if ok then Some made else None) ≡ Some now → IsTrue ok
+is-allowed-made true made now is = refl
+is-allowed-made false made now is = absurd (cc is)
+
+-- ---- each change
+
+found-some : {A : Type 0} (o : Option A) (a : A) (P : A → Type 0) → o ≡ Some a → IfSome o P → P a
+found-some o a P is holds = subst (λ (p : Option _). IfSome p P) is holds
+
+module _ (files : PlacedFiles) (number block count : ℕ) (front : length (waiting_front files number count) ≡ count) (grows : Grows (store_of files) number block count) where
+  abbrev octets : List ℕ
+  octets = waiting_front files number count
+
+  pub grows-front : Grows (store_of files) number block (length octets)
+  grows-front = subst (λ (n : ℕ). Grows (store_of files) number block n) (sym front) grows
+
+  hold-sees : (held : Blocks) → IsPlaced (store_of files) → HasPut (Some (record { number = block; octets = octets })) held
+      → seen held (with_grown (store_of files) number block count) ≡ file.after (seen held (store_of files)) (file.grow number octets)
+  hold-sees held is put =
+      ap (λ (n : ℕ). seen held (with_grown (store_of files) number block n)) (sym front) ∙ seen_put held (store_of files) number block octets grows-front is put
+
+-- as many octets stand in front as are asked for
+pub front-length : (files : PlacedFiles) (number count : ℕ) (rest : List ℕ) → rest_of files number ≡ Some rest → count ≤ length rest → length (waiting_front files number count) ≡ count
+front-length files number count rest out there =
+    ap (λ (o : Option (List ℕ)). length (take count (octets_or_none o))) out ∙ length-take-le count rest there
+
+pub turn-written : (it : EntriesChange) (entries : EntriesState) (entry : Record) → MayMake it entries → IsWritable (placed_by it entries.files) → entry ≡ record_of_placed (placed_by it entries.files)
+    → WritesTurn placed_form placed_steps seen (store_of entries.files) (turn_by it entries.files) entry
+turn-written (change.Begin caller file_length moment) entries entry may writable is =
+    let store = store_of entries.files in
+    let command = placed.begin store.next caller file_length moment in
+    let ok : (held : Blocks) → IsTrue (placed.is_allowed held store command) = λ held. begin-allowed held store caller file_length moment may.rules (may.has.0 held) in
+    record {
+      allowed = λ held lets. seen_allowed held store command may.rules (ok held);
+      step = λ held lets put. stepped-by held store (after held store command) command entry writable is (allowed-after held store command (ok held));
+      sees = λ held lets put. seen_after held store command may.rules (ok held);
+      reaches = after_placed (λ b. []) store command may.rules writable.1 (ok (λ b. []));
+      number = refl;
+      calls = refl;
+    }
+turn-written (change.Hold number block count) entries entry may writable is =
+    let store = store_of entries.files in
+    let command = placed.grow number block count in
+    let waits = may.has.0 in
+    let grows = may.has.1 in
+    let front = front-length entries.files number count waits.0 waits.1 waits.2 in
+    record {
+      allowed = λ held lets. seen_may_grow held store number block (waiting_front entries.files number count) (grows-front entries.files number block count front grows) may.rules;
+      step = λ held lets put.
+          stepped-by held store (after held store command) command entry writable is (allowed-after held store command (grows_allowed held store number block count grows));
+      sees = λ held lets put. hold-sees entries.files number block count front grows held may.rules put;
+      reaches = grow_placed store number block count may.rules grows;
+      number = refl;
+      calls = refl;
+    }
+turn-written (change.Seal number moment header) entries entry may writable is =
+    let store = store_of entries.files in
+    let command = placed.seal number moment header.sum in
+    let passes = may.has.0.passes in
+    let mark = seal_with moment header.sum header.len in
+    let sealable : (held : Blocks) → LetsBy (change.Seal number moment header) entries.files held → IsSealable (stamp_at moment passes.file) (octets_in held passes.file) header.sum header.len =
+    λ held lets. found-some (placed_of store number) passes.file (λ f. IsSealable (stamp_at moment f) (octets_in held f) header.sum header.len) passes.found lets in
+    let made : (held : Blocks) → LetsBy (change.Seal number moment header) entries.files held → placed_after held store command ≡ Some (with_sealed store number mark) =
+    λ held lets. seal_step held store number moment header.sum header.len passes (sealable held lets) in
+    record {
+      allowed = λ held lets. seen_allowed held store command may.rules (is-allowed-made (placed.is_allowed held store command) (after held store command) (with_sealed store number mark) (made held lets));
+      step = λ held lets put. stepped-by held store (with_sealed store number mark) command entry writable is (made held lets);
+      sees = λ held lets put. seen_sealed held store number mark may.rules passes;
+      reaches = seal_placed store number mark may.rules may.has.0;
+      number = refl;
+      calls = refl;
+    }
+turn-written (change.Drop number) entries entry may writable is =
+    let store = store_of entries.files in
+    let command = placed.drop_entry number in
+    let ok : (held : Blocks) → IsTrue (placed.is_allowed held store command) = λ held. drop-allowed held store number may.has in
+    record {
+      allowed = λ held lets. seen_allowed held store command may.rules (ok held);
+      step = λ held lets put. stepped-by held store (after held store command) command entry writable is (allowed-after held store command (ok held));
+      sees = λ held lets put. seen_after held store command may.rules (ok held);
+      reaches = drop_placed store number may.rules may.has;
+      number = refl;
+      calls = refl;
+    }

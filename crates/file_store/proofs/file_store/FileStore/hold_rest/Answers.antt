@@ -1,0 +1,23 @@
+use Rattle.std.proofs.Common.{◌≡◌, List, length, IsErr, ◌∙◌, ap, subst, arith}
+use Rattle.file_entries.specs.Command.{Command}
+use Rattle.file_entries.specs.Files.{octets_or_none}
+use Rattle.file_store.specs.OnDisk.{DoesTo}
+use Rattle.file_store.specs.State.{StoreState, rest_in}
+use Rattle.file_store.proofs.SealLemmas.{rest-grow}
+use Rattle.file_store.proofs.UploadLemmas.{whole-fills}
+use Rattle.file_store.proofs.file_store.FileStore.hold_rest.Goals as goal
+
+pub hold-requires-clause-fills : goal.hold-requires-clause-fills
+hold-requires-clause-fills g c =
+    let number = c.args.number in
+    let some : ¬ (length c.waiting-waiting.result.now ≡ 0) = c.if-waiting-eq0.false in
+    let all = ap length c.waiting-waiting.ensures ∙ ap (λ (s : StoreState). length (octets_or_none (rest_in s number))) c.self.view_is in
+    whole-fills c.args.self.now number (length c.waiting-waiting.result.now) c.requires.whole (omega (arith, some)) all
+
+pub returns-clause-does : goal.returns-clause-does
+returns-clause-does g c =
+    let number = c.args.number in
+    let some : ¬ (length c.waiting-waiting.result.now ≡ 0) = c.if-waiting-eq0.false in
+    let all = ap length c.waiting-waiting.ensures ∙ ap (λ (s : StoreState). length (octets_or_none (rest_in s number))) c.self.view_is in
+    subst (λ (cs : List Command). DoesTo g.D.Disk (IsErr c.hold.result) c.args.self.now c.hold.new.self c.args.disk.now c.hold.new.disk cs number)
+    (rest-grow number (length c.waiting-waiting.result.now) (octets_or_none (rest_in c.args.self.now number)) all some) c.hold.ensures.does

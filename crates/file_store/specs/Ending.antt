@@ -1,0 +1,81 @@
+-- How the end of a file of which all octets came goes.
+use Rattle.std.specs.Prelude.{◌≡◌, ◌≢◌, ℕ, List, [], ◌∷◌, ◌++◌, length, Bool, true, false, if◌then◌else◌}
+use Rattle.std.specs.Prelude.{Option, None, Some, Result, Ok, Err, IsErr, IfOk}
+use Rattle.block_entries.specs.Checking.{IsFaultCode}
+use Rattle.block_entries.specs.PlacedFiles.{KeepsRests}
+use Rattle.disk_model.specs.declared.disk.Disk.{Ghosts}
+use Rattle.disk_model.specs.declared.disk.DiskFault.{DiskFault}
+use Rattle.file_entries.specs.Command.{Command, last_grow}
+use Rattle.file_entries.specs.Faults.{fault_code}
+use Rattle.file_entries.specs.Files.{octets_or_none}
+use Rattle.file_entries.specs.Info.{IsCompleteIn}
+use Rattle.file_entries.specs.Store.{Entry, Store, entry_of, partial}
+use Rattle.file_journal.specs.AmongReads.{one_if}
+use Rattle.file_store.specs.Kept.{ChangesEntry}
+use Rattle.file_store.specs.State.{IsKnown, StandsOn, StoreState, rest_in, store_in, store_on}
+use Rattle.file_store.specs.Upload.{come_of, ending}
+use Rattle.file_store.specs.Working.{DoesAmongReads}
+use Rattle.file_store.specs.declared.end.End.{End}
+use Rattle.file_store.specs.declared.end.End.TheVariants as end
+
+-- each other entry stands as it was
+abbrev pub KeepsEntries : Store → Store → ℕ → Type 0
+KeepsEntries before now number =
+    (other : ℕ) (entry : Entry) → other ≢ number → entry_of before other ≡ Some entry
+    → entry_of now other ≡ Some entry
+
+-- The store stands on its disk, and each file of another number is as it was, with what waits of it. No file is new.
+pub record LeavesOthers {D : Type 0} (g : Ghosts D) (old new : StoreState) (disk_now : D) (number : ℕ)
+    : Type 0 where
+  pub stands_on : StandsOn g new disk_now
+  pub entries : KeepsEntries (store_in old) (store_in new) number
+  pub changes : ChangesEntry (store_in old) (store_in new) number
+  pub rests : KeepsRests old.files new.files number
+
+-- the octets that wait of this number
+abbrev pub rest_of_number : StoreState → ℕ → List ℕ
+rest_of_number self number = octets_or_none (rest_in self number)
+
+-- All octets of the file are held, which is under way and out still, and none waits; it is what it was otherwise.
+abbrev pub IsWhole : StoreState → StoreState → ℕ → Type 0
+IsWhole old new number =
+    (entry : Entry) → entry_of (store_in old) number ≡ Some entry
+    → (held : List ℕ) × (entry_of (store_in new) number ≡ Some (record entry { holding = partial held }))
+    × (length held ≡ entry.length) × (rest_in new number ≡ Some [])
+
+-- what became of the file of this number: it is complete; or gone, with this code of its first fault; or as it was,
+-- with all of its octets held
+abbrev pub EndsAs : {D : Type 0} → Ghosts D → StoreState → StoreState → D → ℕ → End → Type 0
+EndsAs g old new disk number end.Sealed =
+    IsCompleteIn (store_in new) number × (rest_in new number ≡ None)
+    × (IsKnown g disk → fault_code (come_of (store_on g old disk) old number) ≡ None)
+EndsAs g old new disk number (end.Dropped code) =
+    (entry_of (store_in new) number ≡ None) × (rest_in new number ≡ None) × IsFaultCode code
+    × (IsKnown g disk → fault_code (come_of (store_on g old disk) old number) ≡ Some code)
+EndsAs g old new disk number end.Unread = IsWhole old new number
+
+-- whether a read failed
+abbrev pub end_misses : Result End DiskFault → Bool
+end_misses (Ok end.Sealed) = false
+end_misses (Ok (end.Dropped code)) = false
+end_misses (Ok end.Unread) = true
+end_misses (Err fault) = false
+
+-- those octets become held that wait, and where no read failed the file is ended as one with this code of its first
+-- fault, or with none
+abbrev pub end_commands : Result End DiskFault → List ℕ → ℕ → ℕ → Option ℕ → List Command
+end_commands result rest number moment code =
+    if end_misses result then last_grow number rest
+    else last_grow number rest ++ ending number moment code ∷ []
+
+-- The commands that end the file of this number were done, with reads among them, or the disk failed. Which they are
+-- the first fault of the octets that came decides, where it is known which these are. Each other file is as it was.
+pub record EndsFile {D : Type 0} (g : Ghosts D) (result : Result End DiskFault) (old new : StoreState)
+    (disk disk_now : D) (number moment : ℕ) : Type 0 where
+  pub code : Option ℕ
+  pub tells : IsKnown g disk → code ≡ fault_code (come_of (store_on g old disk) old number)
+  pub does :
+      DoesAmongReads g (IsErr result) (one_if (end_misses result)) old new disk disk_now
+      (end_commands result (rest_of_number old number) number moment code)
+  pub leaves : LeavesOthers g old new disk_now number
+  pub file : IfOk result (EndsAs g old new disk number)
