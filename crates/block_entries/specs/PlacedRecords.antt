@@ -24,8 +24,8 @@ abbrev pub begin_content : ℕ → CallSign → ℕ → ℕ → List ℕ
 begin_content number caller file_length moment =
     le32_octets number ++ call_octets caller ++ le32_octets file_length ++ le32_octets moment
 
--- The record of a command. Grow, kind 2: number, block, both of four octets, and how many octets are used, of two. Seal,
--- kind 3: number, moment, both of four, and the sum, of two. Drop, kind 4: number, of four.
+-- The record of a command. Grow, kind 2: number, block, both of four octets, and how many octets are used, of two.
+-- Seal, kind 3: number, moment, both of four, and the sum, of two. Drop, kind 4: number, of four.
 abbrev pub record_of_placed : PlacedCommand → Record
 record_of_placed (begin number caller file_length moment) =
     record_of 1 (begin_content number caller file_length moment)

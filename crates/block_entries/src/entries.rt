@@ -10,7 +10,8 @@ ghost use Rattle.block_entries.specs.PlacedCommand.{is_free, is_partial, seal_wi
 ghost use Rattle.block_entries.specs.PlacedCommand.{with_sealed, without_file};
 ghost use Rattle.block_entries.specs.PlacedFiles.{Becomes, ChangesRest, IsLowest, IsNextSealed, IsOut, IsPlace};
 ghost use Rattle.block_entries.specs.PlacedFiles.{NothingOut, Waits, file_of, is_sealed_file, lacks_octets};
-ghost use Rattle.block_entries.specs.PlacedFiles.{octets_or_none, placed_info, rest_of, rest_with, rest_without, store_of};
+ghost use Rattle.block_entries.specs.PlacedFiles.{octets_or_none, placed_info, rest_of, rest_with, rest_without};
+ghost use Rattle.block_entries.specs.PlacedFiles.{store_of};
 ghost use Rattle.block_entries.specs.Sealed.{HasRuns, IsSealedHeader, ReadsSealed, Sealed, octets_given};
 ghost use Rattle.block_entries.specs.Seen.{seen};
 ghost use Rattle.block_entries.specs.TestLaws.{Grows, Passes, TakesSeal};
