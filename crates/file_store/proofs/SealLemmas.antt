@@ -9,7 +9,7 @@ use Rattle.block_entries.specs.IsPlaced.{IsPlaced}
 use Rattle.block_entries.specs.Outlined.{outlined, outlined_entry}
 use Rattle.block_entries.specs.Placed.{Placed, PlacedStore, Seal, placed_of}
 use Rattle.block_entries.specs.PlacedCommand.{is_partial, is_whole, sealed, with_sealed, without_file}
-use Rattle.block_entries.specs.PlacedFiles.{Becomes, KeepsRests, PlacedFiles, rest_of, store_of}
+use Rattle.block_entries.specs.PlacedFiles.{Becomes, KeepsRests, PlacedFiles, octets_or_none, rest_of, store_of}
 use Rattle.block_entries.specs.Seen.{octets_in, stamp_at}
 use Rattle.block_entries.specs.TestLaws.{Passes, TakesSeal}
 use Rattle.block_entries.specs.declared.file_check.CheckedHeader.{CheckedHeader}
@@ -23,7 +23,6 @@ use Rattle.file_journal.specs.Layout.{Blocks, blocks_on}
 use Rattle.file_journal.proofs.Offered.{reads_same}
 use Rattle.file_entries.specs.Command.{Command, after_all, drop_entry, grow, last_grow, seal}
 use Rattle.file_entries.specs.Faults.{fault_code}
-use Rattle.file_entries.specs.Files.{octets_or_none}
 use Rattle.file_entries.specs.Info.{IsCompleteIn}
 use Rattle.file_entries.specs.Store.{Entry, entry_of}
 use Rattle.file_store.specs.Ending.{EndsFile, LeavesOthers}

@@ -6,10 +6,9 @@ use Rattle.std.proofs.lemmas.Bool.Decides.{eqb_tells, nat_tests}
 use Rattle.std.proofs.lemmas.List.{length-replicate, length-take-le}
 use Rattle.disk_model.specs.declared.disk.Disk.{Ghosts}
 use Rattle.block_entries.specs.Placed.{has_number, placed_of}
-use Rattle.block_entries.specs.PlacedFiles.{KeepsRests, PlacedFile, PlacedFiles, entries_of, file_of, rest_of, store_of}
+use Rattle.block_entries.specs.PlacedFiles.{KeepsRests, PlacedFile, PlacedFiles, entries_of, file_of, octets_or_none, rest_of, store_of}
 use Rattle.px_base.specs.CallSign.{CallSign}
 use Rattle.file_entries.specs.Command.{Command, after, after_all, begin, grown, grows}
-use Rattle.file_entries.specs.Files.{octets_or_none}
 use Rattle.file_entries.specs.Info.{is_complete}
 use Rattle.file_entries.specs.IsStore.{IsStore}
 use Rattle.file_entries.specs.Kept.{KeepsComplete}
