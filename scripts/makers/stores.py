@@ -8,7 +8,7 @@ from headers import first_fault, header_sum, stamped
 from journal import BLOCK, BLOCKS, GROWING, HEADER, block_place, blocks_in, call_octets, is_call, record, walk
 
 # The switch: the layout of all stores that makers make. Another one for one run is given in the environment.
-LAYOUT = os.environ.get("LAYOUT", GROWING)
+LAYOUT = os.environ.get("LAYOUT", BLOCKS)
 MAGICS = {GROWING: b"PXSTORE0", BLOCKS: b"PXSTORE9"}
 MAGIC = MAGICS[LAYOUT]
 LONGEST = 4194304
