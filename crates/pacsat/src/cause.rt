@@ -83,7 +83,9 @@ fn tell_bad_store(rt: &HostRuntime, disk: &str, why: BadStore) {
             let _ = eprintln!(rt; "pacsat: {disk}: a server's store, and no client's notes");
         }
         b"PXSTORE0" => {
-            let _ = eprintln!(rt; "pacsat: {disk}: a store of an earlier version, which this one doesn't read");
+            let _ = eprintln!(rt;
+                "pacsat: {disk}: a store of an earlier version, which this one doesn't read"
+            );
         }
         b"PXNOTES1" => {
             let _ = eprintln!(rt; "pacsat: {disk}: a client's notes, and no server's store");
