@@ -6,8 +6,8 @@ use std::alloc::Global;
 /// How many octets that are alike have a word of their own.
 const ALIKE: u32 = 16;
 
-/// The words of these octets: hexadecimal digits, two an octet; and of 16 or more that are alike one, and behind `*` how
-/// often it stands.
+/// The words of these octets: hexadecimal digits, two an octet; and of 16 or more that are alike one, and behind `*`
+/// how often it stands.
 pub fn octet_words(alloc: Global, octets: &[u8]) -> Result<String> {
     let mut text = String::new(alloc);
     let (mut last, mut count) = (0u8, 0u32);
