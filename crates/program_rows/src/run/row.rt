@@ -1,6 +1,7 @@
 //! One row: what is run, and what it says.
 
 use crate::run::standing::standing_text;
+use crate::run::words::octet_words;
 use anyhow::{Context, Result};
 use disk_model::{Disk, MemoryDisk};
 use pacsat_cli::{Words, fresh_bench, run};
@@ -29,11 +30,24 @@ impl Player for RunRows {
             .context("no failing calls of the disk")?;
         let (row, octets) = row.rsplit_once(';').context("no disk")?;
         let octets = octets_before(alloc, octets, self.before.take())?;
-        let (ended, disk) = disk_after(alloc, &mut Run { row }, octets.as_slice(), failing)?;
+        let (failing, picks) = failing.split_once('|').unwrap_or((failing, ""));
+        let (ended, disk) = disk_after(alloc, &mut Run { row }, octets.as_slice(), failing.trim())?;
         let standing = content_text(alloc, row, disk.bytes())?;
         self.before = Some(disk);
-        Ok(format!(in alloc; "{ended} | {standing}")?)
+        let mut shown = format!(in alloc; "{ended} | {standing}")?;
+        for pick in picks.split_whitespace() {
+            let left = left_text(alloc, row, octets.as_slice(), failing.trim(), pick)?;
+            shown.push_str(format!(in alloc; " | {pick} {left}")?.as_str())?;
+        }
+        Ok(shown)
     }
+}
+
+/// What a crash leaves behind the run of a row, as a number picks it.
+fn left_text(alloc: Global, row: &str, octets: &[u8], failing: &str, pick: &str) -> Result<String> {
+    let (_ended, disk) = disk_after(alloc, &mut Run { row }, octets, failing)?;
+    let left = disk.crash(pick.parse::<u64>()?)?;
+    content_text(alloc, row, left.bytes())
 }
 
 /// The parts of a row but for those of its disk.
@@ -50,10 +64,14 @@ impl OverDisk for Run<'_> {
     }
 }
 
-/// What the content of the disk of a row stands for, where it has one.
+/// What the content of the disk of a row stands for, where it has one; or the octets that it is.
 fn content_text(alloc: Global, row: &str, octets: &[u8]) -> Result<String> {
     if row.starts_with("none ") {
         return Ok(String::from_str(alloc, "none")?);
+    }
+    if row.starts_with("octets ") {
+        let words = octet_words(alloc, octets)?;
+        return Ok(format!(in alloc; "{} octets: {words}", octets.len())?);
     }
     standing_text(alloc, octets)
 }
