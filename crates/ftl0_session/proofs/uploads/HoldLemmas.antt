@@ -8,7 +8,7 @@ use Rattle.ftl0_packets.specs.Items.{texts}
 use Rattle.ftl0_packets.specs.Layout.{Item, data_end, data_part, ul_nak_resp}
 use Rattle.file_store.specs.Answers.{IsShort, IsTooMuch}
 use Rattle.file_store.specs.Command.{last_grow}
-use Rattle.file_store.specs.Files.{ChangesRest, octets_or_none}
+use Rattle.file_store.specs.Files.{ChangesRest}
 use Rattle.file_store.specs.Kept.{KeepsOthers}
 use Rattle.file_store.specs.Outlined.{IsStoreLike}
 use Rattle.file_store.specs.State.{StoreState, store_in}
@@ -59,7 +59,7 @@ module _ (caller : CallSign) (before : StoreState) (up : Upload) (holds : Holds 
     all-came : (IsShort before up → ⊥) → length held + length (waiting before up) ≡ entry.length
     all-came enough =
         let all : up.length ≤ came before up = no_more _ _ enough in
-        let rest : length (waiting before up) ≡ length holds.rest = ap (λ (o : Option (List ℕ)). length (octets_or_none o)) holds.out in
+        let rest : length (waiting before up) ≡ length holds.rest = rw holds.out refl in
         let most : up.held + length holds.rest ≤ up.length = holds.came in
         omega (arith, count, long, all, rest, most)
 
