@@ -9,7 +9,8 @@ use Rattle.ftl0_packets.specs.Layout.{Item, PacketValue, dl_error_resp, packet_t
 use Rattle.ftl0_session.specs.Lists.Lists.{CallerList}
 use Rattle.file_store.specs.Calls.{Reads}
 use Rattle.file_store.proofs.Offered.{among-at, on_same, puts-among-same, reads-only}
-use Rattle.file_store.specs.Command.{Command, DoesAll}
+use Rattle.file_store.specs.Command.{Command, DoesAll, after_all}
+use Rattle.file_store.specs.OnDisk.{outlined_all}
 use Rattle.file_store.specs.State.{IsKnown, IsReady, StoreState, store_in, store_on}
 use Rattle.file_store.specs.Store.{Store}
 use Rattle.file_store.specs.Working.{DoesAmongReads, one_if}
@@ -134,6 +135,7 @@ module _ {D : Type 0} (g : Ghosts D) where
                   on_disk =
                       subst (λ (b : Bool). DoesAmongReads g ⊥ (one_if b) store store disk disk_now row.commands) given.0
                       (among-at g ⊥ (one_if fails) store store disk disk_now [] row.commands (sym given.1.none) does);
+                  memory = ap (λ (cs : List Command). after_all (store_in store) (outlined_all cs)) (sym given.1.none);
                 },
               );
           says = says;

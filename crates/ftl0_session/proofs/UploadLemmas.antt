@@ -10,7 +10,8 @@ use Rattle.ftl0_packets.specs.Layout.{Item, PacketValue, ul_nak_resp}
 use Rattle.ftl0_session.specs.Lists.Lists.{CallerList}
 use Rattle.file_store.specs.Calls.{ChangesReads}
 use Rattle.file_store.proofs.Offered.{among-at, reads-none}
-use Rattle.file_store.specs.Command.{Command, DoesAll}
+use Rattle.file_store.specs.Command.{Command, DoesAll, after_all}
+use Rattle.file_store.specs.OnDisk.{outlined_all}
 use Rattle.file_store.specs.EntriesKept.{KeepsComplete}
 use Rattle.file_store.specs.State.{IsKnown, StandsOn, StoreState, store_in, store_on}
 use Rattle.file_store.specs.Store.{Store}
@@ -123,16 +124,19 @@ module _ {D : Type 0} (g : Ghosts D) (packet : CallerPacket) (lists : List Calle
       makes.answers.1 ∙ ap (λ (r : Row). texts r.replies) same,
     );
     on_disk = among-at g ⊥ (one_if false) before.it.store now.it.store before.disk now.disk given.commands row.commands (ap (λ (r : Row). r.commands) same) makes.on_disk;
+    memory = makes.memory ∙ ap (λ (cs : List Command). after_all (store_in before.it.store) (outlined_all cs)) (ap (λ (r : Row). r.commands) same);
   }
   anyway-by given row same (Err stop.OutOfMemory) makes = record {
     answers =
         subst (λ (r : Row). IsTrue (takes_memory packet.item r.state)) same
         (subst (λ (p : upload.State). IsTrue (upload.takes_memory packet.item p)) (sym (upload_part-free given.state)) makes.answers);
     on_disk = tt;
+    memory = tt;
   }
   anyway-by given row same (Err stop.Disk) makes = record {
     answers = tt;
     on_disk = among-at g ⊤ 0 before.it.store now.it.store before.disk now.disk given.commands row.commands (ap (λ (r : Row). r.commands) same) makes.on_disk;
+    memory = tt;
   }
 
   takes-by : is_upload_kind (kind_of_item packet.item) ≡ true → (result : Result ⊤ Halt) → TakesUpload g packet before now replies result → TakesPacket g packet was is replies result

@@ -6,11 +6,11 @@ use Rattle.disk_model.specs.declared.disk.Disk.{Ghosts}
 use Rattle.ftl0_packets.specs.Items.{texts}
 use Rattle.ftl0_packets.specs.Layout.{ul_nak_resp}
 use Rattle.file_store.proofs.Offered.{at_told, Does-moved, Does-none, Does-same, does-among, in_parked, on_like, puts_none, puts-among, puts-among-same, stands_parked}
-use Rattle.file_store.specs.Command.{Command, DoesAll}
+use Rattle.file_store.specs.Command.{Command, DoesAll, after_all}
 use Rattle.file_store.specs.EntriesKept.{KeepsComplete}
 use Rattle.file_store.specs.Outlined.{AreLike, IsAsFar, IsStoreLike}
 use Rattle.file_store.specs.Store.{Entry, Holding, Store, complete, partial}
-use Rattle.file_store.specs.OnDisk.{Does}
+use Rattle.file_store.specs.OnDisk.{Does, outlined_all}
 use Rattle.file_store.specs.State.{IsKnown, IsReady, StoreState, store_in, store_on}
 use Rattle.file_store.specs.Working.{CountsSome, DoesAmongReads, PutsAmongReads, one_if}
 use Rattle.ftl0_session.specs.declared.uploads.phase.Phase.{Phase}
@@ -108,9 +108,10 @@ module _ {D : Type 0} (g : Ghosts D) (packet : CallerPacket) (state : State) (be
 
     -- commands are done, and nothing is read: the row is the same over each store that is so
     pub takes-done : (P : Type 0) (commands : List Command) → ¬ P → Does g P before now disk disk_now commands
+        → store_in now ≡ after_all (store_in before) (outlined_all commands)
         → ((files : Store) → IsStoreLike (store_in before) files → GivesRow (row_of packet files state false) commands next replies)
         → TakesPacket g packet (working_at (at before disk) state) (working_at (at now disk_now) next) replies (Ok tt)
-    takes-done P commands fine does gives =
+    takes-done P commands fine does memory gives =
         let done : DoesAmongReads g ⊥ 0 before now disk disk_now commands = does-among g ⊥ before now disk disk_now commands (Does-same g P ⊥ before now disk disk_now commands fine (λ never. absurd never) does) in
         let told = gives (store_in before) (like-same (store_in before)) in
         takes-among P false commands fine (puts-among g P disk disk_now does.puts) (counts-none _ _ does.puts.reads) (λ known. done)
@@ -121,6 +122,7 @@ module _ {D : Type 0} (g : Ghosts D) (packet : CallerPacket) (state : State) (be
           record {
             answers = (told.3 ∙ ap (λ (r : Row). r.state) is, told.4 ∙ ap (λ (r : Row). texts r.replies) is);
             on_disk = subst (λ (cs : List Command). DoesAmongReads g ⊥ 0 before now disk disk_now cs) (told.2 ∙ ap (λ (r : Row). r.commands) is) done;
+            memory = memory ∙ ap (λ (cs : List Command). after_all (store_in before) (outlined_all cs)) (told.2 ∙ ap (λ (r : Row). r.commands) is);
           },
         )) (says-row g disk packet (store_in before) state told.0 replies told.1 told.4)
 
@@ -161,7 +163,7 @@ module _ {D : Type 0} (g : Ghosts D) (packet : CallerPacket) (state : State) (be
         waits text
         (λ row looks.
         let is : told.0 ≡ row = one-row told.0 row (sym told.1 ∙ looks false) in
-        record { answers = tt; on_disk = subst (λ (cs : List Command). DoesAmongReads g ⊤ 0 before now disk disk_now cs) (told.2 ∙ ap (λ (r : Row). r.commands) is) done })
+        record { answers = tt; on_disk = subst (λ (cs : List Command). DoesAmongReads g ⊤ 0 before now disk disk_now cs) (told.2 ∙ ap (λ (r : Row). r.commands) is) done; memory = tt })
 
   -- there was no memory
   pub takes-memory : (replies : List ℕ) → g.lasts disk disk
@@ -179,7 +181,7 @@ module _ {D : Type 0} (g : Ghosts D) (packet : CallerPacket) (state : State) (be
         puts = puts-among g _ disk disk (puts_none g disk _ (λ e. cc e) lasts);
         anyway = λ row looks.
             let is : told.0 ≡ row = one-row told.0 row (sym told.1 ∙ looks false) in
-            (refl, record { answers = subst (λ (r : Row). IsTrue (takes_memory packet.item r.state)) is told.2; on_disk = tt });
+            (refl, record { answers = subst (λ (r : Row). IsTrue (takes_memory packet.item r.state)) is told.2; on_disk = tt; memory = tt });
         says = tt;
       }
 
@@ -191,7 +193,7 @@ module _ {D : Type 0} (g : Ghosts D) (packet : CallerPacket) (state : State) (be
       let does : Does g ⊥ before now disk disk [] = Does-moved g ⊥ before before before now disk disk [] refl refl alone.files alone.journal (Does-none g ⊥ before disk (λ never. never) ready lasts) in
       record {
         takes =
-            takes-done (state_of now phase) now disk replies ⊥ [] (λ never. never) does
+            takes-done (state_of now phase) now disk replies ⊥ [] (λ never. never) does same
             (λ files like. let row = alone.gives files like in (row.0, row.1, sym row.2, row.3, row.4));
         failed = λ e. absurd (cc e);
         healthy = λ fine. (does.done (λ never. never)).1;

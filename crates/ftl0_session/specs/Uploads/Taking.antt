@@ -3,7 +3,8 @@ use Rattle.std.specs.Prelude.{◌≡◌, ℕ, List, [], ◌∷◌, Bool, true, f
 use Rattle.std.specs.Prelude.{IsErrOf, OnOk}
 use Rattle.disk_model.specs.declared.disk.Disk.{Ghosts}
 use Rattle.ftl0_packets.specs.Layout.{Item, ul_error_resp, ul_nak_resp}
-use Rattle.file_store.specs.Command.{DoesAll}
+use Rattle.file_store.specs.Command.{DoesAll, after_all}
+use Rattle.file_store.specs.OnDisk.{outlined_all}
 use Rattle.file_store.specs.EntriesKept.{KeepsComplete}
 use Rattle.file_store.specs.declared.refusals.BeginRefusal.{BeginRefusal}
 use Rattle.file_store.specs.declared.refusals.BeginRefusal.TheVariants as refusal
@@ -94,11 +95,14 @@ AnswersAnyway item row now replies (Ok done) = (now.state ≡ row.state) × (rep
 AnswersAnyway item row now replies (Err stop.OutOfMemory) = IsTrue (takes_memory item row.state)
 AnswersAnyway item row now replies (Err stop.Disk) = ⊤
 
--- What a packet with this row gives and does to the disk, whatever the disk tells. No read failed.
+-- What a packet with this row gives and does to the disk, whatever the disk tells. No read failed. Where it is answered,
+-- memory tells the store after the row's commands.
 pub record MakesAnyway {D : Type 0} (g : Ghosts D) (item : Item) (row : Row) (before now : AtDisk Working D)
     (replies : List ℕ) (result : Result ⊤ Halt) : Type 0 where
   pub answers : AnswersAnyway item row now.it replies result
   pub on_disk : PutsRow g false row before now result
+  pub memory :
+      OnOk result (store_in now.it.store ≡ after_all (store_in before.it.store) (outlined_all row.commands))
 
 -- A session takes a packet, malformed or not, and a read of the disk fails or none does. What it gives is the packet's
 -- row for that, where it is known what the store's files hold; and whatever the disk tells, where no octet of a file is

@@ -25,7 +25,7 @@ returns-in-Ok g c =
     record {
       takes =
           takes-done g.D.Disk (packet_of c.args.caller c.args.moment (Ok (upload_cmd 0 c.args.length))) command store c.args.disk.now c.requires.ready (receiving_of now up) now c.begin.new.disk _ _
-          (begin next c.args.caller c.args.length c.args.moment ∷ []) (λ e. absurd (true≢false (sym e))) does
+          (begin next c.args.caller c.args.length c.args.moment ∷ []) (λ e. absurd (true≢false (sym e))) does c.in-Ok.ensures.made
           (λ files like. (
             granted_row c.args.caller c.args.moment files.next c.args.length,
             granted-like c.args.caller c.args.moment c.args.length (store_in store) files like c.state_law.ensures.rules c.in-Ok.ensures.can.0,

@@ -29,7 +29,7 @@ returns-in-Ok g c = λ moment.
     rw c.reply_nothing.ensures.taken
     (record {
       takes =
-          takes-done g.D.Disk (packet_of a.caller moment (Ok (data_part bytes))) (receiving_of store a.up) store a.disk.now c.requires.ready (receiving_of now c.in-Ok.up) now c.append.new.disk _ _ (appending store a.up bytes) fine does
+          takes-done g.D.Disk (packet_of a.caller moment (Ok (data_part bytes))) (receiving_of store a.up) store a.disk.now c.requires.ready (receiving_of now c.in-Ok.up) now c.append.new.disk _ _ (appending store a.up bytes) fine does c.in-Ok.ensures.memory
           (λ files like. (
             taken_row a.up.number (with_bytes store a.up bytes),
             taken a.caller store a.up holds files like moment bytes c.in-Ok.ensures.can.0,
