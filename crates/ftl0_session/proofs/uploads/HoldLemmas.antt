@@ -99,11 +99,11 @@ module _ (caller : CallSign) (before : StoreState) (up : Upload) (holds : Holds 
       → replies ≡ texts row.replies → number_of next ≡ None → PhaseIsHeld now caller next → up.caller ≡ caller → ChangesRest before.files now.files up.number None → now.journal ≡ before.journal
       → KeepsOthers before now up.number → NoOtherOut before caller (Some up.number) → AnsweredAlone (packet_of caller moment item) (receiving_of before up) before now replies (next, Ok tt)
   parked moment item now next row replies is none at text no_upload held by changes journal uploads only =
-      let entries = changes-same up.number (store_in before) (store_in now) (in_parked before now changes.store) in
+      let entries = changes-same up.number (store_in before) (store_in now) (in_parked before now changes.store_is) in
       record {
         answered = refl;
         gives = λ files like. (row, is files like, none, at, text);
-        files = changes.store;
+        files = changes.store_is;
         journal = journal;
         held = held;
         only =
