@@ -5,11 +5,11 @@ use Rattle.std.specs.List.{AllByRecursion}
 use Rattle.disk_model.specs.declared.disk.Disk.{Ghosts}
 use Rattle.ftl0_packets.specs.Items.{texts}
 use Rattle.ftl0_packets.specs.Layout.{ul_nak_resp}
-use Rattle.file_store.proofs.Offered.{at_told, Does-moved, Does-none, Does-same, does-among, in_parked, on_like, puts_none, puts-among, puts-among-same, stands_parked}
+use Rattle.file_store.proofs.Offered.{at_told, Does-moved, Does-none, Does-same, does-among, in_parked, like_same, on_like, puts_none, puts-among, puts-among-same, stands_parked}
 use Rattle.file_store.specs.Command.{Command, DoesAll, after_all}
 use Rattle.file_store.specs.EntriesKept.{KeepsComplete}
-use Rattle.file_store.specs.Outlined.{AreLike, IsAsFar, IsStoreLike}
-use Rattle.file_store.specs.Store.{Entry, Holding, Store, complete, partial}
+use Rattle.file_store.specs.Like.{IsStoreLike}
+use Rattle.file_store.specs.Store.{Store}
 use Rattle.file_store.specs.OnDisk.{Does, outlined_all}
 use Rattle.file_store.specs.State.{IsKnown, IsReady, StoreState, store_in, store_on}
 use Rattle.file_store.specs.Working.{CountsSome, DoesAmongReads, PutsAmongReads, one_if}
@@ -30,24 +30,6 @@ use Rattle.disk_model.specs.AtDisk.{at}
 -- a count that stands as it stood
 counts-none : (before now : ℕ) → now ≡ before → CountsSome before now 0
 counts-none before now same = record { no_less = omega (arith, same); rose = inl (omega (arith, same)); same = λ none. same }
-
--- ---- a store is like itself
-
-as-far-same : (holding : Holding) → IsAsFar holding holding
-as-far-same (partial held) = refl
-as-far-same (complete octets moment) = (refl, refl)
-
-alike-same : (entries : List Entry) → AreLike entries entries
-alike-same [] = tt
-alike-same (entry ∷ entries) = (
-  record { number = refl; caller = refl; length = refl; begun = refl; holding = as-far-same entry.holding },
-  alike-same entries,
-)
-
-pub like-same : (store : Store) → IsStoreLike store store
-like-same store = record { entries = alike-same store.entries; next = refl; blocks = refl }
-
--- ---- a packet's row
 
 pub one-row : (one other : Row) → Some one ≡ Some other → one ≡ other
 one-row one other same = cc
@@ -113,7 +95,7 @@ module _ {D : Type 0} (g : Ghosts D) (packet : CallerPacket) (state : State) (be
         → TakesPacket g packet (working_at (at before disk) state) (working_at (at now disk_now) next) replies (Ok tt)
     takes-done P commands fine does memory gives =
         let done : DoesAmongReads g ⊥ 0 before now disk disk_now commands = does-among g ⊥ before now disk disk_now commands (Does-same g P ⊥ before now disk disk_now commands fine (λ never. absurd never) does) in
-        let told = gives (store_in before) (like-same (store_in before)) in
+        let told = gives (store_in before) (like_same (store_in before)) in
         takes-among P false commands fine (puts-among g P disk disk_now does.puts) (counts-none _ _ does.puts.reads) (λ known. done)
         (λ known. gives (store_on g before disk) (on_like g before disk ready known)) (λ known failed. absurd (true≢false (sym failed))) (λ ok none. does.none none)
         (λ row looks.
@@ -158,7 +140,7 @@ module _ {D : Type 0} (g : Ghosts D) (packet : CallerPacket) (state : State) (be
         → next ≡ command → replies ≡ texts (fault_reply state ∷ []) → TakesPacket g packet (working_at (at before disk) state) (working_at (at now disk_now) next) replies (Err stop.Disk)
     takes-cut P commands failed does rows waits text =
         let done : DoesAmongReads g ⊤ 0 before now disk disk_now commands = does-among g ⊤ before now disk disk_now commands (Does-same g P ⊤ before now disk disk_now commands (λ p. tt) (λ t. failed) does) in
-        let told = rows (store_in before) (like-same (store_in before)) in
+        let told = rows (store_in before) (like_same (store_in before)) in
         takes-fault P commands failed (puts-among g P disk disk_now does.puts) (counts-none _ _ does.puts.reads) (λ known. done) (λ known. rows (store_on g before disk) (on_like g before disk ready known)) does.none
         waits text
         (λ row looks.
@@ -170,7 +152,7 @@ module _ {D : Type 0} (g : Ghosts D) (packet : CallerPacket) (state : State) (be
       → ((files : Store) → IsStoreLike (store_in before) files → (row : Row) × (row_of packet files state false ≡ Some row) × IsTrue (takes_memory packet.item row.state)) → replies ≡ []
       → TakesPacket g packet (working_at (at before disk) state) (working_at (at before disk) state) replies (Err stop.OutOfMemory)
   takes-memory replies lasts rows none =
-      let told = rows (store_in before) (like-same (store_in before)) in
+      let told = rows (store_in before) (like_same (store_in before)) in
       record {
         fails = false;
         stopped = (refl, refl, none);

@@ -10,17 +10,17 @@ use Rattle.file_store.specs.Answers.{IsShort, IsTooMuch}
 use Rattle.file_store.specs.Command.{last_grow}
 use Rattle.file_store.specs.Files.{ChangesRest}
 use Rattle.file_store.specs.Kept.{KeepsOthers}
-use Rattle.file_store.specs.Outlined.{IsStoreLike}
+use Rattle.file_store.specs.Like.{IsStoreLike}
 use Rattle.file_store.specs.State.{StoreState, store_in}
 use Rattle.file_store.specs.Store.{Entry, Store, entry_of, partial}
 use Rattle.file_store.specs.Upload.{Holds, Upload, came, ending, entry_for, octets_come, sealing, waiting, with_bytes}
-use Rattle.file_store.proofs.Offered.{in_parked, like_entry, like_partial}
+use Rattle.file_store.proofs.Offered.{in_parked, like_entry, like_partial, like_same}
 use Rattle.ftl0_session.specs.declared.uploads.phase.Phase.{Phase}
 use Rattle.ftl0_session.specs.Uploads.Session.{Row, aborting, command, row_by_read, session_row, taken_row, unread_row, whole_row}
 use Rattle.ftl0_session.specs.Uploads.SessionState.{NoOtherOut, PhaseIsHeld, number_of, receiving_of, state_of}
 use Rattle.ftl0_session.specs.Uploads.Taking.{AnsweredAlone, LooksAtNone}
 use Rattle.ftl0_session.specs.Uploads.Events.{packet_of}
-use Rattle.ftl0_session.proofs.uploads.DoesLemmas.{like-same, more-at_end, one-row, some-at_end}
+use Rattle.ftl0_session.proofs.uploads.DoesLemmas.{more-at_end, one-row, some-at_end}
 use Rattle.ftl0_session.proofs.uploads.OtherLemmas.{changes-same, only-none, others-kept}
 use Rattle.ftl0_session.proofs.uploads.UploadRows.{row-short, row-taken, row-too_much, row-unread, row-whole}
 
@@ -126,7 +126,7 @@ pub end-looks : (caller : CallSign) (before : StoreState) (up : Upload) (holds :
     → LooksAtNone (packet_of caller moment (Ok data_end)) (record { store = before; state = receiving_of before up }) row → ⊥
 end-looks caller before up holds moment row enough looks =
     let files : Store = store_in before in
-    let like = like-same files in
+    let like = like_same files in
     let fault : Option ℕ = fault_code (octets_come files before up) in
     let both : Some (whole_row moment up.number (waiting before up) fault) ≡ Some (unread_row up.number (waiting before up)) =
     sym (whole caller before up holds files like moment fault enough refl) ∙ looks false ∙ sym (looks true) ∙ unread caller before up holds files like moment enough in
