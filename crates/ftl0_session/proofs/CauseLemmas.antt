@@ -1,5 +1,5 @@
 -- The causes of code 3 in what is replied.
-use Rattle.std.proofs.Common.{◌≡◌, ◌≢◌, ℕ, ◌+◌, List, [], ◌∷◌, Bool, true, false, true≢false, refl, sym, ap, ◌∙◌, arith, append-nil, eq-eqb, inl, ◌==◌}
+use Rattle.std.proofs.Common.{◌≡◌, ◌≢◌, ℕ, ◌+◌, ◌*◌, List, [], ◌∷◌, Bool, true, false, true≢false, refl, sym, ap, ◌∙◌, arith, append-nil, eq-eqb, inl, ◌==◌}
 use Rattle.std.specs.List.{AllByRecursion}
 use Rattle.disk_model.specs.declared.disk.Disk.{Ghosts}
 use Rattle.ftl0_packets.specs.Items.{texts}
@@ -59,7 +59,7 @@ module _ {D : Type 0} (g : Ghosts D) (disk : D) (fails : Bool) where
 
 -- ---- the texts of what is sent
 
-second : List ℕ → ℕ
+abbrev second : List ℕ → ℕ
 second [] = 0
 second (a ∷ []) = 0
 second (a ∷ b ∷ rest) = b

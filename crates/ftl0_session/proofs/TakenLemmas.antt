@@ -58,7 +58,7 @@ none-there None is = refl
 none-there (Some row) is = absurd (true≢false is)
 
 -- rows of downloading that are the same in the whole table are the same
-row-from : DownloadState → List CallerList → List PacketValue → DownloadRow
+abbrev row-from : DownloadState → List CallerList → List PacketValue → DownloadRow
 row-from state lists replies = record { state = state; lists = lists; replies = replies }
 
 by_download-same : (one other : DownloadRow) → by_download one ≡ by_download other → one ≡ other

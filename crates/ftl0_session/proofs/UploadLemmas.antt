@@ -35,7 +35,7 @@ abbrev whole : {D : Type 0} → List CallerList → AtDisk UploadWorking D → A
 whole lists here = at (record { store = here.it.store; lists = lists; state = state_by here.it.state ready }) here.disk
 
 -- rows of uploading that are the same in the whole table are the same
-row-from : upload.State → List Command → List PacketValue → upload.Row
+abbrev row-from : upload.State → List Command → List PacketValue → upload.Row
 row-from state commands replies = record { state = state; commands = commands; replies = replies }
 
 by_upload-same : (lists : List CallerList) (one other : upload.Row) → by_upload lists one ≡ by_upload lists other → one ≡ other
