@@ -152,6 +152,11 @@ module _ (caller : CallSign) (files : Store) (lists : List CallerList) (asked : 
   rows-differ all same =
       let replies : dl_error_resp 3 ∷ [] ≡ [] = ap (λ (r : DownloadRow). r.replies) (sym (row-unread_header all) ∙ same ∙ row-listed all) in cc replies
 
+-- no file is listed
+pub row-nothing : (caller : CallSign) (files : Store) (lists : List CallerList) (asked : ℕ) (due : Store → List ℕ → List Due) (numbers : List ℕ) (fails : Bool) → listed_files lists caller asked ≡ numbers
+    → (length numbers == 0) ≡ true → directory_row caller files lists asked due fails ≡ refused_row lists 11
+row-nothing caller files lists asked due numbers fails listed none = ap (λ (l : List ℕ). files_row caller files lists asked due fails l) listed ∙ rw none refl
+
 -- what a refusal makes
 pub made-refused : (state : DownloadState) (lists : List CallerList) (code : ℕ) (replies : List ℕ) → state ≡ ready → replies ≡ packet_text (dl_error_resp code)
     → made state lists replies ≡ made_by (refused_row lists code)

@@ -1,4 +1,4 @@
-use Rattle.std.proofs.Common.{◌≡◌, ◌==◌, List, [], ℕ, length, true, false, true≢false, ap, ◌∙◌, sym, subst, arith, rules}
+use Rattle.std.proofs.Common.{◌≡◌, ◌==◌, List, [], ℕ, length, true, false, true≢false, refl, ap, ◌∙◌, sym, subst, arith, rules}
 use Rattle.std.specs.List.{list_all}
 use Rattle.ftl0_session.specs.Lists.Lists.{CallerList}
 use Rattle.file_store.specs.State.{StoreState, store_in, store_on}
@@ -8,7 +8,7 @@ use Rattle.ftl0_session.specs.Downloads.Needs.{AreComplete, AreFiles}
 use Rattle.ftl0_session.specs.Downloads.Table.{directory_row, has_file, listing, lists_after}
 use Rattle.ftl0_session.specs.Downloads.Taking.{due_by, made_by}
 use Rattle.ftl0_session.proofs.CauseLemmas.{says-nothing, says-refused}
-use Rattle.ftl0_session.proofs.downloads.LikeLemmas.{all-like, header-refused, made-is, made-refused, row-listed, row-missing, row-unread_header, rows-differ}
+use Rattle.ftl0_session.proofs.downloads.LikeLemmas.{all-like, header-refused, made-is, made-refused, row-listed, row-missing, row-nothing, row-unread_header, rows-differ}
 use Rattle.ftl0_session.proofs.downloads.FileLemmas.{all-complete}
 use Rattle.ftl0_session.proofs.downloads.ListLemmas.{after-files, listed-few}
 use Rattle.ftl0_session.proofs.downloads.downloads.Downloads.list.Goals as goal
@@ -47,6 +47,30 @@ returns-in-Err-clause-keeps g c =
       stays = stays;
       due = c.read_headers.ensures.due;
       complete = subst (λ (s : StoreState). AreComplete (store_in s) c.args.lists.now) (sym stays.same) c.requires.complete;
+    }
+
+pub returns-then-is_empty-clause-row : goal.returns-then-is_empty-clause-row
+returns-then-is_empty-clause-row g c =
+    let a = c.args in
+    let D = g.D.Disk in
+    let store = c.args.store.now in
+    let disk = c.args.disk.now in
+    let lists = c.args.lists.now in
+    let numbers : List ℕ = c.files_to_list-numbers.result.items in
+    let none : (length numbers == 0) ≡ true = search rules in
+    let text = c.refuse.ensures in
+    let listed = sym c.files_to_list-numbers.ensures in
+    record {
+      fails = false;
+      reads = reads_none D disk (false ≡ true) (λ e. absurd (true≢false (sym e))) (g.met.D.Disk.lasts_same disk);
+      told = λ known failed. absurd (true≢false (sym failed));
+      is_row = λ known.
+          made-refused a.self.now lists 11 _ c.requires.waits text ∙ sym (ap made_by (row-nothing a.caller (store_on D store disk) lists a.number (due_by a.form) numbers false listed none));
+      anyway = λ same. (
+        refl,
+        made-refused a.self.now lists 11 _ c.requires.waits text ∙ sym (ap made_by (row-nothing a.caller (store_in store) lists a.number (due_by a.form) numbers false listed none)),
+      );
+      says = says-refused D disk false 11 _ refl refl text;
     }
 
 pub returns-then-not-are_files-clause-row : goal.returns-then-not-are_files-clause-row
