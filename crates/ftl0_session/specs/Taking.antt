@@ -4,7 +4,7 @@ use Rattle.std.specs.Prelude.{OnOk}
 use Rattle.px_base.specs.CallSign.{CallSign}
 use Rattle.disk_model.specs.declared.disk.Disk.{Ghosts}
 use Rattle.ftl0_packets.specs.Items.{texts}
-use Rattle.ftl0_packets.specs.Layout.{Item, PacketValue}
+use Rattle.ftl0_packets.specs.Layout.{Item}
 use Rattle.ftl0_session.specs.Lists.Lists.{CallerList}
 use Rattle.file_store.specs.Command.{DoesAll, after_all}
 use Rattle.file_store.specs.OnDisk.{outlined_all}
@@ -100,8 +100,8 @@ AnswersAnyway item row now replies (Ok done) =
 AnswersAnyway item row now replies (Err stop.OutOfMemory) = IsTrue (takes_memory item row.state)
 AnswersAnyway item row now replies (Err stop.Disk) = ⊤
 
--- What a packet with this row gives and does to the disk, whatever the disk tells. No read failed. Where it is answered,
--- memory tells the store after the row's commands.
+-- What a packet with this row gives and does to the disk, whatever the disk tells. No read failed. Where it is
+-- answered, memory tells the store after the row's commands.
 pub record MakesAnyway {D : Type 0} (g : Ghosts D) (item : Item) (row : Row) (before now : AtDisk Working D)
     (replies : List ℕ) (result : Result ⊤ Halt) : Type 0 where
   pub answers : AnswersAnyway item row now.it replies result

@@ -95,8 +95,8 @@ AnswersAnyway item row now replies (Ok done) = (now.state ≡ row.state) × (rep
 AnswersAnyway item row now replies (Err stop.OutOfMemory) = IsTrue (takes_memory item row.state)
 AnswersAnyway item row now replies (Err stop.Disk) = ⊤
 
--- What a packet with this row gives and does to the disk, whatever the disk tells. No read failed. Where it is answered,
--- memory tells the store after the row's commands.
+-- What a packet with this row gives and does to the disk, whatever the disk tells. No read failed. Where it is
+-- answered, memory tells the store after the row's commands.
 pub record MakesAnyway {D : Type 0} (g : Ghosts D) (item : Item) (row : Row) (before now : AtDisk Working D)
     (replies : List ℕ) (result : Result ⊤ Halt) : Type 0 where
   pub answers : AnswersAnyway item row now.it replies result

@@ -1,4 +1,4 @@
-use Rattle.std.proofs.Common.{◌≡◌, [], ◌∷◌, List, ℕ, length, append-nil, refl, ap, ◌∙◌, sym, subst, rules, true, false, true≢false}
+use Rattle.std.proofs.Common.{◌≡◌, List, ℕ, length, append-nil, refl, ap, ◌∙◌, sym, subst, rules, true, false, true≢false}
 use Rattle.ftl0_packets.specs.Layout.{packet_text, select_resp}
 use Rattle.selection.specs.Values.{tree_of}
 use Rattle.ftl0_session.specs.Lists.Lists.{CallerList, selected}
