@@ -10,7 +10,7 @@ use Rattle.file_store.specs.Answers.{IsShort, IsTooMuch}
 use Rattle.file_store.specs.Command.{last_grow}
 use Rattle.file_store.specs.Files.{ChangesRest}
 use Rattle.file_store.specs.Kept.{KeepsOthers}
-use Rattle.file_store.specs.Outlined.{IsStoreLike}
+use Rattle.file_store.specs.Like.{IsStoreLike}
 use Rattle.file_store.specs.State.{StoreState, store_in}
 use Rattle.file_store.specs.Store.{Entry, Store, entry_of, partial}
 use Rattle.file_store.specs.Upload.{Holds, Upload, came, ending, entry_for, octets_come, sealing, waiting, with_bytes}
