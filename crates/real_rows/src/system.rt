@@ -46,12 +46,12 @@ fn clock<R: rt::Clock>(alloc: Global, clock: &R) -> Result<String> {
     if first > YEAR_2024 && second >= first {
         return text_of(alloc, "ok");
     }
-    Ok(format!(in alloc; "{first} {second}")?)
+    text_of(alloc, format_args!("{first} {second}"))
 }
 
 /// `texts`
 fn texts(alloc: Global) -> Result<String> {
     let error = SystemError::from(ErrorKind::Other);
     let down = DeviceDown::from(error);
-    Ok(format!(in alloc; "{down}; {error}")?)
+    text_of(alloc, format_args!("{down}; {error}"))
 }

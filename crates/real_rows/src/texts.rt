@@ -9,7 +9,7 @@ const MOST_ALIKE: usize = 32;
 
 /// The text of this. Takes memory.
 pub fn text_of<T: Display + Drop>(alloc: Global, shown: T) -> Result<String> {
-    Ok(format!(in alloc; "{shown}")?)
+    text_of(alloc, shown)
 }
 
 /// `ok`, or the text of the error. Takes memory.
@@ -28,8 +28,8 @@ pub fn octets_text(alloc: Global, octets: &[u8]) -> Result<String> {
         [first, rest @ ..] if rest.len() >= MOST_ALIKE && rest.iter().all(|octet| octet == first) =>
             {
                 let count = octets.len();
-                Ok(format!(in alloc; "{first:02x}*{count}")?)
+                text_of(alloc, format_args!("{first:02x}*{count}"))
             }
-        _ => Ok(hex::encode(alloc, octets)?),
+        _ => hex_text(alloc, octets),
     }
 }

@@ -52,5 +52,5 @@ pub fn content_text(alloc: Global, content: io::Result<Vec<u8>>) -> Result<Strin
 /// Who may read, write and run a file, in octal. Takes memory.
 pub fn mode_text(alloc: Global, found: &Metadata) -> Result<String> {
     let bits = found.permissions().mode() & MODE_BITS;
-    Ok(format!(in alloc; "{bits:o}")?)
+    text_of(alloc, format_args!("{bits:o}"))
 }

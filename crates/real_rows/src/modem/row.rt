@@ -46,7 +46,7 @@ impl<'a, R: Net<Stream = TcpStream> + Clock> ModemSteps<'a, R> {
         let polled = poll(alloc, &mut self.air)?;
         let waited = start.elapsed(self.rt)?.as_millis();
         if polled.as_str() == "quiet" && (waited < LEAST_WAIT || waited >= MOST_WAIT) {
-            return Ok(format!(in alloc; "quiet after {waited} milliseconds")?);
+            return text_of(alloc, format_args!("quiet after {waited} milliseconds"));
         }
         Ok(polled)
     }
@@ -65,7 +65,7 @@ impl<'a, R: Net<Stream = TcpStream> + Clock> ModemSteps<'a, R> {
             .read_timeout()?
             .context("no limit of reads")?
             .as_millis();
-        Ok(format!(in alloc; "{nodelay}, {wait} milliseconds")?)
+        text_of(alloc, format_args!("{nodelay}, {wait} milliseconds"))
     }
 
     /// What the modem hears: so many octets.
