@@ -47,7 +47,7 @@ module _ {D : Type 0} (g : Ghosts D) (self new : StoreState) (disk disk_now : D)
   -- it is complete, where it is known what the files hold
   module _ (ends : EndsFile g (Ok end.Sealed) self new disk disk_now up.number moment) where
     ended-good : IsKnown g disk → fault_code (octets_come on self up) ≡ None
-    ended-good known = (ends.file).2 known
+    ended-good known = (ends.file).3 known
 
     ended-made : IsKnown g disk → store_on g new disk_now ≡ after_all on (sealing on self up moment)
     ended-made known =

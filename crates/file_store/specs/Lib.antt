@@ -8,6 +8,7 @@ pub mod OnDisk
 pub mod Reads
 pub mod Recovery
 pub mod Refusals
+pub mod Sealing
 pub mod State
 pub mod Upload
 pub mod Working
