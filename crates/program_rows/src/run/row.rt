@@ -2,12 +2,13 @@
 
 use crate::memory_outside::MemoryOutside;
 use crate::run::standing::standing_text;
+use crate::run::words::octet_words;
 use anyhow::{Context, Result};
 use disk_model::{Disk, MemoryDisk};
 use px_base::{MemoryOut, MemoryShelf};
 use row_words::{
-    OverDisk, Player, disk_after, hex_text, octets_before, read_air, read_words, text_of,
-    three_parts, two_parts,
+    OverDisk, Player, disk_after, hex_text, octets_before, push_shown, read_air, read_words,
+    text_of, three_parts, two_parts,
 };
 use std::alloc::Global;
 
@@ -32,11 +33,36 @@ impl Player for RunRows {
             .context("no failing calls of the disk")?;
         let (row, octets) = row.rsplit_once(';').context("no disk")?;
         let octets = octets_before(alloc, octets, self.before.take())?;
-        let (ended, disk) = disk_after(alloc, &mut Run { row }, octets.as_slice(), failing)?;
-        let standing = content_text(alloc, row, disk.bytes())?;
+        let (failing, picks) = failing.split_once('|').unwrap_or((failing, ""));
+        let failing = failing.trim();
+        let (mut shown, disk) = run_text(alloc, row, octets.as_slice(), failing)?;
         self.before = Some(disk);
-        text_of(alloc, format_args!("{ended} | {standing}"))
+        for pick in picks.split_whitespace() {
+            let left = left_text(alloc, row, octets.as_slice(), failing, pick)?;
+            push_shown(alloc, &mut shown, format_args!(" | {pick} {left}"))?;
+        }
+        Ok(shown)
     }
+}
+
+/// What is printed of the run of a row, and its disk then.
+fn run_text(
+    alloc: Global,
+    row: &str,
+    octets: &[u8],
+    failing: &str,
+) -> Result<(String, MemoryDisk)> {
+    let (ended, disk) = disk_after(alloc, &mut Run { row }, octets, failing)?;
+    let standing = content_text(alloc, row, disk.bytes())?;
+    let shown = text_of(alloc, format_args!("{ended} | {standing}"))?;
+    Ok((shown, disk))
+}
+
+/// What a crash leaves behind the run of a row, as a number picks it.
+fn left_text(alloc: Global, row: &str, octets: &[u8], failing: &str, pick: &str) -> Result<String> {
+    let (_ended, disk) = disk_after(alloc, &mut Run { row }, octets, failing)?;
+    let left = disk.crash(pick.parse::<u64>()?)?;
+    content_text(alloc, row, left.bytes())
 }
 
 /// The parts of a row but for those of its disk.
@@ -53,10 +79,15 @@ impl OverDisk for Run<'_> {
     }
 }
 
-/// What the content of the disk of a row stands for, where it has one.
+/// What the content of the disk of a row stands for, where it has one; or the octets that it is.
 fn content_text(alloc: Global, row: &str, octets: &[u8]) -> Result<String> {
     if row.starts_with("none ") {
         return text_of(alloc, "none");
+    }
+    if row.starts_with("octets ") {
+        let words = octet_words(alloc, octets)?;
+        let len = octets.len();
+        return text_of(alloc, format_args!("{len} octets: {words}"));
     }
     standing_text(alloc, octets)
 }
