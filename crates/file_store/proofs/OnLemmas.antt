@@ -3,7 +3,8 @@ use Rattle.std.proofs.Common.{◌≡◌, List, [], ◌∷◌, ℕ, Option, None,
 use Rattle.disk_model.specs.Disk.{IsTold}
 use Rattle.disk_model.specs.declared.disk.Disk.{Ghosts}
 use Rattle.block_entries.specs.IsPlaced.{KeepsSeals}
-use Rattle.block_entries.specs.Outlined.{AreLike, IsAsFar, IsStoreLike, outlined}
+use Rattle.block_entries.specs.Outlined.{outlined}
+use Rattle.file_entries.specs.Like.{AreLike, IsAsFar, IsStoreLike}
 use Rattle.block_entries.specs.Placed.{PlacedStore}
 use Rattle.block_entries.specs.PlacedFiles.{store_of}
 use Rattle.block_entries.specs.PlacedRecords.{placed_steps}

@@ -2,14 +2,13 @@
 use Rattle.std.proofs.Common.{◌≡◌, ◌≢◌, inl, inr, ℕ, ◌+◌, ◌≤◌, Bool, true, false, List, [], ◌∷◌, ◌++◌, length, Option, None, Some, Result, Ok, Err, IsErr, OnOk, OnErr, refl, sym, ◌∙◌, ap, subst, arith, take, zero-add}
 use Rattle.std.specs.Prelude.{IfSome, IsSome, IsTrue, is_some, replicate}
 use Rattle.std.specs.Option.{option_map}
-use Rattle.std.proofs.lemmas.Bool.Decides.{eqb_tells}
 use Rattle.std.proofs.lemmas.List.{append-nil, take_all}
 use Rattle.block_entries.specs.Checking.{ChecksFile, HasFault, IsFaultCode, IsSealable}
 use Rattle.block_entries.specs.IsPlaced.{IsPlaced}
 use Rattle.block_entries.specs.Outlined.{outlined, outlined_entry}
 use Rattle.block_entries.specs.Placed.{Placed, PlacedStore, Seal, placed_of}
 use Rattle.block_entries.specs.PlacedCommand.{is_partial, is_whole, sealed, with_sealed, without_file}
-use Rattle.block_entries.specs.PlacedFiles.{Becomes, KeepsRests, PlacedFiles, rest_of, store_of}
+use Rattle.block_entries.specs.PlacedFiles.{Becomes, KeepsRests, PlacedFiles, octets_or_none, rest_of, store_of}
 use Rattle.block_entries.specs.Seen.{octets_in, stamp_at}
 use Rattle.block_entries.specs.TestLaws.{Passes, TakesSeal}
 use Rattle.block_entries.specs.declared.file_check.CheckedHeader.{CheckedHeader}
@@ -24,7 +23,6 @@ use Rattle.file_journal.specs.Layout.{Blocks, blocks_on}
 use Rattle.file_journal.proofs.Offered.{reads_same}
 use Rattle.file_entries.specs.Command.{Command, after_all, drop_entry, grow, last_grow, seal}
 use Rattle.file_entries.specs.Faults.{fault_code}
-use Rattle.file_entries.specs.Files.{octets_or_none}
 use Rattle.file_entries.specs.Info.{IsCompleteIn, is_complete}
 use Rattle.file_entries.specs.Store.{Entry, Holding, Store, entry_of}
 use Rattle.file_store.specs.Ending.{EndsFile, EndsInOrder, IsSealedAt, LeavesOthers}

@@ -8,7 +8,7 @@ use Rattle.file_journal.proofs.Offered.{told_weaker}
 use Rattle.file_entries.specs.Faults.{fault_code}
 use Rattle.file_entries.specs.Stamp.{stamped}
 use Rattle.file_entries.specs.Command.{after, after_all, last_grow, seal, sealed}
-use Rattle.file_entries.specs.Files.{octets_or_none}
+use Rattle.block_entries.specs.PlacedFiles.{octets_or_none}
 use Rattle.file_entries.specs.Store.{Entry, Store, complete, entry_of, octets_at, partial}
 use Rattle.file_entries.proofs.Offered.{after_all-append, find-map-changed}
 use Rattle.file_store.specs.Ending.{EndsFile}

@@ -2,13 +2,12 @@
 use Rattle.std.specs.Prelude.{◌≡◌, ◌⊎◌, ℕ, List, [], ◌∷◌, ◌++◌, length, Bool, true, false, if◌then◌else◌}
 use Rattle.std.specs.Prelude.{Option, None, Some, Result, Ok, Err, IsErr, IsTrue, IfOk, ⊤}
 use Rattle.block_entries.specs.Checking.{IsFaultCode}
-use Rattle.block_entries.specs.PlacedFiles.{KeepsRests}
+use Rattle.block_entries.specs.PlacedFiles.{KeepsRests, octets_or_none}
 use Rattle.disk_model.specs.AtDisk.{AtDisk, at}
 use Rattle.disk_model.specs.declared.disk.Disk.{Ghosts}
 use Rattle.disk_model.specs.declared.disk.DiskFault.{DiskFault}
 use Rattle.file_entries.specs.Command.{Command, last_grow}
 use Rattle.file_entries.specs.Faults.{fault_code}
-use Rattle.file_entries.specs.Files.{octets_or_none}
 use Rattle.file_entries.specs.Info.{IsCompleteIn}
 use Rattle.file_entries.specs.Store.{Entry, Store, complete, entry_of, partial}
 use Rattle.file_journal.specs.AmongReads.{one_if}

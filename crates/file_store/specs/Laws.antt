@@ -10,7 +10,7 @@ use Rattle.file_entries.specs.Info.{is_complete}
 use Rattle.file_entries.specs.IsStore.{IsStore}
 use Rattle.file_entries.specs.Store.{Entry, Store, complete, entry_of, holding_of_number, partial}
 use Rattle.block_entries.specs.Laws.{IsPlacedAfter}
-use Rattle.block_entries.specs.Outlined.{IsStoreLike}
+use Rattle.file_entries.specs.Like.{IsStoreLike}
 use Rattle.block_entries.specs.Placed.{PlacedStore}
 use Rattle.block_entries.specs.PlacedCommand.{PlacedCommand}
 use Rattle.block_entries.specs.Seen.{seen}

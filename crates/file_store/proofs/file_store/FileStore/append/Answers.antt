@@ -1,8 +1,7 @@
 use Rattle.std.proofs.Common.{◌≡◌, ℕ, ◌/◌, ◌++◌, true, List, length, Some, refl, sym, ◌∙◌, ap, subst, arith, rules}
 use Rattle.std.specs.Option.{option_map}
-use Rattle.block_entries.specs.PlacedFiles.{store_of}
+use Rattle.block_entries.specs.PlacedFiles.{octets_or_none, store_of}
 use Rattle.file_entries.specs.Command.{Command, grows, unfilled_block, whole_grows}
-use Rattle.file_entries.specs.Files.{octets_or_none}
 use Rattle.file_store.specs.OnDisk.{Does}
 use Rattle.file_store.specs.State.{StoreState, rest_in, state_from, store_in}
 use Rattle.file_store.specs.Upload.{Holds, Upload, appended, appending, with_bytes}
