@@ -9,7 +9,7 @@ use crate::steps::{Steps, make_steps};
 use crate::texts::octets_text;
 use anyhow::{Context, Result, ensure};
 use real_outside::{DeviceDisk, MemoryDevice};
-use row_words::{Player, read_numbers, read_octets};
+use row_words::{Player, read_numbers, read_octets, text_of, three_parts};
 use std::alloc::Global;
 
 /// Plays rows of devices, each on its own.

@@ -12,7 +12,7 @@ use crate::texts::octets_text;
 use anyhow::{Context, Result, bail};
 use px_base::FileBytes;
 use real_outside::{MemoryAnswer, MemoryStream, StdAir, StreamCall, SystemError};
-use row_words::{Player, read_octets};
+use row_words::{Player, read_octets, text_of, three_parts};
 use std::alloc::Global;
 use std::io::ErrorKind;
 

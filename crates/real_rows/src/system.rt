@@ -4,11 +4,10 @@
 //!   before it; else both moments.
 //! - `texts`: the texts of errors: a device that failed, and a call that the system refused.
 
-use crate::texts::text_of;
 use anyhow::{Result, bail};
 use px_base::Clock;
 use real_outside::{DeviceDown, SystemClock, SystemError};
-use row_words::Player;
+use row_words::{Player, text_of};
 use std::alloc::Global;
 use std::io::ErrorKind;
 use std::rt;

@@ -1,8 +1,8 @@
 //! Steps of the folder itself.
 
-use crate::texts::{octets_text, text_of};
+use crate::texts::octets_text;
 use anyhow::{Result, bail};
-use row_words::{read_octets, written};
+use row_words::{read_octets, text_of, written};
 use std::alloc::Global;
 use std::fs::{self, Metadata, Permissions};
 use std::io::{self, ErrorKind};

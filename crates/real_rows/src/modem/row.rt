@@ -2,10 +2,10 @@
 
 use crate::air_calls::{poll, put};
 use crate::steps::Steps;
-use crate::texts::{octets_text, text_of};
+use crate::texts::octets_text;
 use anyhow::{Context, Result, bail};
 use real_outside::TcpAir;
-use row_words::{read_octets, written};
+use row_words::{read_octets, text_of, written};
 use std::alloc::Global;
 use std::io::{Read, Write};
 use std::net::{Net, OpenListener, Shutdown, TcpStream};
