@@ -1,6 +1,7 @@
 //! Octets, as a row writes them.
 
 use anyhow::Result;
+use row_words::push_shown;
 use std::alloc::Global;
 
 /// How many octets that are alike have a word of their own.
@@ -26,11 +27,10 @@ pub fn octet_words(alloc: Global, octets: &[u8]) -> Result<String> {
 /// Puts so many octets that are alike behind the text, in a word of their own where they are many.
 fn push_alike(alloc: Global, text: &mut String, octet: u8, count: u32) -> Result<()> {
     if count >= ALIKE {
-        text.push_str(format!(in alloc; " {octet:02x}*{count} ")?.as_str())?;
-        return Ok(());
+        return push_shown(alloc, text, format_args!(" {octet:02x}*{count} "));
     }
     for _ in 0..count {
-        text.push_str(format!(in alloc; "{octet:02x}")?.as_str())?;
+        push_shown(alloc, text, format_args!("{octet:02x}"))?;
     }
     Ok(())
 }
