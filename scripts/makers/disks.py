@@ -2,7 +2,7 @@
 
 import struct
 
-from journal import GROWING, HEADER, block_place, blocks_in, first_gate, header, look_at_header, walk
+from journal import GROWING, HEADER, SELECTOR, block_place, blocks_in, first_gate, header, look_at_header, place_of_records, walk
 from octets import Octets
 
 WIDTH = 2**64
@@ -107,13 +107,13 @@ def draw(number):
 
 
 class Journal:
-    """A journal on a disk: recovered, and appended to."""
+    """A journal on a disk: recovered, appended to, and rewritten."""
 
     def __init__(self, disk, magic, blocks, take, layout=GROWING):
-        self.disk, self.failed = disk, False
+        self.disk, self.layout, self.failed = disk, layout, False
         disk.sync()
         disk.ask()
-        self.format(magic, blocks, layout)
+        self.format(magic, blocks)
         disk.ask()
 
         def taken(kind, content):
@@ -122,25 +122,35 @@ class Journal:
 
         walk(disk.octets if layout == GROWING else Octets(disk.present), magic, taken, layout, disk.ask)
 
-    def format(self, magic, blocks, layout):
-        """Formats the disk, or what isn't formatted of it, and stands at the first gate."""
+    def format(self, magic, blocks):
+        """Formats the disk, or what isn't formatted of it, and stands at the first gate of its records."""
         octets = self.disk.present
         if len(octets) <= HEADER:
-            self.gate = first_gate(layout, blocks)
+            self.stand(blocks, 0)
             self.disk.write_synced(0, header(magic, blocks))
             self.format_gates()
             return
         self.disk.ask()
         look_at_header(octets, magic)
-        self.gate = first_gate(layout, blocks_in(octets))
-        if len(octets) < self.gate + 2:
-            if octets[15] % 2 == 1:
-                self.disk.write_synced(15, b"\0")
+        self.stand(blocks_in(octets), octets[SELECTOR])
+        if len(octets) < first_gate(self.layout, self.blocks) + 2:
+            if self.selector == 1:
+                self.disk.write_synced(SELECTOR, b"\0")
+                self.stand(self.blocks, 0)
             self.format_gates()
+
+    def stand(self, blocks, selector):
+        """Stands at the first gate of the records that a selector selects."""
+        self.blocks, self.selector = blocks, selector % 2
+        self.gate, self.end = place_of_records(self.layout, blocks, selector)
 
     def format_gates(self):
         self.disk.write_synced(self.gate, b"\0")
         self.disk.write_synced(self.gate + 1, b"\0")
+
+    def room(self):
+        """How many octets a record may have with the gate behind it."""
+        return self.end - self.gate - 1
 
     def append(self, record):
         """Appends a record, and fails from the first fault on."""
@@ -148,16 +158,29 @@ class Journal:
         self.write_synced(self.gate, b"\1")
         self.gate += 1 + len(record)
 
+    def rewrite(self, records):
+        """Writes records in the other half, each with its gate before it, and the last gate by itself; then selects that half.
+        It fails from the first fault on."""
+        self.stand(self.blocks, 1 - self.selector)
+        for record in records:
+            self.call(self.disk.write, self.gate, b"\1" + record)
+            self.gate += 1 + len(record)
+        self.write_synced(self.gate, b"\0")
+        self.write_synced(SELECTOR, bytes([self.selector]))
+
     def write_block(self, block, octets):
         """Writes octets at the start of a block, and fails from the first fault on."""
         self.write_synced(block_place(block), octets)
 
     def write_synced(self, at, octets):
-        """Writes and syncs; behind a fault it doesn't touch the disk."""
+        self.call(self.disk.write_synced, at, octets)
+
+    def call(self, does, at, octets):
+        """Writes, with a sync or without; behind a fault it doesn't touch the disk."""
         if self.failed:
             raise Stopped()
         try:
-            self.disk.write_synced(at, octets)
+            does(at, octets)
         except Stopped:
             self.failed = True
             raise

@@ -1,11 +1,13 @@
 """The journal of docs/FORMATS.md: a disk's octets that records make, and the records that octets stand for. Its layout says where
-the records begin: behind the header, or behind blocks of 512 octets that stand behind the header."""
+the records stand: behind the header; behind blocks of 512 octets that stand behind the header; or in one of two halves behind
+blocks, which the last octet of the header selects."""
 
 import struct
 
 MOST_CONTENT = 600
-GROWING, BLOCKS = "growing", "blocks"
-HEADER, BLOCK = 16, 512
+GROWING, BLOCKS, HALVES = "growing", "blocks", "halves"
+HEADER, BLOCK, SELECTOR = 16, 512, 15
+ENDLESS = 2**62
 
 
 class NotAStore(Exception):
@@ -31,8 +33,21 @@ def block_place(block):
 
 
 def first_gate(layout, blocks):
-    """Where the first gate stands."""
-    return block_place(blocks) if layout == BLOCKS else HEADER
+    """Where the first gate stands, that of the first half where there are two."""
+    return HEADER if layout == GROWING else block_place(blocks)
+
+
+def half_length(blocks):
+    return 65536 + 28 * blocks
+
+
+def place_of_records(layout, blocks, selector=0):
+    """Where the first gate of the records stands, and the end of the room for them and their gates."""
+    gate = first_gate(layout, blocks)
+    if layout != HALVES:
+        return gate, ENDLESS
+    gate += selector % 2 * half_length(blocks)
+    return gate, gate + half_length(blocks)
 
 
 def record(kind, content, length=None):
@@ -61,16 +76,19 @@ def walk(octets, magic, take, layout=GROWING, ask=lambda: None):
     if len(octets) <= HEADER:
         return
     look_at_header(octets, magic)
-    gate = first_gate(layout, blocks_in(octets))
-    if len(octets) < gate + 2:
+    if len(octets) < first_gate(layout, blocks_in(octets)) + 2:
         return
+    gate, end = place_of_records(layout, blocks_in(octets), octets[SELECTOR])
+    end = min(end, len(octets))
+    if gate >= end:
+        raise Damaged(gate)
     while True:
         ask()
         if octets[gate] != 1:
             return
-        length = struct.unpack("<H", octets[gate + 2 : gate + 4])[0] if len(octets) >= gate + 4 else MOST_CONTENT + 1
+        length = struct.unpack("<H", octets[gate + 2 : gate + 4])[0] if end >= gate + 4 else MOST_CONTENT + 1
         after = gate + 4 + length
-        if length > MOST_CONTENT or after >= len(octets):
+        if length > MOST_CONTENT or after >= end:
             raise Damaged(gate)
         try:
             take(octets[gate + 1], octets[gate + 4 : after])

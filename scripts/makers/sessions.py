@@ -4,10 +4,10 @@ import struct
 
 from disks import Journal, Stopped, Unread
 from headers import first_fault, header_sum, items_of, short_form, stamped
-from journal import BLOCK, BLOCKS, block_place, call_octets
+from journal import BLOCK, block_place, call_octets
 from rows import sum16
 from selections import Fault, holds
-from stores import LONGEST, MAGIC, Store, begin, blocks_of, drop, grow, seal
+from stores import LAYOUT, LONGEST, MAGIC, Store, begin, blocks_of, drop, grow, seal
 
 DATA, DATA_END, LOGIN, UPLOAD, UL_GO, UL_ERROR, UL_ACK, UL_NAK, DOWNLOAD, DL_ERROR = range(10)
 DL_ABORTED, DL_COMPLETED, DL_ACK, DL_NAK, DIR_SHORT, DIR_LONG, SELECT, SELECT_RESP = range(10, 18)
@@ -75,7 +75,7 @@ class FileStore(Store):
     def __init__(self, disk, blocks):
         self.begin_empty(disk.present, blocks)
         self.disk = disk
-        self.journal = Journal(disk, MAGIC, blocks, self.take_found, BLOCKS)
+        self.journal = Journal(disk, MAGIC, blocks, self.take_found, LAYOUT)
 
     def take_found(self, kind, content):
         """Does what a record says that a recovery finds; for a Seal it reads the file, where all octets are held."""
@@ -115,8 +115,11 @@ class FileStore(Store):
         self.entries[number]["waiting"] = b""
 
     def put(self, record, *block):
-        """Puts a record, behind the block that it says, where there is one: its number and its octets."""
+        """Puts a record, behind the block that it says, where there is one: its number and its octets. Before all that the store
+        is written anew where the record has no room."""
         try:
+            if len(record) + 1 > self.journal.room():
+                self.journal.rewrite(self.records())
             if block:
                 self.journal.write_block(*block)
             self.journal.append(record)

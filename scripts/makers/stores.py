@@ -1,12 +1,17 @@
 """The store of files, by the records of its journal ("The records of a store" in docs/FORMATS.md). The octets of files stand in
-blocks, and the records say in which."""
+blocks, and the records say in which. In the layout of two halves the store is written anew, as few records, where the next one
+has no room."""
 
+import os
 import struct
 
 from headers import first_fault, header_sum, stamped
-from journal import BLOCK, BLOCKS, HEADER, block_place, blocks_in, call_octets, is_call, record, walk
+from journal import BLOCK, BLOCKS, HALVES, HEADER, block_place, blocks_in, call_octets, is_call, record, walk
 
-MAGIC, EARLIER_MAGIC = b"PXSTORE9", b"PXSTORE0"
+# The switch: the layout of all stores that makers make. Another one for one run is given in the environment.
+LAYOUT = os.environ.get("LAYOUT", BLOCKS)
+MAGICS = {BLOCKS: b"PXSTORE9", HALVES: b"PXSTORE1"}
+MAGIC, EARLIER_MAGIC = MAGICS[LAYOUT], b"PXSTORE0"
 LONGEST = 4194304
 
 
@@ -39,22 +44,29 @@ def drop(number=1):
     return record(4, struct.pack("<I", number))
 
 
+def next_is(number):
+    """Of two halves: the number of the next file."""
+    return record(5, struct.pack("<I", number))
+
+
 def blocks_of(length):
     return (length + 511) // 512
 
 
 class Store:
     """The entries of a store: of each number the length, when it was begun and by whom, the octets held, the blocks that these
-    stand in, whether it is complete, and then its octets with their stamp. The blocks of all entries are those that are taken."""
+    stand in, whether it is complete, and then when it was sealed, and its octets with their stamp. The blocks of all entries are
+    those that are taken. The next Begin in these records has a number from the least to the next, which are one unless a Next
+    stands before it."""
 
     def __init__(self, octets, blocks):
         self.begin_empty(octets, blocks)
         self.octets = octets
-        walk(octets, MAGIC, self.take, BLOCKS)
+        walk(octets, MAGIC, self.take, LAYOUT)
 
     def begin_empty(self, octets, blocks):
         """Without entries, with as many blocks as the octets say, or as are asked for where they are no header."""
-        self.entries, self.next, self.taken = {}, 1, set()
+        self.entries, self.next, self.least, self.taken, self.fresh = {}, 1, 1, set(), True
         self.blocks = blocks_in(octets) if len(octets) > HEADER else blocks
 
     def read_block(self, block):
@@ -65,22 +77,30 @@ class Store:
 
     def take(self, kind, content):
         """Does what a record says, or raises ValueError where it is none, or isn't allowed."""
-        parts = {1: self.begun, 2: self.grown, 3: self.sealed, 4: self.dropped}
-        if kind not in parts or len(content) < 4:
+        parts = {1: self.begun, 2: self.grown, 3: self.sealed, 4: self.dropped, 5: self.numbered}
+        if kind not in parts or kind == 5 and LAYOUT != HALVES or len(content) < 4:
             raise ValueError("no command")
         parts[kind](struct.unpack("<I", content[:4])[0], content[4:])
+        self.fresh = False
+
+    def numbered(self, number, rest):
+        """The number of the next file; behind it those below it may be begun, in rising order."""
+        if rest or number == 0 or not self.fresh:
+            raise ValueError("no Next")
+        self.next = number
 
     def begun(self, number, rest):
         if len(rest) != 15 or not is_call(rest[:7]):
             raise ValueError("no Begin")
         length, moment = struct.unpack("<II", rest[7:])
-        if number != self.next or number == 2**32 - 1 or length > LONGEST or len(self.entries) == 1024:
+        in_order = self.least <= number <= self.next and number < 2**32 - 1
+        if not in_order or length > LONGEST or len(self.entries) == 1024:
             raise ValueError("not allowed")
         if blocks_of(length) > self.free():
             raise ValueError("no room")
         entry = {"length": length, "begun": moment, "caller": rest[:7], "held": b"", "blocks": []}
-        self.entries[number] = dict(entry, complete=False, octets=None)
-        self.next += 1
+        self.entries[number] = dict(entry, complete=False, sealed=None, octets=None)
+        self.least, self.next = number + 1, max(self.next, number + 1)
 
     def under_way(self, number):
         entry = self.entries.get(number)
@@ -112,10 +132,11 @@ class Store:
             raise ValueError("no Seal")
         if len(entry["held"]) != entry["length"] or first_fault(entry["held"]) is not None:
             raise ValueError("not allowed")
-        octets = stamped(entry["held"], number, entry["caller"], struct.unpack("<I", rest[:4])[0])
+        moment = struct.unpack("<I", rest[:4])[0]
+        octets = stamped(entry["held"], number, entry["caller"], moment)
         if rest[4:] != struct.pack("<H", header_sum(octets)):
             raise ValueError("another sum")
-        entry.update(complete=True, octets=octets)
+        entry.update(complete=True, sealed=moment, octets=octets)
 
     def dropped(self, number, rest):
         entry = self.under_way(number)
@@ -123,6 +144,17 @@ class Store:
             raise ValueError("no Drop")
         self.taken.difference_update(entry["blocks"])
         del self.entries[number]
+
+    def records(self):
+        """The store as records: the next number, and the entries by their numbers."""
+        found = [next_is(self.next)]
+        for number, entry in sorted(self.entries.items()):
+            found.append(begin(number, entry["length"], moment=entry["begun"], call=entry["caller"]))
+            for at, block in enumerate(entry["blocks"]):
+                found.append(grow(block, min(BLOCK, entry["length"] - BLOCK * at), number))
+            if entry["complete"]:
+                found.append(seal(header_sum(entry["octets"]), number, entry["sealed"]))
+        return found
 
     def text(self, number):
         """How far an entry is."""
