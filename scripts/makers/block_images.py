@@ -1,9 +1,10 @@
-"""The disks of image.rows. A store has 8 blocks, so that the first gate is at 4,112, or 1."""
+"""The disks of image.rows. A store has 8 blocks, so that the first gate is at 4,112, or 1. In the layout of two halves these
+stand for the same, in the first half; half_images.py has others."""
 
 from headers import header_sum, stamped
-from journal import BLOCK, BLOCKS, HEADER, blocks_in, call_octets, disk, first_gate, header, record
+from journal import BLOCK, BLOCKS, HALVES, HEADER, blocks_in, call_octets, disk, first_gate, header, record
 from rows import header_file, words_of
-from stores import EARLIER_MAGIC, MAGIC, begin, drop, earlier_grow, earlier_seal, grow, seal
+from stores import EARLIER_MAGIC, LAYOUT, MAGIC, begin, drop, earlier_grow, earlier_seal, grow, seal
 
 FILE = header_file(b"", name=b"", ext=b"")
 FAULTY = header_file(b"", name=b"", ext=b"", header_sum=-1)
@@ -69,6 +70,8 @@ BOTH = {0: FIRST, 1: SECOND}
 STAMPED, STAMPS = [begin(length=89, caller="KA9XYZ-5"), grow(0, 89)], {"octets": WITH_STAMPS}
 STAMPED_SUM = total(WITH_STAMPS, caller="KA9XYZ-5")
 AREA = first_gate(BLOCKS, 8) - HEADER
+# What changes with the second half: an odd selector selects it, and kind 5 is Next.
+LAST, LAST_IS, NO_KIND = (b"\xfe", "even", 9) if LAYOUT == HALVES else (b"\xff", "odd", 5)
 
 STANDING = [
     ("sixteen octets, whatever they are", b"\xff" * 16),
@@ -84,7 +87,7 @@ STANDING = [
     ("no records", store()),
     ("no records, and any octets in the blocks", store(fill=b"\1")),
     ("no records, of 1 block", store(blocks=1)),
-    ("an odd selector, and octets before it that aren't zero", changed(filed(*SEALED), 12, b"\1\2\3\xff")),
+    ("an %s selector, and octets before it that aren't zero" % LAST_IS, changed(filed(*SEALED), 12, b"\1\2\3" + LAST)),
     ("a closed gate before what would be damage", begun(AREA, last=b"\x02\x07\0\0")),
     ("a whole record behind a gate that is closed", store(begin())[:-24] + b"\0" + begin() + b"\0"),
     ("anything behind a closed gate", store(begin()) + b"\1\7" + b"U" * 40),
@@ -158,7 +161,7 @@ BAD_HEADERS = [
 
 KINDS = [
     ("a first record of kind 7", store(record(7, b""))),
-    ("a kind that is none", store(record(5, b""))),
+    ("a kind that is none", store(record(NO_KIND, b""))),
     ("kind 0", store(record(0, b"\1\0\0\0"))),
     ("kind 6 behind a file", store(begin(), record(6, b"\1\0\0\0"))),
     ("kind 255 in 1 block", store(record(255, b""), blocks=1)),
@@ -273,7 +276,7 @@ CUTS = [
     ("a record with no gate behind it", store(*HELD)[:-1]),
     ("a sealed file with no gate behind it", filed(*SEALED)[:-1]),
     ("an open gate at the end", filed(*SEALED)[:-1] + b"\1"),
-    ("a bad record before a cut one", store(record(5, b""))[:-1] + b"\1\2"),
+    ("a bad record before a cut one", store(record(NO_KIND, b""))[:-1] + b"\1\2"),
     ("a cut one before a bad record", store(begin(), drop())[:-1]),
 ]
 
