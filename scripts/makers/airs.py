@@ -1,5 +1,7 @@
 """An air in memory that brings turns at the moments of a clock."""
 
+from disks import octets_of
+
 
 class AirRead(Exception):
     pass
@@ -25,7 +27,7 @@ class Air:
             elif word in ("quiet", "end", "fail"):
                 self.turns.append((moment, word))
             else:
-                octets = bytes.fromhex(word)
+                octets = octets_of(word)
                 self.turns += [(moment, octets[at : at + poll]) for at in range(0, len(octets), poll)]
         self.last = moment
 

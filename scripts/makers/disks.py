@@ -6,6 +6,8 @@ from journal import GROWING, HEADER, SELECTOR, block_place, blocks_in, first_gat
 from octets import Octets
 
 WIDTH = 2**64
+# Of a disk with more octets than these most are zeros.
+SMALL = 2**20
 
 
 class Stopped(Exception):
@@ -120,7 +122,7 @@ class Journal:
             take(kind, content)
             self.gate += 4 + len(content)
 
-        walk(disk.octets if layout == GROWING else Octets(disk.present), magic, taken, layout, disk.ask)
+        walk(disk.octets if len(disk.present) <= SMALL else Octets(disk.present), magic, taken, layout, disk.ask)
 
     def format(self, magic, blocks):
         """Formats the disk, or what isn't formatted of it, and stands at the first gate of its records."""

@@ -38,9 +38,9 @@ def filling(octets, number=1, spare=0):
     return " ".join(words), number
 
 
-def head(selector):
+def head(selector, blocks=1, held=None):
     """The words of all octets before the halves."""
-    return words_of(header(MAGIC, 1)[:SELECTOR] + bytes([selector]), bytes(512))
+    return words_of(header(MAGIC, blocks)[:SELECTOR] + bytes([selector]), in_blocks(held or {}, blocks=blocks))
 
 
 def in_halves(first, second, selector=1):
