@@ -57,6 +57,14 @@ def up_to(left, octets, selector=0, behind=b"\1\7" + b"U" * 60):
     return " ".join([*head(selector).split(), *before.split(), words, words_of(octets + behind)])
 
 
+def nearly_full(records, room, spare=0, blocks=1, held=None, selector=0):
+    """The words of a disk with these records, behind which others leave so much room in their half, or a bit more."""
+    front, number = gated(*records)[:-1], sum(each[0] == 1 for each in records) + 1
+    words, _ = filling(half_length(blocks) - room - 1 - len(front), number, spare)
+    before = words_of(bytes(half_length(blocks))) if selector else ""
+    return " ".join(" ".join([head(selector, blocks, held), before, words_of(front), words, "00"]).split())
+
+
 def a_begin(number):
     """A record with its gate, and a closed one: 24 octets."""
     return gated(begin(number, 0))

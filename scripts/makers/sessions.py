@@ -223,7 +223,7 @@ class Session:
         store = self.store
         if number == 0:
             full = len(store.entries) == 1024 or store.next == 2**32 - 1
-            if length > LONGEST or full or blocks_of(length) > store.free():
+            if length > LONGEST or full or blocks_of(length) > store.free:
                 return error(UL_ERROR, 13)
             number = store.next
             store.put(begin(number, length, moment=moment, call=self.caller))

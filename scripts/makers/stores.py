@@ -56,8 +56,8 @@ def blocks_of(length):
 class Store:
     """The entries of a store: of each number the length, when it was begun and by whom, the octets held, the blocks that these
     stand in, whether it is complete, and then when it was sealed, and its octets with their stamp. The blocks of all entries are
-    those that are taken. The next Begin in these records has a number from the least to the next, which are one unless a Next
-    stands before it."""
+    those that are taken, and those that their lengths don't need are free. The number of a Begin is from the least to the next one;
+    these are the same but behind a Next."""
 
     def __init__(self, octets, blocks):
         self.begin_empty(octets, blocks)
@@ -68,12 +68,10 @@ class Store:
         """Without entries, with as many blocks as the octets say, or as are asked for where they are no header."""
         self.entries, self.next, self.least, self.taken, self.fresh = {}, 1, 1, set(), True
         self.blocks = blocks_in(octets) if len(octets) > HEADER else blocks
+        self.free = self.blocks
 
     def read_block(self, block):
         return self.octets[block_place(block) : block_place(block + 1)]
-
-    def free(self):
-        return self.blocks - sum(blocks_of(entry["length"]) for entry in self.entries.values())
 
     def take(self, kind, content):
         """Does what a record says, or raises ValueError where it is none, or isn't allowed."""
@@ -96,11 +94,12 @@ class Store:
         in_order = self.least <= number <= self.next and number < 2**32 - 1
         if not in_order or length > LONGEST or len(self.entries) == 1024:
             raise ValueError("not allowed")
-        if blocks_of(length) > self.free():
+        if blocks_of(length) > self.free:
             raise ValueError("no room")
         entry = {"length": length, "begun": moment, "caller": rest[:7], "held": b"", "blocks": []}
         self.entries[number] = dict(entry, complete=False, sealed=None, octets=None)
         self.least, self.next = number + 1, max(self.next, number + 1)
+        self.free -= blocks_of(length)
 
     def under_way(self, number):
         entry = self.entries.get(number)
@@ -143,6 +142,7 @@ class Store:
         if rest:
             raise ValueError("no Drop")
         self.taken.difference_update(entry["blocks"])
+        self.free += blocks_of(entry["length"])
         del self.entries[number]
 
     def records(self):
