@@ -6,7 +6,7 @@ from functools import lru_cache
 from airs import Air, AirRead, AirWrite
 from disks import SMALL, Disk, Stopped, octets_of
 from frames import KissReader, heard
-from journal import Damaged, NotAStore
+from journal import SELECTOR, Damaged, NotAStore
 from rows import words_of
 from servers import Server
 from sessions import FileStore, Session
@@ -102,8 +102,11 @@ def content(name, octets):
     """What a disk of this name holds."""
     if name == "none":
         return name
-    shown = words_of(octets[:]) if name == "octets" else standing(octets)
-    return "%d octets: %s" % (len(octets), shown) if name in ("octets", "length") else shown
+    if name == "octets":
+        return "%d octets: %s" % (len(octets), words_of(octets[:]))
+    if name == "length":
+        return "%d octets, selector %d: %s" % (len(octets), octets[SELECTOR], standing(octets))
+    return standing(octets)
 
 
 def standing(octets):
