@@ -7,7 +7,7 @@ from rows import words_of
 from stores import MAGIC, MAGICS, begin, drop, grow, next_is
 
 HALF = half_length(1)
-MANY = 990
+MANY = 250
 
 
 def gated(*records):
