@@ -37,6 +37,10 @@ fine = Ok tt
 pub no-fault : fine ≡ Err stop.Disk → ⊥
 no-fault same = cc
 
+push-no : (items : List Item) (item : Item) → items ++ item ∷ [] ≡ [] → ⊥
+push-no [] item none = cc none
+push-no (one ∷ items) item none = cc none
+
 module _ {D : Type 0} (g : Ghosts D) where
   -- a frame without packets was heard
   pub fit-heard : (on : WorkingOn D) (link link_n : Kept) (session : SessionState) (fate : Fate) → g.lasts on.disk on.disk → SessionMayTake g on.store on.disk on.lists session
@@ -125,6 +129,7 @@ module _ {D : Type 0} (g : Ghosts D) where
             among = All-nil (IsAmong first 0);
             by = (refl, (refl, (refl, record { link = stands; rest = refl; state = refl })), does-among g ⊥ _ _ _ _ [] (Does-none g ⊥ _ _ (λ never. never) may.may.ready lasts));
           };
+          still = λ none. (refl, refl, refl, refl);
         };
         fit = fit-heard before old.link old.link old.session Stays lasts may.may (λ stays. may.up) (stations-same old.link);
       }
@@ -139,6 +144,7 @@ module _ {D : Type 0} (g : Ghosts D) where
           takes = λ known w end from stands.
               takes-then g on w moment old mid new before between now end h.feeds.items (item ∷ []) from h.fit.caller known (h.feeds.takes known w end from stands) told
               (λ next there. takes (known_on g before.disk between.disk h.fit.puts.told known) w next (from + length h.feeds.items) there);
+          still = λ none. absurd (push-no h.feeds.items item none);
         }
 
         module _ (fit : LeavesFit g (at between.store between.disk) now mid.link new.link mid.session new.session told) where

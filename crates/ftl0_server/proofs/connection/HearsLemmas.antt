@@ -69,6 +69,13 @@ module _ {D : Type 0} (g : Ghosts D) (on : (first second third : D) → g.lasts 
   by-since event before now connection fate (Err stop.OutOfMemory) begins h =
       leaves-front g (store_on g before.it before.disk) before.disk now.disk _ _ (front-part (event (failed_write h.0)).done (event (failed_write h.0)).cut (event []).done (begins h.0)) h.3.since
 
+  -- the store is the one after the commands, where it is known what octets the files have
+  pub by-store : (event : List Failure → Happened) (before : AtDisk StoreState D) (now : WorkingOn D) (connection : ConnectionState) (fate : Fate) (result : Result ⊤ Stop)
+      → IsKnown g before.disk → HearsBy g w event before now connection fate result → result ≡ Ok tt → store_on g now.store now.disk ≡ after_all (store_on g before.it before.disk) (event []).done
+  by-store event before now connection fate (Ok done) known h is = (h.2.done (λ never. never)).0 known
+  by-store event before now connection fate (Err stop.Disk) known h is = absurd (cc is)
+  by-store event before now connection fate (Err stop.OutOfMemory) known h is = absurd (cc is)
+
   -- so it is of packets
   pub taking-whole : (left : List ℕ) (caller : CallSign) (moment : ℕ) (session : Session) (end : LinkEnd) (items : List Item) (parts : List ℕ) (first : ℕ)
       → BeginsWhole (with_reads (λ failures. progressed left (taking caller moment session end items failures first)) parts)
@@ -167,7 +174,7 @@ module _ {D : Type 0} (g : Ghosts D) (on : (first second third : D) → g.lasts 
 
   -- ---- a stop
 
-  module _ (moment : ℕ) (session : SessionState) (before now : WorkingOn D) (new : ConnectionState) (end : LinkEnd) (items : List Item) (left : List ℕ) where
+  module _ (moment : ℕ) (session : SessionState) (before now : WorkingOn D) (new : ConnectionState) (end : LinkEnd) (items : List Item) (left : List ℕ) (known : IsKnown g before.disk) where
     abbrev of_items : List Failure → Progress
     of_items failures = taking (caller_of session) moment (session_on g session before) end items failures 0
 
@@ -212,6 +219,7 @@ module _ {D : Type 0} (g : Ghosts D) (on : (first second third : D) → g.lasts 
                   since =
                       by-since (with_reads (λ failures. progressed left (of_all failures)) takes.parts) (at before.store before.disk) now new told.0 told.1
                       (taking-whole left (caller_of session) moment (session_on g session before) end (items ++ others) takes.parts 0) by;
+                  store = by-store (with_reads (λ failures. progressed left (of_all failures)) takes.parts) (at before.store before.disk) now new told.0 told.1 known by;
                 };
             over = λ failures. taking-failed (caller_of session) moment (session_on g session before) end (items ++ others) failures 0;
             settled = λ goes. absurd (stops goes);
@@ -226,7 +234,12 @@ module _ {D : Type 0} (g : Ghosts D) (on : (first second third : D) → g.lasts 
         let number : (of_items failures).part ≡ length items =
         (let there = taking-part (caller_of session) moment (session_on g session before) end items failures 0 (going-on (of_items failures) h.1.1.0 h.0) in omega arith) in
         record {
-          hears = grind (arith, common_steps);
+          hears = record {
+            parts = takes.parts;
+            by = grind (arith, common_steps);
+            since = grind (arith, common_steps);
+            store = λ is. (h.2.done (λ never. never)).0 known;
+          };
           over = λ writes. taking-failed (caller_of session) moment (session_on g session before) end items writes 0;
           settled = λ goes. record {
             before = grind (arith, All-weaker, number);

@@ -33,7 +33,8 @@ use Rattle.ftl0_server.specs.declared.connection.fate.Fate.TheVariants.{Stays}
 use Rattle.ftl0_server.specs.Connection.Connected.{Connected}
 use Rattle.ftl0_server.specs.Connection.ConnectionState.{ConnectionState, Hears, HearsBy, IsConnection, with_reads}
 use Rattle.ftl0_server.specs.Connection.ConnectionState.{none_left}
-use Rattle.ftl0_server.specs.Connection.Hearing.{Happened, hearing, parts_of_frame, progressed, rest_of_frame}
+use Rattle.ftl0_server.specs.Connection.Hearing.{Happened, LooksAtNone, NoneDue, hearing, parts_of_frame, progressed}
+use Rattle.ftl0_server.specs.Connection.Hearing.{rest_of_frame}
 use Rattle.ftl0_server.specs.Connection.Taking.{Progress, fails, queuing, taking}
 
 -- what a link and a session need to take packets: the link is up, and the session may take one
@@ -116,12 +117,13 @@ abbrev pub TakesOne :
 TakesOne g moment item old new before now told = TakesSome g moment old before (item ∷ []) now new told
 
 -- Packets at the front of the octets were taken, up to one that stops the connection, if one does: the rest are those
--- of the octets that are left now.
+-- of the octets that are left now. Where none was nothing changed.
 pub record Feeds {D : Type 0} (g : Ghosts D) (moment : ℕ) (old new : ConnectionState) (before now : WorkingOn D)
     (told : Fate × Result ⊤ Stop) : Type 0 where
   pub items : List Item
   pub front : HasFront old.octets new.octets items
   pub takes : TakesSome g moment old before items now new told
+  pub still : items ≡ [] → IsGoing told × (now ≡ before) × (new.link ≡ old.link) × (new.session ≡ old.session)
 
 -- The packets of the octets were taken, up to one that stops the connection, if one does: if none does all of them, and
 -- the octets now are the rest.
@@ -153,12 +155,12 @@ pub record HearsParts {D : Type 0} (g : Ghosts D) (w : Window) (left : List ℕ)
   pub settled : IsGoing told → IsSettled event hears.parts
 
 -- A frame was heard at this moment, of whichever connection this stood for: where it is known what octets the files
--- have, it is of that connection what the frame makes before what is due is queued.
+-- have, or no octet of a file is looked at, it is of that connection what the frame makes before what is due is queued.
 abbrev pub HearsFrameParts :
     {D : Type 0} → Ghosts D → ℕ → FrameValue → WorkingOn D → WorkingOn D → ConnectionState → ConnectionState
     → Fate × Result ⊤ Stop → Type 0
 HearsFrameParts g moment frame before now old new told =
-    IsKnown g before.disk → (w : Window) (c : Connected) → IsConnection w before.store old c
+    (w : Window) (c : Connected) → IsConnection w before.store old c → IsKnown g before.disk ⊎ LooksAtNone w c frame
     → HearsParts g w (rest_of_frame w c frame)
     (parts_of_frame w moment (store_on g before.store before.disk) before.lists c frame)
     (at before.store before.disk) now new told
@@ -168,7 +170,7 @@ abbrev pub HearsFrame :
     {D : Type 0} → Ghosts D → ℕ → FrameValue → WorkingOn D → WorkingOn D → ConnectionState → ConnectionState
     → Fate × Result ⊤ Stop → Type 0
 HearsFrame g moment frame before now old new told =
-    IsKnown g before.disk → (w : Window) (c : Connected) → IsConnection w before.store old c
+    (w : Window) (c : Connected) → IsConnection w before.store old c → IsKnown g before.disk ⊎ LooksAtNone w c frame
     → Hears g w (hearing w moment (store_on g before.store before.disk) before.lists c frame)
     (at before.store before.disk) now new told
 
@@ -200,11 +202,11 @@ QueuesBy g store disk disk_now old new false =
     (new.link ≡ old.link) × (state_in store new.session ≡ state_in store old.session) × (disk_now ≡ disk)
     × (IsNothingDue g store disk old.session ⊎ AreFree old.link (λ free. free < enough_free))
 
--- So it is where it is known what octets the files have. Whether or not, a packet that is queued takes some of the
--- room.
+-- So it is where it is known what octets the files have, or nothing is due. Whether or not, a packet that is queued
+-- takes some of the room.
 pub record QueuesNext {D : Type 0} (g : Ghosts D) (store : StoreState) (disk disk_now : D) (old new : ConnectionState)
     (queued : Bool) : Type 0 where
-  pub queues : IsKnown g disk → QueuesBy g store disk disk_now old new queued
+  pub queues : IsKnown g disk ⊎ NoneDue (state_in store old.session) → QueuesBy g store disk disk_now old new queued
   pub fewer : queued ≡ true → room_of new.link.queue < room_of old.link.queue
 
 -- Behind these parts of an event, at which the session goes on, what is due was queued: reads failed at these later
@@ -221,12 +223,13 @@ pub record Queued {D : Type 0} (g : Ghosts D) (w : Window) (store : StoreState) 
   pub missed : ℕ
   pub missed_is : now.missed ≡ (progress.missed + missed)
   pub reads : DoesAmongReads g ⊥ missed store store disk disk_now []
+  pub store_is : store_on g store disk_now ≡ store_on g store disk
 
--- the same behind whichever parts, where it is known what octets the files have
+-- the same behind whichever parts, where it is known what octets the files have, or nothing is due
 abbrev pub QueuesDue : {D : Type 0} → Ghosts D → StoreState → D → D → ConnectionState → ConnectionState → Type 0
 QueuesDue g store disk disk_now old new =
-    IsKnown g disk → (w : Window) (progress : Progress) → StandsFor w old.link progress.end
-    → state_in store old.session ≡ progress.state → Queued g w store disk disk_now new progress
+    IsKnown g disk ⊎ NoneDue (state_in store old.session) → (w : Window) (progress : Progress)
+    → StandsFor w old.link progress.end → state_in store old.session ≡ progress.state → Queued g w store disk disk_now new progress
 
 -- What queuing what is due leaves for the next event.
 pub record KeepsFit {D : Type 0} (g : Ghosts D) (store store_now : StoreState) (disk disk_now : D)

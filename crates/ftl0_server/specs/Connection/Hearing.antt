@@ -1,5 +1,5 @@
 -- What a frame or a tick makes of a connection (AX.25 2.0, 2.4; FTL0 1990).
-use Rattle.std.specs.Prelude.{ℕ, ◌++◌, List, [], Bool, true}
+use Rattle.std.specs.Prelude.{◌≡◌, ℕ, ◌++◌, List, [], Bool, true, false, ⊤}
 use Rattle.ax25_frames.specs.FrameText.{FrameValue}
 use Rattle.ax25_link.specs.declared.state.Heard.{Heard}
 use Rattle.ax25_link.specs.declared.state.Heard.TheVariants.{Nothing, Opened, Reopened, Bytes, Closed}
@@ -13,8 +13,9 @@ use Rattle.ftl0_session.specs.Lists.Lists.{CallerList, has_left}
 use Rattle.file_store.specs.Command.{Command}
 use Rattle.file_store.specs.Store.{Store}
 use Rattle.ftl0_session.specs.Run.{session_over}
+use Rattle.ftl0_session.specs.Downloads.Sending.{is_due}
 use Rattle.ftl0_session.specs.Uploads.Failures.{Failure}
-use Rattle.ftl0_session.specs.Table.{command}
+use Rattle.ftl0_session.specs.Table.{State, command, download_part}
 use Rattle.ftl0_server.specs.Connection.Connected.{Connected, caller_of, greeted}
 use Rattle.ftl0_server.specs.Connection.Taking.{Halt, Progress, queued, resting, taking}
 
@@ -87,6 +88,22 @@ abbrev pub hearing : Window → ℕ → Store → List CallerList → Connected 
 hearing w moment store lists c frame failures =
     progressed (rest_of_frame w c frame)
     (queued store failures (parts_of_frame w moment store lists c frame failures))
+
+-- nothing is due in this state
+abbrev pub NoneDue : State → Type 0
+NoneDue state = is_due (download_part state) ≡ false
+
+-- By what the link tells of a frame no octet of a file is looked at: no packet comes, and nothing is due behind it.
+abbrev pub LooksAtNoneAs : Heard → Connected → List ℕ → Type 0
+LooksAtNoneAs Nothing c octets = NoneDue c.state
+LooksAtNoneAs Opened c octets = NoneDue c.state
+LooksAtNoneAs Reopened c octets = ⊤
+LooksAtNoneAs Bytes c octets = (packets_of (c.rest ++ octets) ≡ []) × NoneDue c.state
+LooksAtNoneAs (Closed why) c octets = ⊤
+
+-- the same of this frame
+abbrev pub LooksAtNone : Window → Connected → FrameValue → Type 0
+LooksAtNone w c frame = LooksAtNoneAs (heard_of w c.end frame) c frame.kind.information
 
 -- what a tick makes of a connection: what it is then, and whether its session is over
 pub record Ticked : Type 0 where

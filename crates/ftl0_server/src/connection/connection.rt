@@ -108,7 +108,7 @@ impl Connection {
         requires { MayHear D.Disk store.old disk.old lists.old self.old (value_of frame.now) }
 
         // Of whichever connection it stands for, it is what the frame makes of that, or the server stops, where it is
-        // known what octets the files have.
+        // known what octets the files have, or no octet of a file is looked at.
         ensures hears { HearsFrame D.Disk moment (value_of frame.now)
             (working_on store.old lists.old disk.old) (working_on store.new lists.new disk.new)
             self.old self.new result }
