@@ -8,7 +8,7 @@ ghost use Rattle.file_store.specs.IsStore.{IsStore};
 ghost use Rattle.file_store.specs.Calls.{Leaves, Runs, TakesStep};
 ghost use Rattle.file_store.specs.Journal.{IsAfterRecovery};
 ghost use Rattle.file_store.specs.Recovery.{IsRecovered, LeavesAlikeSinceSync, RefusesRecovery, StandsAlike};
-ghost use Rattle.file_store.specs.State.{IsKnown, IsRead, IsReady, store_in, store_layout, store_magic, store_on};
+ghost use Rattle.file_store.specs.State.{IsRead, IsReady, store_in, store_layout, store_magic, store_on};
 ghost use Rattle.file_store.specs.Store.{Store};
 ghost use Rattle.ftl0_session.specs.SessionState.{caller_of};
 ghost use Rattle.node.specs.Events.{hears, ticks};
@@ -87,8 +87,7 @@ impl Server {
             IsServer store server (new_server me (window_of k) store)) }
         ensures magic { IfOk result (λ server. server.store.journal.magic ≡ store_magic) }
         ensures rules { IfOk result (λ server. IsStore (store_in server.store)) }
-        ensures known_rules { IfOk result (λ server. IsKnown D.Disk disk.new →
-            IsStore (store_on D.Disk server.store disk.new)) }
+        ensures rules_on { IfOk result (λ server. IsStore (store_on D.Disk server.store disk.new)) }
         ensures silent { IfOk result (λ server. server_pending server ≡ false) }
         ensures me { IfOk result (λ server. server.me ≡ me) }
 
