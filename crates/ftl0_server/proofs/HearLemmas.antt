@@ -139,14 +139,15 @@ module _ {D : Type 0} (g : Ghosts D) (old new : ServerState) (server : Server) (
   slot_is = grind (arith, common_steps, all-get, all-are)
 
   abbrev Seen : Connected → Type 0
-  Seen d = IsKnown g disk ⊎ LooksAtNone server.window d frame
+  Seen d = IsKnown g disk ⊎ LooksAtNone server.window moment (store_on g old.store disk) old.lists d frame
 
   -- what the frame looks at of the connection there
   seen-at : IsKnown g disk ⊎ LooksAtNoFile server (hears frame moment) → (d : Connected) → slice_get server.slots place ≡ Some (connected d) → Seen d
   seen-at (inl known) d at = inl known
   seen-at (inr looks) d at =
-      let here = subst (LooksAtNoneBy server frame) (sym (sym found ∙ same-place_of _ old server is old.me old.k settled frame.src)) looks in
-      inr (subst (LooksAtNoneAt server.window frame) at here)
+      let here = subst (LooksAtNoneBy server frame moment) (sym (sym found ∙ same-place_of _ old server is old.me old.k settled frame.src)) looks in
+      let there : LooksAtNone server.window moment server.store server.lists d frame = subst (LooksAtNoneAt server frame moment) at here in
+      inr (rw (is.store, is.lists) there)
 
   pub server-hears : (result : Result ⊤ Stop) → IsKnown g disk ⊎ LooksAtNoFile server (hears frame moment)
       → ((d : Connected) → IsPlace server.window old.store (Talking c) (connected d) → Seen d

@@ -131,7 +131,7 @@ abbrev pub PlaceHearsFrame :
     {D : Type 0} → Ghosts D → ℕ → FrameValue → WorkingOn D → WorkingOn D → Place → Place → Result ⊤ Stop → Type 0
 PlaceHearsFrame g moment frame before now old new result =
     (w : Window) (c : Connected) → IsPlace w before.store old (connected c)
-    → IsKnown g before.disk ⊎ LooksAtNone w c frame
+    → IsKnown g before.disk ⊎ LooksAtNone w moment (store_on g before.store before.disk) before.lists c frame
     → PlaceHears g w (hearing w moment (store_on g before.store before.disk) before.lists c frame)
     (at before.store before.disk) now new result
 

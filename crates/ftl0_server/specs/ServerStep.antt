@@ -9,7 +9,6 @@ use Rattle.node.specs.Events.{NodeEvent, hears, ticks}
 use Rattle.ftl0_server.specs.Server.{IsSilent, Server, ServerHappened, ServerSends, becoming, server_hearing}
 use Rattle.ftl0_server.specs.Server.{server_next, server_ticking, settled}
 use Rattle.ftl0_server.specs.Slots.{Slot, connected, free, leaving, place_of}
-use Rattle.ax25_link.specs.Window.{Window}
 
 -- The server sends these frames one after another, and then nothing is to be sent.
 abbrev pub Empties : Server → List FrameValue → Server → Type 0
@@ -25,21 +24,24 @@ happening server (hears frame moment) failures = server_hearing server frame mom
 happening server (ticks moment) failures = becoming (server_ticking server)
 
 -- the connection at a place, if there is one, looks at no octet of a file for this frame
-abbrev pub LooksAtNoneAt : Window → FrameValue → Option Slot → Type 0
-LooksAtNoneAt w frame None = ⊤
-LooksAtNoneAt w frame (Some free) = ⊤
-LooksAtNoneAt w frame (Some (connected c)) = LooksAtNone w c frame
-LooksAtNoneAt w frame (Some (leaving c)) = ⊤
+abbrev pub LooksAtNoneAt : Server → FrameValue → ℕ → Option Slot → Type 0
+LooksAtNoneAt server frame moment None = ⊤
+LooksAtNoneAt server frame moment (Some free) = ⊤
+LooksAtNoneAt server frame moment (Some (connected c)) =
+    LooksAtNone server.window moment server.store server.lists c frame
+LooksAtNoneAt server frame moment (Some (leaving c)) = ⊤
 
 -- so the server, where its sender's connection is at this place
-abbrev pub LooksAtNoneBy : Server → FrameValue → Option ℕ → Type 0
-LooksAtNoneBy server frame None = ⊤
-LooksAtNoneBy server frame (Some place) = LooksAtNoneAt server.window frame (slice_get server.slots place)
+abbrev pub LooksAtNoneBy : Server → FrameValue → ℕ → Option ℕ → Type 0
+LooksAtNoneBy server frame moment None = ⊤
+LooksAtNoneBy server frame moment (Some place) =
+    LooksAtNoneAt server frame moment (slice_get server.slots place)
 
 -- No octet of a file is looked at for the event: it is a tick, or a frame of a station without a connection, or one
--- that brings its sender's connection no packet, and behind which nothing is due.
+-- that brings its sender's connection no packet, or packets for which none is looked at and by which none becomes held;
+-- and behind it nothing is due.
 abbrev pub LooksAtNoFile : Server → NodeEvent → Type 0
-LooksAtNoFile server (hears frame moment) = LooksAtNoneBy server frame (place_of frame.src server.slots)
+LooksAtNoFile server (hears frame moment) = LooksAtNoneBy server frame moment (place_of frame.src server.slots)
 LooksAtNoFile server (ticks moment) = ⊤
 
 -- What a step gives: the commands that are done, and, where the disk failed, those in one of which it did; how many

@@ -146,8 +146,8 @@ impl Server {
         requires { AwaitsFrame D.Disk self.old disk.old (value_of frame.now) }
 
         // Of whichever server it stands for, over the store that the disk holds, it is what the frame makes of that, or
-        // it stops: where it is known what octets the files have, and on every disk where the frame is a stranger's, or
-        // brings no packet and nothing is due behind it. It keeps what the next event needs.
+        // it stops: where it is known what octets the files have, and on every disk where none of them is looked at, as
+        // for a stranger's frame, or one that brings no packet or refused ones. It keeps what the next event needs.
         ensures { HearsEvent D.Disk (hears (value_of frame.now) moment) self.old self.new disk.old disk.new result }
     {
         match place_of(&self.places, frame.src) {

@@ -20,7 +20,7 @@ use Rattle.file_store.specs.Working.{DoesAmongReads}
 use Rattle.file_store.proofs.Offered.{among-parked, does-among, Does-none, on_parked}
 use Rattle.ftl0_session.specs.declared.uploads.phase.Phase.{Phase}
 use Rattle.disk_model.specs.AtDisk.{at}
-use Rattle.ftl0_session.specs.Uploads.Failures.{Failure}
+use Rattle.ftl0_session.specs.Uploads.Failures.{Failure, write_fails}
 use Rattle.ftl0_session.specs.Uploads.SessionState.{Parks}
 use Rattle.disk_model.specs.declared.halt.Halt.{Halt as Stop}
 use Rattle.ftl0_session.specs.Table.{State}
@@ -32,8 +32,9 @@ use Rattle.ftl0_server.specs.AtPlace.{GivesUp}
 use Rattle.ftl0_server.specs.Connection.Connected.{Connected, beginning}
 use Rattle.ftl0_server.specs.Connection.ConnectionState.{ConnectionState, IsConnection}
 use Rattle.ftl0_server.specs.Connection.Feeding.{HearsParts}
-use Rattle.ftl0_server.specs.Connection.Hearing.{LooksAtNoneAs, NoneDue, parts_as, rest_as, with_end}
+use Rattle.ftl0_server.specs.Connection.Hearing.{LooksAtNoneAs, NoneDue, NoneDueBehind, parts_as, rest_as, with_end}
 use Rattle.ftl0_server.specs.Connection.Taking.{resting, taking}
+use Rattle.ftl0_server.proofs.connection.TakingLemmas.{looks-same}
 
 -- the session's upload was given up
 pub parks-same : (store store_n : StoreState) (of : Phase) → Parks store store_n of → GivesUp store store_n
@@ -92,13 +93,16 @@ module _ {D : Type 0} (g : Ghosts D) (w : Window) (moment : ℕ) (frame : FrameV
       subst (P c.end.peer) same (subst (λ (caller : CallSign). P caller octets) peer h)
 
 -- where no octet of a file is looked at nothing is due behind the parts, if the session goes on
-pub looks-due : (told : Heard) (moment : ℕ) (store : Store) (lists : List CallerList) (c : Connected) (end : LinkEnd) (octets : List ℕ) (failures : List Failure) → LooksAtNoneAs told c octets
-    → (parts_as told moment store lists c end octets failures).over ≡ false → NoneDue (parts_as told moment store lists c end octets failures).state
-looks-due Nothing moment store lists c end octets failures looks goes = looks
-looks-due Opened moment store lists c end octets failures looks goes = looks
-looks-due Reopened moment store lists c end octets failures looks goes = refl
-looks-due Bytes moment store lists c end octets failures looks goes = rw looks.0 looks.1
-looks-due (Closed why) moment store lists c end octets failures looks goes = absurd (cc goes)
+pub looks-due : (told : Heard) (moment : ℕ) (store : Store) (lists : List CallerList) (c : Connected) (end : LinkEnd) (octets : List ℕ) (failures : List Failure) → ((n : ℕ) → write_fails failures n ≡ false)
+    → LooksAtNoneAs told moment store lists c end octets → (parts_as told moment store lists c end octets failures).over ≡ false → NoneDue (parts_as told moment store lists c end octets failures).state
+looks-due Nothing moment store lists c end octets failures none looks goes = looks
+looks-due Opened moment store lists c end octets failures none looks goes = looks
+looks-due Reopened moment store lists c end octets failures none looks goes = refl
+looks-due Bytes moment store lists c end octets failures none looks goes =
+    subst NoneDueBehind
+    (sym (looks-same c.end.peer moment (session_over store lists c.state) end (packets_of (c.rest ++ octets)) failures 0 looks.0 none))
+    looks.1 goes
+looks-due (Closed why) moment store lists c end octets failures none looks goes = absurd (cc goes)
 
 -- the peer of an end is that of the link that stands for it
 pub same-peer : (w : Window) (link link_n : Kept) (end next : LinkEnd) → StandsFor w link end → StandsFor w link_n next → link_n.peer ≡ link.peer → next.peer ≡ end.peer

@@ -14,6 +14,7 @@ use Rattle.ftl0_packets.specs.Layout.{Item, packet_text}
 use Rattle.ftl0_packets.specs.Reading.{packets_of, rest_of}
 use Rattle.packet_link.specs.PacketLink.{HasFront, PacketLinkState, octets_in}
 use Rattle.packet_link.specs.Queuing.{enough_free}
+use Rattle.file_store.specs.Command.{after_all}
 use Rattle.file_store.specs.EntriesKept.{KeepsComplete}
 use Rattle.ftl0_session.specs.Lists.Lists.{CallerList}
 use Rattle.file_store.specs.State.{IsKnown, IsReady, StoreState, store_in, store_on}
@@ -35,7 +36,7 @@ use Rattle.ftl0_server.specs.Connection.ConnectionState.{ConnectionState, Hears,
 use Rattle.ftl0_server.specs.Connection.ConnectionState.{none_left}
 use Rattle.ftl0_server.specs.Connection.Hearing.{Happened, LooksAtNone, NoneDue, hearing, parts_of_frame, progressed}
 use Rattle.ftl0_server.specs.Connection.Hearing.{rest_of_frame}
-use Rattle.ftl0_server.specs.Connection.Taking.{Progress, fails, queuing, taking}
+use Rattle.ftl0_server.specs.Connection.Taking.{LookAtNone, Progress, fails, queuing, taking}
 
 -- what a link and a session need to take packets: the link is up, and the session may take one
 pub record MayTake {D : Type 0} (g : Ghosts D) (store : StoreState) (disk : D) (lists : List CallerList) (link : Kept)
@@ -92,21 +93,30 @@ abbrev pub taking_some :
 taking_some g moment session on end items first failures =
     progressed [] (taking (caller_of session) moment (session_on g session on) end items failures first)
 
--- Packets were taken, of which this event is what they make, and reads failed at these of their parts.
+-- Packets were taken, of which this event is what they make, and reads failed at these of their parts. Where there was
+-- no stop the store is the one after all commands.
 pub record TakesPackets {D : Type 0} (g : Ghosts D) (w : Window) (event : List Failure → Happened)
     (IsPart : ℕ → Type 0) (before : AtDisk StoreState D) (now : WorkingOn D) (connection : ConnectionState)
     (told : Fate × Result ⊤ Stop) : Type 0 where
   pub parts : List ℕ
   pub among : All IsPart parts
   pub by : HearsBy g w (with_reads event parts) before now connection told.0 told.1
+  pub store :
+      told.1 ≡ Ok tt
+      → store_on g now.store now.disk ≡ after_all (store_on g before.it before.disk) (with_reads event parts []).done
+
+-- It is known what octets the files have, or it isn't, and none of them is looked at for these packets.
+abbrev pub IsSeen : {D : Type 0} → Ghosts D → ℕ → SessionState → WorkingOn D → List Item → Type 0
+IsSeen g moment session on items =
+    IsKnown g on.disk ⊎ ((¬ IsKnown g on.disk) × LookAtNone (caller_of session) moment (session_on g session on) items)
 
 -- So these packets of a connection were taken, whichever end its link stands for, and whichever part the first is,
--- where it is known what octets the files have.
+-- where it is known what octets the files have, or none is looked at.
 abbrev pub TakesSome :
     {D : Type 0} → Ghosts D → ℕ → ConnectionState → WorkingOn D → List Item → WorkingOn D → ConnectionState
     → (Fate × Result ⊤ Stop) → Type 0
 TakesSome g moment old before items now new told =
-    IsKnown g before.disk → (w : Window) (end : LinkEnd) (first : ℕ) → StandsFor w old.link end
+    IsSeen g moment old.session before items → (w : Window) (end : LinkEnd) (first : ℕ) → StandsFor w old.link end
     → TakesPackets g w (taking_some g moment old.session before end items first) (IsAmong first (length items))
     (at before.store before.disk) now (none_left new.link new.session) told
 
@@ -117,13 +127,12 @@ abbrev pub TakesOne :
 TakesOne g moment item old new before now told = TakesSome g moment old before (item ∷ []) now new told
 
 -- Packets at the front of the octets were taken, up to one that stops the connection, if one does: the rest are those
--- of the octets that are left now. Where none was nothing changed.
+-- of the octets that are left now.
 pub record Feeds {D : Type 0} (g : Ghosts D) (moment : ℕ) (old new : ConnectionState) (before now : WorkingOn D)
     (told : Fate × Result ⊤ Stop) : Type 0 where
   pub items : List Item
   pub front : HasFront old.octets new.octets items
   pub takes : TakesSome g moment old before items now new told
-  pub still : items ≡ [] → IsGoing told × (now ≡ before) × (new.link ≡ old.link) × (new.session ≡ old.session)
 
 -- The packets of the octets were taken, up to one that stops the connection, if one does: if none does all of them, and
 -- the octets now are the rest.
@@ -160,7 +169,8 @@ abbrev pub HearsFrameParts :
     {D : Type 0} → Ghosts D → ℕ → FrameValue → WorkingOn D → WorkingOn D → ConnectionState → ConnectionState
     → Fate × Result ⊤ Stop → Type 0
 HearsFrameParts g moment frame before now old new told =
-    (w : Window) (c : Connected) → IsConnection w before.store old c → IsKnown g before.disk ⊎ LooksAtNone w c frame
+    (w : Window) (c : Connected) → IsConnection w before.store old c
+    → IsKnown g before.disk ⊎ LooksAtNone w moment (store_on g before.store before.disk) before.lists c frame
     → HearsParts g w (rest_of_frame w c frame)
     (parts_of_frame w moment (store_on g before.store before.disk) before.lists c frame)
     (at before.store before.disk) now new told
@@ -170,7 +180,8 @@ abbrev pub HearsFrame :
     {D : Type 0} → Ghosts D → ℕ → FrameValue → WorkingOn D → WorkingOn D → ConnectionState → ConnectionState
     → Fate × Result ⊤ Stop → Type 0
 HearsFrame g moment frame before now old new told =
-    (w : Window) (c : Connected) → IsConnection w before.store old c → IsKnown g before.disk ⊎ LooksAtNone w c frame
+    (w : Window) (c : Connected) → IsConnection w before.store old c
+    → IsKnown g before.disk ⊎ LooksAtNone w moment (store_on g before.store before.disk) before.lists c frame
     → Hears g w (hearing w moment (store_on g before.store before.disk) before.lists c frame)
     (at before.store before.disk) now new told
 

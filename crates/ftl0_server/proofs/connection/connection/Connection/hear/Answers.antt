@@ -8,6 +8,7 @@ use Rattle.ftl0_session.specs.SessionState.{state_in}
 use Rattle.ftl0_session.specs.Table.{State}
 use Rattle.ftl0_server.specs.Connection.Hearing.{LooksAtNone, NoneDue, parts_of_frame}
 use Rattle.ftl0_server.proofs.connection.DueLemmas.{hears-going, hears-stop}
+use Rattle.ftl0_server.proofs.connection.FailureLemmas.{writes-none}
 use Rattle.ftl0_server.proofs.connection.FeedLemmas.{fit-queued}
 use Rattle.ftl0_server.proofs.connection.HearLemmas.{looks-due}
 use Rattle.ftl0_server.proofs.connection.connection.Connection.hear.Goals as goal
@@ -25,7 +26,7 @@ returns-then-goes_on-clause-hears g c w d is seen =
       | inr looks ↦
           inr
           (subst NoneDue (sym then_is.1.state)
-          (looks-due (heard_of w d.end frame) c.args.moment (store_on g.D.Disk c.args.store.now c.args.disk.now) c.args.lists.now d (after_frame w d.end frame) frame.kind.information _ looks then_is.0))
+          (looks-due (heard_of w d.end frame) c.args.moment (store_on g.D.Disk c.args.store.now c.args.disk.now) c.args.lists.now d (after_frame w d.end frame) frame.kind.information _ (writes-none heard.hears.parts) looks then_is.0))
     ] in
     rw going
     (hears-going g.D.Disk g.met.D.Disk.lasts_same g.met.D.Disk.lasts_on w _ (parts_of_frame w c.args.moment (store_on g.D.Disk c.args.store.now c.args.disk.now) c.args.lists.now d frame)
