@@ -32,11 +32,11 @@ use Rattle.ftl0_server.proofs.connection.QueuingLemmas.{KeepsRest, queued-keeps,
 -- ---- nothing is due
 
 pub none-due : (store : Store) (state : State) (fails : Bool) → NoneDue state → next_due store state fails ≡ None
-none-due store state fails none = rw none refl
+none-due store state reads none = rw none refl
 
 -- and a packet is
 due-no : (store : Store) (state : State) (fails : Bool) (due : DuePacket) → NoneDue state → next_due store state fails ≡ Some due → ⊥
-due-no store state fails due none is = cc (sym (none-due store state fails none) ∙ is)
+due-no store state reads due none is = cc (sym (none-due store state reads none) ∙ is)
 
 -- a packet was put, so the other is so
 pub known-or : {Known : Type 0} {put due : Bool} → put ≡ due → put ≡ true → Known ⊎ (due ≡ false) → Known
