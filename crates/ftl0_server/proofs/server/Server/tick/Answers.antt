@@ -48,8 +48,8 @@ returns-clause-takes g c =
     let event : NodeEvent = ticks c.args._moment in
     let ticked : (server : Server) → IsServer (store_on g.D.Disk old.store disk) old server → Hears g.D.Disk (happening server event) old new disk disk (Ok tt) =
     λ server is.
-    let here = returns-clause-ticks g c (store_on g.D.Disk c.args.self.now.store disk) server (rw c.self.view_is is) in
-    record { parts = []; by = (refl, rw (sym c.self.view_is) at (rw (sym (returns-clause-on_disk g c)) at here), does); since = does.since } in
+    let here = returns-clause-ticks g c (store_on g.D.Disk c.args.self.now.store disk) server (rw (sym c.self.view_is) is) in
+    record { parts = []; by = (refl, rw (sym (returns-clause-on_disk g c)) at here, does); since = does.since } in
     record {
       hears = λ known server is. rw (sym c.self.view_is) (ticked server (rw (sym c.self.view_is) at is));
       alone = λ server is looks. rw (sym c.self.view_is) (ticked server (rw (sym c.self.view_is) at is));

@@ -70,7 +70,7 @@ returns-in-Bytes-clause-hears g c =
       | inr none ↦
           inr
           (rw same
-          (subst (λ (t : Heard). LooksAtNoneAs t c.args.moment (store_on g.D.Disk c.args.store.now c.args.disk.now) c.args.lists.now d end frame.kind.information) (c.in-Bytes.ensures.heard w d.end is.link) none).0)
+          (subst (λ (t : Heard). LooksAtNoneAs t c.args.moment (store_on g.D.Disk c.args.store.now c.args.disk.now) c.args.lists.now d end frame.kind.information) (sym (c.in-Bytes.ensures.heard w d.end is.link)) none).0)
     ] in
     let octets = c.information.ensures (c.in-Bytes.ensures.bytes refl) in
     let there : IsConnection w c.args.store.now mid (with_end d end) = record { link = stands; rest = ap under_way c.in-Bytes.ensures.keeps.reader ∙ is.rest; state = is.state } in
