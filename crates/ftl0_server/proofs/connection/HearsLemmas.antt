@@ -13,7 +13,7 @@ use Rattle.file_store.specs.Calls.{Leaves}
 use Rattle.file_store.specs.Command.{Command, after_all}
 use Rattle.file_store.specs.Store.{Store}
 use Rattle.file_store.specs.OnDisk.{MakesFirst}
-use Rattle.file_store.specs.State.{IsKnown, StoreState, store_on}
+use Rattle.file_store.specs.State.{StoreState, store_on}
 use Rattle.file_store.proofs.Offered.{after_all-append, among-then, cuts-among-all, cuts-among-then, known_back, known_on, makes-first, makes-within, told_weaker, weaker}
 use Rattle.ftl0_session.specs.Uploads.Failures.{Failure, failed_reads, failed_write, write_fails}
 use Rattle.disk_model.specs.declared.halt.Halt.{Halt as Stop}

@@ -17,7 +17,7 @@ use Rattle.ftl0_session.specs.Run.{session_over}
 use Rattle.ftl0_server.specs.declared.connection.fate.Fate.{Fate}
 use Rattle.ftl0_server.specs.Connection.Connected.{Connected}
 use Rattle.ftl0_server.specs.Connection.ConnectionState.{ConnectionState, IsConnection}
-use Rattle.ftl0_server.specs.Connection.Feeding.{FeedsAll, HearsParts, IsGoing, IsSeen, carrying, session_on}
+use Rattle.ftl0_server.specs.Connection.Feeding.{FeedsAll, HearsParts, IsGoing, IsSeen, carrying}
 use Rattle.ftl0_server.specs.Connection.Taking.{LookAtNone, taking}
 use Rattle.ftl0_server.proofs.KnownLemmas.{known-or-not}
 use Rattle.ftl0_server.proofs.connection.HearsLemmas.{IsStop, parts-stopped, parts-whole, seen-first}

@@ -41,7 +41,7 @@ returns g c =
     let talks = found-talks frame.src c.self.inside.places c.args.place c.index-places-place.result found in
     let at = found-at frame.src c.self.inside.places c.args.place c.index-places-place.result talks.0 found talks.1 in
     let heard : (server : Server) → IsServer (store_on g.D.Disk old.store c.args.disk.now) old server → IsKnown g.D.Disk c.args.disk.now ⊎ LooksAtNoFile server event
-        → Hears g.D.Disk (happening server event) old new c.args.disk.now c.hear.new.disk c.hear.result =
+    → Hears g.D.Disk (happening server event) old new c.args.disk.now c.hear.new.disk c.hear.result =
     λ server is seen.
     server-hears g.D.Disk old new server c.args.disk.now c.hear.new.disk is c.self.invariant.settled frame c.args.moment c.args.place found talks.0 at c.hear.new.self
     (rw talks.1 at c.hear.ensures.works) refl refl refl refl c.hear.result seen

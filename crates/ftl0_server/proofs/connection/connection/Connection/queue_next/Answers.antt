@@ -16,7 +16,7 @@ use Rattle.ftl0_server.proofs.connection.connection.Connection.queue_next.Goals 
 
 pub returns-then-not-fill-clause-next : goal.returns-then-not-fill-clause-next
 returns-then-not-fill-clause-next g c = record {
-  queues = λ seen. elim seen [ | inl known ↦ grind (arith, common_steps, due-none) | inr none ↦ grind (arith, common_steps, none-due) ];
+  queues = λ seen. elim seen [ inl known ↦ grind (arith, common_steps, due-none) | inr none ↦ grind (arith, common_steps, none-due) ];
   fewer = λ queued. absurd (cc queued);
 }
 
