@@ -240,7 +240,8 @@ pub record Queued {D : Type 0} (g : Ghosts D) (w : Window) (store : StoreState) 
 abbrev pub QueuesDue : {D : Type 0} → Ghosts D → StoreState → D → D → ConnectionState → ConnectionState → Type 0
 QueuesDue g store disk disk_now old new =
     IsKnown g disk ⊎ NoneDue (state_in store old.session) → (w : Window) (progress : Progress)
-    → StandsFor w old.link progress.end → state_in store old.session ≡ progress.state → Queued g w store disk disk_now new progress
+    → StandsFor w old.link progress.end → state_in store old.session ≡ progress.state
+    → Queued g w store disk disk_now new progress
 
 -- What queuing what is due leaves for the next event.
 pub record KeepsFit {D : Type 0} (g : Ghosts D) (store store_now : StoreState) (disk disk_now : D)
