@@ -1,5 +1,5 @@
 -- What one more file does to all.
-use Rattle.std.proofs.Common.{◌≡◌, ℕ, ◌+◌, ◌-◌, ◌≤◌, ◌<◌, List, [], ◌∷◌, ◌++◌, length, refl, ap, sym, ◌∙◌, subst, arith, None, Some, length-append}
+use Rattle.std.proofs.Common.{◌≡◌, ℕ, ◌+◌, ◌≤◌, ◌<◌, List, [], ◌∷◌, ◌++◌, length, refl, ap, sym, ◌∙◌, subst, arith, None, Some, length-append}
 use Rattle.std.specs.Option.{option_and_then}
 use Rattle.std.proofs.lemmas.List.{length-map}
 use Rattle.block_entries.specs.IsPlaced.{IsPlaced}
@@ -29,14 +29,8 @@ module _ (runs : List Run) (items : List PlacedFile) (next blocks : ℕ) (kept :
   may_inside : MayBegin (seen may.0 (store_of inside)) file_length
   may_inside = subst (λ (n : PlacedFiles). MayBegin (seen may.0 (store_of n)) file_length) (sym view) may.1
 
-  rooms_are : rooms_of runs ≡ rooms_of (runs_of (entries_of zs))
-  rooms_are = ap rooms_of (sym kept.runs_are)
-
   room_left : rooms_of (runs_of (entries_of zs)) + blocks_for file_length ≤ blocks
   room_left = omega (arith, may_inside.room, blocks_seen may.0 (store_of inside), kept.rules.rooms)
-
-  pub run_left : blocks_for file_length ≤ blocks - rooms_of runs
-  run_left = omega (arith, room_left, rooms_are)
 
   few : length (entries_of zs) < most_entries
   few = subst (λ (n : ℕ). n < most_entries) (length-map (entries_of zs) (seen_entry may.0)) may_inside.few

@@ -5,21 +5,26 @@ use Rattle.disk_model.specs.Disk.{IsTold}
 use Rattle.disk_model.specs.declared.disk.Disk.{Ghosts}
 use Rattle.block_entries.specs.FilesLaws.{found_holds}
 use Rattle.block_entries.specs.IsPlaced.{IsPlaced, IsPlacedFile, KeepsSeals}
-use Rattle.block_entries.specs.Placed.{PlacedStore}
+use Rattle.block_entries.specs.Placed.{Placed, PlacedStore, placed_of}
 use Rattle.block_entries.specs.PlacedRecords.{placed_form, placed_steps}
 use Rattle.block_entries.specs.Sealed.{Sealed, octets_given}
 use Rattle.block_entries.specs.Seen.{octets_in, stamp_at}
 use Rattle.block_entries.proofs.RulesLemmas.{sealed_keeps}
-use Rattle.block_entries.proofs.StampedHeaderLemmas.{header_short}
+use Rattle.block_entries.proofs.SeenLemmas.{length_octets}
 use Rattle.block_entries.proofs.StampedPartLemmas.{told_octets}
 use Rattle.block_entries.proofs.StandingLemmas.{kept_seals}
-use Rattle.block_entries.proofs.TellsLemmas.{found_length}
+use Rattle.file_entries.proofs.Offered.{header_short}
 use Rattle.file_journal.specs.Calls.{images_now}
 use Rattle.file_journal.specs.Kept.{StandsAt}
 use Rattle.file_journal.specs.Layout.{Blocks, blocks_on}
 use Rattle.file_journal.specs.Position.{Position, StandsAmong}
 use Rattle.pfh_writer.proofs.StampedLemmas.{length-stamped}
 use Rattle.px_base.specs.Octets.{IsOctets}
+
+-- as many octets of a file are held as its entry says
+pub found_length : (held : Blocks) (store : PlacedStore) (number : ℕ) (f : Placed) → IsPlaced store → placed_of store number ≡ Some f → length (octets_in held f) ≡ f.held
+found_length held store number f is found =
+    length_octets held store.blocks f (found_holds (IsPlacedFile store.blocks) number store.entries f is.files found)
 
 -- what a disk tells on which a journal stands is octets
 standing_octets : (position : Position) (content : Option (List ℕ)) (images : List ℕ → Type 0) → StandsAmong position content images → position.failed ≡ false

@@ -5,7 +5,6 @@ mod BlockRunLemmas
 mod ChangeLemmas
 mod HalvingLemmas
 mod LengthLemmas
-mod LikeLemmas
 mod NextLemmas
 mod NumberLemmas
 pub mod Offered
@@ -21,5 +20,4 @@ mod StampedHeaderLemmas
 mod StampedPartLemmas
 mod StandingLemmas
 mod StoreLemmas
-mod TellsLemmas
 mod WholeBlockLemmas

@@ -5,15 +5,16 @@ use Rattle.std.specs.List.{AllByRecursion}
 use Rattle.std.proofs.lemmas.List.{length-map, length-replicate, map-append, replicate-append-replicate}
 use Rattle.block_entries.specs.IsPlaced.{ArePlaced, IsPlaced, IsPlacedFile, KeepsSeal, KeepsSeals, Rise}
 use Rattle.block_entries.specs.KeptLaws.{rooms_files, sum_map}
-use Rattle.block_entries.specs.Outlined.{AreLike, IsAsFar, IsEntryLike, IsStoreLike, outlined, outlined_entry}
+use Rattle.block_entries.specs.Outlined.{outlined, outlined_entry}
 use Rattle.block_entries.specs.Placed.{Placed, PlacedStore, Seal, new_placed, placed_of, runs_of}
-use Rattle.block_entries.specs.PlacedCommand.{grown, with_grown, with_new, without_file}
+use Rattle.block_entries.specs.PlacedCommand.{grown, with_grown, with_new}
 use Rattle.block_entries.specs.PlacedFiles.{IsNextSealed, IsSealedIn, placed_info}
 use Rattle.block_entries.specs.Seen.{entry_with, holding_with, octets_in, seen, seen_entry, stamp_at}
 use Rattle.block_entries.specs.TestLaws.{Grows, may_grow}
 use Rattle.block_entries.proofs.RulesLemmas.{seal_faultless}
-use Rattle.block_entries.proofs.SeenLemmas.{changed_shown, find_shown, length_octets, without_shown}
+use Rattle.block_entries.proofs.SeenLemmas.{changed_shown, find_shown, length_octets}
 use Rattle.block_table.specs.Table.{rooms_of}
+use Rattle.file_entries.specs.Like.{AreLike, IsAsFar, IsEntryLike, IsStoreLike}
 use Rattle.file_entries.specs.Command as file
 use Rattle.file_entries.specs.Info.{IsCompleteIn, IsNextComplete, info_of, is_complete}
 use Rattle.file_entries.specs.IsStore.{AreEntries, FitsLength, HaveCallers, IsStore}
@@ -163,6 +164,3 @@ outlined_grown store number block used is grows =
     let may = may_grow one used grows.passes.test_is in
     ap (λ (es : List Entry). store_from es store.next store.blocks)
     (changed_shown outlined_holding number (grown block used) (file.grown (replicate used 0)) 1 store.next store.entries one is.numbers grows.passes.found (grown_outlined one block used may.partial))
-
-pub outlined_dropped : (store : PlacedStore) (number : ℕ) → outlined (without_file store number) ≡ file.after (outlined store) (file.drop_entry number)
-outlined_dropped store number = ap (λ (es : List Entry). store_from es store.next store.blocks) (without_shown outlined_holding number store.entries)

@@ -1,26 +1,45 @@
 -- Lemmas on the records of commands.
-use Rattle.std.proofs.Common.{◌≡◌, ℕ, ◌+◌, ◌^◌, ◌<◌, ◌==◌, List, [], ◌∷◌, ◌++◌, ◌*◌, ◌/◌, ◌%◌, length, take, drop, Option, None, Some}
-use Rattle.std.proofs.Common.{refl, sym, ap, ◌∙◌, subst, arith, inl, inr, length-append}
-use Rattle.std.specs.Prelude.{◌↔◌}
-use Rattle.std.specs.Option.{option_and_then}
-use Rattle.std.proofs.lemmas.Bool.{eqb-true, ne_eqb}
+use Rattle.std.proofs.Common.{◌≡◌, ℕ, ◌+◌, ◌^◌, ◌<◌, ◌==◌, Bool, List, [], ◌∷◌, ◌++◌, ◌*◌, ◌/◌, ◌%◌, length, take, drop, None, Some}
+use Rattle.std.proofs.Common.{refl, sym, ap, ◌∙◌, subst, arith, inl, inr}
+use Rattle.std.specs.Prelude.{◌↔◌, if◌then◌else◌}
+use Rattle.std.proofs.lemmas.Bool.{eq-eqb, eqb-true, ne_eqb}
 use Rattle.std.proofs.lemmas.Bool.Decides.{eqb_tells}
+use Rattle.px_base.specs.CallOctets.{call_in, call_octets, call_of}
+use Rattle.px_base.specs.CallSign.{CallSign}
 use Rattle.px_base.specs.Numbers.{le16, le16_octets, le32, le32_octets}
-use Rattle.px_base.specs.CallOctets.{call_octets}
 use Rattle.px_base.specs.Octets.{IsOctets}
-use Rattle.px_base.proofs.Spelled.{length-IsSpelled}
+use Rattle.px_base.proofs.Spelled.{law, length-IsSpelled}
 use Rattle.pfh_items.proofs.Offered.{IsOctets-le16}
 use Rattle.file_journal.specs.Records.{IsRecord, Record, record_of}
-use Rattle.file_journal.proofs.Offered.{if_some, le32_below, number_at, number_front, octet_at, octets_call, octets_joined, octets_le32}
+use Rattle.file_journal.proofs.Offered.{four, if_some, le32_below, map_some, number_at, number_front, octet_at, octets_call, octets_joined, octets_le32}
 use Rattle.block_entries.specs.PlacedCommand.{PlacedCommand, begin, drop_entry, grow, seal}
-use Rattle.block_entries.specs.PlacedRecords.{IsWritable, Writes, grow_in, placed_as, placed_in, record_of_placed, seal_in}
-use Rattle.file_entries.specs.Command as file
-use Rattle.file_entries.specs.Command.{Command}
-use Rattle.file_entries.specs.Records as whole
-use Rattle.file_entries.specs.Records.{command_of}
-use Rattle.file_entries.proofs.Offered.{read-written, records}
+use Rattle.block_entries.specs.PlacedRecords.{IsWritable, Writes, begin_by, begin_content, begin_in, drop_in, grow_in, placed_in, record_of_placed, seal_in}
 
 -- ---- a content that is read is the command's
+
+-- a content of 19 octets, by its parts
+nineteen : (octets : List ℕ) → length octets ≡ 19
+    → octets ≡ ((take 4 octets ++ take 7 (drop 4 octets)) ++ take 4 (drop 11 octets)) ++ take 4 (drop 15 octets)
+nineteen (a ∷ b ∷ c ∷ d ∷ e ∷ f ∷ g ∷ h ∷ i ∷ j ∷ k ∷ l ∷ m ∷ n ∷ o ∷ p ∷ q ∷ r ∷ s ∷ []) same = refl
+nineteen octets same = absurd (omega arith)
+
+begin_read : (content : List ℕ) (command : PlacedCommand) → IsOctets content → begin_in content ≡ Some command → Writes (record_of 1 content) command
+begin_read content command octets h =
+    let w = if_some (length content == 19) (begin_by content (call_in (take 7 (drop 4 content)))) command h in
+    let whole : length content ≡ 19 = eqb-true _ _ w.0 in
+    let v = map_some (λ (caller : CallSign). begin (le32 content 0) caller (le32 content 11) (le32 content 15)) (call_in (take 7 (drop 4 content))) command w.1 in
+    let call = (law (take 7 (drop 4 content)) v.0).0 v.1 in
+    let first : le32_octets (le32 content 0) ≡ take 4 content = number_front content octets (omega arith) in
+    let third : le32_octets (le32 content 11) ≡ take 4 (drop 11 content) = number_at content 11 octets (omega arith) in
+    let fourth : le32_octets (le32 content 15) ≡ take 4 (drop 15 content) = number_at content 15 octets (omega arith) in
+    let parts : content ≡ begin_content (le32 content 0) v.0 (le32 content 11) (le32 content 15) =
+    nineteen content whole
+    ∙ ap (λ (t : List ℕ). ((t ++ take 7 (drop 4 content)) ++ take 4 (drop 11 content)) ++ take 4 (drop 15 content)) (sym first)
+    ∙ ap (λ (t : List ℕ). ((le32_octets (le32 content 0) ++ t) ++ take 4 (drop 11 content)) ++ take 4 (drop 15 content)) call.1
+    ∙ ap (λ (t : List ℕ). ((le32_octets (le32 content 0) ++ call_octets v.0) ++ t) ++ take 4 (drop 15 content)) (sym third)
+    ∙ ap (λ (t : List ℕ). ((le32_octets (le32 content 0) ++ call_octets v.0) ++ le32_octets (le32 content 11)) ++ t) (sym fourth) in
+    subst (λ (c : PlacedCommand). Writes (record_of 1 content) c) (sym v.2)
+    ((le32_below content 0 octets, call.0, le32_below content 11 octets, le32_below content 15 octets), ap (record_of 1) parts)
 
 -- a content of ten octets, by its parts
 ten : (octets : List ℕ) → length octets ≡ 10 → octets ≡ (take 4 octets ++ take 4 (drop 4 octets)) ++ take 2 (drop 8 octets)
@@ -79,41 +98,75 @@ seal_read content command octets is =
     let parts = is_three content octets (eqb-true _ _ some.0) in
     subst (Writes (record_of 3 content)) same ((parts.first, parts.second, parts.third), ap (record_of 3) parts.content_is)
 
+drop_read : (content : List ℕ) (command : PlacedCommand) → IsOctets content → drop_in content ≡ Some command → Writes (record_of 4 content) command
+drop_read content command octets h =
+    let w = if_some (length content == 4) (Some (drop_entry (le32 content 0))) command h in
+    let whole : length content ≡ 4 = eqb-true _ _ w.0 in
+    let is : command ≡ drop_entry (le32 content 0) = let e = w.1 in cc in
+    let front : le32_octets (le32 content 0) ≡ take 4 content = number_front content octets (omega arith) in
+    subst (λ (c : PlacedCommand). Writes (record_of 4 content) c) (sym is)
+    (le32_below content 0 octets, ap (record_of 4) (four content whole ∙ sym front))
+
 -- the record, whose kind is known
 of_kind : (entry : Record) (kind : ℕ) (command : PlacedCommand) → entry.kind ≡ kind → Writes (record_of kind entry.content) command → Writes entry command
 of_kind entry kind command is h = subst (λ (k : ℕ). Writes (record_of k entry.content) command) (sym is) h
 
-as_writes : (entry : Record) (read : Command) (command : PlacedCommand) → whole.Writes entry read → placed_as read ≡ Some command → Writes entry command
-as_writes entry (file.begin number caller file_length moment) command writes is =
-    let same : begin number caller file_length moment ≡ command = cc in
-    subst (Writes entry) same writes
-as_writes entry (file.grow number octets) command writes is = absurd (cc)
-as_writes entry (file.seal number moment) command writes is = absurd (cc)
-as_writes entry (file.drop_entry number) command writes is =
-    let same : drop_entry number ≡ command = cc in
-    subst (Writes entry) same writes
-
-other_writes : (entry : Record) (command : PlacedCommand) → IsRecord entry → option_and_then placed_as (command_of entry) ≡ Some command → Writes entry command
-other_writes entry command rules is = by (command_of entry) (λ read same. (records entry read rules).0 same) is
-  where
-    by : (o : Option Command) → ((read : Command) → o ≡ Some read → whole.Writes entry read) → option_and_then placed_as o ≡ Some command → Writes entry command
-    by None writes is = absurd (cc)
-    by (Some read) writes is = as_writes entry read command (writes read refl) is
-
 read_writes : (entry : Record) (command : PlacedCommand) → IsRecord entry → placed_in entry ≡ Some command → Writes entry command
 unfolding placed_in
 read_writes entry command rules is =
-    elim (eqb_tells entry.kind 2) [
-      | inl w ↦ of_kind entry 2 command w.1 (grow_read entry.content command rules.octets (rw w.0 at is))
+    elim (eqb_tells entry.kind 1) [
+      | inl w ↦ of_kind entry 1 command w.1 (begin_read entry.content command rules.octets (rw w.0 at is))
       | inr w ↦
           let second = rw w.0 at is in
-          elim (eqb_tells entry.kind 3) [
-            | inl v ↦ of_kind entry 3 command v.1 (seal_read entry.content command rules.octets (rw v.0 at second))
-            | inr v ↦ other_writes entry command rules (rw v.0 at second)
+          elim (eqb_tells entry.kind 2) [
+            | inl v ↦ of_kind entry 2 command v.1 (grow_read entry.content command rules.octets (rw v.0 at second))
+            | inr v ↦
+                let third = rw v.0 at second in
+                elim (eqb_tells entry.kind 3) [
+                  | inl u ↦ of_kind entry 3 command u.1 (seal_read entry.content command rules.octets (rw u.0 at third))
+                  | inr u ↦
+                      let fourth = rw u.0 at third in
+                      elim (eqb_tells entry.kind 4) [
+                        | inl s ↦ of_kind entry 4 command s.1 (drop_read entry.content command rules.octets (rw s.0 at fourth))
+                        | inr s ↦ let none = rw s.0 at fourth in absurd (cc)
+                      ]
+                ]
           ]
     ]
 
 -- ---- the record of a command is read as it
+
+-- what is read of the content of a Begin
+record BeginParts (number ssid file_length moment : ℕ) (chars content : List ℕ) : Type 0 where
+  len : length content ≡ 19
+  number_is : le32 content 0 ≡ number
+  call : take 7 (drop 4 content) ≡ chars ++ ssid ∷ []
+  length_is : le32 content 11 ≡ file_length
+  moment_is : le32 content 15 ≡ moment
+
+begin_parts : (number ssid file_length moment : ℕ) (chars : List ℕ) → length chars ≡ 6 → number < 2 ^ 32 → file_length < 2 ^ 32 → moment < 2 ^ 32
+    → BeginParts number ssid file_length moment chars (begin_content number (call_of chars ssid) file_length moment)
+begin_parts number ssid file_length moment (a ∷ b ∷ c ∷ d ∷ e ∷ f ∷ []) six n l m =
+    record { len = refl; number_is = omega arith; call = refl; length_is = omega arith; moment_is = omega arith }
+begin_parts number ssid file_length moment chars six n l m = absurd (omega arith)
+
+begin_written : (number : ℕ) (caller : CallSign) (file_length moment : ℕ) → IsWritable (begin number caller file_length moment)
+    → begin_in (begin_content number caller file_length moment) ≡ Some (begin number caller file_length moment)
+begin_written number caller file_length moment is =
+    let content = begin_content number caller file_length moment in
+    let p = begin_parts number caller.ssid file_length moment caller.chars (length-IsSpelled caller.chars is.1.spelled) is.0 is.2 is.3 in
+    let call : call_in (take 7 (drop 4 (begin_content number caller file_length moment))) ≡ Some caller =
+    (law (take 7 (drop 4 (begin_content number caller file_length moment))) caller).1 (is.1, p.call) in
+    ap (λ (b : Bool). if b then begin_by (begin_content number caller file_length moment) (call_in (take 7 (drop 4 (begin_content number caller file_length moment)))) else None) (eq-eqb _ _ p.len)
+    ∙ ap (begin_by (begin_content number caller file_length moment)) call
+    ∙ ap (λ (n : ℕ). Some (begin n caller (le32 (begin_content number caller file_length moment) 11) (le32 (begin_content number caller file_length moment) 15))) p.number_is
+    ∙ ap (λ (n : ℕ). Some (begin number caller n (le32 (begin_content number caller file_length moment) 15))) p.length_is
+    ∙ ap (λ (n : ℕ). Some (begin number caller file_length n)) p.moment_is
+
+drop_written : (number : ℕ) → IsWritable (drop_entry number) → drop_in (le32_octets number) ≡ Some (drop_entry number)
+drop_written number is =
+    let number_is : le32 (le32_octets number) 0 ≡ number = omega (arith, is) in
+    ap (λ (n : ℕ). Some (drop_entry n)) number_is
 
 -- what is read of a content of three numbers
 record ReadsThree (first second third : ℕ) : Type 0 where
@@ -133,10 +186,10 @@ made_three make first second third reads =
 
 pub read_written : (command : PlacedCommand) → IsWritable command → placed_in (record_of_placed command) ≡ Some command
 unfolding placed_in
-read_written (begin number caller file_length moment) is = ap (option_and_then placed_as) (read-written (file.begin number caller file_length moment) is)
+read_written (begin number caller file_length moment) is = begin_written number caller file_length moment is
 read_written (grow number block used) is = made_three grow number block used (reads_three number block used is.0 is.1 is.2)
 read_written (seal number moment sum) is = made_three seal number moment sum (reads_three number moment sum is.0 is.1 is.2)
-read_written (drop_entry number) is = ap (option_and_then placed_as) (read-written (file.drop_entry number) is)
+read_written (drop_entry number) is = drop_written number is
 
 pub placed_records : (entry : Record) (command : PlacedCommand) → IsRecord entry → (placed_in entry ≡ Some command) ↔ Writes entry command
 placed_records entry command is = (read_writes entry command is, λ w. ap placed_in w.1 ∙ read_written command w.0)
@@ -150,21 +203,25 @@ octets_three first second third =
 
 pub written_record : (command : PlacedCommand) → IsWritable command → IsRecord (record_of_placed command)
 written_record (begin number caller file_length moment) is =
-    let front = le32_octets number ++ call_octets caller in
-    let chars : length caller.chars ≡ 6 = length-IsSpelled caller.chars is.1.spelled in
+    let p = begin_parts number caller.ssid file_length moment caller.chars (length-IsSpelled caller.chars is.1.spelled) is.0 is.2 is.3 in
     record {
       kind = omega arith;
       octets =
-          octets_joined (front ++ le32_octets file_length) (le32_octets moment)
-          (octets_joined front (le32_octets file_length) (octets_joined (le32_octets number) (call_octets caller) (octets_le32 number) (octets_call caller is.1)) (octets_le32 file_length))
+          octets_joined ((le32_octets number ++ call_octets caller) ++ le32_octets file_length) (le32_octets moment)
+          (octets_joined (le32_octets number ++ call_octets caller) (le32_octets file_length)
+          (octets_joined (le32_octets number) (call_octets caller) (octets_le32 number) (octets_call caller is.1)) (octets_le32 file_length))
           (octets_le32 moment);
-      most = simp length-append (omega (arith, chars));
+      most = omega (arith, p.len);
     }
 written_record (grow number block used) is = record { kind = omega arith; octets = octets_three number block used; most = omega arith }
 written_record (seal number moment sum) is = record { kind = omega arith; octets = octets_three number moment sum; most = omega arith }
 written_record (drop_entry number) is = record { kind = omega arith; octets = octets_le32 number; most = omega arith }
 
 -- ---- the kinds
+
+pub of_kind_1 : (kind : ℕ) (content : List ℕ) → kind ≡ 1 → begin_in content ≡ placed_in (record_of kind content)
+unfolding placed_in
+of_kind_1 kind content is = sym (ap (λ (k : ℕ). placed_in (record_of k content)) is)
 
 pub of_kind_2 : (kind : ℕ) (content : List ℕ) → kind ≡ 2 → grow_in content ≡ placed_in (record_of kind content)
 unfolding placed_in
@@ -174,6 +231,10 @@ pub of_kind_3 : (kind : ℕ) (content : List ℕ) → kind ≡ 3 → seal_in con
 unfolding placed_in
 of_kind_3 kind content is = sym (ap (λ (k : ℕ). placed_in (record_of k content)) is)
 
-pub of_other_kind : (kind : ℕ) (content : List ℕ) → (kind ≡ 2 → ⊥) → (kind ≡ 3 → ⊥) → option_and_then placed_as (command_of (record_of kind content)) ≡ placed_in (record_of kind content)
+pub of_kind_4 : (kind : ℕ) (content : List ℕ) → kind ≡ 4 → drop_in content ≡ placed_in (record_of kind content)
 unfolding placed_in
-of_other_kind kind content two three = rw (ne_eqb kind 2 two, ne_eqb kind 3 three) refl
+of_kind_4 kind content is = sym (ap (λ (k : ℕ). placed_in (record_of k content)) is)
+
+pub of_other_kind : (kind : ℕ) (content : List ℕ) → (kind ≡ 1 → ⊥) → (kind ≡ 2 → ⊥) → (kind ≡ 3 → ⊥) → (kind ≡ 4 → ⊥) → None ≡ placed_in (record_of kind content)
+unfolding placed_in
+of_other_kind kind content a b c d = rw (ne_eqb kind 1 a, ne_eqb kind 2 b, ne_eqb kind 3 c, ne_eqb kind 4 d) refl

@@ -1,6 +1,8 @@
 -- The placed files as the code has them: beside each one, what came of an upload of it that is out and isn't held yet.
 use Rattle.std.specs.Prelude.{◌≡◌, ◌≢◌, ℕ, ◌≤◌, ◌<◌, ◌==◌, List, [], ◌∷◌, ◌++◌, length, map, find, drop}
 use Rattle.std.specs.Prelude.{slice_get, Option, None, Some, Bool, IsSome, IsTrue, nat_lt, if◌then◌else◌}
+use Rattle.std.specs.Prelude.{◌-◌, vec_capacity, vec_len}
+use Rattle.std.specs.declared.vec.Vec.{Vec}
 use Rattle.std.specs.Option.{option_and_then, option_map}
 use Rattle.block_entries.specs.IsPlaced.{IsPlaced}
 use Rattle.block_entries.specs.Placed.{Placed, PlacedStore, Seal, Uses, is_sealed, placed_from, placed_of, runs_of}
@@ -28,6 +30,10 @@ pub record EntriesState : Type 0 where
 -- these files, by their parts
 abbrev pub files_from : List PlacedFile → ℕ → ℕ → PlacedFiles
 files_from files next blocks = record { files = files; next = next; blocks = blocks }
+
+-- for how many further elements there is memory
+abbrev pub spare_of : {X Z : Type 0} → Vec X Z → ℕ
+spare_of items = vec_capacity items - vec_len items
 
 -- the entries of these files
 abbrev pub entries_of : List PlacedFile → List Placed
@@ -66,6 +72,11 @@ pub record Becomes (before now : PlacedFiles) (store : PlacedStore) (number : �
 -- The store is as it was, and so is each upload that is out but the one of this number, which is so now.
 abbrev pub ChangesRest : PlacedFiles → PlacedFiles → ℕ → Option (List ℕ) → Type 0
 ChangesRest before now number rest = Becomes before now (store_of before) number rest
+
+-- the octets that wait, or none
+abbrev pub octets_or_none : Option (List ℕ) → List ℕ
+octets_or_none None = []
+octets_or_none (Some octets) = octets
 
 -- so many octets wait of the upload of this number that is out
 abbrev pub Waits : PlacedFiles → ℕ → ℕ → Type 0

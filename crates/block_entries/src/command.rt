@@ -1,16 +1,13 @@
 //! The commands of a store of placed files as records of its journal.
 
 ghost use Rattle.std.specs.Prelude.{◌≡◌, IfSome};
-ghost use Rattle.std.specs.Option.{option_and_then, option_map};
+ghost use Rattle.std.specs.Option.{option_map};
 ghost use Rattle.file_journal.specs.Records.{record_of};
-ghost use Rattle.file_entries.specs.Commands.{command_value};
-ghost use Rattle.file_entries.specs.Records.{IsWritable as IsWritableWhole, command_of};
 ghost use Rattle.block_entries.specs.PlacedCommands.{placed_value};
-ghost use Rattle.block_entries.specs.PlacedRecords.{IsWritable, placed_as, placed_in, record_of_placed};
+ghost use Rattle.block_entries.specs.PlacedRecords.{IsWritable, placed_in, record_of_placed};
 
-use crate::reading::{read_grow, read_seal};
-use crate::writing::{put_grow, put_seal};
-use file_entries::Command;
+use crate::reading::{read_begin, read_drop, read_grow, read_seal};
+use crate::writing::{put_begin, put_drop, put_grow, put_seal};
 use file_journal::RecordContent;
 use px_base::Call;
 
@@ -61,9 +58,11 @@ impl PlacedCommand {
         ensures writable { IfSome result (λ command. IsWritable (placed_value command)) }
     {
         match kind {
+            1 => read_begin(content),
             2 => read_grow(content),
             3 => read_seal(content),
-            _ => read_other(kind, content),
+            4 => read_drop(content),
+            _ => None,
         }
     }
 
@@ -79,15 +78,7 @@ impl PlacedCommand {
                 caller,
                 length,
                 moment,
-            } => {
-                let command = Command::Begin {
-                    number: *number,
-                    caller: *caller,
-                    length: *length,
-                    moment: *moment,
-                };
-                command.write(content)
-            }
+            } => put_begin(content, *number, caller, *length, *moment),
             PlacedCommand::Grow {
                 number,
                 block,
@@ -98,42 +89,7 @@ impl PlacedCommand {
                 moment,
                 sum,
             } => put_seal(content, *number, *moment, *sum),
-            PlacedCommand::Drop { number } => Command::Drop { number: *number }.write(content),
+            PlacedCommand::Drop { number } => put_drop(content, *number),
         }
-    }
-}
-
-/// The Begin or the Drop that a record is.
-fn read_other(kind: u8, content: &[u8]) -> Option<PlacedCommand>
-    ensures command { option_map placed_value result
-        ≡ option_and_then placed_as (command_of (record_of kind content.now)) }
-    ensures writable { IfSome result (λ command. IsWritable (placed_value command)) }
-{
-    match Command::read(kind, content) {
-        Some(command) => placed(&command),
-        None => None,
-    }
-}
-
-/// A Begin or a Drop of the store of files, placed.
-fn placed(command: &Command<'_>) -> Option<PlacedCommand>
-    requires { IsWritableWhole (command_value command.now) }
-    ensures command { option_map placed_value result ≡ placed_as (command_value command.now) }
-    ensures writable { IfSome result (λ command. IsWritable (placed_value command)) }
-{
-    match command {
-        Command::Begin {
-            number,
-            caller,
-            length,
-            moment,
-        } => Some(PlacedCommand::Begin {
-            number: *number,
-            caller: *caller,
-            length: *length,
-            moment: *moment,
-        }),
-        Command::Drop { number } => Some(PlacedCommand::Drop { number: *number }),
-        Command::Grow { .. } | Command::Seal { .. } => None,
     }
 }

@@ -10,7 +10,8 @@ ghost use Rattle.block_entries.specs.PlacedCommand.{is_free, is_partial, seal_wi
 ghost use Rattle.block_entries.specs.PlacedCommand.{with_sealed, without_file};
 ghost use Rattle.block_entries.specs.PlacedFiles.{Becomes, ChangesRest, IsLowest, IsNextSealed, IsOut, IsPlace};
 ghost use Rattle.block_entries.specs.PlacedFiles.{NothingOut, Waits, file_of, is_sealed_file, lacks_octets};
-ghost use Rattle.block_entries.specs.PlacedFiles.{placed_info, rest_of, rest_with, rest_without, store_of};
+ghost use Rattle.block_entries.specs.PlacedFiles.{octets_or_none, placed_info, rest_of, rest_with, rest_without};
+ghost use Rattle.block_entries.specs.PlacedFiles.{store_of};
 ghost use Rattle.block_entries.specs.Sealed.{HasRuns, IsSealedHeader, ReadsSealed, Sealed, octets_given};
 ghost use Rattle.block_entries.specs.Seen.{seen};
 ghost use Rattle.block_entries.specs.TestLaws.{Grows, Passes, TakesSeal};
@@ -18,7 +19,6 @@ ghost use Rattle.block_table.specs.Table.{Table};
 ghost use Rattle.disk_model.specs.Disk.{FillsRoom, IsTold};
 ghost use Rattle.file_entries.specs.Bars.{Bars};
 ghost use Rattle.file_entries.specs.Command.{MayBegin};
-ghost use Rattle.file_entries.specs.Files.{octets_or_none};
 ghost use Rattle.file_journal.specs.Calls.{Reads};
 ghost use Rattle.file_journal.specs.Layout.{Blocks, blocks_on};
 
@@ -48,8 +48,7 @@ pub struct Entries {
 
 impl Model for Entries {
     ghost use Rattle.std.specs.Prelude.{min};
-    ghost use Rattle.file_entries.specs.Files.{spare_of};
-    ghost use Rattle.block_entries.specs.PlacedFiles.{AreKept, EntriesState, files_from, in_runs};
+    ghost use Rattle.block_entries.specs.PlacedFiles.{AreKept, EntriesState, files_from, in_runs, spare_of};
 
     ghost Value = { EntriesState };
 
@@ -149,12 +148,12 @@ impl Entries {
     }
 
     /// The upload of this entry that is out, if there is one, is given up; the octets that wait are lost, and their
-    /// memory stays the entry's. Takes no memory.
+    /// memory is given back. Takes no memory.
     pub fn park(&mut self, number: u32)
         ensures { ChangesRest self.old.files self.new.files number None }
     {
         if let Some(place) = self.place_of(number) {
-            self.files[place].park();
+            self.files[place].park(self.alloc);
         }
     }
 

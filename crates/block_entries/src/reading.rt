@@ -3,10 +3,27 @@
 ghost use Rattle.std.specs.Prelude.{◌≡◌, IfSome};
 ghost use Rattle.std.specs.Option.{option_map};
 ghost use Rattle.block_entries.specs.PlacedCommands.{placed_value};
-ghost use Rattle.block_entries.specs.PlacedRecords.{IsWritable, grow_in, seal_in};
+ghost use Rattle.block_entries.specs.PlacedRecords.{IsWritable, begin_in, drop_in, grow_in, seal_in};
 
 use crate::command::PlacedCommand;
-use px_base::{le16, le32};
+use px_base::{le16, le32, read_call};
+
+/// The Begin that a content is.
+pub(crate) fn read_begin(content: &[u8]) -> Option<PlacedCommand>
+    ensures command { option_map placed_value result ≡ begin_in content.now }
+    ensures writable { IfSome result (λ command. IsWritable (placed_value command)) }
+{
+    if content.len() != 19 {
+        return None;
+    }
+    let caller = read_call(&content[4..11])?;
+    Some(PlacedCommand::Begin {
+        number: le32(content, 0),
+        caller,
+        length: le32(content, 11),
+        moment: le32(content, 15),
+    })
+}
 
 /// The Grow that a content is.
 pub(crate) fn read_grow(content: &[u8]) -> Option<PlacedCommand>
@@ -35,5 +52,18 @@ pub(crate) fn read_seal(content: &[u8]) -> Option<PlacedCommand>
         number: le32(content, 0),
         moment: le32(content, 4),
         sum: le16(content, 8),
+    })
+}
+
+/// The Drop that a content is.
+pub(crate) fn read_drop(content: &[u8]) -> Option<PlacedCommand>
+    ensures command { option_map placed_value result ≡ drop_in content.now }
+    ensures writable { IfSome result (λ command. IsWritable (placed_value command)) }
+{
+    if content.len() != 4 {
+        return None;
+    }
+    Some(PlacedCommand::Drop {
+        number: le32(content, 0),
     })
 }

@@ -4,9 +4,8 @@ ghost use Rattle.std.specs.Prelude.{◌≡◌, ◌+◌, ◌≤◌, ◌^◌, ◌<
 ghost use Rattle.std.specs.Option.{option_map};
 ghost use Rattle.block_entries.specs.Placed.{is_sealed, new_placed};
 ghost use Rattle.block_entries.specs.PlacedCommand.{seal_with, sealed};
-ghost use Rattle.block_entries.specs.PlacedFiles.{brought, placed_info, seal_of};
+ghost use Rattle.block_entries.specs.PlacedFiles.{brought, octets_or_none, placed_info, seal_of};
 ghost use Rattle.block_entries.specs.Sealed.{sealed_file};
-ghost use Rattle.file_entries.specs.Files.{octets_or_none};
 
 use crate::waiting_octets::WaitingOctets;
 use crate::{FileBlocks, SealedFile, Stamp};
@@ -166,12 +165,12 @@ impl StoredFile {
         self.out = true;
     }
 
-    /// The upload that is out is given up, if there is one; the octets that aren't held yet are lost. Their memory
-    /// stays the file's.
-    pub(crate) fn park(&mut self)
+    /// The upload that is out is given up, if there is one; the octets that aren't held yet are lost, and their memory
+    /// is given back.
+    pub(crate) fn park(&mut self, alloc: Global)
         ensures { self.new ≡ record self.old { rest = None } }
     {
-        self.waiting.clear();
+        self.waiting = WaitingOctets::new(alloc);
         self.out = false;
     }
 

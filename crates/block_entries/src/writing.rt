@@ -2,12 +2,31 @@
 
 ghost use Rattle.std.specs.Prelude.{◌≡◌, ◌+◌, ◌≤◌, ◌++◌, length};
 ghost use Rattle.file_journal.specs.Records.{record_of};
-ghost use Rattle.block_entries.specs.PlacedCommand.{grow, seal};
+ghost use Rattle.block_entries.specs.PlacedCommand.{begin, drop_entry, grow, seal};
 ghost use Rattle.block_entries.specs.PlacedRecords.{record_of_placed};
 ghost use Rattle.px_base.specs.Numbers.{le16_octets, le32_octets};
 
 use byteorder::{ByteOrder, LittleEndian};
 use file_journal::RecordContent;
+use px_base::{Call, write_call};
+
+/// The content of a Begin.
+pub(crate) fn put_begin(
+    content: &mut RecordContent,
+    number: u32,
+    caller: &Call,
+    length: u32,
+    moment: u32,
+) -> u8
+    ensures { record_of result content.new ≡ record_of_placed (begin number caller.now length moment) }
+{
+    content.clear();
+    put_number(content, number);
+    content.put(&write_call(caller));
+    put_number(content, length);
+    put_number(content, moment);
+    1
+}
 
 /// The content of a Grow.
 pub(crate) fn put_grow(content: &mut RecordContent, number: u32, block: u32, used: u16) -> u8
@@ -23,6 +42,15 @@ pub(crate) fn put_seal(content: &mut RecordContent, number: u32, moment: u32, su
 {
     put_numbers(content, number, moment, sum);
     3
+}
+
+/// The content of a Drop.
+pub(crate) fn put_drop(content: &mut RecordContent, number: u32) -> u8
+    ensures { record_of result content.new ≡ record_of_placed (drop_entry number) }
+{
+    content.clear();
+    put_number(content, number);
+    4
 }
 
 /// Two numbers of four octets and one of two, in place of what the content holds.

@@ -15,7 +15,7 @@ use Rattle.file_entries.specs.Info.{is_complete}
 use Rattle.file_entries.specs.IsStore.{IsStore, FitsLength}
 use Rattle.file_entries.specs.Kept.{KeepsComplete}
 use Rattle.file_entries.specs.Limits.{longest_file, most_entries}
-use Rattle.file_entries.specs.Store.{Entry, Holding, partial, complete, Store, entry_of, blocks_for, blocks_of, new_entry, octets_of}
+use Rattle.file_entries.specs.Store.{Entry, Holding, partial, complete, Store, entry_of, blocks_for, blocks_of, new_entry}
 use Rattle.pfh_writer.proofs.StampedLemmas.{length-stamped}
 use Rattle.file_entries.proofs.EntriesLemmas.{has_number, AreEntries-push, AreEntries-map-changed, AreEntries-filter, HaveCallers-push, HaveCallers-map-changed, HaveCallers-filter, found-caller, found-fits, blocks-map-changed, find-map-changed_other, find-filter_other}
 
@@ -45,11 +45,6 @@ good-fault held l t = none (fault_code held) (and-parts (length held == l) (is_n
     none : (o : Option ℕ) → IsTrue (is_none o) → o ≡ None
     none None h = refl
     none (Some code) h = absurd (cc)
-
--- the same, of the octets of the entry
-pub good-no_fault : (h : Holding) (l : ℕ) → IsTrue (is_good h l) → fault_code (octets_of h) ≡ None
-good-no_fault (partial held) l t = good-fault held l t
-good-no_fault (complete o m) l t = absurd (cc)
 
 pub partial-held : (h : Holding) → IsTrue (is_partial h) → (held : List ℕ) × (h ≡ partial held)
 partial-held (partial held) t = (held, refl)

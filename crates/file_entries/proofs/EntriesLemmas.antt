@@ -1,12 +1,11 @@
 -- Lemmas on lists of entries.
-use Rattle.std.proofs.Common.{◌≡◌, ◌≢◌, ℕ, suc, ◌+◌, ◌≤◌, ◌<◌, Bool, true, false, not, List, [], ◌∷◌, ◌++◌, length, get_or, set, map, filter, refl, sym, subst, arith, None, Some, ◌==◌}
+use Rattle.std.proofs.Common.{◌≡◌, ◌≢◌, ℕ, ◌+◌, ◌≤◌, ◌<◌, Bool, not, List, [], ◌∷◌, ◌++◌, map, filter, refl, sym, subst, arith, None, Some, ◌==◌}
 use Rattle.std.specs.Prelude.{find, sum_by}
-use Rattle.std.specs.List.{position_or_len}
 use Rattle.std.proofs.lemmas.Bool.Decides.{nat_tests}
 use Rattle.std.proofs.lemmas.List.Sums.{sum_by-cons}
 use Rattle.px_base.specs.CallSign.{CallSign, IsCall}
 use Rattle.file_entries.specs.Limits.{longest_file}
-use Rattle.file_entries.specs.Store.{Entry, Holding, partial, complete, octets_of, blocks_for}
+use Rattle.file_entries.specs.Store.{Entry, Holding, blocks_for}
 use Rattle.file_entries.specs.IsStore.{AreEntries, FitsLength, HaveCallers}
 use Rattle.file_entries.specs.Command.{changed}
 
@@ -14,34 +13,10 @@ use Rattle.file_entries.specs.Command.{changed}
 abbrev pub has_number : ℕ → Entry → Bool
 has_number number e = e.number == number
 
--- an entry of another number stays
-pub changed-other : (number : ℕ) (change : Entry → Holding) (e : Entry) → has_number number e ≡ false → changed number change e ≡ e
-changed-other number change e h = rw h
-
-pub changed-same : (number : ℕ) (change : Entry → Holding) (e : Entry) → has_number number e ≡ true → changed number change e ≡ record e { holding = change e }
-changed-same number change e h = rw h
-
 -- no entry from a larger number on has this number
 pub map-changed_past : (number : ℕ) (change : Entry → Holding) (low next : ℕ) (entries : List Entry) → AreEntries low entries next → number < low → map (changed number change) entries ≡ entries
 map-changed_past number change low next [] are past = refl
 map-changed_past number change low next (e ∷ es) are past = grind (arith, nat_tests, map-changed_past number change (e.number + 1) next es are.4)
-
--- the place of a number lies past an entry of another
-pub position-past : (number : ℕ) (x : Entry) (xs : List Entry) → has_number number x ≡ false → position_or_len (has_number number) (x ∷ xs) ≡ suc (position_or_len (has_number number) xs)
-position-past number x xs h = rw h (omega arith)
-
--- the first entry of a number, changed in its place, is the entry of that number changed
-pub set_first-is-map : (number : ℕ) (change : Entry → Holding) (low next : ℕ) (entries : List Entry) (e : Entry) → AreEntries low entries next
-    → find (has_number number) entries ≡ Some e
-    → set entries (position_or_len (has_number number) entries) (record e { holding = change e }) ≡ map (changed number change) entries
-set_first-is-map number change low next [] e are found = absurd (cc)
-set_first-is-map number change low next (x ∷ xs) e are found = grind (arith, nat_tests, map-changed_past number change (x.number + 1) next xs are.4, set_first-is-map number change (x.number + 1) next xs e are.4)
-
--- the place at which a number is found
-pub found-position : (number : ℕ) (entries : List Entry) (e : Entry) → find (has_number number) entries ≡ Some e
-    → (position_or_len (has_number number) entries < length entries) × (get_or entries (position_or_len (has_number number) entries) e ≡ e)
-found-position number [] e found = absurd (cc)
-found-position number (x ∷ xs) e found = grind (arith, nat_tests, found-position number xs e)
 
 -- the entry found has the number
 pub found-number : (number : ℕ) (entries : List Entry) (e : Entry) → find (has_number number) entries ≡ Some e → e.number ≡ number
@@ -131,19 +106,3 @@ HaveCallers-filter test (x ∷ xs) have = grind (arith, nat_tests, HaveCallers-f
 pub found-caller : (number : ℕ) (entries : List Entry) (e : Entry) → HaveCallers entries → find (has_number number) entries ≡ Some e → IsCall e.caller
 found-caller number [] e have found = absurd (cc)
 found-caller number (x ∷ xs) e have found = grind (arith, nat_tests, found-caller number xs e have.1)
-
--- ---- the place of an entry
-
-pub found-first : (number : ℕ) (entries : List Entry) (d : Entry) → position_or_len (has_number number) entries < length entries
-    → find (has_number number) entries ≡ Some (get_or entries (position_or_len (has_number number) entries) d)
-found-first number [] d inside = absurd (omega (arith, inside))
-found-first number (x ∷ xs) d inside = grind (arith, nat_tests, found-first number xs d)
-
-pub found-nowhere : (number : ℕ) (entries : List Entry) → length entries ≤ position_or_len (has_number number) entries → find (has_number number) entries ≡ None
-found-nowhere number [] past = refl
-found-nowhere number (x ∷ xs) past = grind (arith, nat_tests, found-nowhere number xs)
-
--- what an entry holds is no longer than the longest file
-pub octets-small : (h : Holding) (l : ℕ) → FitsLength h l → l ≤ longest_file → length (octets_of h) ≤ longest_file
-octets-small (partial held) l fits small = omega arith
-octets-small (complete octets moment) l fits small = omega arith

@@ -5,7 +5,7 @@ use Rattle.std.proofs.lemmas.Bool.Decides.{nat_tests}
 use Rattle.std.proofs.lemmas.List.{length-take-le, append-nil}
 use Rattle.std.proofs.Math.Seq.{take-add}
 use Rattle.file_journal.proofs.Offered.{after_all_append, allowed_append, allowed_first, allowed_split}
-use Rattle.file_entries.specs.Command.{Command, IsAllowed, HaveCalls, grow, has_room, passes, is_allowed, grown, changed, with_holding, with_more, after, after_all, AreAllowed, grows, last_grow}
+use Rattle.file_entries.specs.Command.{Command, IsAllowed, grow, has_room, passes, is_allowed, grown, changed, with_holding, with_more, after, after_all, AreAllowed, grows, last_grow}
 use Rattle.file_entries.specs.Store.{Entry, Holding, partial, complete, Store, entry_of}
 use Rattle.file_entries.proofs.EntriesLemmas.{find-map-changed}
 
@@ -110,8 +110,3 @@ pub last_grow-allowed : (number : ℕ) (rest : List ℕ) (store : Store) (e : En
 last_grow-allowed number [] store e held found is few fits = tt
 last_grow-allowed number (octet ∷ octets) store e held found is few fits =
     (grow-is_allowed store number (octet ∷ octets) e held found is (omega arith) (omega arith) fits, tt)
-
--- no grow names a caller
-pub grows-HaveCalls : (number n : ℕ) (octets : List ℕ) → HaveCalls (grows number n octets)
-grows-HaveCalls number zero octets = tt
-grows-HaveCalls number (suc n) octets = (tt, grows-HaveCalls number n (drop 512 octets))

@@ -1,23 +1,17 @@
 -- The header of a file that keeps all rules.
-use Rattle.std.proofs.Common.{◌≡◌, ℕ, ◌==◌, ◌<◌, List, [], ◌∷◌, ◌++◌, length, get_or, Bool, true, false, cond, Option, None, Some, refl, sym, ap, ◌∙◌, subst, arith}
-use Rattle.std.specs.Prelude.{IfNone, IsSome, IsTrue}
-use Rattle.std.specs.Option.{option_copied}
+use Rattle.std.proofs.Common.{◌≡◌, ℕ, ◌==◌, ◌<◌, ◌≤◌, List, [], ◌∷◌, ◌++◌, length, get_or, Bool, true, false, cond, Option, None, Some, refl, sym, ap, ◌∙◌, subst, arith}
+use Rattle.std.specs.Prelude.{IfNone, IsSome}
 use Rattle.std.proofs.lemmas.List.Elements.{All-get_or}
-use denote.Ref.{Bor}
 use Rattle.px_base.specs.Numbers.{le16}
 use Rattle.px_base.specs.Octets.{IsOctets}
 use Rattle.pfh_items.specs.Faults.{FitsFile, IsFaultless, content_of, fault_code, items_with}
 use Rattle.pfh_items.specs.Layout.{AreItems, FileText, HeaderText, HeaderValue, IsItem, ItemValue, header_text}
-use Rattle.pfh_items.proofs.Offered.{file_parts-text, first_fault-text, HeaderText-FileText, item_at}
+use Rattle.pfh_items.proofs.Offered.{file_parts-text, first_fault-text, HeaderText-FileText, item_at, no_fault}
 use Rattle.pfh_reader.proofs.ClaimsLemmas.{content_of-items_with}
 use Rattle.pfh_reader.proofs.FaultLemmas.{faultless}
 use Rattle.pfh_writer.specs.Short.{HasEachOnce}
 use Rattle.pfh_writer.proofs.StampedLemmas.{no_fault-code}
-use Rattle.file_entries.specs.Files.{File, Files, file_of, store_of}
-use Rattle.file_entries.specs.Headers.{IsHeaderOf, IsWholeHeader, body_octets, header_items, parts_or_none}
-use Rattle.file_entries.specs.Info.{IsCompleteIn, is_complete}
-use Rattle.file_entries.specs.Store.{Entry, entry_of, octets_at, octets_of}
-use Rattle.file_entries.proofs.ChangeLemmas.{entry-of-file, no_entry}
+use Rattle.file_entries.specs.Headers.{IsHeaderOf, IsWholeHeader, body_octets, header_items, header_octets, parts_or_none}
 
 -- ---- what is computed of a file with these parts
 
@@ -59,6 +53,15 @@ header-below items body are fits =
     let below = le16-below once.0 item.octets once.2 in
     subst (λ (n : ℕ). n < 65536) (sym says ∙ fits.body_offset) below
 
+-- that of a file without fault
+pub header_short : (octets : List ℕ) → IsOctets octets → fault_code octets ≡ None → length (header_octets octets) ≤ 65535
+header_short octets are none =
+    let good = (no_fault octets are).1 (no_fault-code octets none) in
+    let below = header-below good.0 good.1 good.2.file_text.are_items good.2.fits in
+    let same : length (header_octets octets) ≡ length (header_text good.0) =
+    ap (λ (l : List ItemValue). length (header_text l)) (items-text good.0 good.1 octets good.2.file_text) in
+    omega (arith, below, same)
+
 -- ---- the header of a file that keeps all rules
 
 module _ (items : List ItemValue) (body file octets : List ℕ) (is : IsFaultless items body file) (text : HeaderText items octets) where
@@ -88,18 +91,3 @@ pub header-there : (found : Option HeaderValue) (octets : List ℕ) → IfNone f
     → IsWholeHeader octets → IsSome found
 header-there None octets none whole = absurd (none (header_items octets) whole.text)
 header-there (Some found) octets none whole = refl
-
--- ---- a complete file among the entries
-
-module _ (files : Files) (number : ℕ) (whole : IsCompleteIn (store_of files) number) where
-  pub whole-there : (found : Option (Bor File)) → option_copied found ≡ file_of files.files number → IsSome found
-  whole-there None is = absurd (cc (sym (no_entry files number (sym is)) ∙ whole.1))
-  whole-there (Some file) is = refl
-
-  pub whole-file : (file : File) → Some file ≡ file_of files.files number → IsTrue (is_complete file.entry.holding)
-  whole-file file is =
-      let same : file.entry ≡ whole.0 = cc (sym (entry-of-file files number file (sym is)) ∙ whole.1) in
-      ap (λ (e : Entry). is_complete e.holding) same ∙ whole.2
-
-  pub whole-octets : (file : File) → Some file ≡ file_of files.files number → octets_of file.entry.holding ≡ octets_at (entry_of (store_of files) number)
-  whole-octets file is = ap octets_at (sym (entry-of-file files number file (sym is)))

@@ -1,10 +1,8 @@
 -- What is told of an entry, and the tests of it.
-use Rattle.std.proofs.Common.{◌≡◌, ℕ, ◌-◌, ◌≤◌, Bool, true, false, not, length, refl, sym, ap, ◌∙◌, subst, arith, Option, None, Some, nat_le}
+use Rattle.std.proofs.Common.{◌≡◌, ℕ, ◌≤◌, length, refl, sym, subst, arith, Option, None, Some}
 use Rattle.std.specs.Option.{option_map}
-use Rattle.std.proofs.lemmas.Bool.Decides.{nat_tests}
 use Rattle.file_entries.specs.declared.info.Info.{Info}
-use Rattle.file_entries.specs.Command.{has_room, passes}
-use Rattle.file_entries.specs.Info.{info_of, is_complete}
+use Rattle.file_entries.specs.Info.{info_of}
 use Rattle.file_entries.specs.IsStore.{FitsLength, IsStore}
 use Rattle.file_entries.specs.Store.{Entry, Holding, Store, complete, partial, entry_of, octets_of}
 use Rattle.file_entries.proofs.EntriesLemmas.{found-fits}
@@ -29,21 +27,5 @@ told store number info rules h = by (entry_of store number) refl h
         let fits = found-fits number 1 store.next store.entries entry rules.entries e in
         record { entry = entry; found = e; is = cc; fits = fits-length entry.holding entry.length fits.0 }
 
--- how much room is left in a file under way
-room-is : (h : Holding) (l more : ℕ) → is_complete h ≡ false → length (octets_of h) ≤ l → nat_le more (l - length (octets_of h)) ≡ has_room h l more
-room-is (partial held) l more under_way fits = grind (arith, nat_tests)
-room-is (complete octets moment) l more under_way fits = absurd (cc)
-
-no : (b : Bool) → not b ≡ true → b ≡ false
-no true h = absurd (cc)
-no false h = refl
-
 pub told-held : (store : Store) (number : ℕ) (info : Info) → Told store number info → info.held ≤ info.length
 told-held store number info t = subst (λ (i : Info). i.held ≤ i.length) (sym t.is) t.fits
-
-pub told-room : (store : Store) (number : ℕ) (info : Info) (more : ℕ) → Told store number info → not info.complete ≡ true
-    → nat_le more (info.length - info.held) ≡ passes (λ e. has_room e.holding e.length more) (entry_of store number)
-told-room store number info more t under_way =
-    ap (λ (i : Info). nat_le more (i.length - i.held)) t.is
-    ∙ room-is t.entry.holding t.entry.length more (ap (λ (i : Info). i.complete) (sym t.is) ∙ no info.complete under_way) t.fits
-    ∙ ap (passes (λ (e : Entry). has_room e.holding e.length more)) (sym t.found)

@@ -1,8 +1,8 @@
 -- Why a file can't be begun.
 use Rattle.std.specs.Prelude.{◌≡◌, ℕ, ◌≤◌, ◌<◌}
 use Rattle.file_entries.specs.Limits.{last_next, longest_file, most_entries}
-use Rattle.file_entries.specs.declared.entries.BeginBar.{BeginBar}
-use Rattle.file_entries.specs.declared.entries.BeginBar.TheVariants.{TooLong, TooMany, NumbersGone, NoRoom}
+use Rattle.file_entries.specs.declared.begin_bar.BeginBar.{BeginBar}
+use Rattle.file_entries.specs.declared.begin_bar.BeginBar.TheVariants.{TooLong, TooMany, NumbersGone, NoRoom}
 use Rattle.file_entries.specs.Store.{Store, entry_count, blocks_for, free_blocks}
 
 -- this is the cause, and none that is looked at before is

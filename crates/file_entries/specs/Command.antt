@@ -6,7 +6,7 @@ use Rattle.file_journal.specs.Commands as kept
 use Rattle.file_entries.specs.Limits.{last_next, longest_file, most_entries}
 use Rattle.pfh_items.specs.Faults.{fault_code}
 use Rattle.pfh_items.specs.Stamp.{StampValue, stamped}
-use Rattle.file_entries.specs.Store.{Entry, Holding, partial, complete, Store, blocks_for, blocks_of, entry_count, entry_of, free_blocks, new_entry, octets_at}
+use Rattle.file_entries.specs.Store.{Entry, Holding, partial, complete, Store, blocks_for, blocks_of, entry_count, entry_of, free_blocks, new_entry}
 
 pub data Command : Type 0 where
   -- a file of this number, caller, length and moment is begun
@@ -47,11 +47,6 @@ abbrev pub has_room : Holding → ℕ → ℕ → Bool
 has_room (partial held) file_length more = nat_le (length held + more) file_length
 has_room (complete octets moment) file_length more = false
 
--- whether all octets of a file of this length are held, and the file isn't sealed yet
-abbrev pub is_whole : Holding → ℕ → Bool
-is_whole (partial held) file_length = length held == file_length
-is_whole (complete octets moment) file_length = false
-
 -- whether all octets of a file of this length are held, and the file breaks no rule
 abbrev pub is_good : Holding → ℕ → Bool
 is_good (partial held) file_length = (length held == file_length) && is_none (fault_code held)
@@ -66,14 +61,6 @@ is_partial (complete octets moment) = false
 abbrev pub passes : (Entry → Bool) → Option Entry → Bool
 passes test None = false
 passes test (Some entry) = test entry
-
--- the entry of this number is partial, and has room for so many further octets
-abbrev pub HasRoom : Store → ℕ → ℕ → Type 0
-HasRoom store number more = IsTrue (passes (λ e. has_room e.holding e.length more) (entry_of store number))
-
--- the code of the first rule that the octets of the entry of this number break
-abbrev pub fault_at : Store → ℕ → Option ℕ
-fault_at store number = fault_code (octets_at (entry_of store number))
 
 -- whether the condition of the command holds in the store
 abbrev pub is_allowed : Store → Command → Bool

@@ -1,10 +1,8 @@
 -- Laws of the commands, over every store and every command whose condition holds.
-use Rattle.std.specs.Prelude.{◌≡◌, ◌↔◌, ℕ, ◌≤◌, ◌<◌, List, None, Some, IsTrue}
-use Rattle.file_journal.specs.Records.{IsRecord, Record}
+use Rattle.std.specs.Prelude.{◌≡◌, ℕ, ◌≤◌, ◌<◌, List, None, IsTrue}
 use Rattle.file_entries.specs.Command.{Command, HasCall, is_allowed, after, after_all, AreAllowed}
 use Rattle.file_entries.specs.IsStore.{IsStore}
 use Rattle.file_entries.specs.Kept.{KeepsComplete}
-use Rattle.file_entries.specs.Records.{IsWritable, Writes, command_of, record_of_command}
 use Rattle.file_entries.specs.Store.{Store, empty_store, entry_of}
 
 -- An empty store keeps the rules of a store, and so does each command, where the caller that it names is a call: the
@@ -23,11 +21,3 @@ abbrev pub NumbersLaw : Type 0
 NumbersLaw =
     (store : Store) (commands : List Command) (number : ℕ) → AreAllowed store commands → number < store.next
     → entry_of store number ≡ None → entry_of (after_all store commands) number ≡ None
-
--- A record of at most 600 octets is read as a command exactly where it is that command's record; and each command that
--- can be written has such a record.
-abbrev pub RecordsLaw : Type 0
-RecordsLaw =
-    ((entry : Record) (command : Command) → IsRecord entry
-    → (command_of entry ≡ Some command) ↔ Writes entry command)
-    × ((command : Command) → IsWritable command → IsRecord (record_of_command command))

@@ -1,7 +1,7 @@
 //! Laws of the store's commands.
 
 ghost use Rattle.file_entries.specs.Follows.{FollowsLaw};
-ghost use Rattle.file_entries.specs.Laws.{CommandsLaw, NumbersLaw, RecordsLaw};
+ghost use Rattle.file_entries.specs.Laws.{CommandsLaw, NumbersLaw};
 
 /// Each command whose condition holds keeps the rules of a store and each complete entry, and the next
 /// number never falls.
@@ -19,10 +19,4 @@ pub fn numbers_law()
 /// headers.
 pub fn follows_law()
     ensures { FollowsLaw }
-{}
-
-/// A record is read as a command exactly where it is that command's record, and each command that can be written has
-/// one.
-pub fn records_law()
-    ensures { RecordsLaw }
 {}

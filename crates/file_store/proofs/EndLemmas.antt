@@ -14,7 +14,7 @@ use Rattle.block_entries.specs.TestLaws.{Passes}
 use Rattle.block_entries.proofs.Offered.{entry_seen, found_length}
 use Rattle.file_entries.specs.Faults.{fault_code}
 use Rattle.file_entries.specs.Command.{AreAllowed, after_all, grown, is_allowed, is_good, is_partial, last_grow, passes, with_more}
-use Rattle.file_entries.specs.Files.{octets_or_none}
+use Rattle.block_entries.specs.PlacedFiles.{octets_or_none}
 use Rattle.file_entries.specs.Store.{Entry, Holding, Store, entry_of, holding_of, octets_at, partial}
 use Rattle.file_entries.proofs.Offered.{AreAllowed-append, both-true, find-map-changed, last_grow-after, last_grow-allowed}
 use Rattle.file_journal.specs.Layout.{Blocks}

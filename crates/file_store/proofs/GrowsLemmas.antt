@@ -33,35 +33,10 @@ take-are (suc count) number (command ∷ commands) are = (are.0, take-are count 
 
 -- ---- the entries after them
 
-find-held : (number : ℕ) (change : Entry → Holding) (entries : List Entry)
+pub find-held : (number : ℕ) (change : Entry → Holding) (entries : List Entry)
     → find (has_number number) (map (changed number change) entries) ≡ option_map {T = Entry} (λ e. record e { holding = change e }) (find (has_number number) entries)
 find-held number change [] = refl
 find-held number change (x ∷ xs) = grind (arith, nat_tests, find-held number change xs)
-
--- each other entry is as it was
-pub others-same : (commands : List Command) (store : Store) (number other : ℕ) → AreGrows number commands → other ≢ number → entry_of (after_all store commands) other ≡ entry_of store other
-others-same [] store number other are ne = refl
-others-same (command ∷ commands) store number other are ne =
-    others-same commands (after store command) number other are.1 ne
-    ∙ ap (λ (c : Command). entry_of (after store c) other) are.0.1
-    ∙ find-map-changed_other number other (grown are.0.0) store.entries ne
-
-grown-caller : (octets : List ℕ) (o : Option Entry) (then : Entry) → option_map {T = Entry} (λ x. record x { holding = grown octets x }) o ≡ Some then
-    → (old : Entry) × (o ≡ Some old) × (old.caller ≡ then.caller)
-grown-caller octets None then is = absurd (cc is)
-grown-caller octets (Some old) then is =
-    let one : record old { holding = grown octets old } ≡ then = cc is in
-    (old, refl, ap (λ (e : Entry). e.caller) one)
-
--- and the one of that number stood before, of the same caller
-pub own-before : (commands : List Command) (store : Store) (number : ℕ) (e : Entry) → AreGrows number commands → entry_of (after_all store commands) number ≡ Some e
-    → (old : Entry) × (entry_of store number ≡ Some old) × (old.caller ≡ e.caller)
-own-before [] store number e are found = (e, found, refl)
-own-before (command ∷ commands) store number e are found =
-    let later = own-before commands (after store command) number e are.1 found in
-    let there = ap (λ (c : Command). entry_of (after store c) number) (sym are.0.1) ∙ later.1 in
-    let before = grown-caller are.0.0 (entry_of store number) later.0 (sym (find-held number (grown are.0.0) store.entries) ∙ there) in
-    (before.0, before.1, before.2 ∙ later.2)
 
 -- ---- as far as memory tells
 

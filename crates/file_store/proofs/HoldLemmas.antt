@@ -6,7 +6,7 @@ use Rattle.std.proofs.lemmas.List.{append_assoc, length-replicate, length-take-l
 use Rattle.disk_model.specs.declared.disk.Disk.{Ghosts}
 use Rattle.block_entries.specs.IsPlaced.{IsPlaced}
 use Rattle.file_entries.specs.Command.{AreAllowed, Command, after_all, grow, grown, grows, with_more}
-use Rattle.file_entries.specs.Files.{octets_or_none}
+use Rattle.block_entries.specs.PlacedFiles.{octets_or_none}
 use Rattle.file_entries.specs.Store.{Store, entry_of, partial}
 use Rattle.file_entries.proofs.Offered.{after_all-append, find-map-changed, grows-allowed}
 use Rattle.file_journal.specs.Layout.{blocks_on}

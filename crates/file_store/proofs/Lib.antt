@@ -5,6 +5,8 @@ mod HeaderLemmas
 mod HoldLemmas
 pub mod Offered
 mod OnLemmas
+mod OnlyLemmas
+mod OrderLemmas
 mod PutLemmas
 mod ReadLemmas
 mod ReceiptLemmas
@@ -16,3 +18,4 @@ mod TokenLemmas
 mod ToldLemmas
 mod TurnLemmas
 mod UploadLemmas
+mod ZerosLemmas

@@ -1,9 +1,10 @@
 -- A store on its disk, and the same as far as memory tells.
-use Rattle.std.proofs.Common.{◌≡◌, List, ℕ, Option, inl, inr, sym, ap, subst}
+use Rattle.std.proofs.Common.{◌≡◌, List, [], ◌∷◌, ℕ, Option, None, Some, inl, inr, refl, sym, ◌∙◌, ap, subst}
 use Rattle.disk_model.specs.Disk.{IsTold}
 use Rattle.disk_model.specs.declared.disk.Disk.{Ghosts}
 use Rattle.block_entries.specs.IsPlaced.{KeepsSeals}
-use Rattle.block_entries.specs.Outlined.{IsStoreLike, outlined}
+use Rattle.block_entries.specs.Outlined.{outlined}
+use Rattle.file_entries.specs.Like.{AreLike, IsAsFar, IsStoreLike}
 use Rattle.block_entries.specs.Placed.{PlacedStore}
 use Rattle.block_entries.specs.PlacedFiles.{store_of}
 use Rattle.block_entries.specs.PlacedRecords.{placed_steps}
@@ -15,7 +16,21 @@ use Rattle.file_journal.specs.Layout.{blocks_on}
 use Rattle.file_journal.specs.Position.{Position}
 use Rattle.file_journal.proofs.Offered.{knew, knows_on}
 use Rattle.file_entries.specs.IsStore.{IsStore}
+use Rattle.file_entries.specs.Store.{Entry, Holding, Store, complete, partial}
 use Rattle.file_store.specs.State.{IsKnown, IsReady, StandsOn, StoreState, placed_in, store_form, store_in, store_on}
+use Rattle.file_store.proofs.ZerosLemmas.{seen_zeros}
+
+-- a store is like itself
+far-same : (holding : Holding) → IsAsFar holding holding
+far-same (partial held) = refl
+far-same (complete octets moment) = (refl, refl)
+
+are-same : (entries : List Entry) → AreLike entries entries
+are-same [] = tt
+are-same (e ∷ es) = (record { number = refl; caller = refl; length = refl; begun = refl; holding = far-same e.holding }, are-same es)
+
+like-same : (store : Store) → IsStoreLike store store
+like-same store = record { entries = are-same store.entries; next = refl; blocks = refl }
 
 module _ {D : Type 0} (g : Ghosts D) where
   -- what is known of the octets the disk tells
@@ -62,3 +77,31 @@ module _ {D : Type 0} (g : Ghosts D) where
 
 pub in_parked : (old new : StoreState) → store_of new.files ≡ store_of old.files → store_in new ≡ store_in old
 in_parked old new same = ap outlined same
+
+-- ---- whether it is known what the files hold or not
+
+module _ {D : Type 0} (g : Ghosts D) (self : StoreState) (disk : D) (ready : IsReady g self disk) where
+  -- on a disk that tells nothing it is what memory tells
+  at_none : g.content disk ≡ None → store_on g self disk ≡ store_in self
+  at_none is = ap (λ (o : Option (List ℕ)). seen (blocks_on o) (placed_in self)) is ∙ seen_zeros (placed_in self) ready.stands_on.holds.reached
+
+  pub on_untold : ¬ IsKnown g disk → store_on g self disk ≡ store_in self
+  on_untold unknown = by (g.content disk) refl
+    where
+      by : (o : Option (List ℕ)) → g.content disk ≡ o → store_on g self disk ≡ store_in self
+      by None is = at_none is
+      by (Some octets) is = absurd (unknown (inr (subst IsTold (sym is) refl)))
+
+  pub on_like_always : IsStoreLike (store_in self) (store_on g self disk)
+  on_like_always = by (g.content disk) refl
+    where
+      by : (o : Option (List ℕ)) → g.content disk ≡ o → IsStoreLike (store_in self) (store_on g self disk)
+      by None is = subst (λ (s : Store). IsStoreLike (store_in self) s) (sym (at_none is)) (like-same (store_in self))
+      by (Some octets) is = on_like g self disk ready (inr (subst IsTold (sym is) refl))
+
+  pub on_rules_always : IsStore (store_in self) → IsStore (store_on g self disk)
+  on_rules_always rules = by (g.content disk) refl
+    where
+      by : (o : Option (List ℕ)) → g.content disk ≡ o → IsStore (store_on g self disk)
+      by None is = subst (λ (s : Store). IsStore s) (sym (at_none is)) rules
+      by (Some octets) is = on_rules g self disk ready (inr (subst IsTold (sym is) refl)) rules

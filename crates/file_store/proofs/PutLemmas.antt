@@ -17,8 +17,8 @@ use Rattle.block_entries.proofs.Offered.{outlined_grown}
 use Rattle.file_entries.specs.Bars.{Bars}
 use Rattle.file_entries.specs.Command.{MayBegin, after, after_all, grow}
 use Rattle.file_entries.specs.Store.{Entry, blocks_for, blocks_of, entry_count, free_blocks}
-use Rattle.file_entries.specs.declared.entries.BeginBar.{BeginBar}
-use Rattle.file_entries.specs.declared.entries.BeginBar.TheVariants.{TooLong, TooMany, NumbersGone, NoRoom}
+use Rattle.file_entries.specs.declared.begin_bar.BeginBar.{BeginBar}
+use Rattle.file_entries.specs.declared.begin_bar.BeginBar.TheVariants.{TooLong, TooMany, NumbersGone, NoRoom}
 use Rattle.file_entries.proofs.Offered.{both-true}
 use Rattle.file_journal.specs.Layout.{Blocks}
 use Rattle.file_store.specs.Answers.{RefusesBegin}

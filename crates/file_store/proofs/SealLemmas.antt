@@ -1,6 +1,6 @@
 -- How the parts of the end of a file come together.
 use Rattle.std.proofs.Common.{◌≡◌, ◌≢◌, inl, inr, ℕ, ◌+◌, ◌≤◌, Bool, true, false, List, [], ◌∷◌, ◌++◌, length, Option, None, Some, Result, Ok, Err, IsErr, OnOk, OnErr, refl, sym, ◌∙◌, ap, subst, arith, take, zero-add}
-use Rattle.std.specs.Prelude.{IfSome, IsSome, is_some}
+use Rattle.std.specs.Prelude.{IfSome, IsSome, IsTrue, is_some, replicate}
 use Rattle.std.specs.Option.{option_map}
 use Rattle.std.proofs.lemmas.Bool.Decides.{eqb_tells}
 use Rattle.std.proofs.lemmas.List.{append-nil, take_all}
@@ -9,11 +9,12 @@ use Rattle.block_entries.specs.IsPlaced.{IsPlaced}
 use Rattle.block_entries.specs.Outlined.{outlined, outlined_entry}
 use Rattle.block_entries.specs.Placed.{Placed, PlacedStore, Seal, placed_of}
 use Rattle.block_entries.specs.PlacedCommand.{is_partial, is_whole, sealed, with_sealed, without_file}
-use Rattle.block_entries.specs.PlacedFiles.{Becomes, KeepsRests, PlacedFiles, rest_of, store_of}
+use Rattle.block_entries.specs.PlacedFiles.{Becomes, KeepsRests, PlacedFiles, octets_or_none, rest_of, store_of}
 use Rattle.block_entries.specs.Seen.{octets_in, stamp_at}
 use Rattle.block_entries.specs.TestLaws.{Passes, TakesSeal}
 use Rattle.block_entries.specs.declared.file_check.CheckedHeader.{CheckedHeader}
-use Rattle.block_entries.proofs.Offered.{changed_is, changed_leaves, outlined_found, sealed_outlined, without_is, without_leaves}
+use Rattle.block_entries.proofs.Offered.{changed_is, changed_leaves, outlined_found, without_is, without_leaves}
+use Rattle.disk_model.specs.AtDisk.{at}
 use Rattle.disk_model.specs.Disk.{IsTold}
 use Rattle.disk_model.specs.declared.disk.Disk.{Ghosts}
 use Rattle.disk_model.specs.declared.disk.DiskFault.{DiskFault}
@@ -23,11 +24,10 @@ use Rattle.file_journal.specs.Layout.{Blocks, blocks_on}
 use Rattle.file_journal.proofs.Offered.{reads_same}
 use Rattle.file_entries.specs.Command.{Command, after_all, drop_entry, grow, last_grow, seal}
 use Rattle.file_entries.specs.Faults.{fault_code}
-use Rattle.file_entries.specs.Files.{octets_or_none}
-use Rattle.file_entries.specs.Info.{IsCompleteIn}
-use Rattle.file_entries.specs.Store.{Entry, entry_of}
-use Rattle.file_store.specs.Ending.{EndsFile, LeavesOthers}
-use Rattle.file_store.specs.Kept.{ChangesEntry, KeepsOtherFiles}
+use Rattle.file_entries.specs.Info.{IsCompleteIn, is_complete}
+use Rattle.file_entries.specs.Store.{Entry, Holding, Store, entry_of}
+use Rattle.file_store.specs.Ending.{EndsFile, EndsInOrder, IsSealedAt, LeavesOthers}
+use Rattle.file_store.specs.Kept.{KeepsOtherFiles}
 use Rattle.file_store.specs.OnDisk.{Does, DoesTo, outlined_all}
 use Rattle.file_store.specs.State.{IsKnown, IsReady, StandsOn, StoreState, placed_in, rest_in, store_in, store_on}
 use Rattle.file_store.specs.Upload.{Holds, IsWholeWaiting, Upload, come_of, ending}
@@ -37,20 +37,25 @@ use Rattle.file_store.specs.declared.end.End.TheVariants as end
 use Rattle.file_store.proofs.DoesLemmas.{among-at, among-same, among-then, does-among, Does-longer, Does-same, reads-only}
 use Rattle.file_store.proofs.EndLemmas.{mid-come, mid-is, mid-partial, mid-under, mid-whole, sealing-allowed}
 use Rattle.file_store.proofs.GrowsLemmas.{AreGrows}
-use Rattle.file_store.proofs.OnLemmas.{known_on, known_told}
-use Rattle.file_store.proofs.UploadLemmas.{entries-complete, entries-uploads, grows-change, grows-entries}
+use Rattle.file_store.proofs.OnLemmas.{in_parked, known_on, known_told}
+use Rattle.file_store.proofs.OnlyLemmas.{only-first, only-same, only-then}
+use Rattle.file_store.proofs.UploadLemmas.{only-keeps}
 
 -- ---- the file itself
 
--- the file is complete
+-- the file is complete, and was sealed in the moment of its seal
 pub sealed-complete : (old new : StoreState) (number : ℕ) (mark : Seal) → Passes (placed_in old) number is_whole
-    → Becomes old.files new.files (with_sealed (placed_in old) number mark) number None → IsCompleteIn (store_in new) number
-sealed-complete old new number mark passes becomes =
-    sealed_outlined (placed_in new) number (
-      sealed mark passes.file,
-      ap (λ (s : PlacedStore). placed_of s number) becomes.store_is ∙ changed_is number (sealed mark) (λ f. refl) (placed_in old) ∙ ap (option_map (sealed mark)) passes.found,
-      refl,
-    )
+    → Becomes old.files new.files (with_sealed (placed_in old) number mark) number None → IsSealedAt (store_in new) number mark.moment
+sealed-complete old new number mark passes becomes = (
+  outlined_entry (sealed mark passes.file),
+  replicate passes.file.held 0,
+  outlined_found (placed_in new) number
+      ∙ ap (option_map outlined_entry) (ap (λ (s : PlacedStore). placed_of s number) becomes.store_is ∙ changed_is number (sealed mark) (λ f. refl) (placed_in old) ∙ ap (option_map (sealed mark)) passes.found),
+  refl,
+)
+
+pub sealed-whole : (store : Store) (number moment : ℕ) → IsSealedAt store number moment → IsCompleteIn store number
+sealed-whole store number moment is = (is.0, is.2, subst (λ (h : Holding). IsTrue (is_complete h)) (sym is.3) refl)
 
 -- the file is gone
 pub dropped-gone : (old new : StoreState) (number : ℕ) → Becomes old.files new.files (without_file (placed_in old) number) number None → entry_of (store_in new) number ≡ None
@@ -68,8 +73,7 @@ module _ {D : Type 0} (g : Ghosts D) where
       → LeavesOthers g old new disk_now number
   held-leaves old new disk disk_now number rest does = record {
     stands_on = does.stands_on;
-    entries = grows-entries (store_in old) (store_in new) number (last_grow number rest) (last-are number rest) does.part;
-    changes = grows-change (store_in old) (store_in new) number (last_grow number rest) (last-are number rest) does.part;
+    only = only-first (store_in old) (store_in new) number (last_grow number rest) (last-are number rest) does.part;
     rests = does.rests;
   }
 
@@ -77,57 +81,42 @@ module _ {D : Type 0} (g : Ghosts D) where
       → LeavesOthers g old new disk_now number
   leaves-then old mid new disk_mid disk_now number first second = record {
     stands_on = second.stands_on;
-    entries = λ other entry ne found. second.entries other entry ne (first.entries other entry ne found);
-    changes = λ other entry found.
-        let last = second.changes other entry found in
-        let was = first.changes other last.0 last.1 in
-        (was.0, was.1, was.2 ∙ last.2, λ ne. was.3 ne ∙ last.3 ne);
+    only = only-then number (store_in old) (store_in mid) (store_in new) first.only second.only;
     rests = λ other ne. second.rests other ne ∙ first.rests other ne;
   }
 
   -- what reads leave
   pub leaves-read : (old new : StoreState) (disk_now disk_read : D) (number : ℕ) → StandsOn g new disk_read → LeavesOthers g old new disk_now number → LeavesOthers g old new disk_read number
-  leaves-read old new disk_now disk_read number stands leaves = record { stands_on = stands; entries = leaves.entries; changes = leaves.changes; rests = leaves.rests }
+  leaves-read old new disk_now disk_read number stands leaves = record { stands_on = stands; only = leaves.only; rests = leaves.rests }
 
   pub leaves-keeps : (old new : StoreState) (disk_now : D) (up : Upload) → Holds old up → LeavesOthers g old new disk_now up.number → KeepsOtherFiles g old new disk_now up.number
-  leaves-keeps old new disk_now up h leaves = record {
-    stands_on = leaves.stands_on;
-    uploads = entries-uploads old new up.number leaves.entries leaves.rests;
-    rests = leaves.rests;
-    kept = entries-complete (store_in old) (store_in new) up.number _ h.held h.entry refl leaves.entries;
-    entries = leaves.changes;
-  }
+  leaves-keeps old new disk_now up h leaves = only-keeps g old new disk_now up h leaves.stands_on leaves.rests leaves.only
 
   -- ---- a store of which one file changed
 
-  -- each other file is as it was, and that one was there before, of the same caller
+  -- each other file is as it was, and that one was there before, and is what it was but for how far it has come
   leaves-placed : (old new : StoreState) (disk_now : D) (number : ℕ) → StandsOn g new disk_now → KeepsRests old.files new.files number
+      → ((placed_in new).next ≡ (placed_in old).next) × ((placed_in new).blocks ≡ (placed_in old).blocks)
       → ((other : ℕ) → other ≢ number → placed_of (placed_in new) other ≡ placed_of (placed_in old) other)
-      → ((entry : Entry) → entry_of (store_in new) number ≡ Some entry → (was : Entry) × (entry_of (store_in old) number ≡ Some was) × (was.caller ≡ entry.caller))
+      → ((entry : Entry) → entry_of (store_in new) number ≡ Some entry → (was : Entry) × (entry_of (store_in old) number ≡ Some was) × (entry ≡ record was { holding = entry.holding }))
       → LeavesOthers g old new disk_now number
-  leaves-placed old new disk_now number stands rests others own = record {
+  leaves-placed old new disk_now number stands rests same others own = record {
     stands_on = stands;
-    entries = λ other entry ne found. same other ne ∙ found;
-    changes = changes;
+    only = record {
+      next = same.0;
+      blocks = same.1;
+      others = λ other ne.
+          outlined_found (placed_in new) other ∙ ap (option_map outlined_entry) (others other ne) ∙ sym (outlined_found (placed_in old) other);
+      own = own;
+    };
     rests = rests;
   }
-    where
-      same : (other : ℕ) → other ≢ number → entry_of (store_in new) other ≡ entry_of (store_in old) other
-      same other ne = outlined_found (placed_in new) other ∙ ap (option_map outlined_entry) (others other ne) ∙ sym (outlined_found (placed_in old) other)
-
-      changes : ChangesEntry (store_in old) (store_in new) number
-      changes other entry found =
-          elim (eqb_tells other number) [
-            | inl w ↦
-                let was = own entry (ap (entry_of (store_in new)) (sym w.1) ∙ found) in
-                (was.0, ap (entry_of (store_in old)) w.1 ∙ was.1, was.2, λ ne. absurd (ne w.1))
-            | inr w ↦ (entry, sym (same other w.1) ∙ found, refl, λ ne. refl)
-          ]
 
   pub sealed-leaves : (old new : StoreState) (disk_now : D) (number : ℕ) (mark : Seal) → StandsOn g new disk_now → Passes (placed_in old) number is_whole
       → Becomes old.files new.files (with_sealed (placed_in old) number mark) number None → LeavesOthers g old new disk_now number
   sealed-leaves old new disk_now number mark stands passes becomes =
       leaves-placed old new disk_now number stands becomes.others
+      (ap (λ (s : PlacedStore). s.next) becomes.store_is, ap (λ (s : PlacedStore). s.blocks) becomes.store_is)
       (λ other ne. ap (λ (s : PlacedStore). placed_of s other) becomes.store_is ∙ changed_leaves number (sealed mark) (λ f. refl) (placed_in old) other ne)
       (λ entry found.
       let now : entry_of (store_in new) number ≡ Some (outlined_entry (sealed mark passes.file)) =
@@ -136,22 +125,24 @@ module _ {D : Type 0} (g : Ghosts D) where
       let same : outlined_entry (sealed mark passes.file) ≡ entry = cc (sym now ∙ found) in (
         outlined_entry passes.file,
         outlined_found (placed_in old) number ∙ ap (option_map outlined_entry) passes.found,
-        ap (λ (e : Entry). e.caller) same,
+        subst (λ (e : Entry). e ≡ record (outlined_entry passes.file) { holding = e.holding }) same refl,
       ))
 
   pub dropped-leaves : (old new : StoreState) (disk_now : D) (number : ℕ) → StandsOn g new disk_now → Becomes old.files new.files (without_file (placed_in old) number) number None
       → LeavesOthers g old new disk_now number
   dropped-leaves old new disk_now number stands becomes =
       leaves-placed old new disk_now number stands becomes.others
+      (ap (λ (s : PlacedStore). s.next) becomes.store_is, ap (λ (s : PlacedStore). s.blocks) becomes.store_is)
       (λ other ne. ap (λ (s : PlacedStore). placed_of s other) becomes.store_is ∙ without_leaves (placed_in old) number other ne)
       (λ entry found. absurd (cc (sym (dropped-gone old new number becomes) ∙ found)))
 
   -- nothing changed but that the upload isn't out any more
   pub parked-leaves : (old new : StoreState) (disk_now : D) (number : ℕ) → StandsOn g new disk_now → Becomes old.files new.files (placed_in old) number None → LeavesOthers g old new disk_now number
-  parked-leaves old new disk_now number stands becomes =
-      leaves-placed old new disk_now number stands becomes.others
-      (λ other ne. ap (λ (s : PlacedStore). placed_of s other) becomes.store_is)
-      (λ entry found. (entry, ap (λ (s : PlacedStore). entry_of (outlined s) number) (sym becomes.store_is) ∙ found, refl))
+  parked-leaves old new disk_now number stands becomes = record {
+    stands_on = stands;
+    only = only-same number (store_in old) (store_in new) (in_parked old new becomes.store_is);
+    rests = becomes.others;
+  }
 
 -- ---- by what a put answered
 
@@ -167,7 +158,7 @@ given-up old parked now number make first second = record {
 module _ {D : Type 0} (g : Ghosts D) {T E : Type 0} where
   pub put-sealed : (result : Result T E) (old : StoreState) (parked : PlacedFiles) (new : StoreState) (disk_now : D) (number : ℕ) (mark : Seal) → StandsOn g new disk_now → Passes (placed_in old) number is_whole
       → Becomes old.files parked (placed_in old) number None → OnOk result (Becomes parked new.files (with_sealed (store_of parked) number mark) number None) → OnErr result (new.files ≡ parked)
-      → LeavesOthers g old new disk_now number × OnOk result (IsCompleteIn (store_in new) number)
+      → LeavesOthers g old new disk_now number × OnOk result (IsSealedAt (store_in new) number mark.moment)
   put-sealed (Ok x) old parked new disk_now number mark stands passes first made same =
       let becomes = given-up old parked new.files number (λ s. with_sealed s number mark) first made in
       (sealed-leaves g old new disk_now number mark stands passes becomes, sealed-complete old new number mark passes becomes)
@@ -179,9 +170,11 @@ module _ {D : Type 0} (g : Ghosts D) {T E : Type 0} where
       → LeavesOthers g old new disk_now number × OnOk result (entry_of (store_in new) number ≡ None)
   put-dropped (Ok x) old new disk_now number stands made same = (dropped-leaves g old new disk_now number stands made, dropped-gone old new number made)
   put-dropped (Err e) old new disk_now number stands made same = (
-    leaves-placed g old new disk_now number stands (λ other ne. ap (λ (files : PlacedFiles). rest_of files other) same)
-        (λ other ne. ap (λ (files : PlacedFiles). placed_of (store_of files) other) same)
-        (λ entry found. (entry, ap (λ (files : PlacedFiles). entry_of (outlined (store_of files)) number) (sym same) ∙ found, refl)),
+    record {
+      stands_on = stands;
+      only = only-same number (store_in old) (store_in new) (ap (λ (files : PlacedFiles). outlined (store_of files)) same);
+      rests = λ other ne. ap (λ (files : PlacedFiles). rest_of files other) same;
+    },
     tt,
   )
 
@@ -222,6 +215,8 @@ module _ {D : Type 0} (g : Ghosts D) (old : StoreState) (disk : D) (number momen
       record {
         code = code;
         tells = λ known. refl;
+        answers = tt;
+        order = inl (refl, does.does);
         does =
             does-among g (true ≡ true) old new disk disk_now (last_grow number rest ++ ending number moment code ∷ [])
             (Does-longer g (true ≡ true) old new disk disk_now (last_grow number rest) (ending number moment code ∷ []) refl
@@ -269,6 +264,16 @@ module _ {D : Type 0} (g : Ghosts D) (old : StoreState) (disk : D) (number momen
         record {
           code = fault_code (come_of (store_on g old disk) old number);
           tells = λ known. refl;
+          answers = tt;
+          order =
+              inr (record {
+                then_is = at mid disk_mid;
+                disk_read = disk_read;
+                holds = all-held;
+                reads = reads_same g disk_mid disk_read failed (true ≡ true) there back reads;
+                unread = λ is. refl;
+                ends = λ fine. absurd (fine refl);
+              });
           does =
               among-same g ⊥ (false ≡ true) 1 1 old mid disk disk_read (last_grow number rest) (λ never. absurd never) (λ e. cc e) refl
               (held-read g on old mid disk disk_mid disk_read (last_grow number rest) all-held mid-ready true (reads_same g disk_mid disk_read failed (true ≡ true) there back reads));
@@ -286,6 +291,11 @@ module _ {D : Type 0} (g : Ghosts D) (old : StoreState) (disk : D) (number momen
       ended : (P : Type 0) (command : Command) → Does g P mid new disk_read disk_now (command ∷ []) → DoesAmongReads g P 0 old new disk disk_now (last_grow number rest ++ command ∷ [])
       ended P command = held-ended g on old mid disk disk_mid disk_read (last_grow number rest) all-held mid-ready P new disk_now command read-fine
 
+      -- in their order
+      in-order : (P : Type 0) (command : Command) → Does g P mid new disk_read disk_now (command ∷ []) → EndsInOrder g P false (at old disk) (at new disk_now) (last_grow number rest) (command ∷ [])
+      in-order P command does =
+          inr (record { then_is = at mid disk_mid; disk_read = disk_read; holds = all-held; reads = read-fine; unread = λ is. absurd (cc is); ends = λ fine. does })
+
       -- no fault was found
       module _ (header : CheckedHeader) (found : ChecksFile (g.content disk_mid) (placed_of (placed_in mid) number) moment header) where
         good : IsKnown g disk → fault_code (come_of (store_on g old disk) old number) ≡ None
@@ -295,11 +305,27 @@ module _ {D : Type 0} (g : Ghosts D) (old : StoreState) (disk : D) (number momen
             ap fault_code (sym (come-known known)) ∙ here.faultless
 
         pub ends-uncertain : (e : DiskFault) → Does g (true ≡ true) mid new disk_read disk_now (seal number moment ∷ []) → EndsFile g (Err e) old new disk disk_now number moment
-        ends-uncertain e sealing = record { code = None; tells = λ known. sym (good known); does = ended (true ≡ true) (seal number moment) sealing; leaves = both; file = tt }
+        ends-uncertain e sealing = record {
+          code = None;
+          tells = λ known. sym (good known);
+          answers = tt;
+          does = ended (true ≡ true) (seal number moment) sealing;
+          order = in-order (true ≡ true) (seal number moment) sealing;
+          leaves = both;
+          file = tt;
+        }
 
-        pub ends-sealed : Does g (false ≡ true) mid new disk_read disk_now (seal number moment ∷ []) → IsCompleteIn (store_in new) number → rest_in new number ≡ None
+        pub ends-sealed : Does g (false ≡ true) mid new disk_read disk_now (seal number moment ∷ []) → IsSealedAt (store_in new) number moment → rest_in new number ≡ None
             → EndsFile g (Ok end.Sealed) old new disk disk_now number moment
-        ends-sealed sealing complete out = record { code = None; tells = λ known. sym (good known); does = ended (false ≡ true) (seal number moment) sealing; leaves = both; file = (complete, out, good) }
+        ends-sealed sealing at_moment out = record {
+          code = None;
+          tells = λ known. sym (good known);
+          answers = refl;
+          does = ended (false ≡ true) (seal number moment) sealing;
+          order = in-order (false ≡ true) (seal number moment) sealing;
+          leaves = both;
+          file = (at_moment, sealed-whole (store_in new) number moment at_moment, out, good);
+        }
 
       -- one was found
       module _ (code : ℕ) (found : HasFault (g.content disk_mid) (placed_of (placed_in mid) number) code) where
@@ -310,12 +336,28 @@ module _ {D : Type 0} (g : Ghosts D) (old : StoreState) (disk : D) (number momen
             ap fault_code (sym (come-known known)) ∙ here
 
         pub ends-doubtful : (e : DiskFault) → Does g (true ≡ true) mid new disk_read disk_now (drop_entry number ∷ []) → EndsFile g (Err e) old new disk disk_now number moment
-        ends-doubtful e dropping = record { code = Some code; tells = λ known. sym (bad known); does = ended (true ≡ true) (drop_entry number) dropping; leaves = both; file = tt }
+        ends-doubtful e dropping = record {
+          code = Some code;
+          tells = λ known. sym (bad known);
+          answers = tt;
+          does = ended (true ≡ true) (drop_entry number) dropping;
+          order = in-order (true ≡ true) (drop_entry number) dropping;
+          leaves = both;
+          file = tt;
+        }
 
         pub ends-dropped : Does g (false ≡ true) mid new disk_read disk_now (drop_entry number ∷ []) → entry_of (store_in new) number ≡ None → rest_in new number ≡ None → IsFaultCode code
             → EndsFile g (Ok (end.Dropped code)) old new disk disk_now number moment
         ends-dropped dropping gone out is =
-            record { code = Some code; tells = λ known. sym (bad known); does = ended (false ≡ true) (drop_entry number) dropping; leaves = both; file = (gone, out, is, bad) }
+            record {
+              code = Some code;
+              tells = λ known. sym (bad known);
+              answers = refl;
+              does = ended (false ≡ true) (drop_entry number) dropping;
+              order = in-order (false ≡ true) (drop_entry number) dropping;
+              leaves = both;
+              file = (gone, out, is, bad);
+            }
 
 -- the only Grow of octets that wait
 pub rest-grow : (number count : ℕ) (waits : List ℕ) → count ≡ length waits → ¬ (count ≡ 0) → grow number (take count waits) ∷ [] ≡ last_grow number waits

@@ -8,7 +8,7 @@ use Rattle.file_journal.proofs.Offered.{told_weaker}
 use Rattle.file_entries.specs.Faults.{fault_code}
 use Rattle.file_entries.specs.Stamp.{stamped}
 use Rattle.file_entries.specs.Command.{after, after_all, last_grow, seal, sealed}
-use Rattle.file_entries.specs.Files.{octets_or_none}
+use Rattle.block_entries.specs.PlacedFiles.{octets_or_none}
 use Rattle.file_entries.specs.Store.{Entry, Store, complete, entry_of, octets_at, partial}
 use Rattle.file_entries.proofs.Offered.{after_all-append, find-map-changed}
 use Rattle.file_store.specs.Ending.{EndsFile}
@@ -47,7 +47,7 @@ module _ {D : Type 0} (g : Ghosts D) (self new : StoreState) (disk disk_now : D)
   -- it is complete, where it is known what the files hold
   module _ (ends : EndsFile g (Ok end.Sealed) self new disk disk_now up.number moment) where
     ended-good : IsKnown g disk → fault_code (octets_come on self up) ≡ None
-    ended-good known = (ends.file).2 known
+    ended-good known = (ends.file).3 known
 
     ended-made : IsKnown g disk → store_on g new disk_now ≡ after_all on (sealing on self up moment)
     ended-made known =

@@ -11,14 +11,13 @@ use Rattle.block_entries.specs.KeptLaws.{after_placed, blocks_seen, drop_placed,
 use Rattle.block_entries.specs.Placed.{PlacedStore, placed_of}
 use Rattle.block_entries.specs.PlacedCommand as placed
 use Rattle.block_entries.specs.PlacedCommand.{PlacedCommand, after, can_seal, is_partial, is_whole, seal_with, with_grown, with_new, with_sealed, without_file}
-use Rattle.block_entries.specs.PlacedFiles.{EntriesState, PlacedFiles, rest_of, store_of}
+use Rattle.block_entries.specs.PlacedFiles.{EntriesState, PlacedFiles, octets_or_none, rest_of, store_of}
 use Rattle.block_entries.specs.PlacedRecords.{IsWritable, placed_after, placed_form, placed_in, placed_step, placed_steps, record_of_placed}
 use Rattle.block_entries.specs.Seen.{octets_in, seen, stamp_at}
 use Rattle.block_entries.specs.TestLaws.{Grows, Passes, passes_found}
 use Rattle.block_entries.proofs.Offered.{grows_allowed, placed_records, seal_step, seen_after, seen_allowed, seen_may_grow, seen_put, seen_sealed, written_record}
 use Rattle.file_entries.specs.Command as file
 use Rattle.file_entries.specs.Command.{IsAllowed, MayBegin, can_begin}
-use Rattle.file_entries.specs.Files.{octets_or_none}
 use Rattle.file_entries.specs.Limits.{last_next, longest_file, most_entries}
 use Rattle.file_entries.specs.Store.{Store, blocks_for, blocks_of}
 use Rattle.file_entries.proofs.Offered.{both-true}

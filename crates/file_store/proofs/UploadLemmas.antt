@@ -6,33 +6,32 @@ use Rattle.std.proofs.lemmas.Bool.Decides.{eqb_tells, nat_tests}
 use Rattle.std.proofs.lemmas.List.{length-replicate, length-take-le}
 use Rattle.disk_model.specs.declared.disk.Disk.{Ghosts}
 use Rattle.block_entries.specs.Placed.{has_number, placed_of}
-use Rattle.block_entries.specs.PlacedFiles.{KeepsRests, PlacedFile, PlacedFiles, entries_of, file_of, rest_of, store_of}
+use Rattle.block_entries.specs.PlacedFiles.{KeepsRests, PlacedFile, PlacedFiles, entries_of, file_of, octets_or_none, rest_of, store_of}
 use Rattle.px_base.specs.CallSign.{CallSign}
 use Rattle.file_entries.specs.Command.{Command, after, after_all, begin, grown, grows}
-use Rattle.file_entries.specs.Files.{octets_or_none}
 use Rattle.file_entries.specs.Info.{is_complete}
 use Rattle.file_entries.specs.IsStore.{IsStore}
 use Rattle.file_entries.specs.Kept.{KeepsComplete}
 use Rattle.file_entries.specs.Store.{Entry, Store, entry_of, new_entry, partial}
 use Rattle.file_entries.proofs.Offered.{find-append_found, find-map-changed, find-push, find_past, grows-after, has_number as has_entry_number, never-both}
-use Rattle.file_store.specs.Ending.{KeepsEntries}
-use Rattle.file_store.specs.Kept.{ChangesEntry, KeepsOtherFiles, KeepsOthers, KeepsUploads}
+use Rattle.file_store.specs.Kept.{ChangesEntry, KeepsOtherFiles, KeepsOthers, KeepsUploads, OnlyChanges}
 use Rattle.file_store.specs.OnDisk.{after_first, outlined_all}
 use Rattle.file_store.specs.State.{StandsOn, StoreState, rest_in, store_in}
 use Rattle.file_store.specs.Upload.{FillsBlock, FitsWaiting, Holds, IsWholeWaiting, Upload, appended, appending, came, entry_for, new_upload, waiting, with_bytes}
-use Rattle.file_store.proofs.GrowsLemmas.{AreGrows, grows-are, others-same, outlined-are, outlined-grows, own-before, take-are}
+use Rattle.file_store.proofs.GrowsLemmas.{AreGrows, grows-are, outlined-grows}
 use Rattle.file_store.proofs.OnLemmas.{in_parked, stands_parked}
+use Rattle.file_store.proofs.OnlyLemmas.{only-changes, only-complete, only-first, only-same}
 
 pub appending-are : (self : StoreState) (up : Upload) (bytes : List ℕ) → AreGrows up.number (appending self up bytes)
 appending-are self up bytes = grows-are up.number (length (with_bytes self up bytes) / 512) (with_bytes self up bytes)
 
 -- ---- what a call keeps
 
-pub entries-uploads : (old new : StoreState) (number : ℕ) → KeepsEntries (store_in old) (store_in new) number → KeepsRests old.files new.files number → KeepsOthers old new number
-entries-uploads old new number entries rests other ne h = record {
+pub only-uploads : (old new : StoreState) (number : ℕ) → OnlyChanges (store_in old) (store_in new) number → KeepsRests old.files new.files number → KeepsOthers old new number
+only-uploads old new number only rests other ne h = record {
   begun = h.begun;
   held = h.held;
-  entry = entries other.number _ ne h.entry;
+  entry = only.others other.number ne ∙ h.entry;
   count = h.count;
   rest = h.rest;
   out = rests other.number ne ∙ h.out;
@@ -40,52 +39,21 @@ entries-uploads old new number entries rests other ne h = record {
   came = h.came;
 }
 
-pub entries-complete : (before now : Store) (number : ℕ) (entry : Entry) (held : List ℕ) → entry_of before number ≡ Some entry → entry.holding ≡ partial held → KeepsEntries before now number
-    → KeepsComplete before now
-entries-complete before now number entry held is partial_is entries other found there whole =
-    elim (eqb_tells other number) [
-      | inl w ↦
-          let same : found ≡ entry = let f = subst (λ (n : ℕ). entry_of before n ≡ Some found) w.1 there in cc (sym f ∙ is) in
-          absurd (never-both entry.holding held partial_is (subst (λ (e : Entry). IsTrue (is_complete e.holding)) same whole))
-      | inr w ↦ entries other found w.1 there
-    ]
-
--- what Grows of one number make of the entries
-module _ (before now : Store) (number : ℕ) (commands : List Command) (are : AreGrows number commands) (part : (count : ℕ) × (now ≡ after_first count before (outlined_all commands))) where
-  abbrev first : List Command
-  first = take part.0 (outlined_all commands)
-
-  first-are : AreGrows number first
-  first-are = take-are part.0 number (outlined_all commands) (outlined-are number commands are)
-
-  pub grows-leave : (other : ℕ) → other ≢ number → entry_of now other ≡ entry_of before other
-  grows-leave other ne = ap (λ (s : Store). entry_of s other) part.1 ∙ others-same first before number other first-are ne
-
-  pub grows-entries : KeepsEntries before now number
-  grows-entries other entry ne found = grows-leave other ne ∙ found
-
-  pub grows-change : ChangesEntry before now number
-  grows-change other entry found =
-      elim (eqb_tells other number) [
-        | inl w ↦
-            let there : entry_of (after_all before first) number ≡ Some entry = ap (λ (s : Store). entry_of s number) (sym part.1) ∙ ap (entry_of now) (sym w.1) ∙ found in
-            let was = own-before first before number entry first-are there in
-            (was.0, ap (entry_of before) w.1 ∙ was.1, was.2, λ ne. absurd (ne w.1))
-        | inr w ↦ (entry, sym (grows-leave other w.1) ∙ found, refl, λ ne. refl)
-      ]
+pub only-keeps : {D : Type 0} (g : Ghosts D) (old new : StoreState) (disk_now : D) (up : Upload) → Holds old up → StandsOn g new disk_now → KeepsRests old.files new.files up.number
+    → OnlyChanges (store_in old) (store_in new) up.number → KeepsOtherFiles g old new disk_now up.number
+only-keeps g old new disk_now up h stands rests only = record {
+  stands_on = stands;
+  uploads = only-uploads old new up.number only rests;
+  rests = rests;
+  kept = only-complete up.number (store_in old) (store_in new) _ h.held h.entry refl only;
+  entries = only-changes up.number (store_in old) (store_in new) only;
+  only = only;
+}
 
 module _ {D : Type 0} (g : Ghosts D) (old new : StoreState) (disk_now : D) (commands : List Command) (up : Upload) (h : Holds old up) (are : AreGrows up.number commands)
     (part : (count : ℕ) × (store_in new ≡ after_first count (store_in old) (outlined_all commands))) where
   pub does-keeps : StandsOn g new disk_now → KeepsRests old.files new.files up.number → KeepsOtherFiles g old new disk_now up.number
-  does-keeps stands rests =
-      let entries = grows-entries (store_in old) (store_in new) up.number commands are part in
-      record {
-        stands_on = stands;
-        uploads = entries-uploads old new up.number entries rests;
-        rests = rests;
-        kept = entries-complete (store_in old) (store_in new) up.number _ h.held h.entry refl entries;
-        entries = grows-change (store_in old) (store_in new) up.number commands are part;
-      }
+  does-keeps stands rests = only-keeps g old new disk_now up h stands rests (only-first (store_in old) (store_in new) up.number commands are part)
 
 pub changes-same : (number : ℕ) (before now : Store) → now ≡ before → ChangesEntry before now number
 changes-same number before now same other entry found = (entry, ap (λ (s : Store). entry_of s other) (sym same) ∙ found, refl, λ ne. refl)
@@ -94,13 +62,14 @@ changes-same number before now same other entry found = (entry, ap (λ (s : Stor
 pub keeps-parked : {D : Type 0} (g : Ghosts D) (old new : StoreState) (disk : D) (number : ℕ) → store_of new.files ≡ store_of old.files → new.journal ≡ old.journal → StandsOn g old disk
     → KeepsRests old.files new.files number → KeepsOtherFiles g old new disk number
 keeps-parked g old new disk number same journal stands rests =
-    let entries : KeepsEntries (store_in old) (store_in new) number = λ other entry ne found. ap (λ (s : Store). entry_of s other) (in_parked old new same) ∙ found in
+    let only = only-same number (store_in old) (store_in new) (in_parked old new same) in
     record {
       stands_on = stands_parked g old new disk same journal stands;
-      uploads = entries-uploads old new number entries rests;
+      uploads = only-uploads old new number only rests;
       rests = rests;
       kept = λ other entry found whole. ap (λ (s : Store). entry_of s other) (in_parked old new same) ∙ found;
-      entries = changes-same number (store_in old) (store_in new) (in_parked old new same);
+      entries = only-changes number (store_in old) (store_in new) only;
+      only = only;
     }
 
 -- what the blocks of an upload that became held make of what memory tells, of the store before its octets came

@@ -11,7 +11,7 @@ use Rattle.block_entries.specs.PlacedFiles.{store_of}
 use Rattle.block_entries.specs.Seen.{octets_in, seen, stamp_at}
 use Rattle.block_entries.specs.TestLaws.{Grows, Passes, TakesSeal}
 use Rattle.file_entries.specs.Command.{Command, MayBegin, begin, drop_entry, grow, seal}
-use Rattle.file_entries.specs.Files.{octets_or_none}
+use Rattle.block_entries.specs.PlacedFiles.{octets_or_none}
 use Rattle.file_journal.specs.Layout.{Blocks}
 use Rattle.file_journal.specs.Steps.{PutBlock, Turn}
 use Rattle.file_store.specs.declared.change.EntriesChange.{EntriesChange}

@@ -21,8 +21,19 @@ ChangesEntry before now number =
     (other : ℕ) (entry : Entry) → entry_of now other ≡ Some entry
     → (old : Entry) × (entry_of before other ≡ Some old) × (old.caller ≡ entry.caller) × (other ≢ number → old ≡ entry)
 
+-- The next number and the number of blocks are as they were, and so is each entry but the one of this number, which
+-- entry or none is there. That one, where it stands, stood before, and is what it was but for how far it has come.
+pub record OnlyChanges (before now : Store) (number : ℕ) : Type 0 where
+  pub next : now.next ≡ before.next
+  pub blocks : now.blocks ≡ before.blocks
+  pub others : (other : ℕ) → other ≢ number → entry_of now other ≡ entry_of before other
+  pub own :
+      (entry : Entry) → entry_of now number ≡ Some entry
+      → (old : Entry) × (entry_of before number ≡ Some old) × (entry ≡ record old { holding = entry.holding })
+
 -- A call on the upload of this number leaves the store on its disk. It keeps each upload of another number with what
--- waits of it, and each complete entry; it makes no entry, and changes none of another number.
+-- waits of it, and each complete entry; it makes no entry, changes none of another number and drops none, and gives no
+-- number out.
 pub record KeepsOtherFiles {D : Type 0} (g : Ghosts D) (before now : StoreState) (disk_now : D) (number : ℕ) :
     Type 0 where
   pub stands_on : StandsOn g now disk_now
@@ -30,3 +41,4 @@ pub record KeepsOtherFiles {D : Type 0} (g : Ghosts D) (before now : StoreState)
   pub rests : KeepsRests before.files now.files number
   pub kept : KeepsComplete (store_in before) (store_in now)
   pub entries : ChangesEntry (store_in before) (store_in now) number
+  pub only : OnlyChanges (store_in before) (store_in now) number

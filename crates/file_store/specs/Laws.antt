@@ -10,7 +10,7 @@ use Rattle.file_entries.specs.Info.{is_complete}
 use Rattle.file_entries.specs.IsStore.{IsStore}
 use Rattle.file_entries.specs.Store.{Entry, Store, complete, entry_of, holding_of_number, partial}
 use Rattle.block_entries.specs.Laws.{IsPlacedAfter}
-use Rattle.block_entries.specs.Outlined.{IsStoreLike}
+use Rattle.file_entries.specs.Like.{IsStoreLike}
 use Rattle.block_entries.specs.Placed.{PlacedStore}
 use Rattle.block_entries.specs.PlacedCommand.{PlacedCommand}
 use Rattle.block_entries.specs.Seen.{seen}
@@ -74,8 +74,11 @@ IsKeptOn g old new disk disk_now up moment =
     holding_of_number (store_on g new disk_now) up.number
     ≡ Some (complete (kept_file (store_on g old disk) old up moment) moment)
 
--- Where it is known what its files hold, a store that hasn't failed is on its disk what memory tells, but for the
--- octets of its files, and keeps the rules of a store.
+-- A store that hasn't failed is on its disk what memory tells, but for the octets of its files, and keeps the rules of
+-- a store; where it isn't known what its files hold, it is what memory tells.
 pub record ToldLaw {D : Type 0} (g : Ghosts D) (self : StoreState) (disk : D) : Type 0 where
   pub like : IsReady g self disk → IsKnown g disk → IsStoreLike (store_in self) (store_on g self disk)
   pub rules : IsReady g self disk → IsKnown g disk → IsStore (store_on g self disk)
+  pub like_always : IsReady g self disk → IsStoreLike (store_in self) (store_on g self disk)
+  pub rules_always : IsReady g self disk → IsStore (store_on g self disk)
+  pub untold : IsReady g self disk → ¬ IsKnown g disk → store_on g self disk ≡ store_in self

@@ -8,6 +8,7 @@ pub mod OnDisk
 pub mod Reads
 pub mod Recovery
 pub mod Refusals
+pub mod Sealing
 pub mod State
 pub mod Upload
 pub mod Working
@@ -20,8 +21,9 @@ pub use Rattle.file_entries.specs.Headers
 pub use Rattle.file_entries.specs.Info
 pub use Rattle.file_entries.specs.IsStore
 pub use Rattle.file_entries.specs.Kept as EntriesKept
+pub use Rattle.file_entries.specs.Like
 pub use Rattle.file_entries.specs.Store
-pub use Rattle.file_entries.specs.declared.entries.BeginBar
+pub use Rattle.file_entries.specs.declared.begin_bar.BeginBar
 pub use Rattle.file_entries.specs.declared.info.Info as EntriesInfo
 pub use Rattle.file_entries.specs.Limits
 pub use Rattle.file_journal.specs.Calls

@@ -24,14 +24,14 @@ RefusesExactly blocks before result = restoring.RefusesExactly store_form blocks
 abbrev pub RefusesRecovery : {T : Type 0} → ℕ → Option (List ℕ) → Result T StoreFault → Type 0
 RefusesRecovery blocks content result = restoring.RefusesRecovery store_form blocks content result
 
--- The octets stand for what these stand for, and differ from them only as the journal's recovery may leave them: 18
--- octets or more are left as they are.
+-- The octets stand for what these stand for, and differ from them only as the journal's recovery may leave them: a
+-- store formatted to its end, of 18 octets and its blocks or more, is left as it is.
 abbrev pub StandsAlike : ℕ → List ℕ → List ℕ → Type 0
 StandsAlike blocks before image = restoring.StandsAlike store_form blocks before image
 
--- Since the end of the first sync a crash leaves what stands for the same as the content before, and a content of 18
--- octets or more as it is; only where that sync failed, and the answer is that fault, a crash may leave what it might
--- have left before.
+-- Since the end of the first sync a crash leaves what stands for the same as the content before, and a store formatted
+-- to its end as it is; only where that sync failed, and the answer is that fault, a crash may leave what it might have
+-- left before.
 abbrev pub LeavesAlikeSinceSync : {D T : Type 0} → Ghosts D → ℕ → Result T StoreFault → D → D → Type 0
 LeavesAlikeSinceSync g blocks result disk disk_now =
     restoring.LeavesAlikeSinceSync g store_form blocks result disk disk_now

@@ -5,7 +5,7 @@ use Rattle.file_entries.specs.Faults.{fault_code}
 use Rattle.file_entries.specs.Stamp.{StampValue, stamped}
 use Rattle.file_entries.specs.Limits.{longest_file}
 use Rattle.file_entries.specs.Command.{Command, seal, drop_entry, last_grow, whole_grows}
-use Rattle.file_entries.specs.Files.{octets_or_none}
+use Rattle.block_entries.specs.PlacedFiles.{octets_or_none}
 use Rattle.file_entries.specs.Store.{partial, entry_of, octets_at, Entry, Holding, Store}
 use Rattle.file_store.specs.State.{StoreState, rest_in, store_in}
 

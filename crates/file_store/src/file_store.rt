@@ -8,9 +8,10 @@ ghost use Rattle.std.specs.Option.{option_map};
 ghost use Rattle.disk_model.specs.Disk.{FillsRoom};
 ghost use Rattle.file_journal.specs.Calls.{Leaves, Reads, Runs, TakesStep};
 ghost use Rattle.file_journal.specs.Journal.{IsAfterRecovery};
-ghost use Rattle.file_entries.specs.Command.{after, begin, drop_entry, grow, grows, last_grow, seal, unfilled_block};
+ghost use Rattle.file_entries.specs.Command.{after, after_all, begin, drop_entry, grow, grows, last_grow, seal};
+ghost use Rattle.file_entries.specs.Command.{unfilled_block};
 ghost use Rattle.file_entries.specs.Faults.{fault_code};
-ghost use Rattle.file_entries.specs.Files.{octets_or_none};
+ghost use Rattle.block_entries.specs.PlacedFiles.{ChangesRest, IsOut, KeepsRests, octets_or_none};
 ghost use Rattle.file_entries.specs.Headers.{IsHeaderOf, IsWholeHeader};
 ghost use Rattle.file_entries.specs.Info.{IsCompleteIn, IsNextComplete, info_of};
 ghost use Rattle.file_entries.specs.IsStore.{IsStore};
@@ -19,17 +20,17 @@ ghost use Rattle.file_entries.specs.Store.{complete, entry_of, octets_at};
 ghost use Rattle.block_entries.specs.Checking.{ChecksFile};
 ghost use Rattle.block_entries.specs.Placed.{placed_of};
 ghost use Rattle.block_entries.specs.PlacedCommand.{is_partial};
-ghost use Rattle.block_entries.specs.PlacedFiles.{ChangesRest, IsOut, KeepsRests};
 ghost use Rattle.block_entries.specs.TestLaws.{Passes, TakesSeal};
 ghost use Rattle.file_store.specs.Answers.{MaySeal, RefusesAppend, RefusesBegin, RefusesResume, RefusesSeal, Resumes};
 ghost use Rattle.file_store.specs.Answers.{append_reaches, back_of_append, back_of_seal, begin_reaches};
 ghost use Rattle.file_store.specs.Answers.{seal_commands, seal_missed, seal_reaches};
-ghost use Rattle.file_store.specs.Ending.{EndsFile, LeavesOthers};
+ghost use Rattle.file_store.specs.Ending.{EndsFile, IsSealedAt, LeavesOthers};
 ghost use Rattle.file_store.specs.Kept.{KeepsOtherFiles, KeepsOthers, KeepsUploads};
 ghost use Rattle.file_store.specs.Laws.{HoldsInEach, IsKeptInEach, IsKeptOn};
-ghost use Rattle.file_store.specs.OnDisk.{Does, DoesTo};
+ghost use Rattle.file_store.specs.OnDisk.{Does, DoesTo, outlined_all};
 ghost use Rattle.file_store.specs.Reads.{MayRead, OnlyReads};
 ghost use Rattle.file_store.specs.Recovery.{IsRecovered, LeavesAlikeSinceSync, RefusesRecovery, StandsAlike};
+ghost use Rattle.file_store.specs.Sealing.{SealsFile};
 ghost use Rattle.file_store.specs.State.{IsKnown, IsRead, IsReady, StandsOn, placed_in, rest_in, store_in};
 ghost use Rattle.file_store.specs.State.{store_layout, store_magic, store_on};
 ghost use Rattle.file_store.specs.Upload.{FillsBlock, FitsWaiting, HasEntry, Holds, IsWholeWaiting, MayResume};
@@ -108,8 +109,8 @@ impl FileStore {
             → D.content disk.new ≡ D.content disk.old }
         ensures runs { Runs D.Disk (IsErrOf result StoreFault.Disk) disk.old disk.new }
 
-        // A crash since the start leaves what it might have left before, or what stands for the same, and a content of
-        // 18 octets or more as it is; since the end of the first sync the latter, but where that sync failed.
+        // A crash since the start leaves what it might have left before, or what stands for the same, and a store
+        // formatted to its end as it is; since the end of the first sync the latter, but where that sync failed.
         ensures since_start { Leaves D.Disk disk.old disk.new (StandsAlike limits.blocks) }
         ensures since_sync { LeavesAlikeSinceSync D.Disk limits.blocks result disk.old disk.new }
     {
@@ -243,6 +244,10 @@ impl FileStore {
         ensures holds { IfOk result (λ next. Holds self.new next) }
         ensures every_image { IfOk result (λ next. HoldsInEach D.Disk next disk.new) }
 
+        // What memory tells of the entries, whether it is known what the files hold or not.
+        ensures memory { OnOk result (store_in self.new
+            ≡ after_all (store_in self.old) (outlined_all (appending self.old up bytes.entry.now))) }
+
         ensures keeps { KeepsOtherFiles D.Disk self.old self.new disk.new up.number }
     {
         if bytes.len() > self.missing(&up) {
@@ -295,6 +300,9 @@ impl FileStore {
         ensures does { IsTrue (seal_reaches result) → IsKnown D.Disk disk.old
             → DoesAmongReads D.Disk (IsErrOf result SealRefusal.Disk) (seal_missed result) self.old self.new
             disk.old disk.new (seal_commands result (store_on D.Disk self.old disk.old) self.old up moment) }
+        // The same where they aren't known, by the answer; and in which order the calls of the disk come.
+        ensures ends { IsTrue (seal_reaches result)
+            → SealsFile D.Disk result self.old self.new disk.old disk.new up moment }
         ensures puts { PutsAmongReads D.Disk (IsErrOf result SealRefusal.Disk) disk.old disk.new }
         ensures misses { CountsSome (D.read_faults disk.old) (D.read_faults disk.new) (seal_missed result) }
         ensures stops { IsErrOf result SealRefusal.Disk → self.new.journal.failed ≡ true }
@@ -305,6 +313,7 @@ impl FileStore {
             → fault_code (octets_come (store_on D.Disk self.old disk.old) self.old up) ≡ None) }
         ensures receipt { IfOk result (λ receipt. receipt ≡ up.number) }
         ensures sealed { OnOk result (IsCompleteIn (store_in self.new) up.number) }
+        ensures sealed_at { OnOk result (IsSealedAt (store_in self.new) up.number moment) }
         ensures complete { OnOk result (IsKnown D.Disk disk.old
             → IsKeptOn D.Disk self.old self.new disk.old disk.new up moment) }
         ensures every_image { OnOk result (IsKeptInEach D.Disk up
@@ -312,6 +321,8 @@ impl FileStore {
         ensures ended { OnOk result (rest_in self.new up.number ≡ None) }
         ensures dropped { (code : ℕ) → IsErrOf result (SealRefusal.Header code)
             → entry_of (store_in self.new) up.number ≡ None }
+        ensures unread { (back : Upload) → IsErrOf result (SealRefusal.Read back)
+            → HoldsInEach D.Disk back disk.new }
 
         ensures keeps { KeepsOtherFiles D.Disk self.old self.new disk.new up.number }
     {
@@ -575,7 +586,7 @@ impl FileStore {
         requires found { ChecksFile (D.content disk.old) (placed_of (placed_in self.old) number) moment header }
         ensures does { Does D.Disk (IsErr result) self.old self.new disk.old disk.new (seal number moment ∷ []) }
         ensures leaves { LeavesOthers D.Disk self.old self.new disk.new number }
-        ensures sealed { OnOk result (IsCompleteIn (store_in self.new) number) }
+        ensures sealed { OnOk result (IsSealedAt (store_in self.new) number moment) }
         ensures rest { rest_in self.new number ≡ None }
     {
         self.kept.ledger.park(number);

@@ -286,6 +286,17 @@ flat-more f xs i octets more lt is here =
     ∙ flat_map_more f [] (take i xs) (get_or xs i 0)
     ∙ ap (flat_map f) (sym (take_more xs i 0 lt))
 
+-- what is due of one more
+pub map-more : {A B : Type 0} (f : ℕ → A) (h : B → A) (xs : List ℕ) (i : ℕ) (done : List B) (one : B) → i < length xs → map h done ≡ map f (take i xs) → h one ≡ f (get_or xs i 0)
+    → map h (done ++ one ∷ []) ≡ map f (take (i + 1) xs)
+map-more {A} {B} f h xs i done one lt is here =
+    map-append h done (one ∷ []) ∙ ap (λ (l : List A). l ++ h one ∷ []) is ∙ ap (λ (a : A). map f (take i xs) ++ a ∷ []) here
+    ∙ sym (map-append f (take i xs) (get_or xs i 0 ∷ [])) ∙ ap (λ (l : List ℕ). map f l) (sym (take_more xs i 0 lt))
+
+pub stored-more : {B : Type 0} (h : B → Due) (store : Store) (done : List B) (one : B) → AreStored store (map h done) → IsStored store (h one) → AreStored store (map h (done ++ one ∷ []))
+stored-more h store [] one are is = (is, tt)
+stored-more h store (x ∷ done) one are is = (are.0, stored-more h store done one are.1 is)
+
 -- what is kept is not read, and headers are
 pub read-some : (store : Store) {X : Type 0} (f : X → Due) (xs : List X) → ((x : X) → is_stored (f x) ≡ true) → 0 < length (joined store (map f xs)) → list_any is_stored (map f xs) ≡ true
 read-some store f [] stores some = absurd (omega (arith, some))

@@ -11,7 +11,7 @@ use Rattle.disk_model.specs.declared.disk.Disk.{Ghosts}
 use Rattle.ftl0_packets.specs.Layout.{data_end, data_part, dl_error_resp, packet_text}
 use Rattle.file_store.specs.Calls.{Reads}
 use Rattle.file_store.specs.Info.{IsCompleteIn}
-use Rattle.file_store.specs.Outlined.{IsStoreLike}
+use Rattle.file_store.specs.Like.{IsStoreLike}
 use Rattle.file_store.specs.State.{IsKnown}
 use Rattle.file_store.specs.Store.{Entry, Holding, Store, complete, entry_of, octets_at, partial}
 use Rattle.file_store.specs.declared.refusals.HeaderFault.{HeaderFault}

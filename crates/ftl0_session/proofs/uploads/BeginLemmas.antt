@@ -15,7 +15,7 @@ use Rattle.file_store.specs.Files.{KeepsRests}
 use Rattle.file_store.specs.IsStore.{IsStore}
 use Rattle.file_store.specs.Kept.{KeepsUploads}
 use Rattle.file_store.specs.OnDisk.{Does}
-use Rattle.file_store.specs.Outlined.{IsStoreLike}
+use Rattle.file_store.specs.Like.{IsStoreLike}
 use Rattle.file_store.specs.State.{StandsOn, StoreState, store_in, store_on}
 use Rattle.file_store.specs.Store.{Entry, Store, entry_of, new_entry}
 use Rattle.file_store.specs.Upload.{Upload}

@@ -8,9 +8,9 @@ use Rattle.ftl0_packets.specs.Items.{texts}
 use Rattle.ftl0_packets.specs.Layout.{Item, data_end, data_part, ul_nak_resp}
 use Rattle.file_store.specs.Answers.{IsShort, IsTooMuch}
 use Rattle.file_store.specs.Command.{last_grow}
-use Rattle.file_store.specs.Files.{ChangesRest, octets_or_none}
+use Rattle.file_store.specs.Files.{ChangesRest}
 use Rattle.file_store.specs.Kept.{KeepsOthers}
-use Rattle.file_store.specs.Outlined.{IsStoreLike}
+use Rattle.file_store.specs.Like.{IsStoreLike}
 use Rattle.file_store.specs.State.{StoreState, store_in}
 use Rattle.file_store.specs.Store.{Entry, Store, entry_of, partial}
 use Rattle.file_store.specs.Upload.{Holds, Upload, came, ending, entry_for, octets_come, sealing, waiting, with_bytes}
@@ -59,7 +59,7 @@ module _ (caller : CallSign) (before : StoreState) (up : Upload) (holds : Holds 
     all-came : (IsShort before up → ⊥) → length held + length (waiting before up) ≡ entry.length
     all-came enough =
         let all : up.length ≤ came before up = no_more _ _ enough in
-        let rest : length (waiting before up) ≡ length holds.rest = ap (λ (o : Option (List ℕ)). length (octets_or_none o)) holds.out in
+        let rest : length (waiting before up) ≡ length holds.rest = rw holds.out refl in
         let most : up.held + length holds.rest ≤ up.length = holds.came in
         omega (arith, count, long, all, rest, most)
 
@@ -99,11 +99,11 @@ module _ (caller : CallSign) (before : StoreState) (up : Upload) (holds : Holds 
       → replies ≡ texts row.replies → number_of next ≡ None → PhaseIsHeld now caller next → up.caller ≡ caller → ChangesRest before.files now.files up.number None → now.journal ≡ before.journal
       → KeepsOthers before now up.number → NoOtherOut before caller (Some up.number) → AnsweredAlone (packet_of caller moment item) (receiving_of before up) before now replies (next, Ok tt)
   parked moment item now next row replies is none at text no_upload held by changes journal uploads only =
-      let entries = changes-same up.number (store_in before) (store_in now) (in_parked before now changes.store) in
+      let entries = changes-same up.number (store_in before) (store_in now) (in_parked before now changes.store_is) in
       record {
         answered = refl;
         gives = λ files like. (row, is files like, none, at, text);
-        files = changes.store;
+        files = changes.store_is;
         journal = journal;
         held = held;
         only =

@@ -4,7 +4,7 @@ use Rattle.std.specs.Prelude.{⊤, Result, Ok, Err, IsErr, if◌then◌else◌, 
 use Rattle.std.specs.Option.{option_or}
 use Rattle.px_base.specs.CallSign.{CallSign}
 use Rattle.ftl0_packets.specs.Layout.{Item, data_part, data_end, upload_cmd, ul_error_resp}
-use Rattle.file_store.specs.Outlined.{IsStoreLike}
+use Rattle.file_store.specs.Like.{IsStoreLike}
 use Rattle.file_store.specs.Store.{Store}
 use Rattle.file_store.specs.State.{StoreState, store_in}
 use Rattle.ftl0_session.specs.Uploads.Asked.{IsAsked}

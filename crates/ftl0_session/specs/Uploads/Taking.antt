@@ -8,7 +8,7 @@ use Rattle.file_store.specs.EntriesKept.{KeepsComplete}
 use Rattle.file_store.specs.declared.refusals.BeginRefusal.{BeginRefusal}
 use Rattle.file_store.specs.declared.refusals.BeginRefusal.TheVariants as refusal
 use Rattle.file_store.specs.Files.{store_of}
-use Rattle.file_store.specs.Outlined.{IsStoreLike}
+use Rattle.file_store.specs.Like.{IsStoreLike}
 use Rattle.file_store.specs.State.{IsKnown, StandsOn, StoreState, store_in, store_on}
 use Rattle.file_store.specs.Store.{Store}
 use Rattle.file_store.specs.Working.{CountsSome, DoesAmongReads, PutsAmongReads, one_if}

@@ -26,7 +26,7 @@ use Rattle.ftl0_server.proofs.Offered.{empties-silent, serves-append, serves-one
 use Rattle.server_node.specs.Sessions.Running.{IsSaid}
 use Rattle.server_node.specs.OnAir.Serving.{StopsAt, failing, server_steps, text_of}
 use Rattle.server_node.specs.OnAir.Station.{ComesOn, GoesOver, HaltsOn, HaltsOver, IsOwing, IsUp, OwesBy, OwesRest, ServesAt, StandsBy, WholeBy, files_at, server_course, serving_at, with_server}
-use Rattle.server_node.specs.Steps.{made, EndsOver, Made, StopsAlways, StopsBehind}
+use Rattle.server_node.specs.Steps.{made, EndsOver, Made, RunsOn, StopsAlways, StopsBehind, WithStore, with_store}
 use Rattle.server_node.specs.declared.on_air.station.ServerStation.{ServerStation}
 use Rattle.std.proofs.lemmas.List.Concat.{flat_map-append}
 use Rattle.server_node.proofs.StepsLemmas.{AreSteps, always-behind, behind-all, cuts-all, known-or-not, puts-still, runs-none, runs-on, stop-one, stops-more, stops-on}
@@ -166,7 +166,10 @@ module _ {D : Type 0} (g : Ghosts D) (lasts : (disk : D) → g.lasts disk disk) 
   -- ---- no events
 
   comes-none : (start : AtDisk ServerStation D) (self : ServerState) (server : Server) → IsUp g start → self.store ≡ start.it.server.store → ServesAt g (with_server start self) server → ComesOn g server start [] [] (with_server start self)
-  comes-none start self server up same serving = grind (arith, common_steps, are_steps, runs-none)
+  comes-none start self server up same serving =
+      let runs = runs-none server_steps are_steps g server start.it.server.store start.disk up.awaits.ready (lasts start.disk) in
+      let from : WithStore Server D = with_store server start.it.server.store start.disk in
+      record { next = server; serving = serving; runs = subst (λ (store : StoreState). RunsOn g server_steps from (with_store server store start.disk) [] []) (sym same) runs }
 
   pub goes-none : (start : AtDisk ServerStation D) → IsUp g start → (server_course g).goes start [] [] start
   goes-none start up = record { puts = puts-still g ⊥ start.disk (λ never. never) (lasts start.disk); comes = λ known server serving. comes-none start start.it.server server up refl serving }

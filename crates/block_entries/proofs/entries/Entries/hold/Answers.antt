@@ -5,7 +5,7 @@ use Rattle.block_entries.proofs.ChangeLemmas.{block_free, has_place, held_fits, 
 use Rattle.block_entries.proofs.entries.Entries.hold.Goals as goal
 use Rattle.block_entries.proofs.entries.Entries.hold.Goals.{After-index_mut}
 use Rattle.block_table.specs.Table.{Table}
-use Rattle.file_entries.specs.Files.{octets_or_none}
+use Rattle.block_entries.specs.PlacedFiles.{octets_or_none}
 
 pub unwrap-place-requires : goal.unwrap-place-requires
 unwrap-place-requires c =

@@ -2,7 +2,7 @@ use Rattle.std.proofs.Common.{ap, sym, ◌∙◌}
 use Rattle.block_entries.specs.PlacedFiles.{EntriesState}
 use Rattle.block_entries.proofs.ChangeLemmas.{rest_now}
 use Rattle.block_entries.proofs.entries.Entries.waiting.Goals as goal
-use Rattle.file_entries.specs.Files.{octets_or_none}
+use Rattle.block_entries.specs.PlacedFiles.{octets_or_none}
 
 pub returns-in-Some : goal.returns-in-Some
 returns-in-Some c =

@@ -1,8 +1,7 @@
 use Rattle.std.proofs.Common.{◌≡◌, ℕ, ◌/◌, ◌++◌, true, List, length, Some, refl, sym, ◌∙◌, ap, subst, arith, rules}
 use Rattle.std.specs.Option.{option_map}
-use Rattle.block_entries.specs.PlacedFiles.{store_of}
+use Rattle.block_entries.specs.PlacedFiles.{octets_or_none, store_of}
 use Rattle.file_entries.specs.Command.{Command, grows, unfilled_block, whole_grows}
-use Rattle.file_entries.specs.Files.{octets_or_none}
 use Rattle.file_store.specs.OnDisk.{Does}
 use Rattle.file_store.specs.State.{StoreState, rest_in, state_from, store_in}
 use Rattle.file_store.specs.Upload.{Holds, Upload, appended, appending, with_bytes}
@@ -55,6 +54,25 @@ returns-in-Ok-clause-holds g c =
     let next : c.moved_on.result ≡ appended self up bytes = search rules in
     subst (λ (u : Upload). Holds new u) (sym next)
     (appended-holds self new up bytes c.requires.holds (omega (arith, c.missing.ensures.missing, c.if-bytes-missing.false)) made rest)
+
+pub returns-in-Ok-clause-memory : goal.returns-in-Ok-clause-memory
+returns-in-Ok-clause-memory g c =
+    let self = c.args.self.now in
+    let up = c.args.up in
+    let bytes = c.args.bytes.now in
+    let number = c.number-number.result in
+    let inside : StoreState = state_from c.self.inside.kept.ledger.files c.self.inside.kept.journal in
+    let brought : StoreState = state_from c.bring.new.self.files c.self.inside.kept.journal in
+    let new = c.hold_blocks.new.self in
+    let came = c.in_default.ensures.ok in
+    let here : rest_in brought number ≡ option_map (λ (r : List ℕ). r ++ bytes) (rest_in self number) =
+    came.here ∙ ap (λ (s : StoreState). option_map (λ (r : List ℕ). r ++ bytes) (rest_in s number)) c.self.view_is in
+    let waits : octets_or_none (rest_in brought number) ≡ with_bytes self up bytes = brought-waits self brought up bytes number c.number-number.ensures c.requires.holds here in
+    let these : List Command = grows number (length c.waiting.result.now / 512) (octets_or_none (rest_in brought number)) in
+    let commands : these ≡ appending self up bytes =
+    ap (λ (w : List ℕ). grows number (length w / 512) (octets_or_none (rest_in brought number))) c.waiting.ensures
+    ∙ ap (λ (w : List ℕ). whole_grows number w) waits ∙ ap (λ (n : ℕ). whole_grows n (with_bytes self up bytes)) c.number-number.ensures in
+    append-whole self brought new new these (appending self up bytes) (in_parked inside brought came.store_is ∙ ap store_in c.self.view_is) refl commands (c.in-Ok.ensures.does.whole (λ e. cc e))
 
 pub returns-in-Ok-clause-every_image : goal.returns-in-Ok-clause-every_image
 returns-in-Ok-clause-every_image g c =

@@ -1,7 +1,6 @@
 use Rattle.std.proofs.Common.{◌≡◌, [], ◌∷◌, take, IsErr, sym, ◌∙◌, ap, subst}
-use Rattle.block_entries.specs.PlacedFiles.{EntriesState, IsLowest, store_of}
+use Rattle.block_entries.specs.PlacedFiles.{EntriesState, IsLowest, octets_or_none, store_of}
 use Rattle.file_entries.specs.Command.{grow}
-use Rattle.file_entries.specs.Files.{octets_or_none}
 use Rattle.file_store.specs.Changes.{MayMake}
 use Rattle.file_store.specs.OnDisk.{DoesTo}
 use Rattle.file_store.specs.State.{IsReady, StoreState, rest_in, state_from}

@@ -1,6 +1,6 @@
 use Rattle.std.proofs.Common.{◌≡◌, ℕ, true, false, [], ◌∷◌, length, take, IsErr, refl, sym, ◌∙◌, ap, subst, rules}
 use Rattle.file_entries.specs.Command.{after_all, grow, grows}
-use Rattle.file_entries.specs.Files.{octets_or_none}
+use Rattle.block_entries.specs.PlacedFiles.{octets_or_none}
 use Rattle.file_store.specs.OnDisk.{Does, outlined_all}
 use Rattle.file_store.specs.State.{rest_in, store_in}
 use Rattle.file_store.proofs.DoesLemmas.{Does-same, after_first-all}

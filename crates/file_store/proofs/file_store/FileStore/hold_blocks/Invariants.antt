@@ -1,8 +1,7 @@
 use Rattle.std.proofs.Common.{◌≡◌, ◌*◌, drop}
 use Rattle.std.specs.Option.{option_map}
-use Rattle.block_entries.specs.PlacedFiles.{KeepsRests}
+use Rattle.block_entries.specs.PlacedFiles.{KeepsRests, octets_or_none}
 use Rattle.file_entries.specs.Command.{after_all, grows}
-use Rattle.file_entries.specs.Files.{octets_or_none}
 use Rattle.file_store.specs.OnDisk.{Does, outlined_all}
 use Rattle.file_store.specs.State.{StandsOn, rest_in, store_in}
 use Rattle.file_store.specs.Upload.{FitsWaiting}

@@ -1,6 +1,6 @@
 use Rattle.std.proofs.Common.{◌≡◌, List, length, IsErr, ◌∙◌, ap, subst, arith}
 use Rattle.file_entries.specs.Command.{Command}
-use Rattle.file_entries.specs.Files.{octets_or_none}
+use Rattle.block_entries.specs.PlacedFiles.{octets_or_none}
 use Rattle.file_store.specs.OnDisk.{DoesTo}
 use Rattle.file_store.specs.State.{StoreState, rest_in}
 use Rattle.file_store.proofs.SealLemmas.{rest-grow}

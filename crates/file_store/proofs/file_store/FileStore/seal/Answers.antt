@@ -1,13 +1,16 @@
-use Rattle.std.proofs.Common.{ℕ, Ok, None, refl, sym, subst, arith, rules}
-use Rattle.block_entries.specs.PlacedFiles.{Becomes}
+use Rattle.std.proofs.Common.{◌≡◌, ℕ, Ok, Err, None, refl, sym, ◌∙◌, ap, subst, arith, rules}
+use Rattle.block_entries.specs.PlacedFiles.{Becomes, store_of}
 use Rattle.file_journal.proofs.Offered.{puts_among, puts_none}
 use Rattle.file_store.specs.Ending.{EndsFile, LeavesOthers}
+use Rattle.file_store.specs.Laws.{HoldsInEach}
 use Rattle.file_store.specs.State.{StoreState, placed_in, state_from}
-use Rattle.file_store.specs.Upload.{Holds, Upload}
+use Rattle.file_store.specs.Upload.{Holds, Upload, held_whole}
 use Rattle.file_store.specs.declared.end.End.TheVariants as end
 use Rattle.file_store.proofs.OnLemmas.{stands_parked}
+use Rattle.file_store.proofs.OrderLemmas.{seals-bad, seals-cut, seals-good, seals-unread}
 use Rattle.file_store.proofs.SealLemmas.{leaves-keeps, leaves-then, parked-leaves}
 use Rattle.file_store.proofs.SealedLemmas.{ended-each, ended-kept, ended-unread}
+use Rattle.file_store.proofs.TokenLemmas.{holds-each}
 use Rattle.file_store.proofs.UploadLemmas.{keeps-parked, whole-waiting}
 use Rattle.file_store.proofs.file_store.FileStore.seal.Goals as goal
 
@@ -18,6 +21,49 @@ returns-then-failed-clause-keeps g c =
 pub end_file-requires-clause-whole : goal.end_file-requires-clause-whole
 end_file-requires-clause-whole g c =
     whole-waiting c.args.self.now c.args.up c.number-number.result c.number-number.ensures c.requires.holds (omega (arith, c.missing.ensures.missing, c.if-missing-gt0.false))
+
+pub returns-in-Ok-Sealed-clause-ends : goal.returns-in-Ok-Sealed-clause-ends
+returns-in-Ok-Sealed-clause-ends g c reaches =
+    let D = g.D.Disk in
+    let self = c.args.self.now in
+    let ends : EndsFile D (Ok end.Sealed) self c.end_file.new.self c.args.disk.now c.end_file.new.disk c.args.up.number c.args.moment = search rules in
+    seals-good D self c.end_file.new.self c.args.disk.now c.end_file.new.disk c.args.up c.args.moment _ ends
+
+pub returns-in-Ok-Dropped-clause-ends : goal.returns-in-Ok-Dropped-clause-ends
+returns-in-Ok-Dropped-clause-ends g c reaches =
+    let D = g.D.Disk in
+    let self = c.args.self.now in
+    let ends : EndsFile D (Ok (end.Dropped c.in-Ok-Dropped.code)) self c.end_file.new.self c.args.disk.now c.end_file.new.disk c.args.up.number c.args.moment = search rules in
+    seals-bad D self c.end_file.new.self c.args.disk.now c.end_file.new.disk c.args.up c.args.moment c.in-Ok-Dropped.code ends
+
+pub returns-in-Ok-Unread-clause-ends : goal.returns-in-Ok-Unread-clause-ends
+returns-in-Ok-Unread-clause-ends g c reaches =
+    let D = g.D.Disk in
+    let self = c.args.self.now in
+    let ends : EndsFile D (Ok end.Unread) self c.end_file.new.self c.args.disk.now c.end_file.new.disk c.args.up.number c.args.moment = search rules in
+    seals-unread D self c.end_file.new.self c.args.disk.now c.end_file.new.disk c.args.up c.args.moment _ ends
+
+pub returns-in-Ok-Unread-clause-unread : goal.returns-in-Ok-Unread-clause-unread
+returns-in-Ok-Unread-clause-unread g c back is =
+    let D = g.D.Disk in
+    let self = c.args.self.now in
+    let ends : EndsFile D (Ok end.Unread) self c.end_file.new.self c.args.disk.now c.end_file.new.disk c.args.up.number c.args.moment = search rules in
+    let same : back ≡ held_whole c.args.up = let w = c.whole.ensures in cc in
+    subst (λ (u : Upload). HoldsInEach D u c.end_file.new.disk) (sym same)
+    (holds-each D c.end_file.new.self c.end_file.new.disk ((ends.does.done (λ e. cc e)).1) ends.leaves.stands_on (held_whole c.args.up)
+    (ended-unread D self c.end_file.new.self c.args.disk.now c.end_file.new.disk c.args.up c.args.moment c.requires.holds ends))
+
+pub returns-in-Err-clause-ends : goal.returns-in-Err-clause-ends
+returns-in-Err-clause-ends g c reaches =
+    let D = g.D.Disk in
+    let self = c.args.self.now in
+    let up = c.args.up in
+    let disk_now = c.end_file.new.disk in
+    let journal = c.self-2.inside.kept.journal in
+    let new : StoreState = state_from c.park-in-Err.new.self.files journal in
+    let ends : EndsFile D (Err c.in-Err.field-0) self c.end_file.new.self c.args.disk.now disk_now up.number c.args.moment = search rules in
+    let store = c.park-in-Err.ensures.store_is ∙ ap (λ (s : StoreState). store_of s.files) c.self-2.view_is in
+    seals-cut D self c.end_file.new.self c.args.disk.now disk_now up c.args.moment _ new store (ap (λ (s : StoreState). s.journal) c.self-2.view_is) ends
 
 pub returns-in-Ok-Sealed-clause-complete : goal.returns-in-Ok-Sealed-clause-complete
 returns-in-Ok-Sealed-clause-complete g c =

@@ -23,7 +23,7 @@ returns-in-Ok c = λ moment.
     let theirs = found.1.0 in
     let is_number : up.number ≡ a.number = ap (λ (u : Upload). u.number) found.2 ∙ found-number a.number (store_in store).entries found.0 theirs.0 in
     let held : c.held.result ≡ length (octets_of found.0.holding) = c.held.ensures.value ∙ ap (λ (u : Upload). u.held) found.2 in
-    let entries = changes-same a.number (store_in store) (store_in now) (in_parked store now c.in-Ok.ensures.rest.store) in
+    let entries = changes-same a.number (store_in store) (store_in now) (in_parked store now c.in-Ok.ensures.rest.store_is) in
     let own : (e : Entry) → entry_of (store_in store) a.number ≡ Some e → e.caller ≡ a.caller = λ e here. (let one : Some e ≡ Some found.0 = sym here ∙ theirs.0 in let same : e ≡ found.0 = cc in ap (λ (x : Entry). x.caller) same ∙ theirs.1) in
     record {
       answered = refl;
@@ -37,7 +37,7 @@ returns-in-Ok c = λ moment.
             receiving-at now up a.number [] is_number c.in-Ok.ensures.holds.1,
             c.go_on.ensures ∙ ap (λ (n : ℕ). texts (ul_go_resp a.number n ∷ [])) (held ∙ count),
           );
-      files = c.in-Ok.ensures.rest.store;
+      files = c.in-Ok.ensures.rest.store_is;
       journal = c.in-Ok.ensures.journal;
       held = (c.in-Ok.ensures.holds.0, ap (λ (u : Upload). u.caller) found.2 ∙ theirs.1);
       only =

@@ -1,4 +1,4 @@
-use Rattle.std.proofs.Common.{◌≡◌, ◌==◌, ◌<◌, ◌-◌, ◌++◌, ℕ, List, length, min, take, refl, ap, sym, ◌∙◌, subst, arith, rules, true, false, true≢false, Bool, Some}
+use Rattle.std.proofs.Common.{◌≡◌, ◌==◌, ◌<◌, ℕ, List, length, take, refl, ap, sym, ◌∙◌, subst, arith, rules, true, false, true≢false, Some}
 use Rattle.std.proofs.lemmas.Bool.Decides.{nat_tests}
 use Rattle.ftl0_packets.specs.Layout.{data_end, data_part, dl_error_resp, packet_text}
 use Rattle.file_store.specs.State.{IsKnown, StoreState, store_in, store_on}

@@ -1,7 +1,7 @@
 use Rattle.std.proofs.Common.{◌≡◌, [], ◌∷◌, map, drop, None, false, inl, inr, ap, ◌∙◌, sym}
 use Rattle.std.specs.Option.{option_map}
 use Rattle.ftl0_packets.specs.Values.{value_of}
-use Rattle.file_store.specs.State.{store_in}
+use Rattle.file_store.specs.State.{store_on}
 use Rattle.ftl0_session.specs.Downloads.Spans.{due_of}
 use Rattle.ftl0_session.specs.Downloads.Table.{download_row, ended_row, kept, sending, waiting}
 use Rattle.ftl0_session.specs.Downloads.View.{state_of}
@@ -30,7 +30,7 @@ returns-in-Waiting-clause-takes g c =
 pub returns-in-ListingShort-clause-takes : goal.returns-in-ListingShort-clause-takes
 returns-in-ListingShort-clause-takes g c =
     let inside = c.self.inside in
-    let row : download_row c.args.caller (store_in c.args.store.now) c.args.lists.now c.args.self.now (value_of c.args.packet.now) false ≡ None =
+    let row : download_row c.args.caller (store_on g.D.Disk c.args.store.now c.args.disk.now) c.args.lists.now c.args.self.now (value_of c.args.packet.now) false ≡ None =
     elim c.in-ListingShort.is [
       | inl is ↦
           row_in_listing _ _ _ _ (kept (drop inside.sent inside.short_forms.items) ∷ []) _

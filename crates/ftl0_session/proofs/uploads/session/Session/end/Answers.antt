@@ -16,7 +16,7 @@ returns-in-Receiving-clause-only c = λ was.
     let up = c.in-Receiving.up in
     let rest = c.park.ensures.rest in
     let here : c.args.self.phase ≡ phase.Receiving up = ap (λ (s : SessionState). s.phase) (sym c.self.view_is) ∙ c.in-Receiving.is in
-    only-none store now up.number c.args.self.caller (changes-same up.number (store_in store) (store_in now) (in_parked store now rest.store)) rest.others
+    only-none store now up.number c.args.self.caller (changes-same up.number (store_in store) (store_in now) (in_parked store now rest.store_is)) rest.others
     (subst (λ (p : Phase). NoOtherOut store c.args.self.caller (number_of p)) here was) rest.here
 
 pub returns-in-Receiving-clause-others : goal.returns-in-Receiving-clause-others
@@ -27,5 +27,5 @@ returns-in-Receiving-clause-others c =
     let rest = c.park.ensures.rest in
     let here : c.args.self.phase ≡ phase.Receiving up = ap (λ (s : SessionState). s.phase) (sym c.self.view_is) ∙ c.in-Receiving.is in
     let held = subst (λ (p : Phase). PhaseIsHeld store c.args.self.caller p) here c.requires in
-    others-kept store now up.number c.args.self.caller (changes-same up.number (store_in store) (store_in now) (in_parked store now rest.store)) rest.others
+    others-kept store now up.number c.args.self.caller (changes-same up.number (store_in store) (store_in now) (in_parked store now rest.store_is)) rest.others
     (own-entry c.args.self.caller store up held.0 held.1) c.park.ensures.uploads

@@ -136,14 +136,14 @@ returns-in-Err-Read g c =
     let journal = c.park-in-Err-Read.ensures.journal in
     let files : Store = store_on g.D.Disk store disk in
     let commands : List Command = last_grow a.up.number (waiting store a.up) in
-    let same : store_in now ≡ store_in mid = in_parked mid now parks.store in
+    let same : store_in now ≡ store_in mid = in_parked mid now parks.store_is in
     let entries = subst (λ (s : Store). ChangesEntry (store_in store) s a.up.number) (sym same) keeps.entries in
     let rests : KeepsRests store.files now.files a.up.number = λ other ne. parks.others other ne ∙ keeps.rests other ne in
     record {
       takes =
           takes-among g.D.Disk (packet_of caller a.moment (Ok data_end)) (receiving_of store a.up) store disk command now disk_now _ _ true commands (λ e. cc e) puts misses
           (λ known.
-          among-parked g.D.Disk ⊥ 1 store mid now disk disk_now commands parks.store journal
+          among-parked g.D.Disk ⊥ 1 store mid now disk disk_now commands parks.store_is journal
           (among-same g.D.Disk _ ⊥ 1 1 store mid disk disk_now commands (λ e. cc e) (λ never. absurd never) refl (reached refl known)))
           (λ known. (
             unread_row a.up.number (waiting store a.up),
@@ -154,7 +154,7 @@ returns-in-Err-Read g c =
           )) (λ known failed. refl) (λ ok none. absurd (true≢false ok));
       failed = λ e. absurd (cc e);
       healthy = λ ok. ap (λ j. j.failed) journal ∙ goes_on (λ e. cc e) ∙ c.requires.ready.healthy;
-      stands_on = stands_parked g.D.Disk mid now disk_now parks.store journal keeps.stands_on;
+      stands_on = stands_parked g.D.Disk mid now disk_now parks.store_is journal keeps.stands_on;
       held = tt;
       only = only-none store now a.up.number caller entries rests c.requires.only parks.here;
       others =

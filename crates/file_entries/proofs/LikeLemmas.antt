@@ -3,14 +3,14 @@ use Rattle.std.proofs.Common.{◌≡◌, ℕ, ◌+◌, ◌-◌, ◌==◌, ◌&&�
 use Rattle.std.specs.Prelude.{find, sum_by}
 use Rattle.std.proofs.lemmas.Bool.Decides.{eqb_tells}
 use Rattle.std.proofs.lemmas.List.Sums.{sum_by-cons}
-use Rattle.block_entries.specs.Outlined.{AreLike, IsAsFar, IsEntryLike, IsStoreLike}
+use Rattle.file_entries.specs.Like.{AreLike, IsAsFar, IsEntryLike, IsStoreLike}
 use Rattle.file_entries.specs.Bars.{Bars}
 use Rattle.file_entries.specs.Command.{MayBegin, can_begin}
 use Rattle.file_entries.specs.Info.{IsCompleteIn, IsNextComplete, info_of, is_complete}
 use Rattle.file_entries.specs.Limits.{last_next, longest_file, most_entries}
 use Rattle.file_entries.specs.Store.{Entry, Holding, Store, blocks_for, blocks_of, complete, entry_count, entry_of, free_blocks, octets_of, partial}
-use Rattle.file_entries.specs.declared.entries.BeginBar.{BeginBar}
-use Rattle.file_entries.specs.declared.entries.BeginBar.TheVariants.{TooLong, TooMany, NumbersGone, NoRoom}
+use Rattle.file_entries.specs.declared.begin_bar.BeginBar.{BeginBar}
+use Rattle.file_entries.specs.declared.begin_bar.BeginBar.TheVariants.{TooLong, TooMany, NumbersGone, NoRoom}
 use Rattle.file_entries.specs.declared.info.Info.{Info}
 use Rattle.px_base.specs.CallSign.{CallSign}
 
@@ -203,3 +203,16 @@ module _ (one other : Store) (like : IsStoreLike one other) where
   like_next above None none = λ number past complete. none number past (like_complete other one (like_back one other like) number complete)
   like_next above (Some next) (past, is, least) =
       (past, like_complete one other like next is, λ number over complete. least number over (like_complete other one (like_back one other like) number complete))
+
+-- ---- a store is like itself
+
+far_same : (h : Holding) → IsAsFar h h
+far_same (partial held) = refl
+far_same (complete octets moment) = (refl, refl)
+
+all_same : (entries : List Entry) → AreLike entries entries
+all_same [] = tt
+all_same (e ∷ es) = (record { number = refl; caller = refl; length = refl; begun = refl; holding = far_same e.holding }, all_same es)
+
+pub like_same : (store : Store) → IsStoreLike store store
+like_same store = record { entries = all_same store.entries; next = refl; blocks = refl }
