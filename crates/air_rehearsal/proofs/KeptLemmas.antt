@@ -9,7 +9,7 @@ use Rattle.px_base.specs.CallSign.{CallSign}
 use Rattle.pfh_items.specs.Faults.{fault_code}
 use Rattle.file_store.specs.EntriesInfo.{Info}
 use Rattle.file_store.specs.Info.{info_of, is_complete}
-use Rattle.file_store.specs.Outlined.{IsStoreLike}
+use Rattle.file_store.specs.Like.{IsStoreLike}
 use Rattle.file_store.specs.Store.{Entry, Holding, Store, entry_of, octets_at, octets_of}
 use Rattle.file_store.proofs.Offered.{like_back, like_entry, like_is_complete, like_octets_length}
 use Rattle.client_notes.specs.Answers.{noted_as, noted_at, noted_by}
