@@ -1,11 +1,10 @@
-"""The disks of image.rows where a store's octets stand in blocks: 8 of them, so that the first gate is at 4,112, or 1."""
+"""The disks of image.rows. A store has 8 blocks, so that the first gate is at 4,112, or 1."""
 
 from headers import header_sum, stamped
-from journal import BLOCK, BLOCKS, GROWING, HEADER, blocks_in, call_octets, disk, first_gate, header, record
+from journal import BLOCK, BLOCKS, HEADER, blocks_in, call_octets, disk, first_gate, header, record
 from rows import header_file, words_of
-from stores import MAGICS, begin, drop, grow, grow_in, seal, seal_with
+from stores import EARLIER_MAGIC, MAGIC, begin, drop, earlier_grow, earlier_seal, grow, seal
 
-MAGIC = MAGICS[BLOCKS]
 FILE = header_file(b"", name=b"", ext=b"")
 FAULTY = header_file(b"", name=b"", ext=b"", header_sum=-1)
 NO_FILE = b"U" * 73
@@ -21,7 +20,7 @@ def total(octets, number=1, moment=6, caller="NOCALL"):
 
 
 def sealed(octets, number=1, moment=6, caller="NOCALL"):
-    return seal_with(total(octets, number, moment, caller), number, moment)
+    return seal(total(octets, number, moment, caller), number, moment)
 
 
 def in_blocks(held, fill=b"\0", blocks=8):
@@ -60,14 +59,14 @@ def text(octets):
     return words_of(octets[:HEADER], octets[HEADER:gate], octets[gate:])
 
 
-HELD = [begin(), grow_in(0, 73)]
+HELD = [begin(), grow(0, 73)]
 SEALED = HELD + [sealed(FILE)]
-WHOLE = [begin(length=512), grow_in(0)]
-GONE = [begin(), grow_in(0, 73), drop()]
+WHOLE = [begin(length=512), grow(0)]
+GONE = [begin(), grow(0, 73), drop()]
 FIRST, SECOND = halves(TWO_BLOCKS)
-TWO = [begin(length=600), grow_in(0), grow_in(1, 88)]
+TWO = [begin(length=600), grow(0), grow(1, 88)]
 BOTH = {0: FIRST, 1: SECOND}
-STAMPED, STAMPS = [begin(length=89, caller="KA9XYZ-5"), grow_in(0, 89)], {"octets": WITH_STAMPS}
+STAMPED, STAMPS = [begin(length=89, caller="KA9XYZ-5"), grow(0, 89)], {"octets": WITH_STAMPS}
 STAMPED_SUM = total(WITH_STAMPS, caller="KA9XYZ-5")
 AREA = first_gate(BLOCKS, 8) - HEADER
 
@@ -96,53 +95,53 @@ STANDING = [
     ("a sealed file", filed(*SEALED)),
     ("a sealed file, and any octets behind it in its block and in the others", filed(*SEALED, fill=b"U")),
     ("a sealed file at moment 1", filed(*HELD, sealed(FILE, moment=1))),
-    ("a sealed file with the stamps of caller and moment", filed(*STAMPED, seal_with(STAMPED_SUM), **STAMPS)),
-    ("a sealed file in the last block", store(begin(), grow_in(7, 73), sealed(FILE), held={7: FILE})),
+    ("a sealed file with the stamps of caller and moment", filed(*STAMPED, seal(STAMPED_SUM), **STAMPS)),
+    ("a sealed file in the last block", store(begin(), grow(7, 73), sealed(FILE), held={7: FILE})),
     ("a sealed file in 1 block of 1", filed(*SEALED, blocks=1)),
     ("a file that fills its block", filed(*WHOLE, sealed(ONE_BLOCK), octets=ONE_BLOCK)),
     ("a file of two blocks", store(*TWO, sealed(TWO_BLOCKS), held=BOTH)),
     (
         "a file of two blocks, the later one before the other",
-        store(begin(length=600), grow_in(5), grow_in(2, 88), sealed(TWO_BLOCKS), held={5: FIRST, 2: SECOND}),
+        store(begin(length=600), grow(5), grow(2, 88), sealed(TWO_BLOCKS), held={5: FIRST, 2: SECOND}),
     ),
     ("a file of two blocks, of which the first is held", store(*TWO[:2], held={0: FIRST})),
     (
         "a file that takes all blocks, and one of no octets behind it",
-        store(begin(length=4096), *[grow_in(block) for block in range(8)], begin(2, 0)),
+        store(begin(length=4096), *[grow(block) for block in range(8)], begin(2, 0)),
     ),
     (
         "a file of one octet between the blocks of another",
-        store(*TWO[:2], begin(2, 1), grow_in(1, 1, 2), grow_in(2, 88), sealed(TWO_BLOCKS), held={0: FIRST, 1: b"U", 2: SECOND}),
+        store(*TWO[:2], begin(2, 1), grow(1, 1, 2), grow(2, 88), sealed(TWO_BLOCKS), held={0: FIRST, 1: b"U", 2: SECOND}),
     ),
     (
         "two sealed files",
         store(
             *SEALED,
-            *[begin(2, 600, "KA9XYZ"), grow_in(2, number=2), grow_in(1, 88, 2), sealed(TWO_BLOCKS, 2, caller="KA9XYZ")],
+            *[begin(2, 600, "KA9XYZ"), grow(2, number=2), grow(1, 88, 2), sealed(TWO_BLOCKS, 2, caller="KA9XYZ")],
             held={0: FILE, 2: FIRST, 1: SECOND},
         ),
     ),
-    ("a dropped file, and the next number in its block", store(*GONE, begin(2, 600), grow_in(0, number=2))),
-    ("a dropped file, and a sealed one in its block", filed(*GONE, begin(2), grow_in(0, 73, 2), sealed(FILE, 2))),
-    ("the same, in 1 block of 1", filed(*GONE, begin(2), grow_in(0, 73, 2), sealed(FILE, 2), blocks=1)),
+    ("a dropped file, and the next number in its block", store(*GONE, begin(2, 600), grow(0, number=2))),
+    ("a dropped file, and a sealed one in its block", filed(*GONE, begin(2), grow(0, 73, 2), sealed(FILE, 2))),
+    ("the same, in 1 block of 1", filed(*GONE, begin(2), grow(0, 73, 2), sealed(FILE, 2), blocks=1)),
     (
         "a file of two blocks that was dropped, and two others in them",
         store(
-            *[*TWO, drop(), begin(2), grow_in(1, 73, 2), sealed(FILE, 2)],
-            *[begin(3, 512), grow_in(0, number=3), sealed(ONE_BLOCK, 3)],
+            *[*TWO, drop(), begin(2), grow(1, 73, 2), sealed(FILE, 2)],
+            *[begin(3, 512), grow(0, number=3), sealed(ONE_BLOCK, 3)],
             held={0: ONE_BLOCK, 1: FILE},
         ),
     ),
     (
         "one of two uploads dropped, and a third in its block",
-        store(*WHOLE, begin(2, 512), grow_in(1, number=2), drop(), begin(3, 512), grow_in(0, number=3)),
+        store(*WHOLE, begin(2, 512), grow(1, number=2), drop(), begin(3, 512), grow(0, number=3)),
     ),
 ]
 
 NO_STORES = [
-    ("a store of the layout before", disk(MAGICS[GROWING])),
-    ("a store of the layout before, with a file", disk(MAGICS[GROWING], begin(), grow(FILE), seal())),
-    ("the magic of the layout before over blocks", disk(MAGICS[GROWING], *SEALED, layout=BLOCKS, held=FILE)),
+    ("a store of the layout before", disk(EARLIER_MAGIC)),
+    ("a store of the layout before, with a file", disk(EARLIER_MAGIC, begin(), earlier_grow(FILE), earlier_seal())),
+    ("the magic of the layout before over blocks", disk(EARLIER_MAGIC, *SEALED, layout=BLOCKS, held=FILE)),
     ("another magic", changed(filed(*SEALED), 7, b"8")),
     ("a client's notes", disk(b"PXNOTES1", blocks=1)),
     ("no magic", bytes(17)),
@@ -182,48 +181,48 @@ BEGINS = [
 ]
 
 GROWS = [
-    ("Grow of no file", store(grow_in(0, 73))),
-    ("Grow of another number", store(begin(), grow_in(0, 73, 2))),
-    ("the block at the limit", store(begin(), grow_in(8, 73))),
-    ("the block at the limit, 1", store(begin(), grow_in(1, 73), blocks=1)),
-    ("a block above the limit", store(begin(), grow_in(9, 73))),
-    ("block 65,536", store(begin(), grow_in(65536, 73))),
-    ("block 4,294,967,295", store(begin(), grow_in(2**32 - 1, 73))),
-    ("a block twice in one file", store(begin(length=1024), grow_in(0), grow_in(0))),
-    ("a block twice in one file, another one between", store(begin(length=1536), grow_in(0), grow_in(1), grow_in(0))),
-    ("a block in two files", store(*WHOLE, begin(2, 512), grow_in(0, number=2))),
-    ("a block of a sealed file", filed(*SEALED, begin(2), grow_in(0, 73, 2))),
+    ("Grow of no file", store(grow(0, 73))),
+    ("Grow of another number", store(begin(), grow(0, 73, 2))),
+    ("the block at the limit", store(begin(), grow(8, 73))),
+    ("the block at the limit, 1", store(begin(), grow(1, 73), blocks=1)),
+    ("a block above the limit", store(begin(), grow(9, 73))),
+    ("block 65,536", store(begin(), grow(65536, 73))),
+    ("block 4,294,967,295", store(begin(), grow(2**32 - 1, 73))),
+    ("a block twice in one file", store(begin(length=1024), grow(0), grow(0))),
+    ("a block twice in one file, another one between", store(begin(length=1536), grow(0), grow(1), grow(0))),
+    ("a block in two files", store(*WHOLE, begin(2, 512), grow(0, number=2))),
+    ("a block of a sealed file", filed(*SEALED, begin(2), grow(0, 73, 2))),
     (
         "a block of a sealed file, where another one is free again",
         store(
-            *[*WHOLE, begin(2), grow_in(1, 73, 2), sealed(FILE, 2), drop(), begin(3, 512), grow_in(1, number=3)],
+            *[*WHOLE, begin(2), grow(1, 73, 2), sealed(FILE, 2), drop(), begin(3, 512), grow(1, number=3)],
             held={1: FILE},
         ),
     ),
-    ("the block of a dropped file in two files", store(*GONE, begin(2), begin(3), grow_in(0, 73, 2), grow_in(0, 73, 3))),
-    ("Grow of fewer than 512 octets, of one", store(begin(length=1024), grow_in(0, 1))),
-    ("Grow of fewer than 512 octets, of 511", store(begin(length=1024), grow_in(0, 511))),
-    ("Grow of all octets but one", store(begin(length=512), grow_in(0, 511))),
-    ("Grow of all octets but one, the second", store(*TWO[:2], grow_in(1, 87))),
-    ("Grow of no octets", store(begin(), grow_in(0, 0))),
-    ("Grow of no octets of a file of none", store(begin(length=0), grow_in(0, 0))),
-    ("Grow of no octets of a file that is held", filed(*HELD, grow_in(1, 0))),
-    ("Grow of 513 octets", store(begin(length=600), grow_in(0, 513))),
-    ("Grow of 513 octets, of as many", store(begin(length=513), grow_in(0, 513))),
-    ("Grow of 65,535 octets", store(begin(length=4096), grow_in(0, 65535))),
-    ("Grow past the length by one", store(begin(), grow_in(0, 74))),
-    ("Grow of a whole block past the length", store(begin(), grow_in(0))),
-    ("Grow past the length, the second", store(*TWO[:2], grow_in(1, 89))),
-    ("Grow of a whole block past the length, the second", store(*TWO[:2], grow_in(1))),
-    ("Grow of a file that is held", store(*WHOLE, grow_in(1))),
-    ("Grow of a sealed file", filed(*SEALED, grow_in(1, 73))),
-    ("Grow of a dropped file", store(*GONE, grow_in(0, 73))),
-    ("Grow one octet short", store(begin(), record(2, grow_in(0, 73)[3:-1]))),
-    ("Grow one octet long", store(begin(), record(2, grow_in(0, 73)[3:] + b"\0"))),
+    ("the block of a dropped file in two files", store(*GONE, begin(2), begin(3), grow(0, 73, 2), grow(0, 73, 3))),
+    ("Grow of fewer than 512 octets, of one", store(begin(length=1024), grow(0, 1))),
+    ("Grow of fewer than 512 octets, of 511", store(begin(length=1024), grow(0, 511))),
+    ("Grow of all octets but one", store(begin(length=512), grow(0, 511))),
+    ("Grow of all octets but one, the second", store(*TWO[:2], grow(1, 87))),
+    ("Grow of no octets", store(begin(), grow(0, 0))),
+    ("Grow of no octets of a file of none", store(begin(length=0), grow(0, 0))),
+    ("Grow of no octets of a file that is held", filed(*HELD, grow(1, 0))),
+    ("Grow of 513 octets", store(begin(length=600), grow(0, 513))),
+    ("Grow of 513 octets, of as many", store(begin(length=513), grow(0, 513))),
+    ("Grow of 65,535 octets", store(begin(length=4096), grow(0, 65535))),
+    ("Grow past the length by one", store(begin(), grow(0, 74))),
+    ("Grow of a whole block past the length", store(begin(), grow(0))),
+    ("Grow past the length, the second", store(*TWO[:2], grow(1, 89))),
+    ("Grow of a whole block past the length, the second", store(*TWO[:2], grow(1))),
+    ("Grow of a file that is held", store(*WHOLE, grow(1))),
+    ("Grow of a sealed file", filed(*SEALED, grow(1, 73))),
+    ("Grow of a dropped file", store(*GONE, grow(0, 73))),
+    ("Grow one octet short", store(begin(), record(2, grow(0, 73)[3:-1]))),
+    ("Grow one octet long", store(begin(), record(2, grow(0, 73)[3:] + b"\0"))),
     ("Grow of three octets", store(begin(), record(2, b"\1\0\0"))),
-    ("the Grow of the layout before", filed(begin(), grow(FILE))),
-    ("the Grow of the layout before, as long as one of this", store(begin(), grow(FILE[:6]))),
-    ("the Grow of the layout before, of 512 octets", store(begin(length=600), grow(FIRST))),
+    ("the Grow of the layout before", filed(begin(), earlier_grow(FILE))),
+    ("the Grow of the layout before, as long as one of this", store(begin(), earlier_grow(FILE[:6]))),
+    ("the Grow of the layout before, of 512 octets", store(begin(length=600), earlier_grow(FIRST))),
 ]
 
 SEALS = [
@@ -231,15 +230,15 @@ SEALS = [
     ("Seal of a file of which nothing is held", filed(begin(), sealed(FILE))),
     ("Seal of a file of two blocks of which one is held", store(*TWO[:2], sealed(TWO_BLOCKS), held={0: FIRST})),
     ("Seal of an empty file", filed(begin(length=0), sealed(FILE))),
-    ("Seal with the sum of the file as it came", filed(*HELD, seal_with(header_sum(FILE)))),
-    ("Seal with a sum that is greater by one", filed(*HELD, seal_with(total(FILE) + 1))),
-    ("Seal with a sum that is greater by 256", filed(*HELD, seal_with(total(FILE) + 256))),
-    ("Seal with sum 0", filed(*HELD, seal_with(0))),
-    ("Seal with the sum of another moment", filed(*STAMPED, seal_with(STAMPED_SUM, moment=7), **STAMPS)),
+    ("Seal with the sum of the file as it came", filed(*HELD, seal(header_sum(FILE)))),
+    ("Seal with a sum that is greater by one", filed(*HELD, seal(total(FILE) + 1))),
+    ("Seal with a sum that is greater by 256", filed(*HELD, seal(total(FILE) + 256))),
+    ("Seal with sum 0", filed(*HELD, seal(0))),
+    ("Seal with the sum of another moment", filed(*STAMPED, seal(STAMPED_SUM, moment=7), **STAMPS)),
     ("Seal with the sum of another caller", filed(*STAMPED, sealed(WITH_STAMPS), **STAMPS)),
-    ("Seal with the sum of another number", filed(begin(), drop(), begin(2), grow_in(0, 73, 2), seal_with(total(FILE), 2))),
+    ("Seal with the sum of another number", filed(begin(), drop(), begin(2), grow(0, 73, 2), seal(total(FILE), 2))),
     ("Seal of a file with another header sum, with the stamped one's", filed(*HELD, sealed(FAULTY), octets=FAULTY)),
-    ("Seal of a file with another header sum, with that", filed(*HELD, seal_with(header_sum(FAULTY)), octets=FAULTY)),
+    ("Seal of a file with another header sum, with that", filed(*HELD, seal(header_sum(FAULTY)), octets=FAULTY)),
     ("Seal of a file with another body sum", filed(*HELD, sealed(BAD_BODY), octets=BAD_BODY)),
     ("Seal of octets that are no file", filed(*HELD, sealed(FILE), octets=NO_FILE)),
     ("Seal of a file whose block has other octets", store(*SEALED)),
@@ -248,7 +247,7 @@ SEALS = [
     ("Seal of a file whose second block has other octets", store(*TWO, sealed(TWO_BLOCKS), held={0: FIRST})),
     ("Seal of a file whose blocks are exchanged", store(*TWO, sealed(TWO_BLOCKS), held={1: FIRST, 0: SECOND})),
     ("Seal of a file whose octets stand in the next block", store(*SEALED, held={1: FILE})),
-    ("the Seal of the layout before", filed(*HELD, seal())),
+    ("the Seal of the layout before", filed(*HELD, earlier_seal())),
     ("Seal without a moment", filed(*HELD, record(3, b"\1\0\0\0"))),
     ("Seal one octet short", filed(*HELD, record(3, sealed(FILE)[3:-1]))),
     ("Seal one octet long", filed(*HELD, record(3, sealed(FILE)[3:] + b"\0"))),

@@ -2,7 +2,7 @@
 
 import struct
 
-from journal import GROWING, HEADER, block_place, blocks_in, first_gate, header, walk
+from journal import GROWING, HEADER, block_place, blocks_in, first_gate, header, look_at_header, walk
 from octets import Octets
 
 WIDTH = 2**64
@@ -12,10 +12,14 @@ class Stopped(Exception):
     """The disk failed a call."""
 
 
+class Unread(Stopped):
+    """It was a call that changes nothing: a read, or a question for the length."""
+
+
 class Disk:
     """A disk of these octets, which passes so many calls of write and sync, or all of them, or all but those of these numbers,
-    which count a question for the length too. The first write that fails leaves its range open. The writes since the last sync
-    stand with the octets that they found, by which they can be undone."""
+    which count reads and questions for the length too. The first write that fails leaves its range open. The writes since the
+    last sync stand with the octets that they found, by which they can be undone."""
 
     def __init__(self, octets, passes=None, failing=()):
         self.present, self.least, self.since = Octets(octets), len(octets), []
@@ -38,10 +42,11 @@ class Disk:
     def read(self, at, count):
         return self.present[at : at + count]
 
-    def ask_length(self):
+    def ask(self):
+        """Counts a read, or a question for the length."""
         self.asked += 1
         if self.calls + self.asked in self.failing:
-            raise Stopped()
+            raise Unread()
 
     def counted(self):
         """Counts a call of write or sync, and tells whether it passes."""
@@ -107,21 +112,30 @@ class Journal:
     def __init__(self, disk, magic, blocks, take, layout=GROWING):
         self.disk, self.failed = disk, False
         disk.sync()
-        disk.ask_length()
-        octets = disk.octets if layout == GROWING else Octets(disk.present)
-        first = self.gate = first_gate(layout, blocks_in(octets) if len(octets) > HEADER else blocks)
+        disk.ask()
+        self.format(magic, blocks, layout)
+        disk.ask()
 
         def taken(kind, content):
             take(kind, content)
             self.gate += 4 + len(content)
 
-        walk(octets, magic, taken, layout)
+        walk(disk.octets if layout == GROWING else Octets(disk.present), magic, taken, layout, disk.ask)
+
+    def format(self, magic, blocks, layout):
+        """Formats the disk, or what isn't formatted of it, and stands at the first gate."""
+        octets = self.disk.present
         if len(octets) <= HEADER:
-            disk.write_synced(0, header(magic, blocks))
+            self.gate = first_gate(layout, blocks)
+            self.disk.write_synced(0, header(magic, blocks))
             self.format_gates()
-        elif len(octets) < first + 2:
+            return
+        self.disk.ask()
+        look_at_header(octets, magic)
+        self.gate = first_gate(layout, blocks_in(octets))
+        if len(octets) < self.gate + 2:
             if octets[15] % 2 == 1:
-                disk.write_synced(15, b"\0")
+                self.disk.write_synced(15, b"\0")
             self.format_gates()
 
     def format_gates(self):

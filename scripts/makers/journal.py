@@ -48,18 +48,26 @@ def disk(magic, *records, blocks=8, layout=GROWING, held=b""):
     return octets + (b"\0" if records else b"\0\0")
 
 
-def walk(octets, magic, take, layout=GROWING):
-    """Gives each record to `take`, which raises ValueError where the record isn't allowed."""
-    if len(octets) <= HEADER:
-        return
+def look_at_header(octets, magic):
+    """Raises what a header that is none of this magic stands for."""
     if octets[:8] != magic:
         raise NotAStore(octets[:8])
     if not 1 <= blocks_in(octets) <= 65536:
         raise Damaged(8)
+
+
+def walk(octets, magic, take, layout=GROWING, ask=lambda: None):
+    """Gives each record to `take`, which raises ValueError where the record isn't allowed, and asks before each gate."""
+    if len(octets) <= HEADER:
+        return
+    look_at_header(octets, magic)
     gate = first_gate(layout, blocks_in(octets))
     if len(octets) < gate + 2:
         return
-    while octets[gate] == 1:
+    while True:
+        ask()
+        if octets[gate] != 1:
+            return
         length = struct.unpack("<H", octets[gate + 2 : gate + 4])[0] if len(octets) >= gate + 4 else MOST_CONTENT + 1
         after = gate + 4 + length
         if length > MOST_CONTENT or after >= len(octets):

@@ -2,12 +2,12 @@
 
 import struct
 
-from disks import Journal, Stopped
+from disks import Journal, Stopped, Unread
 from headers import first_fault, header_sum, items_of, short_form, stamped
-from journal import BLOCK, GROWING, block_place, call_octets
+from journal import BLOCK, BLOCKS, block_place, call_octets
 from rows import sum16
 from selections import Fault, holds
-from stores import LAYOUT, LONGEST, MAGICS, Store, begin, blocks_of, drop, grow, grow_in, seal, seal_with
+from stores import LONGEST, MAGIC, Store, begin, blocks_of, drop, grow, seal
 
 DATA, DATA_END, LOGIN, UPLOAD, UL_GO, UL_ERROR, UL_ACK, UL_NAK, DOWNLOAD, DL_ERROR = range(10)
 DL_ABORTED, DL_COMPLETED, DL_ACK, DL_NAK, DIR_SHORT, DIR_LONG, SELECT, SELECT_RESP = range(10, 18)
@@ -15,6 +15,23 @@ LENGTHS = {DATA_END: 0, LOGIN: 5, UPLOAD: 8, UL_GO: 8, UL_ERROR: 1, UL_ACK: 0, U
 LENGTHS.update({DL_ABORTED: 0, DL_COMPLETED: 0, DL_ACK: 0, DL_NAK: 0, DIR_SHORT: 4, DIR_LONG: 4, SELECT_RESP: 2})
 PIECE = 254
 MOST_LISTS = 64
+
+
+def pieces(sources):
+    """The octets of each DATA, and what is read for them: numbers of files, with a place and a count each. A source is a file's
+    number, or None where nothing is read, a place in the file, and the octets from there on that are given."""
+    found = [(b"", [])]
+    for number, place, octets in sources:
+        at = 0
+        while at < len(octets):
+            octets_before, reads = found[-1]
+            part = octets[at : at + PIECE - len(octets_before)]
+            read = [] if number is None else [(number, place + at, len(part))]
+            found[-1] = (octets_before + part, reads + read)
+            at += len(part)
+            if len(found[-1][0]) == PIECE:
+                found.append((b"", []))
+    return [piece for piece in found if piece[0]]
 
 
 class DiskFailed(Exception):
@@ -52,12 +69,43 @@ def error(kind, code):
 
 
 class FileStore(Store):
-    """A store whose commands are records of a journal; what came of an upload and isn't held waits in memory."""
+    """A store whose commands are records of a journal; what came of an upload and isn't held waits in memory. What it reads of
+    files for what it gives is counted."""
 
-    def __init__(self, disk, blocks, layout=LAYOUT):
-        self.begin_empty(disk.present, blocks, layout)
+    def __init__(self, disk, blocks):
+        self.begin_empty(disk.present, blocks)
         self.disk = disk
-        self.journal = Journal(disk, MAGICS[layout], blocks, self.take, layout)
+        self.journal = Journal(disk, MAGIC, blocks, self.take_found, BLOCKS)
+
+    def take_found(self, kind, content):
+        """Does what a record says that a recovery finds; for a Seal it reads the file, where all octets are held."""
+        entry = self.entries.get(struct.unpack("<I", content[:4])[0]) if kind == 3 and len(content) == 10 else None
+        if entry and not entry["complete"] and len(entry["held"]) == entry["length"]:
+            self.read_blocks(blocks_of(entry["length"]))
+        self.take(kind, content)
+
+    def read_blocks(self, count):
+        """Counts a read for each of so many blocks."""
+        for _ in range(count):
+            self.disk.ask()
+
+    def read_file(self, number, place, count):
+        """Counts the reads that give so many octets of a complete file: those before them are read too, where they begin in the
+        header."""
+        if count:
+            before = blocks_of(place) if place < self.entries[number]["header"] else 0
+            self.read_blocks(before + blocks_of(place + count) - place // BLOCK)
+
+    def read_header(self, number):
+        """A header, whose reads are counted."""
+        entry = self.entries[number]
+        self.read_file(number, 0, entry["header"])
+        return entry["octets"][: entry["header"]]
+
+    def sealed(self, number, rest):
+        super().sealed(number, rest)
+        entry = self.entries[number]
+        entry["header"] = items_of(entry["octets"])[1]
 
     def read_block(self, block):
         return self.disk.read(block_place(block), BLOCK)
@@ -77,17 +125,20 @@ class FileStore(Store):
         self.take(record[0], record[3:])
 
     def hold(self, number, octets):
-        """Holds these octets too, in the lowest block that is free where the layout has blocks."""
-        if self.layout == GROWING:
-            return self.put(grow(octets, number))
+        """Holds these octets too, in the lowest block that is free."""
         block = self.lowest_free()
-        self.put(grow_in(block, len(octets), number), block, octets)
+        self.put(grow(block, len(octets), number), block, octets)
 
-    def seal(self, number, moment):
-        if self.layout == GROWING:
-            return self.put(seal(number, moment))
+    def end(self, number, moment):
+        """Ends a file whose octets are held: seals it, or drops it and gives the code of its first fault."""
         entry = self.entries[number]
-        self.put(seal_with(header_sum(stamped(entry["held"], number, entry["caller"], moment)), number, moment))
+        self.read_blocks(blocks_of(entry["length"]))
+        code = first_fault(entry["held"])
+        if code is None:
+            self.put(seal(header_sum(stamped(entry["held"], number, entry["caller"], moment)), number, moment))
+        else:
+            self.put(drop(number))
+        return code
 
     def complete(self, number):
         entry = self.entries.get(number)
@@ -209,11 +260,10 @@ class Session:
         if entry["waiting"]:
             store.hold(self.number, entry["waiting"])
             entry["waiting"] = b""
-        code = first_fault(entry["held"])
-        if code is None:
-            store.seal(self.number, moment)
-        else:
-            store.put(drop(self.number))
+        try:
+            code = store.end(self.number, moment)
+        except Unread:
+            code = 3
         self.state = "Command"
         return [packet(UL_ACK) if code is None else error(UL_NAK, code)]
 
@@ -237,17 +287,24 @@ class Session:
     def in_listing(self, kind, information, moment):
         return self.no_row(kind)
 
-    def data(self, octets, state, after):
-        """The octets in DATA, and the end of them: said now, or due in this state; the state after them."""
-        pieces = [octets[at : at + PIECE] for at in range(0, len(octets), PIECE)]
-        packets = [packet(DATA, piece) for piece in pieces] + [packet(DATA_END)]
-        self.after = after
-        self.state, self.due = (state, packets) if self.linked else (after, [])
-        return [] if self.linked else packets
+    def data(self, sources, state, after):
+        """The octets of these sources in DATA, and the end of them: said now, or due in this state; the state after them."""
+        self.state, self.after = state, after
+        self.due = [(packet(DATA, piece), reads) for piece, reads in pieces(sources)] + [(packet(DATA_END), [])]
+        said = []
+        while self.due and not self.linked:
+            said.append(self.next_due())
+        return said
 
     def next_due(self):
-        """The next packet that is due."""
-        first = self.due.pop(0)
+        """The next packet that is due; or code 3 where its octets can't be read, and nothing more."""
+        first, reads = self.due.pop(0)
+        try:
+            for read in reads:
+                self.store.read_file(*read)
+        except Unread:
+            self.state, self.due = "Command", []
+            return error(DL_ERROR, 3)
         if not self.due:
             self.state = self.after
         return first
@@ -257,14 +314,15 @@ class Session:
             return [error(DL_ERROR, 10)]
         if number == 0 and not self.selection:
             return [error(DL_ERROR, 11)]
-        octets = self.store.complete(number or self.selection[0])
+        asked = number or self.selection[0]
+        octets = self.store.complete(asked)
         if octets is None:
             return [error(DL_ERROR, 4)]
         if offset > len(octets):
             return [error(DL_ERROR, 2)]
         if number == 0:
             self.take_selected(1)
-        return self.data(octets[offset:], "Sending", "Waiting")
+        return self.data([(asked, offset, octets[offset:])], "Sending", "Waiting")
 
     def directory(self, kind, number):
         if number == 0 and not self.selection:
@@ -272,11 +330,17 @@ class Session:
         if number != 0 and self.store.complete(number) is None:
             return [error(DL_ERROR, 4)]
         numbers = [number] if number else self.selection[:10]
+        try:
+            headers = [self.store.read_header(each) for each in numbers]
+        except Unread:
+            return [error(DL_ERROR, 3)]
         if not number:
             self.take_selected(10)
-        files = [self.store.complete(each) for each in numbers]
-        headers = [short_form(octets) if kind == DIR_SHORT else octets[: items_of(octets)[1]] for octets in files]
-        return self.data(b"".join(headers), "Listing", "Command")
+        if kind == DIR_SHORT:
+            sources = [(None, 0, short_form(header)) for header in headers]
+        else:
+            sources = [(each, 0, header) for each, header in zip(numbers, headers)]
+        return self.data(sources, "Listing", "Command")
 
     def select(self, tokens):
         try:
@@ -284,5 +348,9 @@ class Session:
         except Fault:
             return error(DL_ERROR, 8)
         numbers = sorted(number for number in self.store.entries if self.store.complete(number) is not None)
-        self.set_selection([number for number in numbers if holds(tokens, items_of(self.store.complete(number))[0])])
+        try:
+            chosen = [number for number in numbers if holds(tokens, items_of(self.store.read_header(number))[0])]
+        except Unread:
+            return error(DL_ERROR, 3)
+        self.set_selection(chosen)
         return packet(SELECT_RESP, struct.pack("<H", len(self.selection)))

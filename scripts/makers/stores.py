@@ -1,16 +1,12 @@
-"""The store of files, by the records of its journal ("The records of a store" in docs/FORMATS.md). In the growing layout the octets
-of files stand in the records; in that of blocks they stand in blocks, and the records say in which."""
+"""The store of files, by the records of its journal ("The records of a store" in docs/FORMATS.md). The octets of files stand in
+blocks, and the records say in which."""
 
-import os
 import struct
 
 from headers import first_fault, header_sum, stamped
-from journal import BLOCK, BLOCKS, GROWING, HEADER, block_place, blocks_in, call_octets, is_call, record, walk
+from journal import BLOCK, BLOCKS, HEADER, block_place, blocks_in, call_octets, is_call, record, walk
 
-# The switch: the layout of all stores that makers make. Another one for one run is given in the environment.
-LAYOUT = os.environ.get("LAYOUT", GROWING)
-MAGICS = {GROWING: b"PXSTORE0", BLOCKS: b"PXSTORE9"}
-MAGIC = MAGICS[LAYOUT]
+MAGIC, EARLIER_MAGIC = b"PXSTORE9", b"PXSTORE0"
 LONGEST = 4194304
 
 
@@ -19,24 +15,24 @@ def begin(number=1, length=73, caller="NOCALL", moment=5, call=None):
     return record(1, struct.pack("<I", number) + octets + struct.pack("<II", length, moment))
 
 
-def grow(octets, number=1):
-    """Of the growing layout: the octets themselves."""
-    return record(2, struct.pack("<I", number) + octets)
-
-
-def grow_in(block, used=BLOCK, number=1):
-    """Of blocks: where the octets stand, and how many there are."""
+def grow(block, used=BLOCK, number=1):
+    """Where the octets stand, and how many there are."""
     return record(2, struct.pack("<IIH", number, block, used))
 
 
-def seal(number=1, moment=6):
-    """Of the growing layout."""
-    return record(3, struct.pack("<II", number, moment))
-
-
-def seal_with(total, number=1, moment=6):
-    """Of blocks: with the sum of the stamped file's header."""
+def seal(total, number=1, moment=6):
+    """With the sum of the stamped file's header."""
     return record(3, struct.pack("<IIH", number, moment, total))
+
+
+def earlier_grow(octets, number=1):
+    """Of a store of the version before: the octets themselves."""
+    return record(2, struct.pack("<I", number) + octets)
+
+
+def earlier_seal(number=1, moment=6):
+    """Of a store of the version before."""
+    return record(3, struct.pack("<II", number, moment))
 
 
 def drop(number=1):
@@ -51,14 +47,14 @@ class Store:
     """The entries of a store: of each number the length, when it was begun and by whom, the octets held, the blocks that these
     stand in, whether it is complete, and then its octets with their stamp. The blocks of all entries are those that are taken."""
 
-    def __init__(self, octets, blocks, layout=LAYOUT):
-        self.begin_empty(octets, blocks, layout)
+    def __init__(self, octets, blocks):
+        self.begin_empty(octets, blocks)
         self.octets = octets
-        walk(octets, MAGICS[layout], self.take, layout)
+        walk(octets, MAGIC, self.take, BLOCKS)
 
-    def begin_empty(self, octets, blocks, layout):
+    def begin_empty(self, octets, blocks):
         """Without entries, with as many blocks as the octets say, or as are asked for where they are no header."""
-        self.entries, self.next, self.layout, self.taken = {}, 1, layout, set()
+        self.entries, self.next, self.taken = {}, 1, set()
         self.blocks = blocks_in(octets) if len(octets) > HEADER else blocks
 
     def read_block(self, block):
@@ -94,36 +90,30 @@ class Store:
 
     def grown(self, number, rest):
         entry = self.under_way(number)
-        octets, taken = (rest, []) if self.layout == GROWING else self.in_block(entry, rest)
-        if not 1 <= len(octets) <= BLOCK or len(entry["held"]) + len(octets) > entry["length"]:
-            raise ValueError("not allowed")
-        entry["held"] += octets
-        entry["blocks"] += taken
-        self.taken.update(taken)
-
-    def in_block(self, entry, rest):
-        """The octets of a Grow of blocks, and the block that it takes: a free one, of which it uses all octets, or as many as the
-        entry lacks."""
         if len(rest) != 6:
             raise ValueError("no Grow")
         block, used = struct.unpack("<IH", rest)
         if block >= self.blocks or block in self.taken:
             raise ValueError("no free block")
-        if used > BLOCK or used < BLOCK and len(entry["held"]) + used != entry["length"]:
+        # All octets of the block are used, or as many as the entry lacks.
+        after = len(entry["held"]) + used
+        if not 1 <= used <= BLOCK or after > entry["length"] or used < BLOCK and after != entry["length"]:
             raise ValueError("not allowed")
-        return self.read_block(block)[:used], [block]
+        entry["held"] += self.read_block(block)[:used]
+        entry["blocks"].append(block)
+        self.taken.add(block)
 
     def lowest_free(self):
         return next(block for block in range(self.blocks) if block not in self.taken)
 
     def sealed(self, number, rest):
         entry = self.under_way(number)
-        if len(rest) != (4 if self.layout == GROWING else 6):
+        if len(rest) != 6:
             raise ValueError("no Seal")
         if len(entry["held"]) != entry["length"] or first_fault(entry["held"]) is not None:
             raise ValueError("not allowed")
         octets = stamped(entry["held"], number, entry["caller"], struct.unpack("<I", rest[:4])[0])
-        if rest[4:] not in (b"", struct.pack("<H", header_sum(octets))):
+        if rest[4:] != struct.pack("<H", header_sum(octets)):
             raise ValueError("another sum")
         entry.update(complete=True, octets=octets)
 

@@ -1,13 +1,13 @@
 -- What Grows of one file leave of the others, and what memory tells of it then.
-use Rattle.std.proofs.Common.{◌≡◌, ◌≢◌, ℕ, zero, suc, List, [], ◌∷◌, length, map, replicate, take, drop, Option, None, Some, refl, sym, ◌∙◌, ap, arith}
+use Rattle.std.proofs.Common.{◌≡◌, ℕ, zero, suc, List, [], ◌∷◌, length, map, replicate, take, drop, refl, sym, ◌∙◌, ap, arith}
 use Rattle.std.specs.Prelude.{find, option_map}
 use Rattle.std.specs.List.{AllByRecursion}
 use Rattle.std.proofs.lemmas.Bool.Decides.{nat_tests}
 use Rattle.std.proofs.lemmas.List.{drop-map, take-map}
 use Rattle.std.proofs.lemmas.Simd.{splat_is_map}
-use Rattle.file_entries.specs.Command.{Command, after, after_all, changed, grow, grown, grows}
-use Rattle.file_entries.specs.Store.{Entry, Holding, Store, entry_of}
-use Rattle.file_entries.proofs.Offered.{find-map-changed_other, has_number}
+use Rattle.file_entries.specs.Command.{Command, changed, grow, grows}
+use Rattle.file_entries.specs.Store.{Entry, Holding}
+use Rattle.file_entries.proofs.Offered.{has_number}
 use Rattle.file_store.specs.OnDisk.{outlined_all, outlined_command}
 
 -- ---- Grows of one number

@@ -10,7 +10,6 @@ use Rattle.file_store.specs.Sealing.{SealsFile}
 use Rattle.file_store.specs.State.{StoreState}
 use Rattle.file_store.specs.Upload.{Upload, ending, waiting}
 use Rattle.file_store.specs.declared.end.End.TheVariants as end
-use Rattle.file_store.specs.declared.refusals.SealRefusal.{SealRefusal}
 use Rattle.file_store.specs.declared.refusals.SealRefusal.TheVariants as seal_refusal
 use Rattle.file_store.proofs.DoesLemmas.{among-parked, among-same, Does-moved, Does-same}
 

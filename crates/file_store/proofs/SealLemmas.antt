@@ -2,7 +2,6 @@
 use Rattle.std.proofs.Common.{◌≡◌, ◌≢◌, inl, inr, ℕ, ◌+◌, ◌≤◌, Bool, true, false, List, [], ◌∷◌, ◌++◌, length, Option, None, Some, Result, Ok, Err, IsErr, OnOk, OnErr, refl, sym, ◌∙◌, ap, subst, arith, take, zero-add}
 use Rattle.std.specs.Prelude.{IfSome, IsSome, IsTrue, is_some, replicate}
 use Rattle.std.specs.Option.{option_map}
-use Rattle.std.proofs.lemmas.Bool.Decides.{eqb_tells}
 use Rattle.std.proofs.lemmas.List.{append-nil, take_all}
 use Rattle.block_entries.specs.Checking.{ChecksFile, HasFault, IsFaultCode, IsSealable}
 use Rattle.block_entries.specs.IsPlaced.{IsPlaced}

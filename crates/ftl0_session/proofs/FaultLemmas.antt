@@ -29,7 +29,7 @@ use Rattle.ftl0_session.proofs.RowLemmas.{download-malformed}
 -- ---- rows of uploading
 
 -- where no read fails, none of these replies tells of one
-abbrev Silent : List PacketValue → Type 0
+abbrev pub Silent : List PacketValue → Type 0
 Silent replies = failed_reads_told replies ≡ 0
 
 upload_either : (b : Bool) (first second : upload.Row) → Silent first.replies → Silent second.replies → Silent (if b then first else second).replies
@@ -57,7 +57,7 @@ errors state item = by (is_upload_kind (kind_of_item item))
     by true = refl
     by false = tt
 
-uploads-silent : (caller : CallSign) (moment : ℕ) (store : Store) (state : upload.State) (item : Item) → IfSome (upload.session_row caller moment store state item) (λ row. Silent row.replies)
+pub uploads-silent : (caller : CallSign) (moment : ℕ) (store : Store) (state : upload.State) (item : Item) → IfSome (upload.session_row caller moment store state item) (λ row. Silent row.replies)
 unfolding upload.session_row
 uploads-silent caller moment store upload.command (Ok (upload_cmd number len)) =
     upload_either (number == 0) (upload.begin_row caller moment store len) (upload.continue_row caller number len (entry_of store number)) (begins caller moment store len)
@@ -74,9 +74,9 @@ uploads-silent caller moment store state item = errors state item
 -- ---- rows of downloading
 
 -- a row of downloading tells of a read only where one failed, and of no write
-record Keeps (fails : Bool) (replies : List PacketValue) : Type 0 where
-  reads : fails ≡ false → Silent replies
-  writes : AllByRecursion IsNoFault replies
+pub record Keeps (fails : Bool) (replies : List PacketValue) : Type 0 where
+  pub reads : fails ≡ false → Silent replies
+  pub writes : AllByRecursion IsNoFault replies
 
 -- no reply
 keeps-none : (fails : Bool) → Keeps fails []
@@ -96,7 +96,7 @@ keeps-fault fails failed = record { reads = λ fine. absurd (true≢false (sym f
 keeps-other : (fails : Bool) (packet : PacketValue) → tells_failed_read packet ≡ false → IsNoFault packet → Keeps fails (packet ∷ [])
 keeps-other fails packet other no_fault = record { reads = λ fine. rw other refl; writes = (no_fault, tt) }
 
-part-keeps : (caller : CallSign) (store : Store) (lists : List CallerList) (part : DownloadState) (packet : PacketValue) (fails : Bool)
+pub part-keeps : (caller : CallSign) (store : Store) (lists : List CallerList) (part : DownloadState) (packet : PacketValue) (fails : Bool)
     → IfSome (download.download_row caller store lists part packet fails) (λ row. Keeps fails row.replies)
 part-keeps caller store lists part packet fails =
     row_replies fails (Keeps fails) (keeps-none fails) (keeps-error fails) (keeps-fault fails) (λ count. keeps-other fails (select_resp count) refl (λ same. cc same, λ same. cc same))

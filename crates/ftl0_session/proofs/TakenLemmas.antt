@@ -1,15 +1,16 @@
 -- What a packet does whose row has no command of the store: one of downloading, or error 1.
-use Rattle.std.proofs.Common.{◌≡◌, ℕ, List, [], ◌∷◌, refl, ap, sym, ◌∙◌, subst, append-nil, Bool, true, false, Option, None, Some}
-use Rattle.std.specs.Prelude.{⊤, Result, Ok, IsErrOf, IsSomeAnd, IsTrue}
+use Rattle.std.proofs.Common.{◌≡◌, ℕ, List, [], ◌∷◌, refl, ap, sym, ◌∙◌, subst, append-nil, arith, true≢false, Bool, true, false, Option, None, Some}
+use Rattle.std.specs.Prelude.{⊤, Result, Ok, IsErrOf, IsSomeAnd, IsTrue, is_some}
 use Rattle.disk_model.specs.declared.disk.Disk.{Ghosts}
 use Rattle.disk_model.specs.declared.halt.Halt.{Halt}
 use Rattle.disk_model.specs.declared.halt.Halt.TheVariants as stop
 use Rattle.ftl0_packets.specs.Items.{kind_of_item, texts}
-use Rattle.ftl0_packets.specs.Layout.{Item, dl_error_resp, packet_text}
+use Rattle.ftl0_packets.specs.Layout.{Item, PacketValue, dl_error_resp, packet_text}
 use Rattle.ftl0_session.specs.Lists.Lists.{CallerList}
 use Rattle.file_store.specs.Calls.{Reads}
 use Rattle.file_store.proofs.Offered.{among-at, on_same, puts-among-same, reads-only}
-use Rattle.file_store.specs.Command.{Command, DoesAll}
+use Rattle.file_store.specs.Command.{Command, DoesAll, after_all}
+use Rattle.file_store.specs.OnDisk.{outlined_all}
 use Rattle.file_store.specs.State.{IsKnown, IsReady, StoreState, store_in, store_on}
 use Rattle.file_store.specs.Store.{Store}
 use Rattle.file_store.specs.Working.{DoesAmongReads, one_if}
@@ -23,9 +24,11 @@ use Rattle.ftl0_session.specs.Downloads.Needs.{AreComplete, IsDueIn, KeepsFiles}
 use Rattle.ftl0_session.specs.Downloads.Table.{DownloadRow, DownloadState}
 use Rattle.ftl0_session.specs.Downloads.Taking.{IsRow, Made, TakesByRow, made, made_by}
 use Rattle.ftl0_session.specs.SessionState.{MayTake, SessionState, caller_of, session_of, state_in, working_on}
-use Rattle.ftl0_session.specs.Table.{Row, State, by_download, download_row, downloading, error_by, error_row, state_by, upload_row}
-use Rattle.ftl0_session.specs.Taking.{Taken, at_work, download_row_of, packet_row}
-use Rattle.ftl0_session.proofs.RowLemmas.{download-command, row-download, row-error}
+use Rattle.ftl0_session.specs.Causes.{HasCause, Says}
+use Rattle.ftl0_session.specs.Table.{Row, State, by_download, download_part, download_row, downloading, error_by, error_row, state_by, upload_row}
+use Rattle.ftl0_session.specs.Taking.{LooksAtNone, Taken, at_work, download_row_of, packet_row, working}
+use Rattle.ftl0_session.proofs.CauseLemmas.{says-one}
+use Rattle.ftl0_session.proofs.RowLemmas.{download-command, download_part-is, row-download, row-error}
 
 -- the answer that all was done
 abbrev answered : Result ⊤ Halt
@@ -44,6 +47,30 @@ row-passed (Some row) disk disk_now before now is = absurd (let e : false ≡ tr
 -- what is said of a row that there is
 is_some_at : {A : Type 0} {o : Option A} (P : A → Type 0) (x : A) → o ≡ Some x → IsSomeAnd o P → P x
 is_some_at P x is holds = subst (λ o. IsSomeAnd o P) is holds
+
+-- a row that there is, and one that isn't
+row-there : (o : Option DownloadRow) → is_some o ≡ true → (row : DownloadRow) × (o ≡ Some row)
+row-there None is = absurd (true≢false (sym is))
+row-there (Some row) is = (row, refl)
+
+none-there : (o : Option DownloadRow) → is_some o ≡ false → o ≡ None
+none-there None is = refl
+none-there (Some row) is = absurd (true≢false is)
+
+-- rows of downloading that are the same in the whole table are the same
+abbrev row-from : DownloadState → List CallerList → List PacketValue → DownloadRow
+row-from state lists replies = record { state = state; lists = lists; replies = replies }
+
+by_download-same : (one other : DownloadRow) → by_download one ≡ by_download other → one ≡ other
+by_download-same one other same =
+    ap (λ (s : DownloadState). row-from s one.lists one.replies) (sym (download_part-is one.state) ∙ ap (λ (r : Row). download_part r.state) same ∙ download_part-is other.state)
+    ∙ ap (λ (l : List CallerList). row-from other.state l one.replies) (ap (λ (r : Row). r.lists) same)
+    ∙ ap (λ (rs : List PacketValue). row-from other.state other.lists rs) (ap (λ (r : Row). r.replies) same)
+
+-- error 1 isn't code 3
+error-cause : {D : Type 0} (g : Ghosts D) (disk : D) (fails of_uploading : Bool) → HasCause g disk fails (error_by of_uploading)
+error-cause g disk fails true = λ three. omega (arith, three)
+error-cause g disk fails false = λ three. absurd (omega (arith, three))
 
 -- what a row without commands gives
 record GivesStill (row : Row) (fails : Bool) (lists_now : List CallerList) (next : State) (replies : List ℕ) : Type 0 where
@@ -79,9 +106,10 @@ module _ {D : Type 0} (g : Ghosts D) where
   -- a row without commands, over a store that stays
   still : (moment : ℕ) (item : Item) (old new : SessionState) (store : StoreState) (lists lists_now : List CallerList) (disk disk_now : D) (replies : List ℕ) (fails : Bool) → Reads g (IsTrue fails) disk disk_now
       → (IsKnown g disk → GivesStill (packet_row g (packet_of (caller_of old) moment item) (at_work old (working_on store lists disk)) fails) fails lists_now (state_in store new) replies)
+      → ((row : Row) → LooksAtNone (packet_of (caller_of old) moment item) (working old store lists) row → (fails ≡ false) × GivesStill row false lists_now (state_in store new) replies) → Says g disk fails replies
       → new.uploads ≡ old.uploads → IsReady g store disk → MayTake g store disk_now lists_now new
       → Taken g (packet_of (caller_of old) moment item) old new (working_on store lists disk) (working_on store lists_now disk_now) replies answered
-  still moment item old new store lists lists_now disk disk_now replies fails reads gives same ready may =
+  still moment item old new store lists lists_now disk disk_now replies fails reads gives any says same ready may =
       let fine : ¬ IsErrOf answered stop.Disk = λ e. cc e in
       let does : DoesAmongReads g ⊥ (one_if fails) store store disk disk_now [] = reads-only g fails store disk disk_now reads ready in
       record {
@@ -99,6 +127,18 @@ module _ {D : Type 0} (g : Ghosts D) where
           on_disk = λ known. among-at g ⊥ (one_if fails) store store disk disk_now [] _ (sym (gives known).none) does;
           reads = does.reads;
           puts = puts-among-same g ⊥ (IsErrOf answered stop.Disk) disk disk_now (λ never. absurd never) fine does.puts;
+          anyway = λ row looks.
+              let given = any row looks in (
+                given.0,
+                record {
+                  answers = (given.1.lists_are, given.1.state_is, given.1.text);
+                  on_disk =
+                      subst (λ (b : Bool). DoesAmongReads g ⊥ (one_if b) store store disk disk_now row.commands) given.0
+                      (among-at g ⊥ (one_if fails) store store disk disk_now [] row.commands (sym given.1.none) does);
+                  memory = ap (λ (cs : List Command). after_all (store_in store) (outlined_all cs)) (sym given.1.none);
+                },
+              );
+          says = says;
         };
         untouched = λ known without. reads.only;
         failed = λ e. absurd (fine e);
@@ -123,7 +163,7 @@ module _ {D : Type 0} (g : Ghosts D) where
     files = store_on g store disk
 
     -- the packet's row of downloading
-    pub taken-download : (said replies : List ℕ) → TakesByRow g (download_row_of old store files lists item) disk disk_now (made part lists said) (made part_now lists_now replies) true
+    pub taken-download : (said replies : List ℕ) → TakesByRow g store (λ there. download_row_of old store there lists item) disk disk_now (made part lists said) (made part_now lists_now replies) true
         → Taken g (packet_of uploads.caller moment item) old (session_of uploads part_now) (working_on store lists disk) (working_on store lists_now disk_now) replies answered
     taken-download said replies takes =
         still moment item old (session_of uploads part_now) store lists lists_now disk disk_now replies takes.fails takes.reads
@@ -133,18 +173,45 @@ module _ {D : Type 0} (g : Ghosts D) where
         let here : uploads.phase ≡ phase.Command = download-command uploads.caller files store lists uploads.phase part item takes.fails has.0 has.1 in
         let state : state_in store (session_of uploads part_now) ≡ downloading part_now = ap (λ (p : Phase). state_by (state_of store p) part_now) here in
         gives-still _ takes.fails lists_now _ replies (by_download has.0) is refl (ap (λ (m : Made). m.lists) has.2) (state ∙ ap (λ (m : Made). downloading m.state) has.2) (ap (λ (m : Made). m.replies) has.2)
-        (λ failed. is_some_at (λ r. r.replies ≡ dl_error_resp 3 ∷ []) has.0 has.1 (takes.told known failed))) refl ready may
+        (λ failed. is_some_at (λ r. r.replies ≡ dl_error_resp 3 ∷ []) has.0 has.1 (takes.told known failed)))
+        (λ row looks.
+        let told : Store = store_in store in
+        let failed = row-there (download_row uploads.caller told lists (state_in store old) item true) (takes.has told true) in
+        let fine = row-there (download_row uploads.caller told lists (state_in store old) item false) (takes.has told false) in
+        let is_failed = row-download uploads.caller moment told lists (state_in store old) item true failed.0 (none told true) failed.1 in
+        let is_fine = row-download uploads.caller moment told lists (state_in store old) item false fine.0 (none told false) fine.1 in
+        let same : failed.0 ≡ fine.0 = by_download-same failed.0 fine.0 (sym is_failed ∙ looks true ∙ sym (looks false) ∙ is_fine) in
+        let here_then = takes.anyway (failed.1 ∙ ap (λ (r : DownloadRow). Some r) same ∙ sym fine.1) in
+        let has = row-taken (download_row uploads.caller told lists (state_in store old) item false) disk disk_now (made part lists said) (made part_now lists_now replies) here_then.1 in
+        let is = row-download uploads.caller moment told lists (state_in store old) item false has.0 (none told false) has.1 in
+        let here : uploads.phase ≡ phase.Command = download-command uploads.caller told store lists uploads.phase part item false has.0 has.1 in
+        let state : state_in store (session_of uploads part_now) ≡ downloading part_now = ap (λ (p : Phase). state_by (state_of store p) part_now) here in (
+          here_then.0,
+          gives-still row false lists_now _ replies (by_download has.0) (sym (looks false) ∙ is) refl (ap (λ (m : Made). m.lists) has.2) (state ∙ ap (λ (m : Made). downloading m.state) has.2)
+              (ap (λ (m : Made). m.replies) has.2) (λ never. absurd (true≢false (sym never))),
+        )) (takes.says refl) refl ready may
 
     -- error 1
     pub taken-error : (said given replies : List ℕ) (of_uploading : Bool) → of_uploading ≡ is_upload_kind (kind_of_item item) → replies ≡ packet_text (error_by of_uploading)
-        → TakesByRow g (download_row_of old store files lists item) disk disk_now (made part lists said) (made part_now lists_now given) false
+        → TakesByRow g store (λ there. download_row_of old store there lists item) disk disk_now (made part lists said) (made part_now lists_now given) false
         → Taken g (packet_of uploads.caller moment item) old (session_of uploads part_now) (working_on store lists disk) (working_on store lists_now disk_now) replies answered
     taken-error said given replies of_uploading kind text takes =
         let passed = takes.passed refl in
+        let error_text : replies ≡ texts (error_by (is_upload_kind (kind_of_item item)) ∷ []) =
+        text ∙ ap (λ (b : Bool). packet_text (error_by b)) kind ∙ sym (append-nil (packet_text (error_by (is_upload_kind (kind_of_item item))))) in
         still moment item old (session_of uploads part_now) store lists lists_now disk disk_now replies takes.fails takes.reads
         (λ known.
         let none_of = row-passed (download_row uploads.caller files lists (state_in store old) item takes.fails) disk disk_now (made part lists said) (made part_now lists_now given) (takes.is_row known) in
         let is = row-error uploads.caller moment files lists (state_in store old) item takes.fails (none files takes.fails) none_of.0 in
-        gives-still _ takes.fails lists_now _ replies (error_row lists (state_in store old) item) is refl (ap (λ (m : Made). m.lists) passed.1) (ap (λ (m : Made). state_in store (session_of uploads m.state)) passed.1)
-        (text ∙ ap (λ (b : Bool). packet_text (error_by b)) kind ∙ sym (append-nil (packet_text (error_by (is_upload_kind (kind_of_item item))))))
-        (λ failed. absurd (subst (λ (o : Option DownloadRow). IsSomeAnd o (λ r. r.replies ≡ dl_error_resp 3 ∷ [])) none_of.0 (takes.told known failed)))) refl ready may
+        gives-still _ takes.fails lists_now _ replies (error_row lists (state_in store old) item) is refl (ap (λ (m : Made). m.lists) passed.2) (ap (λ (m : Made). state_in store (session_of uploads m.state)) passed.2)
+        error_text
+        (λ failed. absurd (subst (λ (o : Option DownloadRow). IsSomeAnd o (λ r. r.replies ≡ dl_error_resp 3 ∷ [])) none_of.0 (takes.told known failed))))
+        (λ row looks.
+        let told : Store = store_in store in
+        let is = row-error uploads.caller moment told lists (state_in store old) item false (none told false) (none-there (download_row uploads.caller told lists (state_in store old) item false) (takes.has told false)) in (
+          passed.0,
+          gives-still row false lists_now _ replies (error_row lists (state_in store old) item) (sym (looks false) ∙ is) refl (ap (λ (m : Made). m.lists) passed.2)
+              (ap (λ (m : Made). state_in store (session_of uploads m.state)) passed.2) error_text (λ never. absurd (true≢false (sym never))),
+        ))
+        (says-one g disk takes.fails replies (error_by (is_upload_kind (kind_of_item item))) error_text (λ failed. absurd (true≢false (sym failed ∙ passed.0)))
+        (error-cause g disk takes.fails (is_upload_kind (kind_of_item item)))) refl ready may

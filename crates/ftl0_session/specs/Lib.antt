@@ -1,4 +1,5 @@
 pub mod Answering
+pub mod Causes
 pub mod DownloadLaws
 pub mod Downloads
 pub mod Filling

@@ -1,11 +1,13 @@
 -- How the code's session answers a packet, and what that does to the disk.
 use Rattle.std.specs.Prelude.{◌≡◌, ℕ, List, [], ◌∷◌, Bool, true, false, Option, IsTrue, ⊤, Result, Ok, Err, IsErrOf}
+use Rattle.std.specs.Prelude.{OnOk}
 use Rattle.px_base.specs.CallSign.{CallSign}
 use Rattle.disk_model.specs.declared.disk.Disk.{Ghosts}
 use Rattle.ftl0_packets.specs.Items.{texts}
-use Rattle.ftl0_packets.specs.Layout.{Item, PacketValue}
+use Rattle.ftl0_packets.specs.Layout.{Item}
 use Rattle.ftl0_session.specs.Lists.Lists.{CallerList}
-use Rattle.file_store.specs.Command.{DoesAll}
+use Rattle.file_store.specs.Command.{DoesAll, after_all}
+use Rattle.file_store.specs.OnDisk.{outlined_all}
 use Rattle.file_store.specs.EntriesKept.{KeepsComplete}
 use Rattle.file_store.specs.Calls.{ChangesReads}
 use Rattle.file_store.specs.State.{IsKnown, StandsOn, StoreState, store_in, store_on}
@@ -20,9 +22,9 @@ use Rattle.ftl0_session.specs.Downloads.Needs.{AreComplete, IsDueIn}
 use Rattle.ftl0_session.specs.Downloads.Table.{DownloadRow, DownloadState}
 use Rattle.ftl0_session.specs.Downloads.Taking.{Made, TakesByRow}
 use Rattle.disk_model.specs.declared.halt.Halt.TheVariants as stop
+pub use Rattle.ftl0_session.specs.Causes.{Says, TellsRead}
 use Rattle.ftl0_session.specs.SessionState.{SessionState, WorkingOn, caller_of, session_of, state_in, working_on}
 use Rattle.ftl0_session.specs.Table.{Row, State, command, download_row, fault_reply, session_row, takes_memory}
-use Rattle.ftl0_session.specs.Table.{tells_failed_read}
 
 -- what a session takes a packet over, and what it leaves for the next one: the store, the lists of all callers, its
 -- state
@@ -85,13 +87,32 @@ IsStopped fails before now replies (Err stop.Disk) =
     (fails ≡ false) × (now.it.state ≡ command) × (now.it.lists ≡ before.it.lists)
     × (replies ≡ texts (fault_reply before.it.state ∷ []))
 
--- these replies are one, which tells of a read that failed
-abbrev pub TellsRead : List PacketValue → Type 0
-TellsRead replies = (reply : PacketValue) × (replies ≡ reply ∷ []) × (tells_failed_read reply ≡ true)
+-- The packet's row over what memory tells is this one, whether a read fails or none does: no octet of a file is looked
+-- at for it.
+abbrev pub LooksAtNone : CallerPacket → Working → Row → Type 0
+LooksAtNone packet before row =
+    (fails : Bool) → row_over packet.caller packet.moment (store_in before.store) before packet.item fails ≡ row
+
+-- the answer to a packet is this row of the table, whatever the disk tells
+abbrev pub AnswersAnyway : Item → Row → Working → List ℕ → Result ⊤ Halt → Type 0
+AnswersAnyway item row now replies (Ok done) =
+    (now.lists ≡ row.lists) × (now.state ≡ row.state) × (replies ≡ texts row.replies)
+AnswersAnyway item row now replies (Err stop.OutOfMemory) = IsTrue (takes_memory item row.state)
+AnswersAnyway item row now replies (Err stop.Disk) = ⊤
+
+-- What a packet with this row gives and does to the disk, whatever the disk tells. No read failed. Where it is
+-- answered, memory tells the store after the row's commands.
+pub record MakesAnyway {D : Type 0} (g : Ghosts D) (item : Item) (row : Row) (before now : AtDisk Working D)
+    (replies : List ℕ) (result : Result ⊤ Halt) : Type 0 where
+  pub answers : AnswersAnyway item row now.it replies result
+  pub on_disk : PutsRow g false row before now result
+  pub memory :
+      OnOk result (store_in now.it.store ≡ after_all (store_in before.it.store) (outlined_all row.commands))
 
 -- A session takes a packet, malformed or not, and a read of the disk fails or none does. Where it is known what the
 -- store's files hold, the answer is the packet's row for that, which tells of a read that failed by code 3, and the
--- row's commands are done.
+-- row's commands are done. Whatever the disk tells, so it is of a row for which no octet of a file is looked at, and
+-- what is replied to any packet has code 3 only where that has its cause.
 pub record TakesPacket {D : Type 0} (g : Ghosts D) (packet : CallerPacket) (before now : AtDisk Working D)
     (replies : List ℕ) (result : Result ⊤ Halt) : Type 0 where
   pub fails : Bool
@@ -102,6 +123,10 @@ pub record TakesPacket {D : Type 0} (g : Ghosts D) (packet : CallerPacket) (befo
   pub on_disk : IsKnown g before.disk → PutsRow g fails (packet_row g packet before fails) before now result
   pub reads : CountsSome (g.read_faults before.disk) (g.read_faults now.disk) (one_if fails)
   pub puts : PutsAmongReads g (IsErrOf result stop.Disk) before.disk now.disk
+  pub anyway :
+      (row : Row) → LooksAtNone packet before.it row
+      → (fails ≡ false) × MakesAnyway g packet.item row before now replies result
+  pub says : OnOk result (Says g before.disk fails replies)
 
 -- a packet whose row has no command leaves the disk as reads do, where it is known what the store's files hold
 abbrev pub ReadsAlone : {D : Type 0} → Ghosts D → Row → D → D → Type 0
@@ -159,6 +184,6 @@ download_row_of session store files lists item fails =
 abbrev pub TakesDownload :
     {D : Type 0} → Ghosts D → Uploading → StoreState → Item → AtDisk Made D → AtDisk Made D → Bool → Type 0
 TakesDownload g uploads store item before now taken =
-    TakesByRow g
-    (download_row_of (session_of uploads before.it.state) store (store_on g store before.disk) before.it.lists item)
+    TakesByRow g store
+    (λ files. download_row_of (session_of uploads before.it.state) store files before.it.lists item)
     before.disk now.disk before.it now.it taken

@@ -105,7 +105,8 @@ impl Session {
         requires { MayTake D.Disk store.old disk.old lists.old self.old }
 
         // Where it is known what the store's files hold, the answer is the packet's row for the reads that were made,
-        // and the row's commands are on the disk; or a write or a sync failed in one of them. It leaves what the next
+        // and the row's commands are on the disk; or a write or a sync failed in one of them. So it is on any disk of a
+        // row for which no octet of a file is looked at; and there each code 3 has its cause. It leaves what the next
         // packet needs.
         ensures { Taken D.Disk (packet_of (caller_of self.old) moment (item_of packet.entry)) self.old self.new
             (working_on store.old lists.old disk.old) (working_on store.new lists.new disk.new) replies.new.items
@@ -124,8 +125,8 @@ impl Session {
     }
 
     /// Puts what is due next in place of what `out` holds: DATA of the next 254 octets, the last one shorter, or
-    /// DATA_END where none is left; or code 3 in the place of a DATA whose octets can't be read. It answers false, and
-    /// nothing changed, exactly where nothing is due. It reads what it sends. Takes no memory.
+    /// DATA_END where none is left; or code 3 in the place of a DATA whose octets can't be read, and only there. It
+    /// answers false, and nothing changed, exactly where nothing is due. It reads what it sends. Takes no memory.
     #[inline(always)]
     pub fn fill<D: Disk>(
         &mut self,

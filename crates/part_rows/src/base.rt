@@ -17,7 +17,7 @@ mod outside;
 mod values;
 
 use anyhow::{Result, bail};
-use row_words::Player;
+use row_words::{Player, kind_and_rest};
 use std::alloc::Global;
 
 /// Plays rows of `px_base`, each on its own.
@@ -26,7 +26,7 @@ pub struct BaseRows;
 
 impl Player for BaseRows {
     fn play(&mut self, alloc: Global, row: &str) -> Result<String> {
-        let (kind, rest) = row.split_once(' ').unwrap_or((row, ""));
+        let (kind, rest) = kind_and_rest(row);
         match kind {
             "air" => outside::air(alloc, rest),
             "out" => outside::output(alloc, rest),

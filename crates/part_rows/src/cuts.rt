@@ -12,10 +12,12 @@ ghost use Rattle.disk_model.specs.Cuts.{LastsSo, cut_state, cuts_by};
 ghost use Rattle.disk_model.specs.Moments.{SamePast};
 
 use crate::disk::calls::make_call;
-use anyhow::{Context, Result, bail};
+use crate::disk::{push_end, push_octets};
+use crate::parts::Parts;
+use anyhow::{Result, bail};
 use disk_model::{CutDisk, DiskFault, FuseDisk, LogDisk, MemoryDisk};
 use px_base::FileBytes;
-use row_words::{Player, read_numbers, read_octets};
+use row_words::{Player, kind_and_rest, read_numbers, read_octets, three_parts, two_parts};
 use std::alloc::Global;
 
 /// Plays rows of such disks, each on its own.
@@ -24,18 +26,22 @@ pub struct CutRows;
 
 impl Player for CutRows {
     fn play(&mut self, alloc: Global, row: &str) -> Result<String> {
-        let (kind, rest) = row.split_once(' ').context("no octets")?;
-        let (octets, rest) = rest.split_once('|').context("no failing calls")?;
-        let (failing, calls) = rest.split_once('|').context("no calls")?;
+        let (kind, rest) = two_parts(row, ' ')?;
+        let (octets, failing, calls) = three_parts(rest, '|')?;
         let octets = read_octets(alloc, octets)?;
         let failing = read_numbers(alloc, failing.trim())?;
         let disk = MemoryDisk::new(alloc, octets.as_slice(), failing.as_slice())?;
-        match kind {
-            "memory" => over_memory(alloc, disk, calls),
-            "fuse" => over_fuse(alloc, disarmed(disk), calls),
-            "log" => over_log(alloc, LogDisk::new(alloc, disarmed(disk)), calls),
-            _ => bail!("no such disk"),
-        }
+        over(alloc, kind, disk, calls)
+    }
+}
+
+/// The row of this kind of disk.
+fn over(alloc: Global, kind: &str, mut disk: MemoryDisk, calls: &str) -> Result<String> {
+    match kind {
+        "memory" => over_memory(alloc, &mut disk, calls),
+        "fuse" => over_fuse(alloc, &mut disarmed(disk), calls),
+        "log" => over_log(alloc, LogDisk::new(alloc, disarmed(disk)), calls),
+        _ => bail!("no such disk"),
     }
 }
 
@@ -47,82 +53,101 @@ fn disarmed(disk: MemoryDisk) -> FuseDisk {
 }
 
 /// The row of a disk in memory.
-fn over_memory(alloc: Global, mut disk: MemoryDisk, calls: &str) -> Result<String> {
-    let mut text = String::new(alloc);
+fn over_memory(alloc: Global, disk: &mut MemoryDisk, calls: &str) -> Result<String> {
+    let mut answers = Parts::new(alloc);
     for call in calls.split(';') {
-        let answer = match call.trim().strip_prefix("cut ") {
-            Some(pick) => {
-                disk.power_cut(pick.parse::<u64>()?);
-                String::from_str(alloc, "cut")?
-            }
-            None => make_call(alloc, &mut disk, call.trim())?,
-        };
-        push_answer(&mut text, answer.as_str())?;
+        make_in_memory(alloc, disk, call.trim(), &mut answers)?;
     }
-    push_octets(alloc, &mut text, disk.bytes())?;
-    push_starved(&mut text, disk.starved())?;
+    let mut text = answers.end();
+    push_end(alloc, &mut text, disk.bytes(), disk.starved())?;
     Ok(text)
 }
 
+/// Makes a call, and puts what it answers.
+fn make_in_memory(
+    alloc: Global,
+    disk: &mut MemoryDisk,
+    call: &str,
+    answers: &mut Parts,
+) -> Result<()> {
+    let Some(pick) = call.strip_prefix("cut ") else {
+        return make_call(alloc, disk, call, answers);
+    };
+    disk.power_cut(pick.parse::<u64>()?);
+    answers.put("cut")
+}
+
 /// The row of one that stops.
-fn over_fuse(alloc: Global, mut disk: FuseDisk, calls: &str) -> Result<String> {
-    let mut text = made(alloc, &mut disk, calls)?;
-    push_octets(alloc, &mut text, disk.bytes())?;
-    push_starved(&mut text, disk.starved())?;
+fn over_fuse(alloc: Global, disk: &mut FuseDisk, calls: &str) -> Result<String> {
+    let mut text = made(alloc, disk, calls)?;
+    push_end(alloc, &mut text, disk.bytes(), disk.starved())?;
     Ok(text)
 }
 
 /// The row of one that tells what its power cuts left.
 fn over_log(alloc: Global, mut disk: LogDisk, calls: &str) -> Result<String> {
     let mut text = made(alloc, &mut disk, calls)?;
-    let mut restarts = String::new(alloc);
-    for left in disk.restarts() {
-        push_octets(alloc, &mut restarts, FileBytes::as_slice(left))?;
-    }
+    let restarts = restarts_text(alloc, &disk)?;
     let starved = disk.starved();
-    push_octets(alloc, &mut text, disk.into_disk().bytes())?;
-    push_starved(&mut text, starved)?;
+    let disk = disk.into_disk();
+    push_end(alloc, &mut text, disk.bytes(), starved)?;
     text.push_str(restarts.as_str())?;
+    Ok(text)
+}
+
+/// What the power cuts left.
+fn restarts_text(alloc: Global, disk: &LogDisk) -> Result<String> {
+    let mut text = String::new(alloc);
+    for left in disk.restarts() {
+        push_octets(alloc, &mut text, FileBytes::as_slice(left))?;
+    }
     Ok(text)
 }
 
 /// What the calls answer.
 fn made<D: CutDisk>(alloc: Global, disk: &mut D, calls: &str) -> Result<String> {
-    let mut text = String::new(alloc);
+    let mut answers = Parts::new(alloc);
     for call in calls.split(';') {
-        let answer = make(alloc, disk, call.trim())?;
-        push_answer(&mut text, answer.as_str())?;
+        make(alloc, disk, call.trim(), &mut answers)?;
     }
-    Ok(text)
+    Ok(answers.end())
 }
 
-/// Makes a call, and shows what it answers.
-fn make<D: CutDisk>(alloc: Global, disk: &mut D, call: &str) -> Result<String> {
-    let (name, word) = call.split_once(' ').unwrap_or((call, ""));
-    let done = match name {
+/// Makes a call, and puts what it answers.
+fn make<D: CutDisk>(alloc: Global, disk: &mut D, call: &str, answers: &mut Parts) -> Result<()> {
+    let (name, words) = kind_and_rest(call);
+    match name {
         "arm" => {
-            disk.arm(Some(word.parse::<u64>()?));
-            "armed"
+            disk.arm(Some(words.parse::<u64>()?));
+            answers.put("armed")
         }
         "disarm" => {
             disk.arm(None);
-            "disarmed"
+            answers.put("disarmed")
         }
         "cut" => {
-            cut(disk, word.parse::<u64>()?);
-            "cut"
+            cut(disk, words.parse::<u64>()?);
+            answers.put("cut")
         }
-        "put" => {
-            let (at, octets) = word.split_once(' ').context("no octets")?;
-            let octets = read_octets(alloc, octets)?;
-            match put(disk, at.parse::<u64>()?, octets.as_slice()) {
-                Ok(()) => "put",
-                Err(DiskFault) => "failed",
-            }
-        }
-        _ => return make_call(alloc, disk, call),
-    };
-    Ok(String::from_str(alloc, done)?)
+        "put" => put_row(alloc, disk, words, answers),
+        _ => make_call(alloc, disk, call, answers),
+    }
+}
+
+/// `put AT OCTETS`
+fn put_row<D: CutDisk>(
+    alloc: Global,
+    disk: &mut D,
+    words: &str,
+    answers: &mut Parts,
+) -> Result<()> {
+    let (at, octets) = two_parts(words, ' ')?;
+    let at = at.parse::<u64>()?;
+    let octets = read_octets(alloc, octets)?;
+    answers.put(match put(disk, at, octets.as_slice()) {
+        Ok(()) => "put",
+        Err(DiskFault) => "failed",
+    })
 }
 
 /// Cuts the power. What is left might have been left before, and what might have been left since a moment stays.
@@ -140,28 +165,4 @@ fn put<D: CutDisk>(disk: &mut D, at: u64, octets: &[u8]) -> Result<(), DiskFault
 {
     disk.write_at(at, octets)?;
     disk.sync()
-}
-
-/// Puts an answer behind the others.
-fn push_answer(text: &mut String, answer: &str) -> Result<()> {
-    if !text.is_empty() {
-        text.push_str("; ")?;
-    }
-    text.push_str(answer)?;
-    Ok(())
-}
-
-/// Puts octets behind the text.
-fn push_octets(alloc: Global, text: &mut String, octets: &[u8]) -> Result<()> {
-    text.push_str(" | ")?;
-    text.push_str(hex::encode(alloc, octets)?.as_str())?;
-    Ok(())
-}
-
-/// Says that a call found no memory, where one did.
-fn push_starved(text: &mut String, starved: bool) -> Result<()> {
-    if starved {
-        text.push_str(", starved")?;
-    }
-    Ok(())
 }

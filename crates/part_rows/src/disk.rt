@@ -9,9 +9,9 @@
 pub mod calls;
 
 use crate::disk::calls::Calls;
-use anyhow::{Context, Result};
+use anyhow::Result;
 use disk_model::MemoryDisk;
-use row_words::{Player, disk_after, read_octets};
+use row_words::{Player, disk_after, four_parts, hex_text, read_octets};
 use std::alloc::Global;
 
 /// Plays rows of disks, each on its own.
@@ -20,9 +20,7 @@ pub struct DiskRows;
 
 impl Player for DiskRows {
     fn play(&mut self, alloc: Global, row: &str) -> Result<String> {
-        let (octets, rest) = row.split_once('|').context("no failing calls")?;
-        let (failing, rest) = rest.split_once('|').context("no calls")?;
-        let (calls, picks) = rest.split_once('|').context("no picks")?;
+        let (octets, failing, calls, picks) = four_parts(row, '|')?;
         let octets = read_octets(alloc, octets)?;
         let made = Made {
             octets: octets.as_slice(),
@@ -48,16 +46,18 @@ impl Made<'_> {
     /// What is printed for them.
     fn text(&self, alloc: Global, picks: &str) -> Result<String> {
         let (mut text, disk) = self.disk(alloc)?;
-        push_octets(alloc, &mut text, disk.bytes())?;
-        if disk.starved() {
-            text.push_str(", starved")?;
-        }
+        push_end(alloc, &mut text, disk.bytes(), disk.starved())?;
         for pick in picks.split_whitespace() {
-            let (_answers, disk) = self.disk(alloc)?;
-            let left = disk.crash(pick.parse::<u64>()?)?;
-            push_octets(alloc, &mut text, left.bytes())?;
+            self.push_left(alloc, &mut text, pick.parse::<u64>()?)?;
         }
         Ok(text)
+    }
+
+    /// Puts what a crash leaves, as a number picks it, behind the text.
+    fn push_left(&self, alloc: Global, text: &mut String, pick: u64) -> Result<()> {
+        let (_answers, disk) = self.disk(alloc)?;
+        let left = disk.crash(pick)?;
+        push_octets(alloc, text, left.bytes())
     }
 
     /// What they answer, and the disk then.
@@ -71,9 +71,19 @@ impl Made<'_> {
     }
 }
 
+/// Puts a disk's octets behind the text, and `starved` where a call found no memory.
+pub fn push_end(alloc: Global, text: &mut String, octets: &[u8], starved: bool) -> Result<()> {
+    push_octets(alloc, text, octets)?;
+    if starved {
+        text.push_str(", starved")?;
+    }
+    Ok(())
+}
+
 /// Puts octets behind the text.
-fn push_octets(alloc: Global, text: &mut String, octets: &[u8]) -> Result<()> {
+pub fn push_octets(alloc: Global, text: &mut String, octets: &[u8]) -> Result<()> {
+    let octets = hex_text(alloc, octets)?;
     text.push_str(" | ")?;
-    text.push_str(hex::encode(alloc, octets)?.as_str())?;
+    text.push_str(octets.as_str())?;
     Ok(())
 }

@@ -14,7 +14,7 @@ mod lines;
 mod octets;
 
 use anyhow::{Result, bail};
-use row_words::Player;
+use row_words::{Player, kind_and_rest};
 use std::alloc::Global;
 
 /// Plays rows of frames, each on its own.
@@ -23,7 +23,7 @@ pub struct FrameRows;
 
 impl Player for FrameRows {
     fn play(&mut self, alloc: Global, row: &str) -> Result<String> {
-        let (kind, rest) = row.split_once(' ').unwrap_or((row, ""));
+        let (kind, rest) = kind_and_rest(row);
         match kind {
             "read" => octets::read(alloc, rest),
             "controls" => octets::controls(alloc),

@@ -11,9 +11,9 @@
 
 mod making;
 
-use anyhow::{Result, bail};
+use anyhow::Result;
 use header_tool::{MakeRefusal, Shown, check_line, show};
-use row_words::{Player, read_octets};
+use row_words::{Player, kind_and_rest, read_octets, text_of};
 use std::alloc::Global;
 use std::str;
 
@@ -23,11 +23,11 @@ pub struct HeaderRows;
 
 impl Player for HeaderRows {
     fn play(&mut self, alloc: Global, row: &str) -> Result<String> {
-        let (kind, rest) = row.split_once(' ').unwrap_or((row, ""));
+        let (kind, rest) = kind_and_rest(row);
         match kind {
             "show" => show_row(alloc, rest),
             "check" => check_row(alloc, rest),
-            "memory" => memory(alloc),
+            "memory" => text_of(alloc, MakeRefusal::OutOfMemory),
             _ => making::make_row(alloc, kind, rest),
         }
     }
@@ -45,15 +45,9 @@ fn check_row(alloc: Global, text: &str) -> Result<String> {
     shown_text(alloc, &check_line(alloc, file.as_slice())?)
 }
 
-/// `memory`
-fn memory(alloc: Global) -> Result<String> {
-    let refusal = MakeRefusal::OutOfMemory;
-    Ok(format!(in alloc; "{refusal}")?)
-}
-
 /// A text that says how a file is, and the code of its fault.
 fn shown_text(alloc: Global, shown: &Shown) -> Result<String> {
     let code = shown.code;
     let text = str::from_utf8(shown.text.as_slice())?.replace(alloc, "\n", "|")?;
-    Ok(format!(in alloc; "{text} {code}")?)
+    text_of(alloc, format_args!("{text} {code}"))
 }

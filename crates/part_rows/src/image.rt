@@ -4,7 +4,7 @@
 use anyhow::Result;
 use disk_model::MemoryDisk;
 use file_store::{FileStore, Limits};
-use row_words::{Player, read_octets};
+use row_words::{Player, push_shown, read_octets, text_of};
 use std::alloc::Global;
 
 /// Plays rows of disks, each on its own.
@@ -23,7 +23,7 @@ fn recovered(alloc: Global, row: &str) -> Result<String> {
     let mut disk = MemoryDisk::new(alloc, octets.as_slice(), &[])?;
     match FileStore::recover(alloc, &mut disk, Limits { blocks: 8 }) {
         Ok(store) => shown(alloc, &store),
-        Err(fault) => Ok(format!(in alloc; "{fault}")?),
+        Err(fault) => text_of(alloc, fault),
     }
 }
 
@@ -40,8 +40,8 @@ fn shown(alloc: Global, store: &FileStore) -> Result<String> {
             };
             let held = info.held;
             let length = info.length;
-            let entry = format!(in alloc; "; {number}: {held} of {length}, {end}")?;
-            text.push_str(entry.as_str())?;
+            let entry = format_args!("; {number}: {held} of {length}, {end}");
+            push_shown(alloc, &mut text, entry)?;
         }
     }
     Ok(text)

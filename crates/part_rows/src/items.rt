@@ -9,9 +9,9 @@
 //! - `sum OCTETS`: their sum, in hexadecimal.
 
 use crate::parts::{Parts, octets_text};
-use anyhow::{Context, Result, bail};
+use anyhow::{Result, bail};
 use pfh_items::{FileFault, Header, Items, fixed_len, is_mandatory, is_number, is_single, sum16};
-use row_words::{Player, read_octets};
+use row_words::{Player, kind_and_rest, read_octets, text_of, two_parts};
 use std::alloc::Global;
 
 /// Plays rows of items, each on its own.
@@ -20,7 +20,7 @@ pub struct ItemRows;
 
 impl Player for ItemRows {
     fn play(&mut self, alloc: Global, row: &str) -> Result<String> {
-        let (kind, rest) = row.split_once(' ').unwrap_or((row, ""));
+        let (kind, rest) = kind_and_rest(row);
         match kind {
             "items" => items(alloc, rest),
             "header" => header(alloc, rest),
@@ -36,43 +36,60 @@ impl Player for ItemRows {
 fn items(alloc: Global, text: &str) -> Result<String> {
     let octets = read_octets(alloc, text)?;
     let mut parts = Parts::new(alloc);
-    let mut items = Items::over(octets.as_slice());
+    put_items(alloc, octets.as_slice(), &mut parts)?;
+    Ok(parts.end())
+}
+
+/// Puts what ends the items of these octets, each item, and what ends them when all were taken.
+fn put_items(alloc: Global, octets: &[u8], parts: &mut Parts) -> Result<()> {
+    let mut items = Items::over(octets);
     let stop = items.stop();
-    parts.put(format!(in alloc; "{stop:?}")?.as_str())?;
+    parts.show(format_args!("{stop:?}"))?;
     while let Some(item) = items.next() {
         let id = item.id;
         let data = octets_text(alloc, item.bytes)?;
-        parts.put(format!(in alloc; "{id:04x} {data}")?.as_str())?;
+        parts.show(format_args!("{id:04x} {data}"))?;
     }
     let more = items.next().is_some();
     let stop = items.stop();
-    parts.put(format!(in alloc; "{more} {stop:?}")?.as_str())?;
-    Ok(parts.end())
+    parts.show(format_args!("{more} {stop:?}"))
 }
 
 /// `header ID.. | OCTETS`
 fn header(alloc: Global, row: &str) -> Result<String> {
-    let (ids, octets) = row.split_once('|').context("no octets")?;
+    let (ids, octets) = two_parts(row, '|')?;
     let octets = read_octets(alloc, octets)?;
     let is_whole = Header::of(octets.as_slice()).is_some();
     let Some(header) = Header::of_file(octets.as_slice()) else {
-        return Ok(format!(in alloc; "none {is_whole}")?);
+        return text_of(alloc, format_args!("none {is_whole}"));
     };
     let mut parts = Parts::new(alloc);
-    parts.put(octets_text(alloc, header.header())?.as_str())?;
-    let body = octets_text(alloc, header.body())?;
-    parts.put(format!(in alloc; "{is_whole} {body}")?.as_str())?;
-    for id in ids.split_whitespace() {
-        parts.put(field_text(alloc, &header, u16::from_str_radix(id, 16)?)?.as_str())?;
-    }
+    put_header(alloc, &header, is_whole, ids, &mut parts)?;
     Ok(parts.end())
 }
 
-/// The data of a header's first item of this id, or `none`.
-fn field_text(alloc: Global, header: &Header<'_>, id: u16) -> Result<String> {
+/// Puts a header, whether it is the octets whole, the body, and the data of the first items of these ids.
+fn put_header(
+    alloc: Global,
+    header: &Header<'_>,
+    is_whole: bool,
+    ids: &str,
+    parts: &mut Parts,
+) -> Result<()> {
+    parts.show_octets(header.header())?;
+    let body = octets_text(alloc, header.body())?;
+    parts.show(format_args!("{is_whole} {body}"))?;
+    for id in ids.split_whitespace() {
+        put_field(header, u16::from_str_radix(id, 16)?, parts)?;
+    }
+    Ok(())
+}
+
+/// Puts the data of a header's first item of this id, or `none`.
+fn put_field(header: &Header<'_>, id: u16, parts: &mut Parts) -> Result<()> {
     match header.field(id) {
-        Some(data) => octets_text(alloc, data),
-        None => Ok(String::from_str(alloc, "none")?),
+        Some(data) => parts.show_octets(data),
+        None => parts.put("none"),
     }
 }
 
@@ -83,8 +100,7 @@ fn table(alloc: Global, ids: &str) -> Result<String> {
         let id = u16::from_str_radix(id, 16)?;
         let len = fixed_len(id);
         let (number, mandatory, single) = (is_number(id), is_mandatory(id), is_single(id));
-        let rule = format!(in alloc; "{id:02x} {len:?} {number} {mandatory} {single}")?;
-        parts.put(rule.as_str())?;
+        parts.show(format_args!("{id:02x} {len:?} {number} {mandatory} {single}"))?;
     }
     Ok(parts.end())
 }
@@ -101,7 +117,7 @@ fn faults(alloc: Global) -> Result<String> {
         FileFault::BodySum,
     ] {
         let code = fault.code();
-        parts.put(format!(in alloc; "{code} {fault}")?.as_str())?;
+        parts.show(format_args!("{code} {fault}"))?;
     }
     Ok(parts.end())
 }
@@ -109,5 +125,5 @@ fn faults(alloc: Global) -> Result<String> {
 /// `sum OCTETS`
 fn sum(alloc: Global, text: &str) -> Result<String> {
     let sum = sum16(read_octets(alloc, text)?.as_slice());
-    Ok(format!(in alloc; "{sum:04x}")?)
+    text_of(alloc, format_args!("{sum:04x}"))
 }

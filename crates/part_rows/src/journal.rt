@@ -13,11 +13,11 @@ mod put;
 
 use crate::journal::labelled::Labelled;
 use crate::journal::put::{Seen, put_under_label};
-use anyhow::{Context, Result, ensure};
+use anyhow::{Result, ensure};
 use disk_model::{CutDisk, FuseDisk, MemoryDisk};
 use file_journal::Layout;
 use px_base::FileBytes;
-use row_words::{Player, read_numbers, read_octets};
+use row_words::{Player, hex_text, read_numbers, read_octets, text_of, three_parts};
 use std::alloc::Global;
 
 /// Plays rows of journals, each on its own.
@@ -30,9 +30,9 @@ impl Player for JournalRows {
         let mut labelled = disk_of(alloc, row)?;
         let mut seen = Seen::new();
         let ended = put_under_label(&mut labelled, layout, &mut seen);
-        let seen = hex::encode(alloc, seen.as_slice())?;
-        let octets = octets_of(alloc, labelled)?;
-        Ok(format!(in alloc; "{ended:?} | read {seen} | {octets}")?)
+        let seen = hex_text(alloc, seen.as_slice())?;
+        let octets = octets_of(alloc, &labelled)?;
+        text_of(alloc, format_args!("{ended:?} | read {seen} | {octets}"))
     }
 }
 
@@ -46,21 +46,20 @@ fn layout_of(row: &str) -> (&str, Layout) {
 
 /// The disk of a row, under a label.
 fn disk_of(alloc: Global, row: &str) -> Result<Labelled<FuseDisk>> {
-    let (octets, rest) = row.split_once('|').context("no failing calls")?;
-    let (failing, calls) = rest.split_once('|').context("no calls that pass")?;
+    let (octets, failing, calls) = three_parts(row, '|')?;
+    let calls = calls.trim().parse::<u64>()?;
+    let label = FileBytes::copy_of(alloc, b"label")?;
     let octets = read_octets(alloc, octets)?;
     let failing = read_numbers(alloc, failing)?;
     let disk = MemoryDisk::new(alloc, octets.as_slice(), failing.as_slice())?;
-    Ok(Labelled {
-        disk: FuseDisk::new(disk, calls.trim().parse::<u64>()?),
-        label: FileBytes::copy_of(alloc, b"label")?,
-    })
+    let disk = FuseDisk::new(disk, calls);
+    Ok(Labelled { disk, label })
 }
 
 /// The octets of a labelled disk.
-fn octets_of(alloc: Global, labelled: Labelled<FuseDisk>) -> Result<String> {
+fn octets_of(alloc: Global, labelled: &Labelled<FuseDisk>) -> Result<String> {
     let Labelled { disk, label } = labelled;
     ensure!(!disk.starved(), "a call found no memory");
     ensure!(label.as_slice() == b"label".as_slice(), "another label");
-    Ok(hex::encode(alloc, disk.into_disk().bytes())?)
+    hex_text(alloc, disk.bytes())
 }

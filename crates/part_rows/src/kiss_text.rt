@@ -4,12 +4,12 @@
 //!   octets, `dropped` or `passed`.
 //! - `write OCTETS`: the text of a frame; or why there is none, and what stands then where the last one was written.
 
-use crate::parts::{Parts, octets_text};
+use crate::parts::{Parts, octets_text, same_text};
 use crate::pieces::cut;
 use anyhow::{Result, bail, ensure};
 use arrayvec::ArrayVec;
 use kiss::{Part, parts, parts_of_pieces, write_frame};
-use row_words::{Player, read_octets};
+use row_words::{Player, kind_and_rest, read_octets};
 use std::alloc::Global;
 
 /// The lengths of pieces.
@@ -31,18 +31,18 @@ impl KissRows {
 
     /// `write OCTETS`
     fn write(&mut self, alloc: Global, octets: &[u8]) -> Result<String> {
-        let answer = write_frame(octets, &mut self.out);
-        let text = octets_text(alloc, self.out.as_slice())?;
-        match answer {
-            Ok(()) => Ok(text),
-            Err(fault) => Ok(format!(in alloc; "{fault}; {text}")?),
+        let mut parts = Parts::new(alloc);
+        if let Err(fault) = write_frame(octets, &mut self.out) {
+            parts.show(fault)?;
         }
+        parts.show_octets(self.out.as_slice())?;
+        Ok(parts.end())
     }
 }
 
 impl Player for KissRows {
     fn play(&mut self, alloc: Global, row: &str) -> Result<String> {
-        let (kind, octets) = row.split_once(' ').unwrap_or((row, ""));
+        let (kind, octets) = kind_and_rest(row);
         let octets = read_octets(alloc, octets)?;
         match kind {
             "read" => read(alloc, octets.as_slice()),
@@ -54,15 +54,17 @@ impl Player for KissRows {
 
 /// `read OCTETS`
 fn read(alloc: Global, octets: &[u8]) -> Result<String> {
-    let text = parts_text(alloc, parts(alloc, octets)?.as_slice())?;
+    let text = read_whole(alloc, octets)?;
     for len in LENGTHS {
         let found = read_in_pieces(alloc, octets, len)?;
-        ensure!(
-            found.as_str() == text.as_str(),
-            "in pieces of {len} octets: {found}"
-        );
+        same_text(found.as_str(), text.as_str(), format_args!("in pieces of {len} octets"))?;
     }
     Ok(text)
+}
+
+/// The parts of the text, read whole.
+fn read_whole(alloc: Global, octets: &[u8]) -> Result<String> {
+    parts_text(alloc, parts(alloc, octets)?.as_slice())
 }
 
 /// The same in pieces of a length.
@@ -76,14 +78,19 @@ fn read_in_pieces(alloc: Global, octets: &[u8], len: usize) -> Result<String> {
 fn parts_text(alloc: Global, parts: &[Part]) -> Result<String> {
     let mut text = Parts::new(alloc);
     for part in parts {
-        match part {
-            Part::Frame(octets) => {
-                let octets = octets_text(alloc, octets.as_slice())?;
-                text.put(format!(in alloc; "frame {octets}")?.as_str())?;
-            }
-            Part::Dropped => text.put("dropped")?,
-            Part::Passed => text.put("passed")?,
-        }
+        put_part(alloc, part, &mut text)?;
     }
     Ok(text.end())
+}
+
+/// Puts a part.
+fn put_part(alloc: Global, part: &Part, text: &mut Parts) -> Result<()> {
+    match part {
+        Part::Frame(octets) => {
+            let octets = octets_text(alloc, octets.as_slice())?;
+            text.show(format_args!("frame {octets}"))
+        }
+        Part::Dropped => text.put("dropped"),
+        Part::Passed => text.put("passed"),
+    }
 }

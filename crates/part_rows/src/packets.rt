@@ -11,7 +11,7 @@ mod reading;
 mod streams;
 
 use anyhow::{Result, bail};
-use row_words::{Player, read_octets};
+use row_words::{Player, kind_and_rest, read_octets};
 use std::alloc::Global;
 
 /// Plays rows of packets, each on its own.
@@ -20,7 +20,7 @@ pub struct PacketRows;
 
 impl Player for PacketRows {
     fn play(&mut self, alloc: Global, row: &str) -> Result<String> {
-        let (kind, octets) = row.split_once(' ').unwrap_or((row, ""));
+        let (kind, octets) = kind_and_rest(row);
         let octets = read_octets(alloc, octets)?;
         match kind {
             "read" => reading::read(alloc, octets.as_slice()),

@@ -1,6 +1,7 @@
 //! What a row prints: its parts, and octets in them.
 
-use anyhow::Result;
+use anyhow::{Result, bail};
+use row_words::{hex_text, text_of};
 use std::alloc::Global;
 use std::fmt::Display;
 
@@ -10,6 +11,7 @@ const MOST_ALIKE: usize = 32;
 /// The parts so far, parted by `; `.
 #[derive(Drop)]
 pub struct Parts {
+    alloc: Global,
     text: String,
 }
 
@@ -17,6 +19,7 @@ impl Parts {
     /// No parts.
     pub fn new(alloc: Global) -> Parts {
         Parts {
+            alloc,
             text: String::new(alloc),
         }
     }
@@ -30,26 +33,44 @@ impl Parts {
         Ok(())
     }
 
+    /// Puts what shows this behind the others. Takes memory.
+    pub fn show<T: Display + Drop>(&mut self, shown: T) -> Result<()> {
+        self.put(text_of(self.alloc, shown)?.as_str())
+    }
+
+    /// Puts octets behind the others. Takes memory.
+    pub fn show_octets(&mut self, octets: &[u8]) -> Result<()> {
+        self.put(octets_text(self.alloc, octets)?.as_str())
+    }
+
+    /// Puts `ok`, or the text of the error, behind the others. Takes memory.
+    pub fn show_answer<E: Display + Drop>(&mut self, answer: Result<(), E>) -> Result<()> {
+        match answer {
+            Ok(()) => self.put("ok"),
+            Err(error) => self.show(error),
+        }
+    }
+
     /// The text of all parts.
     pub fn end(self) -> String {
-        let Parts { text } = self;
+        let Parts { alloc: _, text } = self;
         text
     }
 }
 
-/// `ok`, or the text of the error. Takes memory.
-pub fn answer_text<E: Display + Drop>(alloc: Global, answer: Result<(), E>) -> Result<String> {
-    match answer {
-        Ok(()) => Ok(String::from_str(alloc, "ok")?),
-        Err(error) => Ok(format!(in alloc; "{error}")?),
+/// Fails where this was found, in a way that is told, and not the text that there should be.
+pub fn same_text<T: Display + Drop>(found: &str, text: &str, how: T) -> Result<()> {
+    if found != text {
+        bail!("{how}: {found}");
     }
+    Ok(())
 }
 
 /// Octets in hexadecimal, `''` where there are none. Where more than 32 at the end are alike, they are one word, with
 /// how often it stands behind `*`. Takes memory.
 pub fn octets_text(alloc: Global, octets: &[u8]) -> Result<String> {
     let Some(last) = octets.last() else {
-        return Ok(String::from_str(alloc, "''")?);
+        return text_of(alloc, "''");
     };
     let alike = octets
         .iter()
@@ -57,10 +78,15 @@ pub fn octets_text(alloc: Global, octets: &[u8]) -> Result<String> {
         .take_while(|octet| *octet == last)
         .count();
     if alike <= MOST_ALIKE {
-        return Ok(hex::encode(alloc, octets)?);
+        return hex_text(alloc, octets);
     }
     let (front, _) = octets.split_at(octets.len().saturating_sub(alike));
-    let front = hex::encode(alloc, front)?;
+    alike_text(alloc, front, *last, alike)
+}
+
+/// Octets in hexadecimal, and behind them one that stands so often.
+fn alike_text(alloc: Global, front: &[u8], last: u8, alike: usize) -> Result<String> {
+    let front = hex_text(alloc, front)?;
     let blank = if front.is_empty() { "" } else { " " };
-    Ok(format!(in alloc; "{front}{blank}{last:02x}*{alike}")?)
+    text_of(alloc, format_args!("{front}{blank}{last:02x}*{alike}"))
 }

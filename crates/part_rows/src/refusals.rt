@@ -1,14 +1,13 @@
 //! Rows of refusals of a disk and of what stands on one. A row has a refusal's type, its name, and the value that it
 //! carries, if any. Its text is printed.
 
-use anyhow::{Context, Result, bail, ensure};
+use anyhow::{Result, bail, ensure};
 use client_notes::NotesRefusal;
 use disk_model::DiskFault;
 use file_journal::{JournalFault, ReadFault, RecoverFault, StoreFault};
 use file_store::{BeginRefusal, ResumeRefusal};
-use row_words::Player;
+use row_words::{Player, kind_and_rest, text_of, two_parts};
 use std::alloc::Global;
-use std::fmt::Display;
 
 /// Plays rows of refusals, each on its own.
 #[derive(Drop)]
@@ -16,27 +15,22 @@ pub struct RefusalRows;
 
 impl Player for RefusalRows {
     fn play(&mut self, alloc: Global, row: &str) -> Result<String> {
-        let (kind, refusal) = row.split_once(' ').unwrap_or((row, ""));
-        let (name, value) = refusal.split_once(' ').unwrap_or((refusal, ""));
+        let (kind, refusal) = kind_and_rest(row);
+        let (name, value) = kind_and_rest(refusal);
         match kind {
-            "disk_model::DiskFault" => text_of(alloc, &DiskFault),
-            "file_journal::RecoverFault" => text_of(alloc, &recover_fault(alloc, name, value)?),
-            "file_journal::ReadFault" => text_of(alloc, &read_fault(name, value)?),
-            "file_journal::JournalFault" => text_of(alloc, &journal_fault(name)?),
+            "disk_model::DiskFault" => text_of(alloc, DiskFault),
+            "file_journal::RecoverFault" => text_of(alloc, recover_fault(alloc, name, value)?),
+            "file_journal::ReadFault" => text_of(alloc, read_fault(name, value)?),
+            "file_journal::JournalFault" => text_of(alloc, journal_fault(name)?),
             "file_journal::StoreFault" | "file_store::StoreFault" => {
-                text_of(alloc, &store_fault(alloc, name, value)?)
+                text_of(alloc, store_fault(alloc, name, value)?)
             }
-            "file_store::BeginRefusal" => text_of(alloc, &begin_refusal(name, value)?),
-            "file_store::ResumeRefusal" => text_of(alloc, &resume_refusal(name)?),
-            "client_notes::NotesRefusal" => text_of(alloc, &notes_refusal(name, value)?),
+            "file_store::BeginRefusal" => text_of(alloc, begin_refusal(name, value)?),
+            "file_store::ResumeRefusal" => text_of(alloc, resume_refusal(name)?),
+            "client_notes::NotesRefusal" => text_of(alloc, notes_refusal(name, value)?),
             _ => bail!("no type of a refusal"),
         }
     }
-}
-
-/// The text of a refusal.
-fn text_of<T: Display>(alloc: Global, refusal: &T) -> Result<String> {
-    Ok(format!(in alloc; "{refusal}")?)
 }
 
 /// Eight octets.
@@ -105,7 +99,7 @@ fn begin_refusal(name: &str, value: &str) -> Result<BeginRefusal> {
         "TooMany" => BeginRefusal::TooMany,
         "NumbersGone" => BeginRefusal::NumbersGone,
         "NoRoom" => {
-            let (blocks, free) = value.split_once(' ').context("no free blocks")?;
+            let (blocks, free) = two_parts(value, ' ')?;
             BeginRefusal::NoRoom {
                 blocks: blocks.parse::<u32>()?,
                 free: free.parse::<u32>()?,

@@ -8,7 +8,7 @@
 use crate::parts::Parts;
 use air_schedule::{Event, Schedule, ScheduleFault};
 use anyhow::{Result, bail};
-use row_words::Player;
+use row_words::{Player, kind_and_rest, text_of, with_lines};
 use std::alloc::Global;
 
 /// Plays rows of schedules, each on its own.
@@ -17,31 +17,22 @@ pub struct ScheduleRows;
 
 impl Player for ScheduleRows {
     fn play(&mut self, alloc: Global, row: &str) -> Result<String> {
-        let (kind, text) = row.split_once(' ').unwrap_or((row, ""));
+        let (kind, text) = kind_and_rest(row);
         match kind {
             "text" => shown(alloc, with_lines(alloc, text)?.as_slice()),
             "octets" => shown(alloc, hex::decode(alloc, text)?.as_slice()),
             "tokens" => tokens(alloc, text.parse::<u32>()?),
-            "memory" => Ok(format!(in alloc; "{}", ScheduleFault::OutOfMemory)?),
+            "memory" => text_of(alloc, ScheduleFault::OutOfMemory),
             _ => bail!("no kind of row"),
         }
     }
-}
-
-/// The octets of a text, with an LF for each `|`.
-fn with_lines(alloc: Global, text: &str) -> Result<Vec<u8>> {
-    let mut octets = Vec::new(alloc);
-    for octet in text.bytes() {
-        octets.push(if octet == b'|' { b'\n' } else { octet })?;
-    }
-    Ok(octets)
 }
 
 /// What is read of a text, or why it is none.
 fn shown(alloc: Global, text: &[u8]) -> Result<String> {
     match Schedule::read(alloc, text) {
         Ok(schedule) => schedule_text(alloc, &schedule),
-        Err(fault) => Ok(format!(in alloc; "{fault}")?),
+        Err(fault) => text_of(alloc, fault),
     }
 }
 
@@ -49,32 +40,40 @@ fn shown(alloc: Global, text: &[u8]) -> Result<String> {
 fn schedule_text(alloc: Global, schedule: &Schedule) -> Result<String> {
     let mut parts = Parts::new(alloc);
     let window = schedule.window();
-    parts.put(format!(in alloc; "window {window}")?.as_str())?;
+    parts.show(format_args!("window {window}"))?;
     for call in schedule.clients() {
-        parts.put(format!(in alloc; "{call}")?.as_str())?;
+        parts.show(call)?;
     }
     for event in schedule.events() {
-        parts.put(format!(in alloc; "{event:?}")?.as_str())?;
+        parts.show(format_args!("{event:?}"))?;
     }
     Ok(parts.end())
 }
 
 /// `tokens COUNT`
 fn tokens(alloc: Global, count: u32) -> Result<String> {
-    let mut text = Vec::new(alloc);
-    text.extend_from_slice(b"window 1\nask 1 list ")?;
+    let text = asking(alloc, count)?;
+    match Schedule::read(alloc, text.as_slice()) {
+        Ok(schedule) => tokens_text(alloc, schedule.events()),
+        Err(fault) => text_of(alloc, fault),
+    }
+}
+
+/// A text of one event, which asks for a list with so many tokens.
+fn asking(alloc: Global, count: u32) -> Result<Vec<u8>> {
+    let mut text = Vec::from_slice(alloc, b"window 1\nask 1 list ")?;
     for _ in 0..count {
         text.extend_from_slice(b"2a")?;
     }
     text.push(b'\n')?;
-    match Schedule::read(alloc, text.as_slice()) {
-        Ok(schedule) => match schedule.events().first() {
-            Some(Event::AskList { tokens, .. }) => {
-                let count = tokens.len();
-                Ok(format!(in alloc; "{count} tokens")?)
-            }
-            _ => bail!("no event that asks for a list"),
-        },
-        Err(fault) => Ok(format!(in alloc; "{fault}")?),
-    }
+    Ok(text)
+}
+
+/// How many tokens the first event has, which asks for a list.
+fn tokens_text(alloc: Global, events: &[Event]) -> Result<String> {
+    let Some(Event::AskList { tokens, .. }) = events.first() else {
+        bail!("no event that asks for a list");
+    };
+    let count = tokens.len();
+    text_of(alloc, format_args!("{count} tokens"))
 }

@@ -6,10 +6,10 @@
 //! row `holds`, tokens, and the octets of a header that isn't kept says whether a selection holds of it, and a row
 //! `fault` and tokens has the text of their fault, or `none`.
 
-use anyhow::{Context, Result, bail, ensure};
+use anyhow::{Result, bail, ensure};
 use arrayvec::ArrayVec;
 use pfh_items::Header;
-use row_words::{Player, read_octets};
+use row_words::{Player, hex_text, kind_and_rest, read_octets, text_of, two_parts};
 use selection::Selection;
 use std::alloc::Global;
 
@@ -39,11 +39,11 @@ impl SelectionRows {
     /// Keeps the octets of a header, and shows its place, or that they are none.
     fn add_header(&mut self, octets: Vec<u8>) -> Result<String> {
         if Header::of(octets.as_slice()).is_none() {
-            return Ok(String::from_str(self.alloc, "no header")?);
+            return text_of(self.alloc, "no header");
         }
         let place = self.headers.len();
         self.headers.push(octets)?;
-        Ok(format!(in self.alloc; "header {place}")?)
+        text_of(self.alloc, format_args!("header {place}"))
     }
 
     /// Shows of which headers a selection holds, and the tokens that it writes; or the tokens' first fault.
@@ -51,25 +51,31 @@ impl SelectionRows {
         ensure!(tokens.len() <= MOST_OCTETS, "too many octets");
         match Selection::read(tokens) {
             Ok(selection) => self.shown(&selection),
-            Err(fault) => Ok(format!(in self.alloc; "{fault:?}")?),
+            Err(fault) => text_of(self.alloc, format_args!("{fault:?}")),
         }
     }
 
     /// A digit for each header, and the tokens that the selection writes, in hexadecimal.
     fn shown(&mut self, selection: &Selection) -> Result<String> {
-        let mut text = String::new(self.alloc);
-        for octets in self.headers.iter() {
-            text.push_str(digit(selection, octets.as_slice())?)?;
-        }
+        let digits = self.digits(selection)?;
         selection.write(&mut self.written);
-        let written = hex::encode(self.alloc, self.written.as_slice())?;
-        Ok(format!(in self.alloc; "{text} {written}")?)
+        let written = hex_text(self.alloc, self.written.as_slice())?;
+        text_of(self.alloc, format_args!("{digits} {written}"))
+    }
+
+    /// A digit for each header.
+    fn digits(&self, selection: &Selection) -> Result<String> {
+        let mut digits = String::new(self.alloc);
+        for octets in self.headers.iter() {
+            digits.push_str(digit(selection, octets.as_slice())?)?;
+        }
+        Ok(digits)
     }
 }
 
 impl Player for SelectionRows {
     fn play(&mut self, alloc: Global, row: &str) -> Result<String> {
-        let (kind, rest) = row.split_once(' ').unwrap_or((row, ""));
+        let (kind, rest) = kind_and_rest(row);
         match kind {
             "header" => self.add_header(hex::decode(alloc, rest)?),
             "select" => self.select(hex::decode(alloc, rest)?.as_slice()),
@@ -90,13 +96,18 @@ fn digit(selection: &Selection, octets: &[u8]) -> Result<&'static str> {
 
 /// `holds TOKENS HEADER`
 fn holds(alloc: Global, row: &str) -> Result<String> {
-    let (tokens, header) = row.split_once(' ').context("no header")?;
+    let (tokens, header) = two_parts(row, ' ')?;
     let tokens = read_octets(alloc, tokens)?;
     let header = read_octets(alloc, header)?;
+    holds_text(alloc, tokens.as_slice(), header.as_slice())
+}
+
+/// Whether the selection that these tokens are holds of a header; or the tokens' first fault.
+fn holds_text(alloc: Global, tokens: &[u8], header: &[u8]) -> Result<String> {
     ensure!(tokens.len() <= MOST_OCTETS, "too many octets");
-    match Selection::read(tokens.as_slice()) {
-        Ok(selection) => Ok(String::from_str(alloc, digit(&selection, header.as_slice())?)?),
-        Err(fault) => Ok(format!(in alloc; "{fault}")?),
+    match Selection::read(tokens) {
+        Ok(selection) => text_of(alloc, digit(&selection, header)?),
+        Err(fault) => text_of(alloc, fault),
     }
 }
 
@@ -105,7 +116,7 @@ fn fault(alloc: Global, row: &str) -> Result<String> {
     let tokens = read_octets(alloc, row)?;
     ensure!(tokens.len() <= MOST_OCTETS, "too many octets");
     match Selection::read(tokens.as_slice()) {
-        Ok(_selection) => Ok(String::from_str(alloc, "none")?),
-        Err(fault) => Ok(format!(in alloc; "{fault}")?),
+        Ok(_selection) => text_of(alloc, "none"),
+        Err(fault) => text_of(alloc, fault),
     }
 }

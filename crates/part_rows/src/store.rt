@@ -8,12 +8,15 @@
 ghost use Rattle.file_store.specs.State.{StandsOn};
 ghost use Rattle.file_store.specs.Upload.{Holds};
 
-use anyhow::{Context, Result};
+use anyhow::Result;
 use disk_model::{Disk, MemoryDisk};
 use file_store::{AppendRefusal, BeginRefusal, FileStore, Info, Limits, OpenUpload, SealRefusal};
 use px_base::Call;
-use row_words::{Player, read_octets};
+use row_words::{Player, read_octets, text_of, two_parts};
 use std::alloc::Global;
+
+/// What a store may take.
+const LIMITS: Limits = Limits { blocks: 8 };
 
 /// Plays rows of stores, each on its own.
 #[derive(Drop)]
@@ -21,23 +24,33 @@ pub struct StoreRows;
 
 impl Player for StoreRows {
     fn play(&mut self, alloc: Global, row: &str) -> Result<String> {
-        let (length, octets) = row.split_once(' ').context("no octets")?;
+        let (length, octets) = two_parts(row, ' ')?;
         let length = length.parse::<u32>()?;
         let octets = read_octets(alloc, octets)?;
-        let caller = Call::read("NOCALL")?;
         let mut disk = MemoryDisk::new(alloc, &[], &[])?;
-        let mut store = FileStore::recover(alloc, &mut disk, Limits { blocks: 8 })?;
-        let ended = upload(&mut store, &mut disk, caller, length, octets.as_slice());
-        let store = FileStore::recover(alloc, &mut disk, Limits { blocks: 8 })?;
-        let standing = standing_text(alloc, store.info(1))?;
-        Ok(format!(in alloc; "{ended:?} | {standing}")?)
+        let ended = uploaded(alloc, &mut disk, length, octets.as_slice())?;
+        let standing = standing(alloc, &mut disk)?;
+        text_of(alloc, format_args!("{ended:?} | {standing}"))
     }
+}
+
+/// Uploads octets of a file with this length to the store of this disk.
+fn uploaded<D: Disk>(alloc: Global, disk: &mut D, length: u32, octets: &[u8]) -> Result<Ended> {
+    let caller = Call::read("NOCALL")?;
+    let mut store = FileStore::recover(alloc, disk, LIMITS)?;
+    Ok(upload(&mut store, disk, caller, length, octets))
+}
+
+/// What the store of this disk tells of the first file.
+fn standing<D: Disk>(alloc: Global, disk: &mut D) -> Result<String> {
+    let store = FileStore::recover(alloc, disk, LIMITS)?;
+    standing_text(alloc, store.info(1))
 }
 
 /// What a store tells of a file.
 fn standing_text(alloc: Global, info: Option<Info>) -> Result<String> {
     let Some(info) = info else {
-        return Ok(String::from_str(alloc, "none")?);
+        return text_of(alloc, "none");
     };
     let (held, length, begun) = (info.held, info.length, info.begun);
     let end = if info.complete {
@@ -45,7 +58,7 @@ fn standing_text(alloc: Global, info: Option<Info>) -> Result<String> {
     } else {
         "under way"
     };
-    Ok(format!(in alloc; "{held} of {length}, {end}, begun {begun}")?)
+    text_of(alloc, format_args!("{held} of {length}, {end}, begun {begun}"))
 }
 
 /// What an upload tells, and the store of it.

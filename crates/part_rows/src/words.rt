@@ -7,7 +7,7 @@
 
 use crate::parts::{Parts, octets_text};
 use anyhow::{Result, bail};
-use row_words::{Player, is_row, read_numbers, read_words, written};
+use row_words::{Player, is_row, kind_and_rest, read_numbers, read_words, text_of, written};
 use std::alloc::Global;
 
 /// The most words of a row that are shown.
@@ -19,12 +19,9 @@ pub struct WordRows;
 
 impl Player for WordRows {
     fn play(&mut self, alloc: Global, row: &str) -> Result<String> {
-        let (kind, text) = row.split_once(' ').unwrap_or((row, ""));
+        let (kind, text) = kind_and_rest(row);
         match kind {
-            "line" => {
-                let answer = is_row(text);
-                Ok(format!(in alloc; "{answer}")?)
-            }
+            "line" => text_of(alloc, is_row(text)),
             "word" => octets_text(alloc, written(text).as_bytes()),
             "words" => words(alloc, text),
             "numbers" => numbers(alloc, text),
@@ -41,7 +38,7 @@ fn words(alloc: Global, text: &str) -> Result<String> {
         let Some(word) = words.get(place) else {
             break;
         };
-        parts.put(octets_text(alloc, word.as_bytes())?.as_str())?;
+        parts.show_octets(word.as_bytes())?;
     }
     Ok(parts.end())
 }
@@ -49,11 +46,11 @@ fn words(alloc: Global, text: &str) -> Result<String> {
 /// `numbers TEXT`
 fn numbers(alloc: Global, text: &str) -> Result<String> {
     let Ok(numbers) = read_numbers(alloc, text) else {
-        return Ok(String::from_str(alloc, "no numbers")?);
+        return text_of(alloc, "no numbers");
     };
     let mut parts = Parts::new(alloc);
     for number in numbers.iter() {
-        parts.put(format!(in alloc; "{number}")?.as_str())?;
+        parts.show(number)?;
     }
     Ok(parts.end())
 }

@@ -16,7 +16,7 @@ use crate::parts::octets_text;
 use anyhow::{Result, bail};
 use pfh_reader::check;
 use pfh_writer::{FinishRefusal, PutRefusal, short_form};
-use row_words::{Player, read_octets};
+use row_words::{Player, kind_and_rest, read_octets, text_of};
 use std::alloc::Global;
 
 /// Plays rows of files that are built or stamped, each on its own.
@@ -25,7 +25,7 @@ pub struct WriterRows;
 
 impl Player for WriterRows {
     fn play(&mut self, alloc: Global, row: &str) -> Result<String> {
-        let (kind, rest) = row.split_once(' ').unwrap_or((row, ""));
+        let (kind, rest) = kind_and_rest(row);
         match kind {
             "build" => building::build(alloc, rest, false),
             "size" => building::build(alloc, rest, true),
@@ -42,12 +42,12 @@ fn short(alloc: Global, text: &str) -> Result<String> {
     let file = read_octets(alloc, text)?;
     match check(file.as_slice()) {
         Ok(header) => octets_text(alloc, short_form(&header).as_slice()),
-        Err(fault) => Ok(format!(in alloc; "{fault}")?),
+        Err(fault) => text_of(alloc, fault),
     }
 }
 
 /// `texts`
 fn texts(alloc: Global) -> Result<String> {
     let (put, finish) = (PutRefusal::OutOfMemory, FinishRefusal::OutOfMemory);
-    Ok(format!(in alloc; "{put}; {finish}")?)
+    text_of(alloc, format_args!("{put}; {finish}"))
 }

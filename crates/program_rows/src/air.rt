@@ -25,7 +25,7 @@ mod server_side;
 use anyhow::Result;
 use disk_model::MemoryDisk;
 use row::Row;
-use row_words::Player;
+use row_words::{Player, text_of};
 use std::alloc::Global;
 
 /// Plays rows, each over the disk that the server has by then.
@@ -45,11 +45,11 @@ impl Player for AirRows {
     fn play(&mut self, alloc: Global, row: &str) -> Result<String> {
         if row == "server" {
             self.disk = None;
-            return Ok(String::from_str(alloc, row)?);
+            return text_of(alloc, row);
         }
         match play(alloc, row, &mut self.disk) {
             Ok(shown) => Ok(shown),
-            Err(wrong) => Ok(format!(in alloc; "{row}: {wrong}")?),
+            Err(wrong) => text_of(alloc, format_args!("{row}: {wrong}")),
         }
     }
 }

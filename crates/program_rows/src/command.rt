@@ -5,11 +5,13 @@
 
 ghost use Rattle.std.specs.Prelude.{◌≤◌, length, IfOk};
 
+use crate::memory_outside::{MemoryOutside, closed_air, open_out};
 use anyhow::{Context, Result};
 use disk_model::MemoryDisk;
-use pacsat_cli::{Words, fresh_bench, run};
-use px_base::{MemoryAir, MemoryClock, MemoryOut, MemoryShelf, Shelf};
-use row_words::{Player, read_numbers, read_words, written};
+use px_base::{MemoryClock, MemoryShelf, Shelf};
+use row_words::{
+    Player, four_parts, hex_text, read_numbers, read_words, text_of, two_parts, written,
+};
 use std::alloc::Global;
 
 /// The name of the content that is shown after a run.
@@ -29,40 +31,40 @@ impl Player for CommandRows {
 /// hexadecimal, the lines that were shown, each ended by `|`, and what the shelf then has under the name `kept`, if it
 /// has that, in hexadecimal.
 fn play(alloc: Global, row: &str) -> Result<String> {
-    let (words, rest) = row.split_once(';').context("no words")?;
-    let (content, rest) = rest.split_once(';').context("no shelf")?;
-    let (failing_shelf, rest) = rest.split_once(';').context("no failing calls")?;
-    let (failing_out, moments) = rest.split_once(';').context("no moments")?;
+    let (words, content, failing_shelf, rest) = four_parts(row, ';')?;
+    let (failing_out, moments) = two_parts(rest, ';')?;
     let words = read_words(alloc, words)?;
-    let failing_shelf = read_numbers(alloc, failing_shelf)?;
-    let mut shelf = read_shelf(alloc, content, failing_shelf.as_slice())?;
-    let failing_out = read_numbers(alloc, failing_out)?;
-    let mut out = MemoryOut::new(alloc, failing_out.as_slice())?;
-    let ended = run_over(alloc, &words, &mut shelf, &mut out, moments)?;
-    let kept = kept_text(alloc, &shelf)?;
-    Ok(format!(in alloc; "{ended}{kept}")?)
+    let shelf = open_shelf(alloc, content, failing_shelf)?;
+    let mut outside = open(alloc, shelf, failing_out, moments)?;
+    let mut disk = MemoryDisk::new(alloc, &[], &[])?;
+    let number = outside.run(alloc, &words, &mut disk)?;
+    told_text(alloc, number, &outside)
 }
 
-/// Runs the words over a disk without octets, a closed air, this shelf and output, and a clock that gives these
-/// moments.
-fn run_over(
+/// A closed air, this shelf, an output whose calls with these numbers fail, and a clock that gives these moments.
+fn open(
     alloc: Global,
-    words: &Words,
-    shelf: &mut MemoryShelf,
-    out: &mut MemoryOut,
+    shelf: MemoryShelf,
+    failing_out: &str,
     moments: &str,
-) -> Result<String> {
-    let mut disk = MemoryDisk::new(alloc, &[], &[])?;
-    let mut air = MemoryAir::new(alloc, Vec::new(alloc), &[])?;
-    let mut clock = MemoryClock::new(alloc, read_moments(alloc, moments)?.as_slice())?;
-    let mut bench = fresh_bench(alloc)?;
-    let status = run(
-        alloc, words, &mut disk, &mut air, shelf, out, &mut clock, &mut bench,
-    );
-    let number = status.number();
-    let said = hex::encode(alloc, air.said())?;
-    let shown = shown_text(alloc, out.shown())?;
-    Ok(format!(in alloc; "{number};{said};{shown}")?)
+) -> Result<MemoryOutside> {
+    let clock = open_clock(alloc, moments)?;
+    let out = open_out(alloc, failing_out)?;
+    let air = closed_air(alloc)?;
+    Ok(MemoryOutside {
+        air,
+        clock,
+        shelf,
+        out,
+    })
+}
+
+/// The status's number, the octets said, the lines that were shown, and what the shelf has under the name `kept`.
+fn told_text(alloc: Global, number: u8, outside: &MemoryOutside) -> Result<String> {
+    let said = hex_text(alloc, outside.air.said())?;
+    let shown = outside.lines(alloc)?;
+    let kept = kept_text(alloc, &outside.shelf)?;
+    text_of(alloc, format_args!("{number};{said};{shown}{kept}"))
 }
 
 /// What the shelf has under the name `kept`, in hexadecimal after `;`; nothing where it has no such name.
@@ -70,23 +72,30 @@ fn kept_text(alloc: Global, shelf: &MemoryShelf) -> Result<String> {
     let Some(file) = shelf.content(KEPT) else {
         return Ok(String::new(alloc));
     };
-    let octets = hex::encode(alloc, file.as_slice())?;
-    Ok(format!(in alloc; ";{octets}")?)
+    let octets = hex_text(alloc, file.as_slice())?;
+    text_of(alloc, format_args!(";{octets}"))
 }
 
 /// A shelf whose calls with these numbers fail. It has nothing, or names with their contents, parted by `,`; its first
 /// calls are a `keep` of each.
-fn read_shelf(alloc: Global, text: &str, failing: &[u64]) -> Result<MemoryShelf> {
-    let mut shelf = MemoryShelf::new(alloc, failing)?;
+fn open_shelf(alloc: Global, text: &str, failing: &str) -> Result<MemoryShelf> {
+    let failing = read_numbers(alloc, failing)?;
+    let mut shelf = MemoryShelf::new(alloc, failing.as_slice())?;
+    keep_all(alloc, &mut shelf, text)?;
+    Ok(shelf)
+}
+
+/// Keeps these names with their contents.
+fn keep_all(alloc: Global, shelf: &mut MemoryShelf, text: &str) -> Result<()> {
     if text.is_empty() {
-        return Ok(shelf);
+        return Ok(());
     }
     for named in text.split(',') {
-        let (name, content) = named.split_once(' ').context("no content")?;
+        let (name, content) = two_parts(named, ' ')?;
         let octets = read_content(alloc, content)?;
         shelf.keep(written(name), octets.as_slice())?;
     }
-    Ok(shelf)
+    Ok(())
 }
 
 /// A content, which is given in hexadecimal, or as one octet, `*` and how often it stands.
@@ -106,6 +115,12 @@ fn repeated(alloc: Global, octet: &str, count: usize) -> Result<Vec<u8>> {
     Ok(octets)
 }
 
+/// A clock that gives these moments.
+fn open_clock(alloc: Global, text: &str) -> Result<MemoryClock> {
+    let moments = read_moments(alloc, text)?;
+    Ok(MemoryClock::new(alloc, moments.as_slice())?)
+}
+
 /// The moments that a clock gives, parted by blanks; 1 where a row has none.
 fn read_moments(alloc: Global, text: &str) -> Result<Vec<u32>>
     ensures { IfOk result (λ moments. 1 ≤ length moments.items) }
@@ -118,10 +133,4 @@ fn read_moments(alloc: Global, text: &str) -> Result<Vec<u32>>
         moments.push(1)?;
     }
     Ok(moments)
-}
-
-/// The lines that were shown, each ended by `|` in place of its line feed.
-fn shown_text(alloc: Global, shown: &[u8]) -> Result<String> {
-    let text = std::str::from_utf8(shown)?;
-    Ok(text.replace(alloc, "\n", "|")?)
 }

@@ -11,6 +11,7 @@ mod air;
 mod client;
 mod command;
 mod memory_host;
+mod memory_outside;
 mod rehearsal;
 mod run;
 mod startup;

@@ -3,10 +3,10 @@
 //! The number that the process ends with is printed, and the calls of the system, in order.
 
 use crate::memory_host::MemoryHost;
-use anyhow::{Context, Result, bail};
+use anyhow::{Result, bail};
 use command_words::Words;
 use pacsat_cli::{HostCall, NotHeld, Status, WordsRefusal, start};
-use row_words::{Player, written};
+use row_words::{Player, kind_and_rest, push_shown, read_words, text_of, three_parts};
 use std::alloc::Global;
 use std::str;
 
@@ -16,15 +16,11 @@ pub struct StartRows;
 
 impl Player for StartRows {
     fn play(&mut self, alloc: Global, row: &str) -> Result<String> {
-        let mut parts = row.split_whitespace();
-        let held = read_held(parts.next().context("no streams")?)?;
-        let answer = parts.next().context("no answer for the words")?;
-        let status = read_status(parts.next().context("no status")?)?;
-        let mut words = Words::new(alloc);
-        for word in parts {
-            words.add(written(word))?;
-        }
-        let mut host = MemoryHost::new(alloc, held, read_answer(answer, words)?, status);
+        let (held, answer, rest) = three_parts(row, ' ')?;
+        let (status, words) = kind_and_rest(rest);
+        let (held, status) = (read_held(held)?, read_status(status)?);
+        let answer = read_answer(answer, read_words(alloc, words)?)?;
+        let mut host = MemoryHost::new(alloc, held, answer, status);
         let number = start(&mut host);
         shown(alloc, number, host.made().calls())
     }
@@ -61,36 +57,35 @@ fn read_status(word: &str) -> Result<Status> {
 
 /// The number that the process ends with, and the calls of the system.
 fn shown(alloc: Global, number: u8, calls: &[HostCall]) -> Result<String> {
-    let mut text = format!(in alloc; "{number}")?;
+    let mut text = text_of(alloc, number)?;
     for call in calls {
-        text.push_str("; ")?;
-        text.push_str(shown_call(alloc, call)?.as_str())?;
+        let call = shown_call(alloc, call)?;
+        push_shown(alloc, &mut text, format_args!("; {call}"))?;
     }
     Ok(text)
 }
 
 /// A call of the system.
 fn shown_call(alloc: Global, call: &HostCall) -> Result<String> {
-    let text = match call {
-        HostCall::Holds { answer: Ok(()) } => "held".to_string(alloc)?,
-        HostCall::Holds { answer: Err(why) } => why.to_string(alloc)?,
-        HostCall::Reads { answer: Ok(_) } => "words".to_string(alloc)?,
-        HostCall::Reads { answer: Err(why) } => why.to_string(alloc)?,
-        HostCall::Ends { status } => shown_run(alloc, "ends", b"", b"", status)?,
+    match call {
+        HostCall::Holds { answer: Ok(()) } => text_of(alloc, "held"),
+        HostCall::Holds { answer: Err(why) } => text_of(alloc, why),
+        HostCall::Reads { answer: Ok(_) } => text_of(alloc, "words"),
+        HostCall::Reads { answer: Err(why) } => text_of(alloc, why),
+        HostCall::Ends { status } => shown_run(alloc, "ends", b"", b"", status),
         HostCall::OverConnection {
             disk,
             at,
             status,
             ..
-        } => shown_run(alloc, "connection", disk.as_slice(), at.as_slice(), status)?,
+        } => shown_run(alloc, "connection", disk.as_slice(), at.as_slice(), status),
         HostCall::OverStreams { disk, status, .. } => {
-            shown_run(alloc, "streams", disk.as_slice(), b"", status)?
+            shown_run(alloc, "streams", disk.as_slice(), b"", status)
         }
         HostCall::WithoutAir { disk, status, .. } => {
-            shown_run(alloc, "no air", disk.as_slice(), b"", status)?
+            shown_run(alloc, "no air", disk.as_slice(), b"", status)
         }
-    };
-    Ok(text)
+    }
 }
 
 /// A run over this disk and this air, and the number of its status.
@@ -98,5 +93,5 @@ fn shown_run(alloc: Global, how: &str, disk: &[u8], at: &[u8], status: &Status) 
     let disk = str::from_utf8(disk)?;
     let at = str::from_utf8(at)?;
     let number = status.number();
-    Ok(format!(in alloc; "{how} '{disk}' '{at}' {number}")?)
+    text_of(alloc, format_args!("{how} '{disk}' '{at}' {number}"))
 }

@@ -3,7 +3,7 @@
 use anyhow::{Result, bail};
 use command_words::Refusal;
 use disk_model::Halt;
-use row_words::Player;
+use row_words::{Player, push_shown};
 use server_node::NodeStop as SessionStop;
 use std::alloc::Global;
 use std::fmt::Display;
@@ -30,8 +30,7 @@ impl Player for TextRows {
 fn joined<T: Display>(alloc: Global, values: &[T]) -> Result<String> {
     let mut text = String::new(alloc);
     for value in values {
-        let shown = format!(in alloc; "{value}|")?;
-        text.push_str(shown.as_str())?;
+        push_shown(alloc, &mut text, format_args!("{value}|"))?;
     }
     Ok(text)
 }

@@ -3,10 +3,10 @@
 //! What a poll answers is the octets that it heard, `quiet`, `end`, or that the air is down; what saying octets
 //! answers, `ok` or that.
 
-use crate::texts::{answer_text, octets_text, text_of};
+use crate::texts::{answer_text, octets_text};
 use anyhow::Result;
 use px_base::{Air, Polled, ROOM};
-use row_words::{read_octets, written};
+use row_words::{read_octets, text_of, written};
 use std::alloc::Global;
 
 /// Polls an air, and gives what it answers. Takes memory.

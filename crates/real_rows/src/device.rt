@@ -9,7 +9,7 @@ use crate::steps::{Steps, make_steps};
 use crate::texts::octets_text;
 use anyhow::{Context, Result, ensure};
 use real_outside::{DeviceDisk, MemoryDevice};
-use row_words::{Player, read_numbers, read_octets};
+use row_words::{Player, read_numbers, read_octets, text_of, three_parts};
 use std::alloc::Global;
 
 /// Plays rows of devices, each on its own.
@@ -24,7 +24,7 @@ impl Player for DeviceRows {
         };
         let answers = make_steps(alloc, &mut disk, calls)?;
         let device = device_text(alloc, disk.disk.device())?;
-        Ok(format!(in alloc; "{answers} | {device}")?)
+        text_of(alloc, format_args!("{answers} | {device}"))
     }
 }
 
@@ -42,8 +42,7 @@ impl<'a> Steps<'a> for OverDevice {
 
 /// A device with these octets, of which a call moves at most so many, and whose calls of these numbers fail.
 fn read_device(alloc: Global, text: &str) -> Result<MemoryDevice> {
-    let (octets, rest) = text.split_once('|').context("no most")?;
-    let (most, failing) = rest.split_once('|').context("no failing calls")?;
+    let (octets, most, failing) = three_parts(text, '|')?;
     let octets = read_octets(alloc, octets)?;
     let failing = read_numbers(alloc, failing)?;
     let most = most.trim().parse::<usize>()?;
@@ -56,5 +55,5 @@ fn device_text(alloc: Global, device: &MemoryDevice) -> Result<String> {
     let octets = octets_text(alloc, device.bytes())?;
     let calls = device.calls().len();
     let starved = if device.starved() { ", starved" } else { "" };
-    Ok(format!(in alloc; "{octets} | {calls}{starved}")?)
+    text_of(alloc, format_args!("{octets} | {calls}{starved}"))
 }

@@ -3,11 +3,11 @@
 //! A call is `len`; `read AT COUNT`; `write AT OCTETS`; or `sync`. What it answers is the length, the octets that were
 //! read, `ok`, or that the disk failed.
 
-use crate::texts::{answer_text, octets_text, text_of};
+use crate::texts::{answer_text, octets_text};
 use anyhow::{Result, bail};
 use disk_model::{Disk, DiskFault};
 use real_outside::{Device, DeviceDisk};
-use row_words::{read_octets, written};
+use row_words::{read_octets, text_of, written};
 use std::alloc::Global;
 
 /// Makes a call of these words, and gives what it answers. Takes memory.

@@ -12,7 +12,7 @@ use crate::texts::octets_text;
 use anyhow::{Context, Result, bail};
 use px_base::FileBytes;
 use real_outside::{MemoryAnswer, MemoryStream, StdAir, StreamCall, SystemError};
-use row_words::{Player, read_octets};
+use row_words::{Player, read_octets, text_of, three_parts};
 use std::alloc::Global;
 use std::io::ErrorKind;
 
@@ -22,8 +22,7 @@ pub struct StreamRows;
 
 impl Player for StreamRows {
     fn play(&mut self, alloc: Global, row: &str) -> Result<String> {
-        let (input, rest) = row.split_once('|').context("no output")?;
-        let (output, calls) = rest.split_once('|').context("no calls")?;
+        let (input, output, calls) = three_parts(row, '|')?;
         let mut streams = OverStreams {
             air: StdAir::over(read_stream(alloc, input)?, read_stream(alloc, output)?),
         };
@@ -32,7 +31,7 @@ impl Player for StreamRows {
         let calls = streams.air.output().made().calls();
         let said = octets_text(alloc, taken(alloc, calls)?.as_slice())?;
         let writes = calls.len();
-        Ok(format!(in alloc; "{answers} | {said} | {reads} {writes}")?)
+        text_of(alloc, format_args!("{answers} | {said} | {reads} {writes}"))
     }
 }
 

@@ -4,11 +4,10 @@
 //!   before it; else both moments.
 //! - `texts`: the texts of errors: a device that failed, and a call that the system refused.
 
-use crate::texts::text_of;
 use anyhow::{Result, bail};
 use px_base::Clock;
 use real_outside::{DeviceDown, SystemClock, SystemError};
-use row_words::Player;
+use row_words::{Player, text_of};
 use std::alloc::Global;
 use std::io::ErrorKind;
 use std::rt;
@@ -46,12 +45,12 @@ fn clock<R: rt::Clock>(alloc: Global, clock: &R) -> Result<String> {
     if first > YEAR_2024 && second >= first {
         return text_of(alloc, "ok");
     }
-    Ok(format!(in alloc; "{first} {second}")?)
+    text_of(alloc, format_args!("{first} {second}"))
 }
 
 /// `texts`
 fn texts(alloc: Global) -> Result<String> {
     let error = SystemError::from(ErrorKind::Other);
     let down = DeviceDown::from(error);
-    Ok(format!(in alloc; "{down}; {error}")?)
+    text_of(alloc, format_args!("{down}; {error}"))
 }

@@ -1,16 +1,12 @@
 //! What is printed for a step.
 
 use anyhow::Result;
+use row_words::{hex_text, text_of};
 use std::alloc::Global;
 use std::fmt::Display;
 
 /// How many alike octets are written out.
 const MOST_ALIKE: usize = 32;
-
-/// The text of this. Takes memory.
-pub fn text_of<T: Display + Drop>(alloc: Global, shown: T) -> Result<String> {
-    Ok(format!(in alloc; "{shown}")?)
-}
 
 /// `ok`, or the text of the error. Takes memory.
 pub fn answer_text<E: Display + Drop>(alloc: Global, answer: Result<(), E>) -> Result<String> {
@@ -28,8 +24,8 @@ pub fn octets_text(alloc: Global, octets: &[u8]) -> Result<String> {
         [first, rest @ ..] if rest.len() >= MOST_ALIKE && rest.iter().all(|octet| octet == first) =>
             {
                 let count = octets.len();
-                Ok(format!(in alloc; "{first:02x}*{count}")?)
+                text_of(alloc, format_args!("{first:02x}*{count}"))
             }
-        _ => Ok(hex::encode(alloc, octets)?),
+        _ => hex_text(alloc, octets),
     }
 }

@@ -18,17 +18,21 @@ ghost use Rattle.std.specs.Prelude.{◌≡◌, ◌≢◌, ◌↔◌, ◌<◌, []
 mod disk;
 mod octets;
 mod script;
+mod texts;
 mod turns;
 
 use anyhow::{Context, Result};
 use command_words::Words;
 pub use disk::{OverDisk, disk_after, octets_before};
-pub use octets::read_octets;
-pub use script::Script;
+pub use octets::{read_octets, with_lines};
+pub use script::read_air;
 use std::alloc::Global;
 use std::fs;
 use std::io::Print;
 use std::rt::Files;
+pub use texts::{
+    four_parts, hex_text, kind_and_rest, push_shown, text_of, three_parts, two_parts,
+};
 
 /// What plays rows, one after another.
 pub trait Player {

@@ -12,6 +12,15 @@ pub fn read_octets(alloc: Global, text: &str) -> Result<Vec<u8>> {
     Ok(octets)
 }
 
+/// The octets of a text, with an LF for each `|`. Takes memory.
+pub fn with_lines(alloc: Global, text: &str) -> Result<Vec<u8>> {
+    let mut octets = Vec::new(alloc);
+    for octet in text.bytes() {
+        octets.push(if octet == b'|' { b'\n' } else { octet })?;
+    }
+    Ok(octets)
+}
+
 /// Puts the octets of a word behind the others.
 fn push_word(alloc: Global, octets: &mut Vec<u8>, word: &str) -> Result<()> {
     if let Some((piece, count)) = word.split_once('*') {

@@ -4,10 +4,24 @@ ghost use Rattle.std.specs.Prelude.{◌≡◌, ◌≤◌, ◌++◌, length, IfOk
 ghost use Rattle.std.specs.List.{AllByRecursion};
 ghost use Rattle.px_base.specs.Polling.{IsTurn, octets_heard};
 
+use crate::read_numbers;
 use crate::turns::turns_of;
 use anyhow::{Result, ensure};
 use px_base::{MemoryAir, MemoryClock, OutOfMemory, ROOM, Turn};
 use std::alloc::Global;
+
+/// An air that brings the turns of a row, where a poll brings so many octets at most, and whose calls of these numbers
+/// fail; and the clock. Takes memory.
+pub fn read_air(
+    alloc: Global,
+    failing: &str,
+    turns: &str,
+    poll: usize,
+) -> Result<(MemoryAir, MemoryClock)> {
+    let failing = read_numbers(alloc, failing)?;
+    let script = Script::read(alloc, turns, poll)?;
+    Ok(script.open(alloc, failing.as_slice())?)
+}
 
 /// The turns so far, the moment of each, and that of the next one.
 #[derive(Drop)]

@@ -1,5 +1,5 @@
 -- What downloading makes of two stores that are like each other but for the octets of their files.
-use Rattle.std.proofs.Common.{◌≡◌, ℕ, ◌==◌, ◌<◌, List, [], ◌∷◌, length, take, Bool, true, false, true≢false, ◌&&◌, Option, None, Some, refl, sym, ap, ap₂, ◌∙◌, arith, length-append}
+use Rattle.std.proofs.Common.{◌≡◌, ℕ, ◌==◌, ◌<◌, List, [], ◌∷◌, length, take, Bool, true, false, true≢false, ◌&&◌, Option, None, Some, refl, sym, ap, ap₂, ◌∙◌, arith, inl, inr, length-append}
 use Rattle.std.specs.Prelude.{Err, IsErrOf, Result, is_some, if◌then◌else◌}
 use Rattle.std.specs.List.{list_all}
 use Rattle.std.specs.Option.{option_map}
@@ -12,7 +12,7 @@ use Rattle.ftl0_packets.specs.Layout.{data_end, data_part, dl_error_resp, packet
 use Rattle.file_store.specs.Calls.{Reads}
 use Rattle.file_store.specs.Info.{IsCompleteIn}
 use Rattle.file_store.specs.Like.{IsStoreLike}
-use Rattle.file_store.specs.State.{IsKnown}
+use Rattle.file_store.specs.State.{IsKnown, StoreState, store_in, store_on}
 use Rattle.file_store.specs.Store.{Entry, Holding, Store, complete, entry_of, octets_at, partial}
 use Rattle.file_store.specs.declared.refusals.HeaderFault.{HeaderFault}
 use Rattle.file_store.specs.declared.refusals.HeaderFault.TheVariants as fault
@@ -22,6 +22,7 @@ use Rattle.ftl0_session.specs.Downloads.Needs.{AreFiles, AreStored, IsDueIn, IsS
 use Rattle.ftl0_session.specs.Downloads.Sending.{due_octets, due_packet, is_due, is_read, joined, next_due, octets_due, state_after, state_at_end}
 use Rattle.ftl0_session.specs.Downloads.Table.{DownloadRow, DownloadState, Due, asked_file, asked_row, complete_octets, directory_row, download_cmd_row, file_of, file_row, files_row, has_file, kept, listed_files, listing, lists_after, octets_in, ready, refused_row, sending, stored, waiting}
 use Rattle.ftl0_session.specs.Downloads.Taking.{Made, MakesRow, made, made_by}
+use Rattle.ftl0_session.proofs.CauseLemmas.{says-one}
 use Rattle.ftl0_session.proofs.downloads.DueLemmas.{length-due, length-stored}
 use Rattle.ftl0_session.proofs.downloads.FileLemmas.{file_in}
 
@@ -146,6 +147,16 @@ module _ (caller : CallSign) (files : Store) (lists : List CallerList) (asked : 
       → directory_row caller files lists asked due false ≡ record { state = listing (due files numbers); lists = lists_after lists caller asked (length numbers); replies = [] }
   row-listed all = ap (λ (l : List ℕ). files_row caller files lists asked due false l) listed ∙ rw (some, all) refl
 
+  -- where headers are read it isn't the same where that fails
+  pub rows-differ : list_all (has_file files) numbers ≡ true → directory_row caller files lists asked due true ≡ directory_row caller files lists asked due false → ⊥
+  rows-differ all same =
+      let replies : dl_error_resp 3 ∷ [] ≡ [] = ap (λ (r : DownloadRow). r.replies) (sym (row-unread_header all) ∙ same ∙ row-listed all) in cc replies
+
+-- no file is listed
+pub row-nothing : (caller : CallSign) (files : Store) (lists : List CallerList) (asked : ℕ) (due : Store → List ℕ → List Due) (numbers : List ℕ) (fails : Bool) → listed_files lists caller asked ≡ numbers
+    → (length numbers == 0) ≡ true → directory_row caller files lists asked due fails ≡ refused_row lists 11
+row-nothing caller files lists asked due numbers fails listed none = ap (λ (l : List ℕ). files_row caller files lists asked due fails l) listed ∙ rw none refl
+
 -- what a refusal makes
 pub made-refused : (state : DownloadState) (lists : List CallerList) (code : ℕ) (replies : List ℕ) → state ≡ ready → replies ≡ packet_text (dl_error_resp code)
     → made state lists replies ≡ made_by (refused_row lists code)
@@ -157,20 +168,25 @@ made-is state next lists lists_now replies said state_is lists_are text =
     ap (λ (s : DownloadState). made s lists replies) state_is ∙ ap (λ (l : List CallerList). made next l replies) lists_are ∙ ap (λ (r : List ℕ). made next lists_now r) text
 
 -- a header couldn't be read: code 3, where it is known what the store's files hold only of a read that failed
-pub header-refused : {D T : Type 0} (g : Ghosts D) (disk disk_now : D) (row : Bool → DownloadRow) (lists : List CallerList) (now : Made) (why : HeaderFault) (result : Result T HeaderFault) → result ≡ Err why
-    → Reads g (IsErrOf result fault.Disk) disk disk_now → (IsErrOf result fault.NoHeader → ¬ IsKnown g disk) → (IsKnown g disk → row true ≡ refused_row lists 3) → now ≡ made_by (refused_row lists 3)
-    → MakesRow g disk disk_now row now
-header-refused g disk disk_now row lists now fault.Disk result is reads there given made_now = record {
+pub header-refused : {D T : Type 0} (g : Ghosts D) (store : StoreState) (disk disk_now : D) (row : Store → Bool → DownloadRow) (lists : List CallerList) (now : Made) (why : HeaderFault)
+    (result : Result T HeaderFault) → result ≡ Err why → Reads g (IsErrOf result fault.Disk) disk disk_now → (IsErrOf result fault.NoHeader → ¬ IsKnown g disk)
+    → (IsKnown g disk → row (store_on g store disk) true ≡ refused_row lists 3) → (row (store_in store) true ≡ row (store_in store) false → ⊥) → now ≡ made_by (refused_row lists 3)
+    → MakesRow g store disk disk_now row now
+header-refused g store disk disk_now row lists now fault.Disk result is reads there given differ made_now = record {
   fails = true;
   reads = reads_same g disk disk_now (IsErrOf result fault.Disk) (true ≡ true) (λ e. refl) (λ e. is) reads;
   told = λ known failed. ap (λ (r : DownloadRow). r.replies) (given known);
   is_row = λ known. made_now ∙ sym (ap made_by (given known));
+  anyway = λ same. absurd (differ same);
+  says = says-one g disk true now.replies (dl_error_resp 3) (ap (λ (m : Made). m.replies) made_now) (λ failed. refl) (λ three. inl refl);
 }
-header-refused g disk disk_now row lists now fault.NoHeader result is reads there given made_now = record {
+header-refused g store disk disk_now row lists now fault.NoHeader result is reads there given differ made_now = record {
   fails = false;
   reads = reads_same g disk disk_now (IsErrOf result fault.Disk) (false ≡ true) (λ e. absurd (let other = sym is ∙ e in cc)) (λ e. absurd (true≢false (sym e))) reads;
   told = λ known failed. absurd (true≢false (sym failed));
   is_row = λ known. absurd (there is known);
+  anyway = λ same. absurd (differ same);
+  says = says-one g disk false now.replies (dl_error_resp 3) (ap (λ (m : Made). m.replies) made_now) (λ failed. absurd (true≢false (sym failed))) (λ three. inr (there is));
 }
 
 -- ---- what is due next

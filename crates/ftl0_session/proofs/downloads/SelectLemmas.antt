@@ -1,15 +1,19 @@
 -- The tree of a SELECT_CMD's tokens, or their fault.
-use Rattle.std.proofs.Common.{◌≡◌, ◌≤◌, ℕ, List, length, false, Result, Ok, Err, refl, ap, arith}
+use Rattle.std.proofs.Common.{◌≡◌, ◌≤◌, ℕ, List, [], ◌∷◌, length, true, false, Result, Ok, Err, refl, ap, sym, ◌∙◌, arith}
 use Rattle.std.specs.Prelude.{IfNone, IfOk, IfSome, nat_lt, ◌↔◌}
 use Rattle.std.specs.Result.{result_ok}
 use Rattle.std.proofs.lemmas.Bool.Decides.{nat_tests}
+use Rattle.px_base.specs.CallSign.{CallSign}
 use Rattle.px_base.specs.Octets.{IsOctets}
+use Rattle.ftl0_packets.specs.Layout.{dl_error_resp, select_resp}
+use Rattle.file_store.specs.Store.{Store}
+use Rattle.ftl0_session.specs.Lists.Lists.{CallerList}
 use Rattle.selection.specs.declared.fault.SelFault.{SelFault}
 use Rattle.selection.specs.Faults.{FirstFault}
-use Rattle.selection.specs.Layout.{Postfix}
+use Rattle.selection.specs.Layout.{Postfix, Tree}
 use Rattle.selection.specs.Values.{tree_of}
 use Rattle.selection.proofs.ReadLemmas.{one_fault, one_tree}
-use Rattle.ftl0_session.specs.Downloads.Table.{tree_row}
+use Rattle.ftl0_session.specs.Downloads.Table.{DownloadRow, chosen, chosen_row, refused_row, select_row, tree_row}
 use Rattle.ftl0_session.specs.Downloads.Taking.{SelectsBy, SelectsNone}
 
 within : (tokens : List ℕ) → length tokens ≤ 2047 → nat_lt 2047 (length tokens) ≡ false
@@ -25,3 +29,11 @@ module _ (tokens : List ℕ) (octets : IsOctets tokens) (few : length tokens ≤
   selects-none (Ok s) refuses = tt
   selects-none (Err fault) refuses = λ caller store lists fails.
       rw (within tokens few) (ap (tree_row caller store lists fails) ((one_fault tokens fault octets).0 ((refuses fault).0 refl)))
+
+-- where headers are read the row isn't the same where that fails
+pub selects-differ : (tokens : List ℕ) (tree : Tree) → SelectsBy tokens tree → (caller : CallSign) (store : Store) (lists : List CallerList)
+    → select_row caller store lists tokens true ≡ select_row caller store lists tokens false → ⊥
+selects-differ tokens tree selects caller store lists same =
+    let rows : refused_row lists 3 ≡ chosen_row caller lists (chosen tree store.entries) = sym (selects caller store lists true) ∙ same ∙ selects caller store lists false in
+    let replies : dl_error_resp 3 ∷ [] ≡ select_resp (length (chosen tree store.entries)) ∷ [] = ap (λ (r : DownloadRow). r.replies) rows in
+    cc replies

@@ -16,12 +16,12 @@ use Rattle.file_store.specs.IsStore.{IsStore}
 use Rattle.file_store.specs.Kept.{KeepsUploads}
 use Rattle.file_store.specs.OnDisk.{Does}
 use Rattle.file_store.specs.Like.{IsStoreLike}
-use Rattle.file_store.specs.State.{StandsOn, StoreState, store_in, store_on}
+use Rattle.file_store.specs.State.{StandsOn, StoreState, store_in}
 use Rattle.file_store.specs.Store.{Entry, Store, entry_of, new_entry}
 use Rattle.file_store.specs.Upload.{Upload}
 use Rattle.file_store.specs.declared.refusals.BeginRefusal.{BeginRefusal}
 use Rattle.file_store.specs.declared.refusals.BeginRefusal.TheVariants as refusal
-use Rattle.file_store.proofs.Offered.{like_bars, like_can_begin, on_like}
+use Rattle.file_store.proofs.Offered.{like_bars, like_can_begin}
 use Rattle.ftl0_session.specs.declared.uploads.phase.Phase.TheVariants as phase
 use Rattle.disk_model.specs.AtDisk.{at}
 use Rattle.disk_model.specs.declared.halt.Halt.{Halt}
@@ -112,7 +112,7 @@ module _ {D : Type 0} (g : Ghosts D) (caller : CallSign) (moment len : ℕ) (bef
   barred replies result cause same bars answer =
       subst (λ (r : Result ⊤ Halt). Gives-it now disk_now replies r) (sym answer.0)
       (untouched replies (Ok tt) same
-      (answered-alone g (packet_of caller moment Item-asked) command before disk before replies (phase.Command, Ok tt) may.ready lasts
+      (answered-alone g (packet_of caller moment Item-asked) command before disk may.ready before replies (phase.Command, Ok tt) lasts
       (upload-refused caller moment Item-asked before before 13 replies (phase.Command, Ok tt)
       (λ files like. row-barred caller moment files len (bars-cannot files len cause (like_bars (store_in before) files like cause len bars))) refl refl answer.1 may.only)))
 
@@ -137,8 +137,8 @@ module _ {D : Type 0} (g : Ghosts D) (caller : CallSign) (moment len : ℕ) (bef
       (untouched replies (Err stop.OutOfMemory) (not_reached same)
       (record {
         takes =
-            takes-memory g (packet_of caller moment Item-asked) command before disk replies lasts
-            (λ known. let files : Store = store_on g before disk in (granted_row caller moment files.next len, granted-like caller moment len (store_in before) files (on_like g before disk may.ready known) is refused.0, refl)) answer.1;
+            takes-memory g (packet_of caller moment Item-asked) command before disk may.ready replies lasts
+            (λ files like. (granted_row caller moment files.next len, granted-like caller moment len (store_in before) files like is refused.0, refl)) answer.1;
         failed = λ e. absurd (cc e);
         healthy = λ fine. may.ready.healthy;
         stands_on = may.ready.stands_on;
@@ -153,10 +153,8 @@ module _ {D : Type 0} (g : Ghosts D) (caller : CallSign) (moment len : ℕ) (bef
       subst (λ (r : Result ⊤ Halt). Gives-it now disk_now replies r) (sym answer.0)
       (record {
         takes =
-            takes-cut g (packet_of caller moment Item-asked) command before disk command now disk_now replies _ commands refl done
-            (λ known.
-            let files : Store = store_on g before disk in
-            let like = on_like g before disk may.ready known in
+            takes-cut g (packet_of caller moment Item-asked) command before disk may.ready command now disk_now replies _ commands refl done
+            (λ files like.
             (granted_row caller moment files.next len, granted-like caller moment len (store_in before) files like is refused.0, begin-like caller moment len (store_in before) files like)) refl answer.1;
         failed = λ e. (done.cut refl).failed;
         healthy = λ fine. absurd (fine refl);

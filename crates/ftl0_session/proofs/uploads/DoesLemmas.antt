@@ -1,14 +1,16 @@
 -- What a packet does to the store's disk.
-use Rattle.std.proofs.Common.{◌≡◌, ℕ, List, [], ◌∷◌, ◌++◌, refl, sym, ◌∙◌, subst, inl, arith, Bool, true, false, true≢false, Option, Some}
+use Rattle.std.proofs.Common.{◌≡◌, ℕ, List, [], ◌∷◌, ◌++◌, refl, ap, sym, ◌∙◌, subst, inl, arith, Bool, true, false, true≢false, Option, Some}
 use Rattle.std.specs.Prelude.{⊤, Result, Ok, Err, IsTrue}
+use Rattle.std.specs.List.{AllByRecursion}
 use Rattle.disk_model.specs.declared.disk.Disk.{Ghosts}
 use Rattle.ftl0_packets.specs.Items.{texts}
 use Rattle.ftl0_packets.specs.Layout.{ul_nak_resp}
-use Rattle.file_store.proofs.Offered.{Does-moved, Does-none, Does-same, does-among, in_parked, on_like, puts_none, puts-among, puts-among-same, stands_parked}
-use Rattle.file_store.specs.Command.{Command, DoesAll}
+use Rattle.file_store.proofs.Offered.{at_told, Does-moved, Does-none, Does-same, does-among, in_parked, like_same, on_like, puts_none, puts-among, puts-among-same, stands_parked}
+use Rattle.file_store.specs.Command.{Command, DoesAll, after_all}
 use Rattle.file_store.specs.EntriesKept.{KeepsComplete}
+use Rattle.file_store.specs.Like.{IsStoreLike}
 use Rattle.file_store.specs.Store.{Store}
-use Rattle.file_store.specs.OnDisk.{Does}
+use Rattle.file_store.specs.OnDisk.{Does, outlined_all}
 use Rattle.file_store.specs.State.{IsKnown, IsReady, StoreState, store_in, store_on}
 use Rattle.file_store.specs.Working.{CountsSome, DoesAmongReads, PutsAmongReads, one_if}
 use Rattle.ftl0_session.specs.declared.uploads.phase.Phase.{Phase}
@@ -16,13 +18,29 @@ use Rattle.disk_model.specs.declared.halt.Halt.{Halt}
 use Rattle.disk_model.specs.declared.halt.Halt.TheVariants as stop
 use Rattle.ftl0_session.specs.Uploads.Session.{Row, State, command, fault_reply, takes_memory}
 use Rattle.ftl0_session.specs.Uploads.SessionState.{state_of}
-use Rattle.ftl0_session.specs.Uploads.Taking.{Answered, AnsweredAlone, TakesPacket, row_of, working_at}
+use Rattle.ftl0_session.specs.Causes.{Says}
+use Rattle.ftl0_session.specs.Uploads.Laws.{IsNoFault}
+use Rattle.ftl0_session.specs.Uploads.Taking.{Answered, AnsweredAlone, LooksAtNone, MakesAnyway, TakesPacket, Working, row_of, working_at}
+use Rattle.ftl0_session.proofs.CauseLemmas.{says-quiet}
+use Rattle.ftl0_session.proofs.FaultLemmas.{Silent, uploads-silent}
+use Rattle.ftl0_session.proofs.uploads.FaultCodes.{fault_codes}
 use Rattle.ftl0_session.specs.Uploads.Events.{CallerPacket}
 use Rattle.disk_model.specs.AtDisk.{at}
 
 -- a count that stands as it stood
 counts-none : (before now : ℕ) → now ≡ before → CountsSome before now 0
 counts-none before now same = record { no_less = omega (arith, same); rose = inl (omega (arith, same)); same = λ none. same }
+
+pub one-row : (one other : Row) → Some one ≡ Some other → one ≡ other
+one-row one other same = cc
+
+-- what a row of the table that no read failed for replies
+pub says-row : {D : Type 0} (g : Ghosts D) (disk : D) (packet : CallerPacket) (store : Store) (state : State) (row : Row) (replies : List ℕ) → row_of packet store state false ≡ Some row
+    → replies ≡ texts row.replies → Says g disk false replies
+says-row g disk packet store state row replies is text =
+    says-quiet g disk false row.replies replies refl text
+    (at_told (λ (r : Row). Silent r.replies) row is (uploads-silent packet.caller packet.moment store state packet.item))
+    (at_told (λ (r : Row). AllByRecursion IsNoFault r.replies) row is (fault_codes packet.caller packet.moment store state packet.item))
 
 -- a row with these commands
 abbrev pub HasRow : Option Row → List Command → Type 0
@@ -32,15 +50,20 @@ HasRow given commands = (row : Row) × (given ≡ Some row) × (commands ≡ row
 abbrev pub GivesRow : Option Row → List Command → State → List ℕ → Type 0
 GivesRow given commands next replies = (row : Row) × (given ≡ Some row) × (commands ≡ row.commands) × (next ≡ row.state) × (replies ≡ texts row.replies)
 
-module _ {D : Type 0} (g : Ghosts D) (packet : CallerPacket) (state : State) (before : StoreState) (disk : D) where
+module _ {D : Type 0} (g : Ghosts D) (packet : CallerPacket) (state : State) (before : StoreState) (disk : D) (ready : IsReady g before disk) where
+  abbrev here : Working
+  here = record { store = before; state = state }
+
   module _ (next : State) (now : StoreState) (disk_now : D) (replies : List ℕ) where
     -- commands are done, among reads of which one failed or none
     pub takes-among : (P : Type 0) (fails : Bool) (commands : List Command) → ¬ P → PutsAmongReads g P disk disk_now → CountsSome (g.read_faults disk) (g.read_faults disk_now) (one_if fails)
         → (IsKnown g disk → DoesAmongReads g ⊥ (one_if fails) before now disk disk_now commands)
         → (gives : IsKnown g disk → GivesRow (row_of packet (store_on g before disk) state fails) commands next replies)
         → ((known : IsKnown g disk) → fails ≡ true → (gives known).0.replies ≡ ul_nak_resp 3 ∷ []) → (fails ≡ false → commands ≡ [] → disk_now ≡ disk)
+        → ((row : Row) → LooksAtNone packet here row → (fails ≡ false) × MakesAnyway g packet.item row (at here disk) (at (record { store = now; state = next }) disk_now) replies (Ok tt))
+        → Says g disk fails replies
         → TakesPacket g packet (working_at (at before disk) state) (working_at (at now disk_now) next) replies (Ok tt)
-    takes-among P fails commands fine puts reads does gives told untouched = record {
+    takes-among P fails commands fine puts reads does gives told untouched anyway says = record {
       fails = fails;
       stopped = tt;
       makes = λ known.
@@ -61,23 +84,37 @@ module _ {D : Type 0} (g : Ghosts D) (packet : CallerPacket) (state : State) (be
           );
       reads = reads;
       puts = puts-among-same g P _ disk disk_now (λ p. absurd (fine p)) (λ e. cc e) puts;
+      anyway = anyway;
+      says = says;
     }
 
-    -- commands are done, and nothing is read
+    -- commands are done, and nothing is read: the row is the same over each store that is so
     pub takes-done : (P : Type 0) (commands : List Command) → ¬ P → Does g P before now disk disk_now commands
-        → (IsKnown g disk → GivesRow (row_of packet (store_on g before disk) state false) commands next replies)
+        → store_in now ≡ after_all (store_in before) (outlined_all commands)
+        → ((files : Store) → IsStoreLike (store_in before) files → GivesRow (row_of packet files state false) commands next replies)
         → TakesPacket g packet (working_at (at before disk) state) (working_at (at now disk_now) next) replies (Ok tt)
-    takes-done P commands fine does gives =
-        takes-among P false commands fine (puts-among g P disk disk_now does.puts) (counts-none _ _ does.puts.reads)
-        (λ known. does-among g ⊥ before now disk disk_now commands (Does-same g P ⊥ before now disk disk_now commands fine (λ never. absurd never) does)) gives
-        (λ known failed. absurd (true≢false (sym failed))) (λ ok none. does.none none)
+    takes-done P commands fine does memory gives =
+        let done : DoesAmongReads g ⊥ 0 before now disk disk_now commands = does-among g ⊥ before now disk disk_now commands (Does-same g P ⊥ before now disk disk_now commands fine (λ never. absurd never) does) in
+        let told = gives (store_in before) (like_same (store_in before)) in
+        takes-among P false commands fine (puts-among g P disk disk_now does.puts) (counts-none _ _ does.puts.reads) (λ known. done)
+        (λ known. gives (store_on g before disk) (on_like g before disk ready known)) (λ known failed. absurd (true≢false (sym failed))) (λ ok none. does.none none)
+        (λ row looks.
+        let is : told.0 ≡ row = one-row told.0 row (sym told.1 ∙ looks false) in (
+          refl,
+          record {
+            answers = (told.3 ∙ ap (λ (r : Row). r.state) is, told.4 ∙ ap (λ (r : Row). texts r.replies) is);
+            on_disk = subst (λ (cs : List Command). DoesAmongReads g ⊥ 0 before now disk disk_now cs) (told.2 ∙ ap (λ (r : Row). r.commands) is) done;
+            memory = memory ∙ ap (λ (cs : List Command). after_all (store_in before) (outlined_all cs)) (told.2 ∙ ap (λ (r : Row). r.commands) is);
+          },
+        )) (says-row g disk packet (store_in before) state told.0 replies told.1 told.4)
 
     -- the disk failed in one of them
     pub takes-fault : (P : Type 0) (commands : List Command) → P → PutsAmongReads g P disk disk_now → CountsSome (g.read_faults disk) (g.read_faults disk_now) 0
         → (IsKnown g disk → DoesAmongReads g ⊤ 0 before now disk disk_now commands) → (IsKnown g disk → HasRow (row_of packet (store_on g before disk) state false) commands)
         → (commands ≡ [] → disk_now ≡ disk) → next ≡ command → replies ≡ texts (fault_reply state ∷ [])
+        → ((row : Row) → LooksAtNone packet here row → MakesAnyway g packet.item row (at here disk) (at (record { store = now; state = next }) disk_now) replies (Err stop.Disk))
         → TakesPacket g packet (working_at (at before disk) state) (working_at (at now disk_now) next) replies (Err stop.Disk)
-    takes-fault P commands failed puts reads does rows untouched waits text = record {
+    takes-fault P commands failed puts reads does rows untouched waits text anyway = record {
       fails = false;
       stopped = (refl, waits, text);
       makes = λ known.
@@ -93,38 +130,53 @@ module _ {D : Type 0} (g : Ghosts D) (packet : CallerPacket) (state : State) (be
           );
       reads = reads;
       puts = puts-among-same g P _ disk disk_now (λ p. refl) (λ e. failed) puts;
+      anyway = λ row looks. (refl, anyway row looks);
+      says = tt;
     }
 
     -- the same where nothing is read
-    pub takes-cut : (P : Type 0) (commands : List Command) → P → Does g P before now disk disk_now commands → (IsKnown g disk → HasRow (row_of packet (store_on g before disk) state false) commands)
+    pub takes-cut : (P : Type 0) (commands : List Command) → P → Does g P before now disk disk_now commands
+        → ((files : Store) → IsStoreLike (store_in before) files → HasRow (row_of packet files state false) commands)
         → next ≡ command → replies ≡ texts (fault_reply state ∷ []) → TakesPacket g packet (working_at (at before disk) state) (working_at (at now disk_now) next) replies (Err stop.Disk)
     takes-cut P commands failed does rows waits text =
-        takes-fault P commands failed (puts-among g P disk disk_now does.puts) (counts-none _ _ does.puts.reads)
-        (λ known. does-among g ⊤ before now disk disk_now commands (Does-same g P ⊤ before now disk disk_now commands (λ p. tt) (λ t. failed) does)) rows does.none waits text
+        let done : DoesAmongReads g ⊤ 0 before now disk disk_now commands = does-among g ⊤ before now disk disk_now commands (Does-same g P ⊤ before now disk disk_now commands (λ p. tt) (λ t. failed) does) in
+        let told = rows (store_in before) (like_same (store_in before)) in
+        takes-fault P commands failed (puts-among g P disk disk_now does.puts) (counts-none _ _ does.puts.reads) (λ known. done) (λ known. rows (store_on g before disk) (on_like g before disk ready known)) does.none
+        waits text
+        (λ row looks.
+        let is : told.0 ≡ row = one-row told.0 row (sym told.1 ∙ looks false) in
+        record { answers = tt; on_disk = subst (λ (cs : List Command). DoesAmongReads g ⊤ 0 before now disk disk_now cs) (told.2 ∙ ap (λ (r : Row). r.commands) is) done; memory = tt })
 
   -- there was no memory
-  pub takes-memory : (replies : List ℕ) → g.lasts disk disk → (IsKnown g disk → (row : Row) × (row_of packet (store_on g before disk) state false ≡ Some row) × IsTrue (takes_memory packet.item row.state)) → replies ≡ []
+  pub takes-memory : (replies : List ℕ) → g.lasts disk disk
+      → ((files : Store) → IsStoreLike (store_in before) files → (row : Row) × (row_of packet files state false ≡ Some row) × IsTrue (takes_memory packet.item row.state)) → replies ≡ []
       → TakesPacket g packet (working_at (at before disk) state) (working_at (at before disk) state) replies (Err stop.OutOfMemory)
-  takes-memory replies lasts rows none = record {
-    fails = false;
-    stopped = (refl, refl, none);
-    makes = λ known.
-        let row = rows known in
-        (row.0, row.1, record { told = λ never. absurd (true≢false (sym never)); answers = row.2; on_disk = tt; untouched = λ ok none. refl });
-    reads = counts-none _ _ refl;
-    puts = puts-among g _ disk disk (puts_none g disk _ (λ e. cc e) lasts);
-  }
+  takes-memory replies lasts rows none =
+      let told = rows (store_in before) (like_same (store_in before)) in
+      record {
+        fails = false;
+        stopped = (refl, refl, none);
+        makes = λ known.
+            let row = rows (store_on g before disk) (on_like g before disk ready known) in
+            (row.0, row.1, record { told = λ never. absurd (true≢false (sym never)); answers = row.2; on_disk = tt; untouched = λ ok none. refl });
+        reads = counts-none _ _ refl;
+        puts = puts-among g _ disk disk (puts_none g disk _ (λ e. cc e) lasts);
+        anyway = λ row looks.
+            let is : told.0 ≡ row = one-row told.0 row (sym told.1 ∙ looks false) in
+            (refl, record { answers = subst (λ (r : Row). IsTrue (takes_memory packet.item r.state)) is told.2; on_disk = tt; memory = tt });
+        says = tt;
+      }
 
   -- a packet that leaves the disk alone
-  answered-by : (now : StoreState) (replies : List ℕ) (phase : Phase) → IsReady g before disk → g.lasts disk disk → AnsweredAlone packet state before now replies (phase, Ok tt)
+  answered-by : (now : StoreState) (replies : List ℕ) (phase : Phase) → g.lasts disk disk → AnsweredAlone packet state before now replies (phase, Ok tt)
       → Answered g packet state (at before disk) (at now disk) replies (phase, Ok tt)
-  answered-by now replies phase ready lasts alone =
+  answered-by now replies phase lasts alone =
       let same : store_in now ≡ store_in before = in_parked before now alone.files in
       let does : Does g ⊥ before now disk disk [] = Does-moved g ⊥ before before before now disk disk [] refl refl alone.files alone.journal (Does-none g ⊥ before disk (λ never. never) ready lasts) in
       record {
         takes =
-            takes-done (state_of now phase) now disk replies ⊥ [] (λ never. never) does
-            (λ known. let row = alone.gives (store_on g before disk) (on_like g before disk ready known) in (row.0, row.1, sym row.2, row.3, row.4));
+            takes-done (state_of now phase) now disk replies ⊥ [] (λ never. never) does same
+            (λ files like. let row = alone.gives files like in (row.0, row.1, sym row.2, row.3, row.4));
         failed = λ e. absurd (cc e);
         healthy = λ fine. (does.done (λ never. never)).1;
         stands_on = stands_parked g before now disk alone.files alone.journal ready.stands_on;
@@ -134,11 +186,16 @@ module _ {D : Type 0} (g : Ghosts D) (packet : CallerPacket) (state : State) (be
         kept = subst (λ (s : Store). KeepsComplete (store_in before) s) (sym same) (λ number entry found whole. found);
       }
 
-  pub answered-alone : (now : StoreState) (replies : List ℕ) (taken : Phase × Result ⊤ Halt) → IsReady g before disk → g.lasts disk disk → AnsweredAlone packet state before now replies taken
+  pub answered-alone : (now : StoreState) (replies : List ℕ) (taken : Phase × Result ⊤ Halt) → g.lasts disk disk → AnsweredAlone packet state before now replies taken
       → Answered g packet state (at before disk) (at now disk) replies taken
-  answered-alone now replies taken ready lasts alone =
+  answered-alone now replies taken lasts alone =
       let P : Result ⊤ Halt → Type 0 = λ r. AnsweredAlone packet state before now replies (taken.0, r) → Answered g packet state (at before disk) (at now disk) replies (taken.0, r) in
-      subst P (sym alone.answered) (answered-by now replies taken.0 ready lasts) alone
+      subst P (sym alone.answered) (answered-by now replies taken.0 lasts) alone
+
+-- a list with one more at its end is another
+pub more-at_end : (commands : List Command) (last : Command) → commands ++ last ∷ [] ≡ commands → ⊥
+more-at_end [] last same = cc
+more-at_end (first ∷ commands) last same = more-at_end commands last (cc)
 
 -- a list with one at its end isn't empty
 pub some-at_end : (commands : List Command) (last : Command) → commands ++ last ∷ [] ≡ [] → ⊥

@@ -1,5 +1,5 @@
 -- What a session that receives a file gives, over a store that holds its upload, whatever octets its files have.
-use Rattle.std.proofs.Common.{◌≡◌, ℕ, ◌+◌, ◌≤◌, ◌<◌, List, [], ◌∷◌, ◌++◌, length, refl, ap, sym, ◌∙◌, subst, arith, inl, inr, Option, None, Some, true}
+use Rattle.std.proofs.Common.{◌≡◌, ℕ, ◌+◌, ◌≤◌, ◌<◌, List, [], ◌∷◌, ◌++◌, length, refl, ap, sym, ◌∙◌, subst, arith, inl, inr, Option, None, Some, true, false}
 use Rattle.std.proofs.lemmas.Bool.Decides.{leb_tells}
 use Rattle.std.specs.Prelude.{Ok}
 use Rattle.px_base.specs.CallSign.{CallSign}
@@ -14,13 +14,13 @@ use Rattle.file_store.specs.Like.{IsStoreLike}
 use Rattle.file_store.specs.State.{StoreState, store_in}
 use Rattle.file_store.specs.Store.{Entry, Store, entry_of, partial}
 use Rattle.file_store.specs.Upload.{Holds, Upload, came, ending, entry_for, octets_come, sealing, waiting, with_bytes}
-use Rattle.file_store.proofs.Offered.{in_parked, like_entry, like_partial}
+use Rattle.file_store.proofs.Offered.{in_parked, like_entry, like_partial, like_same}
 use Rattle.ftl0_session.specs.declared.uploads.phase.Phase.{Phase}
 use Rattle.ftl0_session.specs.Uploads.Session.{Row, aborting, command, row_by_read, session_row, taken_row, unread_row, whole_row}
 use Rattle.ftl0_session.specs.Uploads.SessionState.{NoOtherOut, PhaseIsHeld, number_of, receiving_of, state_of}
-use Rattle.ftl0_session.specs.Uploads.Taking.{AnsweredAlone}
+use Rattle.ftl0_session.specs.Uploads.Taking.{AnsweredAlone, LooksAtNone}
 use Rattle.ftl0_session.specs.Uploads.Events.{packet_of}
-use Rattle.ftl0_session.proofs.uploads.DoesLemmas.{some-at_end}
+use Rattle.ftl0_session.proofs.uploads.DoesLemmas.{more-at_end, one-row, some-at_end}
 use Rattle.ftl0_session.proofs.uploads.OtherLemmas.{changes-same, only-none, others-kept}
 use Rattle.ftl0_session.proofs.uploads.UploadRows.{row-short, row-taken, row-too_much, row-unread, row-whole}
 
@@ -120,3 +120,15 @@ whole-sealing files before up moment (Some code) checked = ap (λ (f : Option �
 -- there are some
 pub sealing-some : (files : Store) (before : StoreState) (up : Upload) (moment : ℕ) → sealing files before up moment ≡ [] → ⊥
 sealing-some files before up moment none = some-at_end (last_grow up.number (waiting before up)) (ending up.number moment (fault_code (octets_come files before up))) none
+
+-- DATA_END after all octets: its row isn't the same where a read fails, so the file is looked at
+pub end-looks : (caller : CallSign) (before : StoreState) (up : Upload) (holds : Holds before up) (moment : ℕ) (row : Row) → (IsShort before up → ⊥)
+    → LooksAtNone (packet_of caller moment (Ok data_end)) (record { store = before; state = receiving_of before up }) row → ⊥
+end-looks caller before up holds moment row enough looks =
+    let files : Store = store_in before in
+    let like = like_same files in
+    let fault : Option ℕ = fault_code (octets_come files before up) in
+    let both : Some (whole_row moment up.number (waiting before up) fault) ≡ Some (unread_row up.number (waiting before up)) =
+    sym (whole caller before up holds files like moment fault enough refl) ∙ looks false ∙ sym (looks true) ∙ unread caller before up holds files like moment enough in
+    let same : whole_row moment up.number (waiting before up) fault ≡ unread_row up.number (waiting before up) = one-row _ _ both in
+    more-at_end (last_grow up.number (waiting before up)) (ending up.number moment fault) (whole-sealing files before up moment fault refl ∙ ap (λ (r : Row). r.commands) same)

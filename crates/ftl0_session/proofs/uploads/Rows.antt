@@ -68,6 +68,17 @@ by_read-none caller moment store state item true kind =
     ap (λ (o : Option Row). option_or o (session_row caller moment store state item)) (unread-none store state item kind) ∙ row-none caller moment store state item kind
 by_read-none caller moment store state item false kind = row-none caller moment store state item kind
 
+or-some : (o other : Option Row) (row : Row) → other ≡ Some row → (given : Row) × (option_or o other ≡ Some given)
+or-some None other row is = (row, is)
+or-some (Some given) other row is = (given, refl)
+
+-- and a packet of uploading has one
+pub by_read-some : (caller : CallSign) (moment : ℕ) (store : Store) (state : State) (item : Item) (fails : Bool) → is_upload_kind (kind_of_item item) ≡ true
+    → (row : Row) × (row_by_read caller moment store state item fails ≡ Some row)
+by_read-some caller moment store state item fails kind =
+    let there = row-some caller moment store state item kind in
+    or-some (if fails then row_unread store state item else None) (session_row caller moment store state item) there.0 there.1
+
 -- where no file is read it is the row where no read fails
 pub by_read-unread : (caller : CallSign) (moment : ℕ) (store : Store) (state : State) (item : Item) (fails : Bool) → row_unread store state item ≡ None
     → row_by_read caller moment store state item fails ≡ session_row caller moment store state item

@@ -1,5 +1,5 @@
 -- How the code sends what is due.
-use Rattle.std.specs.Prelude.{◌≡◌, List, ℕ, Bool, true, false, IsTrue, Option, None, Some, IfSome}
+use Rattle.std.specs.Prelude.{◌≡◌, ◌↔◌, List, ℕ, Bool, true, false, IsTrue, Option, None, Some, IfSome}
 use Rattle.disk_model.specs.declared.disk.Disk.{Ghosts}
 use Rattle.ftl0_packets.specs.Layout.{dl_error_resp, packet_text}
 use Rattle.file_store.specs.Calls.{Reads}
@@ -27,7 +27,8 @@ abbrev pub filled : {D S : Type 0} → D → S → List ℕ → Filled D S
 filled disk state out = record { disk = disk; state = state; out = out }
 
 -- The disk is as reads leave it, of which one failed or none. Where it is known what the store's files hold, a packet
--- is put exactly where one is due, and what was put is what is due for that, code 3 where a read failed.
+-- is put exactly where one is due, and what was put is what is due for that, code 3 where a read failed. Whatever the
+-- disk tells, code 3 is put exactly where a read failed.
 pub record PutsDue {D : Type 0} (g : Ghosts D) (store : Store) (before now : Filled D DownloadState) (put : Bool) :
     Type 0 where
   pub fails : Bool
@@ -38,3 +39,4 @@ pub record PutsDue {D : Type 0} (g : Ghosts D) (store : Store) (before now : Fil
   pub is_due :
       IsKnown g before.disk
       → IsDue (next_due store before.state fails) put before.disk now.disk before.state now.state before.out now.out
+  pub tells : (fails ≡ true) ↔ ((put ≡ true) × (now.out ≡ packet_text (dl_error_resp 3)))

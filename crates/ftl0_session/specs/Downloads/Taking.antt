@@ -1,12 +1,13 @@
 -- How the code answers a packet.
 use Rattle.std.specs.Prelude.{◌≡◌, List, ℕ, [], ◌∷◌, flat_map, Bool, true, false, IsTrue, Option, None, Some, IsSomeAnd}
-use Rattle.std.specs.Prelude.{Result, Ok, Err}
+use Rattle.std.specs.Prelude.{Result, Ok, Err, is_some}
 use Rattle.px_base.specs.CallSign.{CallSign}
 use Rattle.disk_model.specs.declared.disk.Disk.{Ghosts}
 use Rattle.ftl0_packets.specs.Layout.{dl_error_resp, packet_text}
+use Rattle.ftl0_session.specs.Causes.{Says}
 use Rattle.ftl0_session.specs.Lists.Lists.{CallerList}
 use Rattle.file_store.specs.Calls.{Reads}
-use Rattle.file_store.specs.State.{IsKnown}
+use Rattle.file_store.specs.State.{IsKnown, StoreState, store_in, store_on}
 use Rattle.file_store.specs.Store.{Store}
 use Rattle.selection.specs.Layout.{Tree}
 use Rattle.ftl0_session.specs.declared.downloads.downloads.Form.{Form}
@@ -31,31 +32,45 @@ abbrev pub made_by : DownloadRow → Made
 made_by row = made row.state row.lists (flat_map packet_text row.replies)
 
 -- The disk is as reads leave it, of which one failed or none. Where it is known what the store's files hold, what was
--- made is the row for that, which tells of a read that failed by code 3.
-pub record MakesRow {D : Type 0} (g : Ghosts D) (disk disk_now : D) (row : Bool → DownloadRow) (now : Made) :
-    Type 0 where
+-- made is the row over them for that, which tells of a read that failed by code 3. Whatever the disk tells, where the
+-- row over what memory tells is the same whether a read fails or none does, none failed, and that row was made; and a
+-- code 3 in the replies has its cause.
+pub record MakesRow {D : Type 0} (g : Ghosts D) (store : StoreState) (disk disk_now : D)
+    (row : Store → Bool → DownloadRow) (now : Made) : Type 0 where
   pub fails : Bool
   pub reads : Reads g (IsTrue fails) disk disk_now
-  pub told : IsKnown g disk → fails ≡ true → (row fails).replies ≡ dl_error_resp 3 ∷ []
-  pub is_row : IsKnown g disk → now ≡ made_by (row fails)
+  pub told :
+      IsKnown g disk → fails ≡ true → (row (store_on g store disk) fails).replies ≡ dl_error_resp 3 ∷ []
+  pub is_row : IsKnown g disk → now ≡ made_by (row (store_on g store disk) fails)
+  pub anyway :
+      row (store_in store) true ≡ row (store_in store) false
+      → (fails ≡ false) × (now ≡ made_by (row (store_in store) false))
+  pub says : Says g disk fails now.replies
 
 -- the packet has this row, and it was made; or it has none, was not taken, and nothing changed
 abbrev pub IsRow : {D : Type 0} → Option DownloadRow → Bool → D → D → Made → Made → Type 0
 IsRow None taken disk disk_now before now = (taken ≡ false) × (disk_now ≡ disk) × (now ≡ before)
 IsRow (Some row) taken disk disk_now before now = (taken ≡ true) × (now ≡ made_by row)
 
--- The disk is as reads leave it, of which one failed or none; a packet that isn't taken changes nothing. Where it is
--- known what the store's files hold, a packet with this row of downloading, for reads that fail or don't, is taken
--- exactly where it has one; and what was made is the packet's row for that. Where a read failed it has one, which tells
--- of it by code 3.
-pub record TakesByRow {D : Type 0} (g : Ghosts D) (row : Bool → Option DownloadRow) (disk disk_now : D)
-    (before now : Made) (taken : Bool) : Type 0 where
+-- The disk is as reads leave it, of which one failed or none. A packet is taken exactly where it has a row of
+-- downloading, whatever the files hold; one that isn't taken changes nothing. Where it is known what the store's files
+-- hold, what was made is the row over them for the reads that failed or didn't, and tells of one that failed by code 3.
+-- Whatever the disk tells, where the row over what memory tells is the same whether a read fails or none does, none
+-- failed, and that row was made; and a code 3 in the replies has its cause.
+pub record TakesByRow {D : Type 0} (g : Ghosts D) (store : StoreState) (row : Store → Bool → Option DownloadRow)
+    (disk disk_now : D) (before now : Made) (taken : Bool) : Type 0 where
   pub fails : Bool
   pub reads : Reads g (IsTrue fails) disk disk_now
-  pub passed : taken ≡ false → (disk_now ≡ disk) × (now ≡ before)
+  pub has : (files : Store) (fails_then : Bool) → is_some (row files fails_then) ≡ taken
+  pub passed : taken ≡ false → (fails ≡ false) × (disk_now ≡ disk) × (now ≡ before)
   pub told :
-      IsKnown g disk → fails ≡ true → IsSomeAnd (row fails) (λ given. given.replies ≡ dl_error_resp 3 ∷ [])
-  pub is_row : IsKnown g disk → IsRow (row fails) taken disk disk_now before now
+      IsKnown g disk → fails ≡ true
+      → IsSomeAnd (row (store_on g store disk) fails) (λ given. given.replies ≡ dl_error_resp 3 ∷ [])
+  pub is_row : IsKnown g disk → IsRow (row (store_on g store disk) fails) taken disk disk_now before now
+  pub anyway :
+      row (store_in store) true ≡ row (store_in store) false
+      → (fails ≡ false) × IsRow (row (store_in store) false) taken disk disk_now before now
+  pub says : taken ≡ true → Says g disk fails now.replies
 
 -- what a directory command of this form lists
 abbrev pub due_by : Form → Store → List ℕ → List Due

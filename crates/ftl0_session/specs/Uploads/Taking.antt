@@ -1,9 +1,10 @@
 -- How the code's session answers a packet of uploading, and what that does to the disk.
 use Rattle.std.specs.Prelude.{◌≡◌, ℕ, List, [], ◌∷◌, Bool, true, false, IsTrue, ⊤, Option, Some, Result, Ok, Err}
-use Rattle.std.specs.Prelude.{IsErrOf}
+use Rattle.std.specs.Prelude.{IsErrOf, OnOk}
 use Rattle.disk_model.specs.declared.disk.Disk.{Ghosts}
 use Rattle.ftl0_packets.specs.Layout.{Item, ul_error_resp, ul_nak_resp}
-use Rattle.file_store.specs.Command.{DoesAll}
+use Rattle.file_store.specs.Command.{DoesAll, after_all}
+use Rattle.file_store.specs.OnDisk.{outlined_all}
 use Rattle.file_store.specs.EntriesKept.{KeepsComplete}
 use Rattle.file_store.specs.declared.refusals.BeginRefusal.{BeginRefusal}
 use Rattle.file_store.specs.declared.refusals.BeginRefusal.TheVariants as refusal
@@ -15,6 +16,7 @@ use Rattle.file_store.specs.Working.{CountsSome, DoesAmongReads, PutsAmongReads,
 use Rattle.ftl0_session.specs.declared.uploads.phase.Phase.{Phase}
 use Rattle.disk_model.specs.declared.halt.Halt.{Halt}
 use Rattle.disk_model.specs.declared.halt.Halt.TheVariants as stop
+use Rattle.ftl0_session.specs.Causes.{Says}
 use Rattle.ftl0_session.specs.Uploads.Events.{CallerPacket}
 use Rattle.ftl0_session.specs.Uploads.Others.{KeepsOtherCallers}
 use Rattle.ftl0_packets.specs.Items.{texts}
@@ -81,8 +83,30 @@ IsStopped fails before now replies (Err stop.OutOfMemory) = (fails ≡ false) ×
 IsStopped fails before now replies (Err stop.Disk) =
     (fails ≡ false) × (now.it.state ≡ command) × (replies ≡ texts (fault_reply before.it.state ∷ []))
 
+-- The packet's row over what memory tells is this one, whether a read fails or none does: no octet of a file is looked
+-- at for it.
+abbrev pub LooksAtNone : CallerPacket → Working → Row → Type 0
+LooksAtNone packet before row =
+    (fails : Bool) → row_of packet (store_in before.store) before.state fails ≡ Some row
+
+-- the answer to a packet is this row of the table, whatever the disk tells
+abbrev pub AnswersAnyway : Item → Row → Working → List ℕ → Result ⊤ Halt → Type 0
+AnswersAnyway item row now replies (Ok done) = (now.state ≡ row.state) × (replies ≡ texts row.replies)
+AnswersAnyway item row now replies (Err stop.OutOfMemory) = IsTrue (takes_memory item row.state)
+AnswersAnyway item row now replies (Err stop.Disk) = ⊤
+
+-- What a packet with this row gives and does to the disk, whatever the disk tells. No read failed. Where it is
+-- answered, memory tells the store after the row's commands.
+pub record MakesAnyway {D : Type 0} (g : Ghosts D) (item : Item) (row : Row) (before now : AtDisk Working D)
+    (replies : List ℕ) (result : Result ⊤ Halt) : Type 0 where
+  pub answers : AnswersAnyway item row now.it replies result
+  pub on_disk : PutsRow g false row before now result
+  pub memory :
+      OnOk result (store_in now.it.store ≡ after_all (store_in before.it.store) (outlined_all row.commands))
+
 -- A session takes a packet, malformed or not, and a read of the disk fails or none does. What it gives is the packet's
--- row for that, where it is known what the store's files hold.
+-- row for that, where it is known what the store's files hold; and whatever the disk tells, where no octet of a file is
+-- looked at for it. A code 3 in its replies has its cause.
 pub record TakesPacket {D : Type 0} (g : Ghosts D) (packet : CallerPacket) (before now : AtDisk Working D)
     (replies : List ℕ) (result : Result ⊤ Halt) : Type 0 where
   pub fails : Bool
@@ -93,6 +117,10 @@ pub record TakesPacket {D : Type 0} (g : Ghosts D) (packet : CallerPacket) (befo
       × MakesRow g fails packet.item row before now replies result
   pub reads : CountsSome (g.read_faults before.disk) (g.read_faults now.disk) (one_if fails)
   pub puts : PutsAmongReads g (IsErrOf result stop.Disk) before.disk now.disk
+  pub anyway :
+      (row : Row) → LooksAtNone packet before.it row
+      → (fails ≡ false) × MakesAnyway g packet.item row before now replies result
+  pub says : OnOk result (Says g before.disk fails replies)
 
 -- the answer by UL_ERROR_RESP with this code
 abbrev pub AnswersCode : ℕ → List ℕ → Result ⊤ Halt → Type 0

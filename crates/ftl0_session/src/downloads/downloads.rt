@@ -146,9 +146,9 @@ impl Downloads {
         requires { MayTake D.Disk store.old disk.old lists.old self.old }
 
         // The answer is the packet's row, if it has one.
-        ensures takes { TakesByRow D.Disk (download_row caller (store_on D.Disk store.old disk.old) lists.old self.old
-            (value_of packet.now)) disk.old disk.new (made self.old lists.old replies.old.items)
-            (made self.new lists.new replies.new.items) result }
+        ensures takes { TakesByRow D.Disk store.old
+            (λ files. download_row caller files lists.old self.old (value_of packet.now)) disk.old disk.new
+            (made self.old lists.old replies.old.items) (made self.new lists.new replies.new.items) result }
         ensures keeps { KeepsFiles D.Disk store.old store.new disk.new lists.new self.new }
     {
         match self.phase {
@@ -160,8 +160,8 @@ impl Downloads {
     }
 
     /// Puts what is due next in place of what `out` holds: DATA of the next 254 octets, the last one shorter, or
-    /// DATA_END where none is left; or code 3 in the place of a DATA whose octets can't be read. It answers false,
-    /// and nothing changed, exactly where nothing is due. It reads what it sends. Takes no memory.
+    /// DATA_END where none is left; or code 3 in the place of a DATA whose octets can't be read, and only there. It
+    /// answers false, and nothing changed, exactly where nothing is due. It reads what it sends. Takes no memory.
     #[inline(always)]
     pub fn fill<D: Disk>(
         &mut self,
@@ -264,9 +264,9 @@ impl Downloads {
         replies: &mut Replies,
     ) -> bool
         requires { MayCommand D.Disk store.old disk.old lists.old self.old }
-        ensures takes { TakesByRow D.Disk (download_row caller (store_on D.Disk store.old disk.old) lists.old self.old
-            (value_of packet.now)) disk.old disk.new (made self.old lists.old replies.old.items)
-            (made self.new lists.new replies.new.items) result }
+        ensures takes { TakesByRow D.Disk store.old
+            (λ files. download_row caller files lists.old self.old (value_of packet.now)) disk.old disk.new
+            (made self.old lists.old replies.old.items) (made self.new lists.new replies.new.items) result }
         ensures keeps { KeepsFiles D.Disk store.old store.new disk.new lists.new self.new }
     {
         match *packet {
@@ -327,8 +327,8 @@ impl Downloads {
         replies: &mut Replies,
     )
         requires { MayCommand D.Disk store.old disk.old lists.old self.old }
-        ensures row { MakesRow D.Disk disk.old disk.new
-            (directory_row caller (store_on D.Disk store.old disk.old) lists.old number (due_by form))
+        ensures row { MakesRow D.Disk store.old disk.old disk.new
+            (λ files. directory_row caller files lists.old number (due_by form))
             (made self.new lists.new replies.new.items) }
         ensures keeps { KeepsFiles D.Disk store.old store.new disk.new lists.new self.new }
     {
@@ -518,9 +518,8 @@ fn select<D: Disk>(
 )
     requires ready { IsReady D.Disk store.old disk.old }
     requires complete { AreComplete (store_in store.old) lists.old }
-    ensures row { MakesRow D.Disk disk.old disk.new
-        (select_row caller (store_on D.Disk store.old disk.old) lists.old tokens.now)
-        (made ready lists.new replies.new.items) }
+    ensures row { MakesRow D.Disk store.old disk.old disk.new
+        (λ files. select_row caller files lists.old tokens.now) (made ready lists.new replies.new.items) }
     ensures keeps { KeepsFiles D.Disk store.old store.new disk.new lists.new ready }
 {
     let Some(selection) = selection_of(tokens) else {

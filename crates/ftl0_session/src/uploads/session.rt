@@ -98,8 +98,8 @@ impl Session {
     }
 
     /// Takes a packet of uploading: its row of the session's table, or code 3 where a write or a sync of the disk
-    /// fails. The row's commands are on the disk before its replies are given. A read that fails gives the row for that.
-    /// Takes memory, before it touches the disk.
+    /// fails. The row's commands are on the disk before its replies are given. A read that fails gives the row for
+    /// that. Takes memory, before it touches the disk.
     pub fn take<D: Disk>(
         &mut self,
         disk: &mut D,

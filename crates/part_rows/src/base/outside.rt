@@ -1,132 +1,148 @@
 //! Rows of the outside in memory.
 
-use crate::parts::{Parts, answer_text, octets_text};
-use anyhow::{Context, Result, bail, ensure};
+use crate::parts::Parts;
+use anyhow::{Result, bail, ensure};
 use px_base::{
     Air, Clock, FileBytes, MemoryAir, MemoryClock, MemoryOut, MemoryShelf, Out, ROOM, Shelf,
 };
-use row_words::{Script, read_numbers, read_octets, written};
+use row_words::{
+    hex_text, read_air, read_numbers, read_octets, three_parts, two_parts, written,
+};
 use std::alloc::Global;
 
 /// `air FAILING | TURNS | CALLS`
 pub fn air(alloc: Global, row: &str) -> Result<String> {
-    let (failing, rest) = row.split_once('|').context("no turns")?;
-    let (turns, calls) = rest.split_once('|').context("no calls")?;
-    let failing = read_numbers(alloc, failing)?;
-    let script = Script::read(alloc, turns, ROOM)?;
-    let (mut air, _clock) = script.open(alloc, failing.as_slice())?;
-    play_air(alloc, &mut air, calls)
-}
-
-/// Makes these calls of an air.
-fn play_air(alloc: Global, air: &mut MemoryAir, calls: &str) -> Result<String> {
-    let mut room = [0; ROOM];
+    let (failing, turns, calls) = three_parts(row, '|')?;
+    let (mut air, _clock) = read_air(alloc, failing, turns, ROOM)?;
     let mut parts = Parts::new(alloc);
-    for call in calls.split_whitespace() {
-        let answer = match call {
-            "poll" => poll(alloc, air, &mut room)?,
-            octets => say(alloc, air, octets)?,
-        };
-        parts.put(answer.as_str())?;
-    }
-    parts.put(octets_text(alloc, air.said())?.as_str())?;
-    let heard = air.heard().len();
-    let starved = air.starved();
-    parts.put(format!(in alloc; "{heard} {starved}")?.as_str())?;
+    play_air(alloc, &mut air, calls, &mut parts)?;
     Ok(parts.end())
 }
 
-/// Polls an air.
-fn poll(alloc: Global, air: &mut MemoryAir, room: &mut [u8; ROOM]) -> Result<String> {
-    match air.poll(room) {
-        Ok(polled) => {
-            let first = hex::encode(alloc, &room[..2])?;
-            Ok(format!(in alloc; "{polled:?} {first}")?)
+/// Makes these calls of an air.
+fn play_air(alloc: Global, air: &mut MemoryAir, calls: &str, parts: &mut Parts) -> Result<()> {
+    let mut room = [0; ROOM];
+    for call in calls.split_whitespace() {
+        match call {
+            "poll" => poll(alloc, air, &mut room, parts)?,
+            octets => parts.show_answer(air.put(read_octets(alloc, octets)?.as_slice()))?,
         }
-        Err(down) => Ok(format!(in alloc; "{down}")?),
     }
+    parts.show_octets(air.said())?;
+    let heard = air.heard().len();
+    let starved = air.starved();
+    parts.show(format_args!("{heard} {starved}"))
 }
 
-/// Says octets on an air.
-fn say(alloc: Global, air: &mut MemoryAir, octets: &str) -> Result<String> {
-    let octets = read_octets(alloc, octets)?;
-    answer_text(alloc, air.put(octets.as_slice()))
+/// Polls an air.
+fn poll(
+    alloc: Global,
+    air: &mut MemoryAir,
+    room: &mut [u8; ROOM],
+    parts: &mut Parts,
+) -> Result<()> {
+    match air.poll(room) {
+        Ok(polled) => {
+            let first = hex_text(alloc, &room[..2])?;
+            parts.show(format_args!("{polled:?} {first}"))
+        }
+        Err(down) => parts.show(down),
+    }
 }
 
 /// `out FAILING | OCTETS..`
 pub fn output(alloc: Global, row: &str) -> Result<String> {
-    let (failing, calls) = row.split_once('|').context("no calls")?;
+    let (failing, calls) = two_parts(row, '|')?;
     let failing = read_numbers(alloc, failing)?;
     let mut out = MemoryOut::new(alloc, failing.as_slice())?;
     let mut parts = Parts::new(alloc);
+    play_output(alloc, &mut out, calls, &mut parts)?;
+    Ok(parts.end())
+}
+
+/// Puts these octets.
+fn play_output(alloc: Global, out: &mut MemoryOut, calls: &str, parts: &mut Parts) -> Result<()> {
     for call in calls.split_whitespace() {
         let octets = read_octets(alloc, call)?;
-        let answer = answer_text(alloc, out.put(octets.as_slice()))?;
-        parts.put(answer.as_str())?;
+        parts.show_answer(out.put(octets.as_slice()))?;
     }
-    parts.put(octets_text(alloc, out.shown())?.as_str())?;
-    let starved = out.starved();
-    parts.put(format!(in alloc; "{starved}")?.as_str())?;
-    Ok(parts.end())
+    parts.show_octets(out.shown())?;
+    parts.show(out.starved())
 }
 
 /// `shelf FAILING | CALLS`
 pub fn shelf(alloc: Global, row: &str) -> Result<String> {
-    let (failing, calls) = row.split_once('|').context("no calls")?;
+    let (failing, calls) = two_parts(row, '|')?;
     let failing = read_numbers(alloc, failing)?;
     let mut shelf = MemoryShelf::new(alloc, failing.as_slice())?;
     let mut parts = Parts::new(alloc);
     for call in calls.split_terminator(';') {
-        let answer = shelf_call(alloc, &mut shelf, call)?;
-        parts.put(answer.as_str())?;
+        shelf_call(alloc, &mut shelf, call, &mut parts)?;
     }
-    let starved = shelf.starved();
-    parts.put(format!(in alloc; "{starved}")?.as_str())?;
+    parts.show(shelf.starved())?;
     Ok(parts.end())
 }
 
 /// Makes a call of a shelf.
-fn shelf_call(alloc: Global, shelf: &mut MemoryShelf, call: &str) -> Result<String> {
+fn shelf_call(
+    alloc: Global,
+    shelf: &mut MemoryShelf,
+    call: &str,
+    parts: &mut Parts,
+) -> Result<()> {
     let words = call.split_whitespace().collect::<Vec<&str>>(alloc)?;
     match words.as_slice() {
-        ["keep", name, octets] => {
-            let octets = read_octets(alloc, written(octets))?;
-            answer_text(alloc, shelf.keep(written(name), octets.as_slice()))
-        }
-        ["load", name, most] => load(alloc, shelf, written(name), most.parse::<usize>()?),
-        ["content", name] => content_text(alloc, shelf.content(written(name))),
+        ["keep", name, octets] => keep(alloc, shelf, written(name), written(octets), parts),
+        ["load", name, most] => load(alloc, shelf, written(name), most.parse::<usize>()?, parts),
+        ["content", name] => content(shelf.content(written(name)), parts),
         _ => bail!("no call of a shelf"),
     }
 }
 
+/// Keeps octets on a shelf.
+fn keep(
+    alloc: Global,
+    shelf: &mut MemoryShelf,
+    name: &str,
+    octets: &str,
+    parts: &mut Parts,
+) -> Result<()> {
+    let octets = read_octets(alloc, octets)?;
+    parts.show_answer(shelf.keep(name, octets.as_slice()))
+}
+
 /// Loads what a shelf has.
-fn load(alloc: Global, shelf: &mut MemoryShelf, name: &str, most: usize) -> Result<String> {
+fn load(
+    alloc: Global,
+    shelf: &mut MemoryShelf,
+    name: &str,
+    most: usize,
+    parts: &mut Parts,
+) -> Result<()> {
     match shelf.load(alloc, name, most) {
-        Ok(content) => octets_text(alloc, content.as_slice()),
-        Err(refusal) => Ok(format!(in alloc; "{refusal}")?),
+        Ok(content) => parts.show_octets(content.as_slice()),
+        Err(refusal) => parts.show(refusal),
     }
 }
 
 /// What a shelf has, or `none`.
-fn content_text(alloc: Global, content: Option<&FileBytes>) -> Result<String> {
+fn content(content: Option<&FileBytes>, parts: &mut Parts) -> Result<()> {
     match content {
-        Some(content) => octets_text(alloc, content.as_slice()),
-        None => Ok(String::from_str(alloc, "none")?),
+        Some(content) => parts.show_octets(content.as_slice()),
+        None => parts.put("none"),
     }
 }
 
 /// `clock MOMENTS | COUNT`
 pub fn clock(alloc: Global, row: &str) -> Result<String> {
-    let (moments, count) = row.split_once('|').context("no count")?;
+    let (moments, count) = two_parts(row, '|')?;
     let count = count.trim().parse::<u32>()?;
     let mut clock = read_clock(alloc, moments)?;
     let mut parts = Parts::new(alloc);
     for _ in 0..count {
-        let moment = clock.now();
-        parts.put(format!(in alloc; "{moment}")?.as_str())?;
+        parts.show(clock.now())?;
     }
-    let calls = clock.calls();
-    parts.put(format!(in alloc; "{calls}")?.as_str())?;
+    parts.show(clock.calls())?;
     Ok(parts.end())
 }
 

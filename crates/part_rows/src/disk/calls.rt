@@ -1,8 +1,9 @@
 //! The calls of a row, on its disk.
 
-use anyhow::{Context, Result, bail, ensure};
+use crate::parts::Parts;
+use anyhow::{Result, bail, ensure};
 use disk_model::{Disk, DiskFault};
-use row_words::{OverDisk, read_octets};
+use row_words::{OverDisk, hex_text, kind_and_rest, read_octets, two_parts};
 use std::alloc::Global;
 
 /// The calls of a row, parted by `;`.
@@ -16,32 +17,34 @@ impl OverDisk for Calls<'_> {
     type Told = String;
 
     fn over<D: Disk>(&mut self, alloc: Global, disk: &mut D) -> Result<String> {
-        let mut answers = String::new(alloc);
+        let mut answers = Parts::new(alloc);
         for call in self.text.split(';') {
-            if !answers.is_empty() {
-                answers.push_str("; ")?;
-            }
-            answers.push_str(make_call(alloc, disk, call.trim())?.as_str())?;
+            make_call(alloc, disk, call.trim(), &mut answers)?;
         }
-        Ok(answers)
+        Ok(answers.end())
     }
 }
 
-/// Makes a call, and shows what it answers.
-pub fn make_call<D: Disk>(alloc: Global, disk: &mut D, call: &str) -> Result<String> {
-    let (name, words) = call.split_once(' ').unwrap_or((call, ""));
+/// Makes a call, and puts what it answers.
+pub fn make_call<D: Disk>(
+    alloc: Global,
+    disk: &mut D,
+    call: &str,
+    answers: &mut Parts,
+) -> Result<()> {
+    let (name, words) = kind_and_rest(call);
     match name {
-        "len" => shown_len(alloc, disk.len()),
-        "read" => read(alloc, disk, words),
-        "write" => write(alloc, disk, words),
-        "sync" => shown(alloc, disk.sync()),
+        "len" => put_len(disk.len(), answers),
+        "read" => read(alloc, disk, words, answers),
+        "write" => write(alloc, disk, words, answers),
+        "sync" => put_done(disk.sync(), answers),
         _ => bail!("no call of a disk"),
     }
 }
 
 /// `read AT COUNT`
-fn read<D: Disk>(alloc: Global, disk: &mut D, words: &str) -> Result<String> {
-    let (at, count) = words.split_once(' ').context("no count")?;
+fn read<D: Disk>(alloc: Global, disk: &mut D, words: &str, answers: &mut Parts) -> Result<()> {
+    let (at, count) = two_parts(words, ' ')?;
     let (at, count) = (at.parse::<u64>()?, count.parse::<u64>()?);
     let mut room = Vec::new(alloc);
     let read = match disk.len() {
@@ -53,31 +56,31 @@ fn read<D: Disk>(alloc: Global, disk: &mut D, words: &str) -> Result<String> {
         Err(DiskFault) => Err(DiskFault),
     };
     match read {
-        Ok(()) => Ok(hex::encode(alloc, room.as_slice())?),
-        Err(DiskFault) => shown(alloc, Err(DiskFault)),
+        Ok(()) => answers.put(hex_text(alloc, room.as_slice())?.as_str()),
+        Err(DiskFault) => answers.put("failed"),
     }
 }
 
 /// `write AT OCTETS`
-fn write<D: Disk>(alloc: Global, disk: &mut D, words: &str) -> Result<String> {
-    let (at, octets) = words.split_once(' ').context("no octets")?;
+fn write<D: Disk>(alloc: Global, disk: &mut D, words: &str, answers: &mut Parts) -> Result<()> {
+    let (at, octets) = two_parts(words, ' ')?;
+    let at = at.parse::<u64>()?;
     let octets = read_octets(alloc, octets)?;
-    shown(alloc, disk.write_at(at.parse::<u64>()?, octets.as_slice()))
+    put_done(disk.write_at(at, octets.as_slice()), answers)
 }
 
-/// A length, as it is shown.
-fn shown_len(alloc: Global, answer: Result<u64, DiskFault>) -> Result<String> {
+/// Puts a length.
+fn put_len(answer: Result<u64, DiskFault>, answers: &mut Parts) -> Result<()> {
     match answer {
-        Ok(len) => Ok(format!(in alloc; "{len}")?),
-        Err(DiskFault) => shown(alloc, Err(DiskFault)),
+        Ok(len) => answers.show(len),
+        Err(DiskFault) => answers.put("failed"),
     }
 }
 
-/// An answer, as it is shown.
-fn shown(alloc: Global, answer: Result<(), DiskFault>) -> Result<String> {
-    let text = match answer {
+/// Puts an answer.
+fn put_done(answer: Result<(), DiskFault>, answers: &mut Parts) -> Result<()> {
+    answers.put(match answer {
         Ok(()) => "ok",
         Err(DiskFault) => "failed",
-    };
-    Ok(String::from_str(alloc, text)?)
+    })
 }

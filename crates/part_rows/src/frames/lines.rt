@@ -1,43 +1,51 @@
 //! Rows of the lines that show recorded KISS text.
 
-use crate::parts::{Parts, answer_text};
-use anyhow::{Context, Result};
+use crate::parts::Parts;
+use anyhow::Result;
 use header_tool::frames::show_frames;
 use px_base::MemoryOut;
-use row_words::{read_numbers, read_octets};
+use row_words::{read_numbers, read_octets, two_parts};
 use std::alloc::Global;
 use std::str;
 
 /// `lines FAILING | OCTETS`
 pub fn show(alloc: Global, row: &str) -> Result<String> {
-    let (failing, octets) = row.split_once('|').context("no octets")?;
+    let (failing, octets) = two_parts(row, '|')?;
     let failing = read_numbers(alloc, failing)?;
-    let octets = read_octets(alloc, octets)?;
     let mut out = MemoryOut::new(alloc, failing.as_slice())?;
-    let answer = answer_text(alloc, show_frames(octets.as_slice(), &mut out))?;
-    let text = str::from_utf8(out.shown())?;
-    let len = text.len();
     let mut parts = Parts::new(alloc);
-    parts.put(answer.as_str())?;
-    parts.put(format!(in alloc; "{len}")?.as_str())?;
-    put_lines(alloc, &mut parts, text)?;
+    let octets = read_octets(alloc, octets)?;
+    parts.show_answer(show_frames(octets.as_slice(), &mut out))?;
+    put_text(&mut parts, out.shown())?;
     Ok(parts.end())
 }
 
+/// Puts how many octets these lines have, and the lines.
+fn put_text(parts: &mut Parts, text: &[u8]) -> Result<()> {
+    let text = str::from_utf8(text)?;
+    parts.show(text.len())?;
+    put_lines(parts, text)
+}
+
 /// Puts a part for each run of alike lines: how many they are, and the line.
-fn put_lines(alloc: Global, parts: &mut Parts, text: &str) -> Result<()> {
+fn put_lines(parts: &mut Parts, text: &str) -> Result<()> {
     let mut count = 0u32;
-    let mut last = String::new(alloc);
+    let mut last = "";
     for line in text.lines() {
-        if count > 0 && line != last.as_str() {
-            parts.put(format!(in alloc; "{count} {last}")?.as_str())?;
+        if line != last {
+            put_run(parts, count, last)?;
             count = 0;
         }
         count = count.saturating_add(1);
-        last = String::from_str(alloc, line)?;
+        last = line;
     }
+    put_run(parts, count, last)
+}
+
+/// Puts a run of so many alike lines, if there is one.
+fn put_run(parts: &mut Parts, count: u32, line: &str) -> Result<()> {
     if count > 0 {
-        parts.put(format!(in alloc; "{count} {last}")?.as_str())?;
+        parts.show(format_args!("{count} {line}"))?;
     }
     Ok(())
 }

@@ -8,7 +8,7 @@ use crate::parts::octets_text;
 use anyhow::Result;
 use arrayvec::ArrayVec;
 use ax25_frames::{Frame, FrameFault, Kind, read_frame, write_frame};
-use row_words::read_octets;
+use row_words::{read_octets, text_of};
 use std::alloc::Global;
 
 /// The addresses of a command from NOCALL to PACSAT, and an octet for its control octet.
@@ -23,9 +23,9 @@ pub fn read(alloc: Global, text: &str) -> Result<String> {
         Ok(frame) => {
             let frame_text = frame_text(alloc, &frame)?;
             let written = written_text(alloc, &frame, octets.as_slice())?;
-            Ok(format!(in alloc; "{frame_text}; {written}")?)
+            text_of(alloc, format_args!("{frame_text}; {written}"))
         }
-        Err(fault) => Ok(format!(in alloc; "{fault}")?),
+        Err(fault) => text_of(alloc, fault),
     }
 }
 
@@ -42,7 +42,7 @@ fn frame_text(alloc: Global, frame: &Frame<'_>) -> Result<String> {
     let kind = kind_text(alloc, kind)?;
     let command = if *command { "command" } else { "response" };
     let poll = u8::from(*poll);
-    Ok(format!(in alloc; "{dest} {src} {via} {command} {poll} {kind}")?)
+    text_of(alloc, format_args!("{dest} {src} {via} {command} {poll} {kind}"))
 }
 
 /// A kind of frame with what it has.
@@ -50,23 +50,23 @@ fn kind_text(alloc: Global, kind: &Kind<'_>) -> Result<String> {
     match kind {
         Kind::I { ns, nr, pid, info } => {
             let info = octets_text(alloc, info)?;
-            Ok(format!(in alloc; "I {ns} {nr} {pid:02x} {info}")?)
+            text_of(alloc, format_args!("I {ns} {nr} {pid:02x} {info}"))
         }
         Kind::Ui { pid, info } => {
             let info = octets_text(alloc, info)?;
-            Ok(format!(in alloc; "UI {pid:02x} {info}")?)
+            text_of(alloc, format_args!("UI {pid:02x} {info}"))
         }
         Kind::Frmr(info) => {
             let info = octets_text(alloc, info.as_slice())?;
-            Ok(format!(in alloc; "FRMR {info}")?)
+            text_of(alloc, format_args!("FRMR {info}"))
         }
-        Kind::Rr { nr } => Ok(format!(in alloc; "RR {nr}")?),
-        Kind::Rnr { nr } => Ok(format!(in alloc; "RNR {nr}")?),
-        Kind::Rej { nr } => Ok(format!(in alloc; "REJ {nr}")?),
-        Kind::Sabm => Ok(String::from_str(alloc, "SABM")?),
-        Kind::Disc => Ok(String::from_str(alloc, "DISC")?),
-        Kind::Dm => Ok(String::from_str(alloc, "DM")?),
-        Kind::Ua => Ok(String::from_str(alloc, "UA")?),
+        Kind::Rr { nr } => text_of(alloc, format_args!("RR {nr}")),
+        Kind::Rnr { nr } => text_of(alloc, format_args!("RNR {nr}")),
+        Kind::Rej { nr } => text_of(alloc, format_args!("REJ {nr}")),
+        Kind::Sabm => text_of(alloc, "SABM"),
+        Kind::Disc => text_of(alloc, "DISC"),
+        Kind::Dm => text_of(alloc, "DM"),
+        Kind::Ua => text_of(alloc, "UA"),
     }
 }
 
@@ -74,11 +74,11 @@ fn kind_text(alloc: Global, kind: &Kind<'_>) -> Result<String> {
 fn written_text(alloc: Global, frame: &Frame<'_>, octets: &[u8]) -> Result<String> {
     let mut out = ArrayVec::new();
     if frame.via != 0 || !fits(&frame.kind) {
-        return Ok(String::from_str(alloc, "none")?);
+        return text_of(alloc, "none");
     }
     write_frame(frame, &mut out);
     if out.as_slice() == octets {
-        return Ok(String::from_str(alloc, "alike")?);
+        return text_of(alloc, "alike");
     }
     octets_text(alloc, out.as_slice())
 }

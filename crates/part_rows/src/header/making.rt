@@ -5,7 +5,7 @@ use crate::parts::octets_text;
 use anyhow::{Result, bail};
 use header_tool::{MakeRefusal, MakeSpec, make, show};
 use px_base::FileBytes;
-use row_words::read_octets;
+use row_words::{read_octets, text_of};
 use std::alloc::Global;
 use std::str;
 
@@ -25,10 +25,15 @@ pub fn make_row(alloc: Global, kind: &str, row: &str) -> Result<String> {
     let [name, ext, file_type, time, source, destination, title, body] = words.as_slice() else {
         bail!("no kind of row");
     };
+    let (file_type, time) = (file_type.parse::<u8>()?, time.parse::<u32>()?);
     let texts = read_texts(alloc, [*name, *ext, *source, *destination, *title])?;
-    let spec = texts.spec(file_type.parse::<u8>()?, time.parse::<u32>()?);
+    made_text(alloc, kind, &texts.spec(file_type, time), body)
+}
+
+/// What a row of this kind prints of the file that is made of this.
+fn made_text(alloc: Global, kind: &str, spec: &MakeSpec<'_>, body: &str) -> Result<String> {
     let body = read_octets(alloc, body)?;
-    match make(alloc, &spec, body.as_slice()) {
+    match make(alloc, spec, body.as_slice()) {
         Ok(file) => file_text(alloc, kind, &file),
         Err(refusal) => refusal_text(alloc, refusal, spec.refusal()),
     }
@@ -73,10 +78,7 @@ impl Texts {
 /// What a row prints of a file that is made.
 fn file_text(alloc: Global, kind: &str, file: &FileBytes) -> Result<String> {
     match kind {
-        "length" => {
-            let len = file.len();
-            Ok(format!(in alloc; "{len}")?)
-        }
+        "length" => text_of(alloc, file.len()),
         "file" => octets_text(alloc, file.as_slice()),
         "made" => shown_text(alloc, &show(alloc, file.as_slice())?),
         _ => bail!("no kind of row"),
@@ -86,7 +88,7 @@ fn file_text(alloc: Global, kind: &str, file: &FileBytes) -> Result<String> {
 /// Why no file is made, and why none is made whatever the body.
 fn refusal_text(alloc: Global, refusal: MakeRefusal, early: Option<MakeRefusal>) -> Result<String> {
     match early {
-        Some(early) => Ok(format!(in alloc; "{refusal}; {early}")?),
-        None => Ok(format!(in alloc; "{refusal}; none")?),
+        Some(early) => text_of(alloc, format_args!("{refusal}; {early}")),
+        None => text_of(alloc, format_args!("{refusal}; none")),
     }
 }

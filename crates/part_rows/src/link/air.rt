@@ -6,8 +6,9 @@ use crate::link::draws::Draws;
 use crate::link::frames;
 use crate::link::row::window;
 use crate::link::side::{Found, Side};
-use anyhow::{Context, Result};
+use anyhow::Result;
 use ax25_link::Link;
+use row_words::{text_of, three_parts};
 use std::alloc::Global;
 
 /// How many steps are drawn.
@@ -31,13 +32,10 @@ struct Air {
 
 /// Plays a row of a seed, a window, and how many later frames more than is lawful there may be.
 pub fn play(alloc: Global, numbers: &str) -> Result<String> {
-    let (seed, rest) = numbers.split_once(' ').context("no window")?;
-    let (k, late) = rest.split_once(' ').context("no later frames")?;
+    let (seed, k, late) = three_parts(numbers, ' ')?;
     let draws = Draws::new(seed.parse::<u64>()?);
     let mut air = Air::new(alloc, draws, window(k)?, late.parse::<usize>()?)?;
-    air.open()?;
-    let step = air.run()?;
-    air.shown(alloc, step)
+    air.play(alloc)
 }
 
 impl Air {
@@ -56,6 +54,13 @@ impl Air {
             k,
             most_later: usize::from(7 - k).saturating_add(late),
         })
+    }
+
+    /// Plays the row.
+    fn play(&mut self, alloc: Global) -> Result<String> {
+        self.open()?;
+        let step = self.run()?;
+        self.shown(alloc, step)
     }
 
     /// SABM and UA are sent, and UA is delivered.
@@ -174,11 +179,11 @@ impl Air {
     /// What the row prints after so many steps.
     fn shown(&self, alloc: Global, step: u32) -> Result<String> {
         if let Some(found) = self.found() {
-            return Ok(format!(in alloc; "step {step}: {found:?}")?);
+            return text_of(alloc, format_args!("step {step}: {found:?}"));
         }
         let caller = shown_side(alloc, &self.caller, &self.called)?;
         let called = shown_side(alloc, &self.called, &self.caller)?;
-        Ok(format!(in alloc; "caller {caller}; called {called}")?)
+        text_of(alloc, format_args!("caller {caller}; called {called}"))
     }
 }
 
@@ -208,5 +213,5 @@ fn shown_side(alloc: Global, side: &Side, other: &Side) -> Result<String> {
     let pieces = side.pieces;
     let late = side.late;
     let repeated = side.repeated;
-    Ok(format!(in alloc; "took {taken} of {pushed} in {pieces}, {late} late, {repeated} repeated")?)
+    text_of(alloc, format_args!("took {taken} of {pushed} in {pieces}, {late} late, {repeated} repeated"))
 }

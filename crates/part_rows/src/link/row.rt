@@ -8,7 +8,9 @@ use crate::link::shown::Shown;
 use anyhow::{Context, Result, bail, ensure};
 use arrayvec::ArrayVec;
 use ax25_link::{Link, LinkState, good_k};
+use row_words::{text_of, two_parts};
 use std::alloc::Global;
+use std::fmt::Display;
 
 /// The link of a row, and what it printed so far.
 #[derive(Drop)]
@@ -25,11 +27,8 @@ pub fn play(alloc: Global, row: &str) -> Result<String> {
     let (made, events) = row.split_once(';').unwrap_or((row, ""));
     let (made, is_held) = held(made);
     let mut player = OneLink::new(alloc, make(alloc, made)?);
-    player.end_event(is_held)?;
-    for event in events.split_terminator(';') {
-        player.play_event(event.trim())?;
-    }
-    player.end()
+    player.play(events, is_held)?;
+    text_of(alloc, player.shown.text())
 }
 
 /// An event without its `+`, and whether it has one.
@@ -51,7 +50,7 @@ fn make(alloc: Global, made: &str) -> Result<Link> {
         return Ok(Link::idle(alloc, called()?, k)?);
     }
     let numbers = made.strip_prefix("answer ").context("no link is made")?;
-    let (k, poll) = numbers.split_once(' ').context("no P bit")?;
+    let (k, poll) = two_parts(numbers, ' ')?;
     let k = window(k)?;
     Ok(Link::answer(alloc, called()?, caller()?, k, poll == "1")?)
 }
@@ -76,6 +75,15 @@ impl OneLink {
         }
     }
 
+    /// Plays all events after the first one, which made the link, and ends the row.
+    fn play(&mut self, events: &str, is_held: bool) -> Result<()> {
+        self.end_event(is_held)?;
+        for event in events.split_terminator(';') {
+            self.play_event(event.trim())?;
+        }
+        self.end()
+    }
+
     /// Plays an event.
     fn play_event(&mut self, event: &str) -> Result<()> {
         let (event, is_held) = held(event);
@@ -87,7 +95,7 @@ impl OneLink {
             self.accept(poll == "1")?;
         } else if event == "one" {
             self.hand_out_one()?;
-            return Ok(self.shown.end_part()?);
+            return self.shown.end_part();
         } else {
             self.play_bare(event)?;
         }
@@ -112,7 +120,7 @@ impl OneLink {
     fn play_frame(&mut self, text: &str) -> Result<()> {
         let octets = octets_of(self.alloc, text)?;
         let heard = take(&mut self.link, octets.as_slice())?;
-        self.put(format!(in self.alloc; "{heard:?}")?)
+        self.put(format_args!("{heard:?}"))
     }
 
     /// Answers a SABM of the peer with this P bit.
@@ -132,7 +140,7 @@ impl OneLink {
         let octets = stream(self.alloc, self.pushed, count)?;
         let pushed = self.link.push(octets.as_slice());
         self.pushed = self.pushed.saturating_add(pushed);
-        self.put(format!(in self.alloc; "{pushed}")?)
+        self.put(pushed)
     }
 
     /// Lets so many ticks come. What is pending after the last one stays where the event is held.
@@ -148,10 +156,10 @@ impl OneLink {
         ensure!(!self.link.pending(), "a tick while frames are pending");
         let told = self.link.tick();
         if told.is_some() || (self.link.pending() && !is_held) {
-            self.put(format!(in self.alloc; "@{number}")?)?;
+            self.put(format_args!("@{number}"))?;
         }
         if let Some(why) = told {
-            self.put(format!(in self.alloc; "{why:?}")?)?;
+            self.put(format_args!("{why:?}"))?;
         }
         if is_held { Ok(()) } else { self.hand_out() }
     }
@@ -161,7 +169,7 @@ impl OneLink {
         if !is_held {
             self.hand_out()?;
         }
-        Ok(self.shown.end_part()?)
+        self.shown.end_part()
     }
 
     /// Hands out all pending frames.
@@ -181,32 +189,27 @@ impl OneLink {
         let is_given = self.link.next_out(&mut out);
         ensure!(is_given == is_pending, "pending says {is_pending}");
         if is_given {
-            self.put(shown(self.alloc, out.as_slice())?)?;
+            let frame = shown(self.alloc, out.as_slice())?;
+            self.shown.put(frame.as_str())?;
         }
         Ok(is_given)
     }
 
     /// Puts a word.
-    fn put(&mut self, word: String) -> Result<()> {
-        Ok(self.shown.put(word.as_str())?)
+    fn put<T: Display + Drop>(&mut self, word: T) -> Result<()> {
+        let word = text_of(self.alloc, word)?;
+        self.shown.put(word.as_str())
     }
 
     /// Ends the row by the state.
-    fn end(self) -> Result<String> {
-        let OneLink {
-            alloc,
-            link,
-            pushed: _,
-            shown,
-        } = self;
-        let state = link.state();
-        let words = if state == LinkState::Up {
-            let free = link.free();
-            format!(in alloc; "Up {free}")?
+    fn end(&mut self) -> Result<()> {
+        let state = self.link.state();
+        if state == LinkState::Up {
+            let free = self.link.free();
+            self.put(format_args!("Up {free}"))
         } else {
-            format!(in alloc; "{state:?}")?
-        };
-        Ok(shown.end(words.as_str())?)
+            self.put(format_args!("{state:?}"))
+        }
     }
 }
 

@@ -1,6 +1,7 @@
 //! What a row prints: a part for each of its events, which has words.
 
-use std::alloc::{AllocError, Global};
+use anyhow::Result;
+use std::alloc::Global;
 
 /// The parts so far, each ended by `; `.
 #[derive(Drop)]
@@ -20,29 +21,25 @@ impl Shown {
     }
 
     /// Puts a word into the part under way.
-    pub fn put(&mut self, word: &str) -> Result<(), AllocError> {
+    pub fn put(&mut self, word: &str) -> Result<()> {
         if !self.is_empty {
             self.text.push_str(" ")?;
         }
         self.is_empty = false;
-        self.text.push_str(word)
+        self.text.push_str(word)?;
+        Ok(())
     }
 
     /// Ends the part under way; `-` stands for no words.
-    pub fn end_part(&mut self) -> Result<(), AllocError> {
+    pub fn end_part(&mut self) -> Result<()> {
         self.text
             .push_str(if self.is_empty { "-; " } else { "; " })?;
         self.is_empty = true;
         Ok(())
     }
 
-    /// Ends the row by these last words.
-    pub fn end(self, words: &str) -> Result<String, AllocError> {
-        let Shown {
-            mut text,
-            is_empty: _,
-        } = self;
-        text.push_str(words)?;
-        Ok(text)
+    /// The parts so far, and the words of the one under way.
+    pub fn text(&self) -> &str {
+        self.text.as_str()
     }
 }

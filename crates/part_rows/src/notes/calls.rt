@@ -3,11 +3,12 @@
 ghost use Rattle.client_notes.specs.State.{StandsOn};
 
 use crate::notes::task::unfinished;
+use crate::parts::Parts;
 use anyhow::{Context, Result, bail, ensure};
 use client_notes::{LONGEST_FILE, LONGEST_NAME, MOST_GOT, Notes};
 use disk_model::Disk;
 use px_base::Call;
-use row_words::read_octets;
+use row_words::{hex_text, read_octets, text_of};
 use std::alloc::Global;
 use std::fmt::Debug;
 
@@ -24,13 +25,13 @@ pub fn play_calls<D: Disk>(alloc: Global, disk: &mut D, calls: &str) -> Result<S
 fn play_on<D: Disk>(alloc: Global, disk: &mut D, notes: &mut Notes, calls: &str) -> Result<String>
     requires { StandsOn D.Disk notes.old disk.old }
 {
-    let mut text = String::from_str(alloc, "notes")?;
+    let mut parts = Parts::new(alloc);
+    parts.put("notes")?;
     for call in calls.trim().split_terminator(';') {
         let answer = make_call(alloc, disk, notes, call)?;
-        text.push_str("; ")?;
-        text.push_str(answer.as_str())?;
+        parts.put(answer.as_str())?;
     }
-    Ok(text)
+    Ok(parts.end())
 }
 
 /// Makes a call, and shows what it answers.
@@ -56,7 +57,7 @@ fn make_call<D: Disk>(alloc: Global, disk: &mut D, notes: &mut Notes, call: &str
 
 /// An answer, as it is shown.
 fn shown<T: Debug>(alloc: Global, answer: &T) -> Result<String> {
-    Ok(format!(in alloc; "{answer:?}")?)
+    text_of(alloc, format_args!("{answer:?}"))
 }
 
 /// `start SERVER CALLER NAME LENGTH DIGEST`
@@ -149,7 +150,7 @@ fn got<D: Disk>(alloc: Global, disk: &mut D, notes: &mut Notes, words: &[&str]) 
     let [server, number, octets] = words else {
         bail!("no octets");
     };
-    let (server, number) = (Call::read(server)?, number.parse::<u32>()?);
+    let (server, number) = read_file(server, number)?;
     let octets = read_octets(alloc, octets)?;
     let held = notes.got_len(server, number) as usize;
     ensure!(
@@ -163,6 +164,11 @@ fn got<D: Disk>(alloc: Global, disk: &mut D, notes: &mut Notes, words: &[&str]) 
     shown(alloc, &notes.got(disk, server, number, octets.as_slice()))
 }
 
+/// A file: its server and its number there.
+fn read_file(server: &str, number: &str) -> Result<(Call, u32)> {
+    Ok((Call::read(server)?, number.parse::<u32>()?))
+}
+
 /// `forgot SERVER NUMBER`
 fn forgot<D: Disk>(alloc: Global, disk: &mut D, notes: &mut Notes, words: &[&str]) -> Result<String>
     requires { StandsOn D.Disk notes.old disk.old }
@@ -171,10 +177,8 @@ fn forgot<D: Disk>(alloc: Global, disk: &mut D, notes: &mut Notes, words: &[&str
     let [server, number] = words else {
         bail!("no file");
     };
-    shown(
-        alloc,
-        &notes.forgot(disk, Call::read(server)?, number.parse::<u32>()?),
-    )
+    let (server, number) = read_file(server, number)?;
+    shown(alloc, &notes.forgot(disk, server, number))
 }
 
 /// `noted SERVER CALLER NAME`
@@ -182,10 +186,8 @@ fn noted(alloc: Global, notes: &Notes, words: &[&str]) -> Result<String> {
     let [server, caller, name] = words else {
         bail!("no task");
     };
-    shown(
-        alloc,
-        &notes.noted(Call::read(server)?, Call::read(caller)?, name),
-    )
+    let (server, caller) = (Call::read(server)?, Call::read(caller)?);
+    shown(alloc, &notes.noted(server, caller, name))
 }
 
 /// `got_len SERVER NUMBER`
@@ -193,10 +195,8 @@ fn got_len(alloc: Global, notes: &Notes, words: &[&str]) -> Result<String> {
     let [server, number] = words else {
         bail!("no file");
     };
-    shown(
-        alloc,
-        &notes.got_len(Call::read(server)?, number.parse::<u32>()?),
-    )
+    let (server, number) = read_file(server, number)?;
+    shown(alloc, &notes.got_len(server, number))
 }
 
 /// `read_got SERVER NUMBER AT COUNT`: the octets in hexadecimal.
@@ -204,12 +204,12 @@ fn read_got(alloc: Global, notes: &Notes, words: &[&str]) -> Result<String> {
     let [server, number, at, count] = words else {
         bail!("no octets of a file");
     };
-    let (server, number) = (Call::read(server)?, number.parse::<u32>()?);
+    let (server, number) = read_file(server, number)?;
     let (at, count) = (at.parse::<u32>()?, count.parse::<u32>()?);
     let held = notes.got_len(server, number);
     ensure!(at <= held && count <= held - at, "octets that aren't got");
     let mut room = Vec::new(alloc);
     room.resize(count as usize, 0)?;
     notes.read_got(server, number, at, room.as_mut_slice());
-    Ok(hex::encode(alloc, room.as_slice())?)
+    hex_text(alloc, room.as_slice())
 }

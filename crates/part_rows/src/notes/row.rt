@@ -2,14 +2,14 @@
 
 use crate::notes::calls::play_calls;
 use crate::notes::stop;
-use anyhow::{Context, Result, bail};
+use anyhow::{Result, bail};
 use disk_model::{FuseDisk, MemoryDisk};
-use row_words::read_octets;
+use row_words::{hex_text, read_octets, text_of, three_parts, two_parts};
 use std::alloc::Global;
 
 /// Plays a row, and gives what is printed for it. Takes memory.
 pub fn play(alloc: Global, row: &str) -> Result<String> {
-    let (kind, rest) = row.split_once(' ').context("no disk")?;
+    let (kind, rest) = two_parts(row, ' ')?;
     match kind {
         "play" => play_whole(alloc, rest),
         "show" => play_and_show(alloc, rest),
@@ -21,29 +21,25 @@ pub fn play(alloc: Global, row: &str) -> Result<String> {
 
 /// Makes calls on the notes of a disk.
 fn play_whole(alloc: Global, row: &str) -> Result<String> {
-    let (octets, calls) = row.split_once('|').context("no calls")?;
+    let (octets, calls) = two_parts(row, '|')?;
     play_calls(alloc, &mut disk_of(alloc, octets)?, calls)
 }
 
 /// Makes calls on the notes of a disk, and shows the disk's octets behind their answers.
 fn play_and_show(alloc: Global, row: &str) -> Result<String> {
-    let (octets, calls) = row.split_once('|').context("no calls")?;
+    let (octets, calls) = two_parts(row, '|')?;
     let mut disk = disk_of(alloc, octets)?;
     let answers = play_calls(alloc, &mut disk, calls)?;
-    let octets = hex::encode(alloc, disk.bytes())?;
-    Ok(format!(in alloc; "{answers} | {octets}")?)
+    let octets = hex_text(alloc, disk.bytes())?;
+    text_of(alloc, format_args!("{answers} | {octets}"))
 }
 
 /// Makes calls on the notes of a disk of which so many calls pass.
 fn play_failing(alloc: Global, row: &str) -> Result<String> {
-    let (count, rest) = row.split_once('|').context("no count")?;
-    let (octets, calls) = rest.split_once('|').context("no calls")?;
+    let (count, octets, calls) = three_parts(row, '|')?;
     let count = count.trim().parse::<u64>()?;
-    play_calls(
-        alloc,
-        &mut FuseDisk::new(disk_of(alloc, octets)?, count),
-        calls,
-    )
+    let disk = disk_of(alloc, octets)?;
+    play_calls(alloc, &mut FuseDisk::new(disk, count), calls)
 }
 
 /// A disk with the octets that a row writes.

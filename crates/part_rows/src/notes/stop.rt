@@ -1,9 +1,9 @@
 //! A row of a disk that stops, and of what is recovered from it.
 
 use crate::notes::calls::play_calls;
-use anyhow::{Context, Result};
+use anyhow::Result;
 use disk_model::{FuseDisk, MemoryDisk};
-use row_words::read_octets;
+use row_words::{four_parts, push_shown, read_octets, text_of, two_parts};
 use std::alloc::Global;
 
 /// What is done on a disk that stops, and what is then asked.
@@ -21,10 +21,8 @@ struct Stop<'a> {
 
 /// Plays the row, and gives what is printed for it. Takes memory.
 pub fn play(alloc: Global, row: &str) -> Result<String> {
-    let (count, rest) = row.split_once('|').context("no count")?;
-    let (octets, rest) = rest.split_once('|').context("no octets")?;
-    let (calls, rest) = rest.split_once('|').context("no calls")?;
-    let (picks, questions) = rest.split_once('|').context("no picks")?;
+    let (count, octets, calls, rest) = four_parts(row, '|')?;
+    let (picks, questions) = two_parts(rest, '|')?;
     let octets = read_octets(alloc, octets)?;
     let stop = Stop {
         count: count.trim().parse::<u64>()?,
@@ -39,15 +37,30 @@ impl Stop<'_> {
     /// What is printed for it.
     fn text(&self, alloc: Global, picks: &str) -> Result<String> {
         let (answers, _disk) = self.stopped(alloc)?;
-        let before = self.asked(alloc, self.disk(alloc)?)?;
-        let after = self.asked(alloc, self.done(alloc)?)?;
-        let mut text = format!(in alloc; "{answers} | {before} | {after}")?;
+        let before = self.asked_before(alloc)?;
+        let after = self.asked_after(alloc)?;
+        let mut text = text_of(alloc, format_args!("{answers} | {before} | {after}"))?;
         for pick in picks.split_whitespace() {
-            let found = self.asked(alloc, self.left(alloc, pick)?)?;
+            let found = self.asked_left(alloc, pick)?;
             let which = which(found.as_str(), before.as_str(), after.as_str());
-            push_found(&mut text, pick, which)?;
+            push_shown(alloc, &mut text, format_args!(" | {pick} {which}"))?;
         }
         Ok(text)
+    }
+
+    /// What is answered on the notes before the calls.
+    fn asked_before(&self, alloc: Global) -> Result<String> {
+        self.asked(alloc, self.disk(alloc)?)
+    }
+
+    /// What is answered on those after them where the disk doesn't stop.
+    fn asked_after(&self, alloc: Global) -> Result<String> {
+        self.asked(alloc, self.done(alloc)?)
+    }
+
+    /// What is answered on the notes that are recovered from what is left at a pick.
+    fn asked_left(&self, alloc: Global, pick: &str) -> Result<String> {
+        self.asked(alloc, self.left(alloc, pick)?)
     }
 
     /// What is answered by the notes that are recovered from a disk.
@@ -93,12 +106,4 @@ fn which<'a>(found: &'a str, before: &str, after: &str) -> &'a str {
     } else {
         found
     }
-}
-
-/// Puts what was found at a pick behind the text.
-fn push_found(text: &mut String, pick: &str, which: &str) -> Result<()> {
-    for part in [" | ", pick, " ", which] {
-        text.push_str(part)?;
-    }
-    Ok(())
 }

@@ -4,7 +4,7 @@ ghost use Rattle.std.specs.Prelude.{◌<◌, ◌≤◌, length, IsTrue};
 ghost use Rattle.ftl0_packets.specs.Layout.{packet_text as text_of_packet};
 ghost use Rattle.ftl0_packets.specs.Values.{value_of};
 
-use crate::parts::{Parts, octets_text};
+use crate::parts::{Parts, octets_text, same_text};
 use anyhow::{Result, ensure};
 use arrayvec::ArrayVec;
 use ftl0_packets::{Malformed, Packet, PacketFed, PacketReader, write_packet};
@@ -14,7 +14,7 @@ use std::alloc::Global;
 pub fn read(alloc: Global, octets: &[u8]) -> Result<String> {
     let text = read_in_pieces(alloc, octets, 2049)?;
     let found = read_in_pieces(alloc, octets, 1)?;
-    ensure!(found.as_str() == text.as_str(), "octet by octet: {found}");
+    same_text(found.as_str(), text.as_str(), "octet by octet")?;
     Ok(text)
 }
 
@@ -22,64 +22,71 @@ pub fn read(alloc: Global, octets: &[u8]) -> Result<String> {
 fn read_in_pieces(alloc: Global, octets: &[u8], len: usize) -> Result<String>
     requires { 0 < len }
 {
-    let mut reader = PacketReader::new();
     let mut parts = Parts::new(alloc);
+    put_all(alloc, octets, len, &mut parts)?;
+    Ok(parts.end())
+}
+
+/// Puts each packet that is read in pieces of a length, and `more` where the last piece ends none.
+fn put_all(alloc: Global, octets: &[u8], len: usize, parts: &mut Parts) -> Result<()>
+    requires { 0 < len }
+{
+    let mut reader = PacketReader::new();
     let mut last = PacketFed::More;
     for piece in octets.chunks(len) {
         let (taken, fed) = reader.feed(piece);
         ensure!(taken == piece.len(), "octets are left");
         last = fed;
         if fed == PacketFed::Whole {
-            let text = read_text(alloc, reader.packet(), octets)?;
-            parts.put(text.as_str())?;
+            put_read(alloc, reader.packet(), octets, parts)?;
         }
     }
     if last == PacketFed::More {
         parts.put("more")?;
     }
-    Ok(parts.end())
+    Ok(())
 }
 
-/// What was read, and whether what is written of it is alike.
-fn read_text(
+/// Puts what was read, and whether what is written of it is alike.
+fn put_read(
     alloc: Global,
     packet: Result<Packet<'_>, Malformed>,
     octets: &[u8],
-) -> Result<String> {
+    parts: &mut Parts,
+) -> Result<()> {
     match packet {
         Ok(packet) => {
-            let text = packet_text(alloc, &packet)?;
-            let written = written_text(alloc, &packet, octets)?;
-            Ok(format!(in alloc; "{text}; {written}")?)
+            put_packet(alloc, &packet, parts)?;
+            put_written(&packet, octets, parts)
         }
-        Err(malformed) => Ok(format!(in alloc; "{malformed}")?),
+        Err(malformed) => parts.show(malformed),
     }
 }
 
-/// A packet, with its octets in hexadecimal.
-pub fn packet_text(alloc: Global, packet: &Packet<'_>) -> Result<String> {
+/// Puts a packet, with its octets in hexadecimal.
+pub fn put_packet(alloc: Global, packet: &Packet<'_>, parts: &mut Parts) -> Result<()> {
     match packet {
-        Packet::DataPart(octets) => {
-            let octets = octets_text(alloc, octets)?;
-            Ok(format!(in alloc; "DataPart {octets}")?)
-        }
-        Packet::SelectCmd(octets) => {
-            let octets = octets_text(alloc, octets)?;
-            Ok(format!(in alloc; "SelectCmd {octets}")?)
-        }
-        other => Ok(format!(in alloc; "{other:?}")?),
+        Packet::DataPart(octets) => put_named(alloc, "DataPart", octets, parts),
+        Packet::SelectCmd(octets) => put_named(alloc, "SelectCmd", octets, parts),
+        other => parts.show(format_args!("{other:?}")),
     }
 }
 
-/// The octets written of a packet that was read of these.
-fn written_text(alloc: Global, packet: &Packet<'_>, octets: &[u8]) -> Result<String> {
+/// Puts octets behind a name.
+fn put_named(alloc: Global, name: &str, octets: &[u8], parts: &mut Parts) -> Result<()> {
+    let octets = octets_text(alloc, octets)?;
+    parts.show(format_args!("{name} {octets}"))
+}
+
+/// Puts the octets written of a packet that was read of these.
+fn put_written(packet: &Packet<'_>, octets: &[u8], parts: &mut Parts) -> Result<()> {
     let mut out: ArrayVec<u8, 2049> = ArrayVec::new();
     ensure!(fits(packet), "too many octets");
     write_packet(packet, &mut out);
     if out.as_slice() == octets {
-        return Ok(String::from_str(alloc, "alike")?);
+        return parts.put("alike");
     }
-    octets_text(alloc, out.as_slice())
+    parts.show_octets(out.as_slice())
 }
 
 /// Whether a packet has at most 2,047 octets of information.

@@ -1,11 +1,12 @@
 //! Rows of a stream of packets.
 
-use crate::packets::reading::packet_text;
-use crate::parts::{Parts, octets_text};
+use crate::packets::reading::put_packet;
+use crate::parts::{Parts, octets_text, same_text};
 use anyhow::{Result, ensure};
 use arrayvec::ArrayVec;
 use ftl0_packets::{Malformed, Packet, PacketSink, feed_pieces, packets};
 use px_base::FileBytes;
+use row_words::text_of;
 use std::alloc::Global;
 
 /// The types of the packets that were taken, 16 at most.
@@ -30,18 +31,23 @@ impl PacketSink for Types {
 
 /// `stream OCTETS`
 pub fn stream(alloc: Global, octets: &[u8]) -> Result<String> {
-    let (found, rest) = packets(alloc, octets)?;
     let mut parts = Parts::new(alloc);
-    for packet in found.iter() {
-        let text = match packet {
-            Ok(packet) => packet_text(alloc, packet)?,
-            Err(malformed) => format!(in alloc; "{malformed}")?,
-        };
-        parts.put(text.as_str())?;
-    }
-    parts.put(octets_text(alloc, rest)?.as_str())?;
-    parts.put(cut_anywhere(alloc, octets)?.as_str())?;
+    put_packets(alloc, octets, &mut parts)?;
+    let types = cut_anywhere(alloc, octets)?;
+    parts.put(types.as_str())?;
     Ok(parts.end())
+}
+
+/// Puts the packets, and the octets that are left.
+fn put_packets(alloc: Global, octets: &[u8], parts: &mut Parts) -> Result<()> {
+    let (found, rest) = packets(alloc, octets)?;
+    for packet in found.iter() {
+        match packet {
+            Ok(packet) => put_packet(alloc, packet, parts)?,
+            Err(malformed) => parts.show(malformed)?,
+        }
+    }
+    parts.show_octets(rest)
 }
 
 /// The types of the packets, and what octets 00 then end, wherever the octets are cut in two.
@@ -49,7 +55,7 @@ fn cut_anywhere(alloc: Global, octets: &[u8]) -> Result<String> {
     let text = cut_at(alloc, octets, 0)?;
     for at in 0..octets.len() {
         let found = cut_at(alloc, octets, at)?;
-        ensure!(found.as_str() == text.as_str(), "cut at {at}: {found}");
+        same_text(found.as_str(), text.as_str(), format_args!("cut at {at}"))?;
     }
     Ok(text)
 }
@@ -58,15 +64,18 @@ fn cut_anywhere(alloc: Global, octets: &[u8]) -> Result<String> {
 fn cut_at(alloc: Global, octets: &[u8], at: usize) -> Result<String> {
     ensure!(at <= octets.len(), "no place");
     let (front, back) = octets.split_at(at);
-    let pieces = [
-        FileBytes::copy_of(alloc, front)?,
-        FileBytes::copy_of(alloc, back)?,
-    ];
+    let front = FileBytes::copy_of(alloc, front)?;
+    let pieces = [front, FileBytes::copy_of(alloc, back)?];
+    types_text(alloc, pieces.as_slice())
+}
+
+/// The types of the packets in these pieces, and what octets 00 then end.
+fn types_text(alloc: Global, pieces: &[FileBytes]) -> Result<String> {
     let mut sink = Types {
         types: ArrayVec::new(),
     };
-    let mut reader = feed_pieces(pieces.as_slice(), &mut sink);
+    let mut reader = feed_pieces(pieces, &mut sink);
     let (taken, fed) = reader.feed(&[0, 0, 0, 0, 0]);
     let types = octets_text(alloc, sink.types.as_slice())?;
-    Ok(format!(in alloc; "{types}; {taken} {fed:?}")?)
+    text_of(alloc, format_args!("{types}; {taken} {fed:?}"))
 }

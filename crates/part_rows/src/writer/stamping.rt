@@ -4,13 +4,13 @@ ghost use Rattle.std.specs.Prelude.{◌<◌, IfOk};
 ghost use Rattle.pfh_reader.specs.Check.{HasSums};
 ghost use Rattle.pfh_writer.specs.Given.{IsFaultlessFile, IsStampedSum};
 
-use crate::parts::octets_text;
+use crate::parts::{octets_text, same_text};
 use crate::pieces::{cut, cut_octets};
-use anyhow::{Context, Result, bail, ensure};
+use anyhow::{Result, bail, ensure};
 use pfh_reader::{HeaderFault, Sums, check_pieces};
 use pfh_writer::{stamp, stamp_pieces, stamped_sum};
 use px_base::Call;
-use row_words::read_octets;
+use row_words::{read_octets, text_of, two_parts};
 use std::alloc::Global;
 
 /// More octets than a file may have.
@@ -26,12 +26,12 @@ struct With {
 
 /// `stamp NUMBER CALL MOMENT | FILE`
 pub fn stamp_row(alloc: Global, row: &str) -> Result<String> {
-    let (with, file) = row.split_once('|').context("no file")?;
+    let (with, file) = two_parts(row, '|')?;
     let with = read_with(alloc, with)?;
     let mut file = read_octets(alloc, file)?;
     match sums_of(alloc, file.as_slice())? {
         Ok(sums) => stamped_text(alloc, file.as_mut_slice(), &sums, &with),
-        Err(fault) => Ok(format!(in alloc; "{fault}")?),
+        Err(fault) => text_of(alloc, fault),
     }
 }
 
@@ -63,7 +63,7 @@ fn stamped_text(alloc: Global, file: &mut [u8], sums: &Sums, with: &With) -> Res
     let pieces = stamped_in_pieces(alloc, file, sums, with)?;
     stamp(file, with.number, with.by, with.moment);
     let whole = octets_text(alloc, file)?;
-    ensure!(whole.as_str() == pieces.as_str(), "in pieces: {pieces}");
+    same_text(pieces.as_str(), whole.as_str(), "in pieces")?;
     Ok(whole)
 }
 
@@ -75,10 +75,7 @@ fn stamped_in_pieces(alloc: Global, file: &[u8], sums: &Sums, with: &With) -> Re
     let first = stamped_cut(alloc, file, 1, with, sum)?;
     for len in 2..132 {
         let other = stamped_cut(alloc, file, len, with, sum)?;
-        ensure!(
-            other.as_str() == first.as_str(),
-            "in pieces of {len}: {other}"
-        );
+        same_text(other.as_str(), first.as_str(), format_args!("in pieces of {len}"))?;
     }
     Ok(first)
 }

@@ -68,16 +68,16 @@ impl<D: Disk + Drop> ClientSide<D> {
     {
         ensure!(self.client.outcome() != Outcome::Working, "under way");
         ensure!(file.len() <= LONGEST_FILE as usize, "the file is too long");
-        let octets = FileBytes::copy_of(alloc, file)?;
         let digest = Sha256::digest(file);
         let begun = self
             .client
-            .start_task(&mut self.disk, NAME, octets.len() as u32, digest)?;
+            .start_task(&mut self.disk, NAME, file.len() as u32, digest)?;
         let (task, number) = match begun {
             Begun::Fresh { task } => (task, 0),
             Begun::Going { task, number } => (task, number),
             Begun::Already { .. } => return Ok(begun),
         };
+        let octets = FileBytes::copy_of(alloc, file)?;
         self.client.ask(alloc, Job::upload(task, number, octets))?;
         self.say(said)?;
         Ok(begun)

@@ -12,6 +12,7 @@ use anyhow::{Context, Result, bail, ensure};
 use disk_model::Disk;
 use file_store::{FileStore, Info};
 use px_base::le32;
+use row_words::text_of;
 use std::alloc::Global;
 
 /// How many octets a short header has, and where its file_number and its file_size stand (PFH 1990).
@@ -30,16 +31,25 @@ pub fn compare<D: Disk>(alloc: Global, disk: &mut D, file: &[u8], got: &Got) -> 
     let mut store = FileStore::recover(alloc, disk, LIMITS)?;
     let listed = compare_list(&store, got.listing.as_slice())?;
     let octets = stored(alloc, &mut store, disk, got.number)?;
+    compare_octets(octets.as_slice(), file, got)?;
+    let (number, fetched) = (got.number, octets.len());
+    text_of(
+        alloc,
+        format_args!("acked {number} listed {listed} fetched {fetched}"),
+    )
+}
+
+/// Compares the octets of the store's file with those that the client got, and the body with the one that was sent.
+fn compare_octets(octets: &[u8], file: &[u8], got: &Got) -> Result<()> {
     ensure!(
-        octets.as_slice() == got.octets.as_slice(),
+        octets == got.octets.as_slice(),
         "the file differs from the store's"
     );
     ensure!(
-        body_of(octets.as_slice()) == body_of(file),
+        body_of(octets) == body_of(file),
         "the body differs from the one sent"
     );
-    let (number, fetched) = (got.number, octets.len());
-    Ok(format!(in alloc; "acked {number} listed {listed} fetched {fetched}")?)
+    Ok(())
 }
 
 /// Compares number and size of each file of the list with the complete files of the store, and says how many there are.

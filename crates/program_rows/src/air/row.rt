@@ -6,14 +6,15 @@ ghost use Rattle.program_rows.specs.Ready.{AreReady};
 
 use crate::air::client_side::ClientSide;
 use crate::air::compare::compare;
-use crate::air::exchange::Stations;
+use crate::air::exchange::{Got, Stations};
 use crate::air::lanes::{Air, Lane};
 use crate::air::server_side::ServerSide;
-use anyhow::{Context, Result, ensure};
+use anyhow::{Result, ensure};
 use ax25_link::good_k;
 use disk_model::{Disk, MemoryDisk};
 use pfh_writer::HeaderBuilder;
 use px_base::FileBytes;
+use row_words::{four_parts, text_of};
 use std::alloc::Global;
 
 /// A row as it is written.
@@ -29,9 +30,7 @@ pub struct Row {
 impl Row {
     /// Reads a row.
     pub fn read(text: &str) -> Result<Row> {
-        let (seed, rest) = text.split_once(' ').context("no window")?;
-        let (k, rest) = rest.split_once(' ').context("no body")?;
-        let (body, breaks) = rest.split_once(' ').context("no breaks")?;
+        let (seed, k, body, breaks) = four_parts(text, ' ')?;
         let k = k.parse::<u8>()?;
         ensure!(good_k(k), "a window of {k}");
         Ok(Row {
@@ -49,16 +48,28 @@ impl Row {
             Some(disk) => disk,
             None => MemoryDisk::new(alloc, &[], &[])?,
         };
-        let mut stations = self.stations(alloc, MemoryDisk::new(alloc, &[], &[])?, disk)?;
-        let got = stations.run(alloc, file.as_slice(), self.breaks);
+        let (got, air, disk) = self.exchange(alloc, disk, file.as_slice())?;
+        let disk = kept.insert(disk);
+        let came = compare(alloc, disk, file.as_slice(), &got?)?;
+        self.shown(alloc, came.as_str(), &air)
+    }
+
+    /// What the client gets, what was on the air, and the server's disk then.
+    fn exchange(
+        &self,
+        alloc: Global,
+        disk: MemoryDisk,
+        file: &[u8],
+    ) -> Result<(Result<Got>, Air, MemoryDisk)> {
+        let notes = MemoryDisk::new(alloc, &[], &[])?;
+        let mut stations = self.stations(alloc, notes, disk)?;
+        let got = stations.run(alloc, file, self.breaks);
         let Stations {
             client: _,
             server,
             air,
         } = stations;
-        let disk = kept.insert(server.close());
-        let came = compare(alloc, disk, file.as_slice(), &got?)?;
-        self.shown(alloc, came.as_str(), &air)
+        Ok((got, air, server.close()))
     }
 
     /// The stations with these disks, between which no frame was sent.
@@ -98,17 +109,25 @@ impl Row {
     /// What is printed where this came of the row.
     fn shown(&self, alloc: Global, came: &str, air: &Air) -> Result<String> {
         let (seed, k, body, breaks) = (self.seed, self.k, self.body, self.breaks);
-        let row = format!(in alloc; "seed {seed} k {k} body {body} breaks {breaks}: {came}")?;
-        let up = shown_lane(alloc, &air.up)?;
-        let down = shown_lane(alloc, &air.down)?;
-        let ticks = air.ticks;
-        Ok(format!(in alloc; "{row}, up {up}, down {down}, ticks {ticks}")?)
+        let air = shown_air(alloc, air)?;
+        text_of(
+            alloc,
+            format_args!("seed {seed} k {k} body {body} breaks {breaks}: {came}, {air}"),
+        )
     }
+}
+
+/// What is printed of the air.
+fn shown_air(alloc: Global, air: &Air) -> Result<String> {
+    let up = shown_lane(alloc, &air.up)?;
+    let down = shown_lane(alloc, &air.down)?;
+    let ticks = air.ticks;
+    text_of(alloc, format_args!("up {up}, down {down}, ticks {ticks}"))
 }
 
 /// What is printed of a lane.
 fn shown_lane(alloc: Global, lane: &Lane) -> Result<String> {
     let (frames, lost) = (lane.frames, lane.lost);
     let (twice, displaced) = (lane.twice, lane.displaced);
-    Ok(format!(in alloc; "{frames} lost {lost} twice {twice} displaced {displaced}")?)
+    text_of(alloc, format_args!("{frames} lost {lost} twice {twice} displaced {displaced}"))
 }

@@ -15,7 +15,7 @@ use px_base::Call;
 use std::alloc::Global;
 
 /// What the store may take.
-pub const LIMITS: Limits = Limits { blocks: 65_536 };
+pub const LIMITS: Limits = Limits { blocks: 1_024 };
 
 /// The server of a row. It must be closed.
 pub struct ServerSide<D> {

@@ -8,7 +8,9 @@ use disk_model::MemoryDisk;
 use pacsat_cli::Words;
 use pfh_items::sum16;
 use px_base::FileBytes;
-use row_words::{Player, disk_after, octets_before, read_octets, read_words, written};
+use row_words::{
+    Player, disk_after, octets_before, read_octets, read_words, text_of, written,
+};
 use std::alloc::Global;
 
 /// The parts of a row.
@@ -70,10 +72,7 @@ impl Player for ClientRows {
         let about = About::read(&words)?;
         let mut run = self.open(alloc, &row, &words, &about)?;
         let number = self.carry_out(alloc, &row, &mut run, &about)?;
-        let told = told_text(alloc, &run, &self.kept)?;
-        let left = self.left_text(alloc, &words, &about)?;
-        let said = run.said_text(alloc)?;
-        Ok(format!(in alloc; "{number};{told};{left};{said}")?)
+        self.told_text(alloc, number, &run, &words, &about)
     }
 }
 
@@ -122,13 +121,28 @@ impl ClientRows {
         Ok(number)
     }
 
+    /// What is printed behind a run of these words that ended with this status.
+    fn told_text(
+        &self,
+        alloc: Global,
+        number: u8,
+        run: &Run<'_>,
+        words: &Words,
+        about: &About<'_>,
+    ) -> Result<String> {
+        let told = told_text(alloc, run, &self.kept)?;
+        let left = self.left_text(alloc, words, about)?;
+        let said = run.said_text(alloc)?;
+        text_of(alloc, format_args!("{number};{told};{left};{said}"))
+    }
+
     /// What the disk stands for behind a run of these words, and the length and the sum of its octets.
     fn left_text(&self, alloc: Global, words: &Words, about: &About<'_>) -> Result<String> {
         let disk = self.disk.as_ref().context("no disk")?;
         let stations = Stations::read(words)?;
         let standing = standing_text(alloc, disk.bytes(), &stations, about)?;
         let sum = sum_text(alloc, disk.bytes())?;
-        Ok(format!(in alloc; "{standing};{sum}")?)
+        text_of(alloc, format_args!("{standing};{sum}"))
     }
 }
 
@@ -136,19 +150,19 @@ impl ClientRows {
 fn told_text(alloc: Global, run: &Run<'_>, kept: &Option<FileBytes>) -> Result<String> {
     let shown = run.shown_text(alloc)?;
     let kept = kept_text(alloc, kept)?;
-    Ok(format!(in alloc; "{shown};{kept}")?)
+    text_of(alloc, format_args!("{shown};{kept}"))
 }
 
 /// The length and the sum of what is on a shelf, if there is anything.
 fn kept_text(alloc: Global, kept: &Option<FileBytes>) -> Result<String> {
     match kept {
         Some(content) => sum_text(alloc, content.as_slice()),
-        None => Ok(String::from_str(alloc, "none")?),
+        None => text_of(alloc, "none"),
     }
 }
 
 /// The length and the sum of octets.
 fn sum_text(alloc: Global, octets: &[u8]) -> Result<String> {
     let (len, sum) = (octets.len(), sum16(octets));
-    Ok(format!(in alloc; "{len} {sum:04x}")?)
+    text_of(alloc, format_args!("{len} {sum:04x}"))
 }

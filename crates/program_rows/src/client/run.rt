@@ -1,10 +1,11 @@
 //! A run: its outside, but for the disk, and what is told of it.
 
+use crate::memory_outside::{MemoryOutside, open_out};
 use anyhow::{Context, Result};
 use disk_model::Disk;
-use pacsat_cli::{Words, fresh_bench, run};
-use px_base::{FileBytes, MemoryAir, MemoryClock, MemoryOut, MemoryShelf, Shelf};
-use row_words::{OverDisk, Script, read_numbers};
+use pacsat_cli::Words;
+use px_base::{FileBytes, MemoryShelf, Shelf};
+use row_words::{OverDisk, hex_text, read_air, read_numbers, text_of};
 use std::alloc::Global;
 
 /// The parts of a row, but for its words, the shelf's content and the disk.
@@ -26,10 +27,7 @@ pub struct Outside<'a> {
 #[derive(Drop)]
 pub struct Run<'a> {
     words: &'a Words,
-    air: MemoryAir,
-    clock: MemoryClock,
-    shelf: MemoryShelf,
-    out: MemoryOut,
+    outside: MemoryOutside,
 }
 
 impl<'a> Run<'a> {
@@ -41,45 +39,38 @@ impl<'a> Run<'a> {
         name: Option<&str>,
         content: Option<FileBytes>,
     ) -> Result<Run<'a>> {
+        let poll = outside.poll.parse::<usize>()?;
         let shelf = open_shelf(alloc, outside.failing_shelf, name, content)?;
-        let (air, clock) = open_air(alloc, outside)?;
         let out = open_out(alloc, outside.failing_out)?;
-        Ok(Run {
-            words,
+        let (air, clock) = read_air(alloc, outside.failing_air, outside.turns, poll)?;
+        let outside = MemoryOutside {
             air,
             clock,
             shelf,
             out,
-        })
+        };
+        Ok(Run { words, outside })
     }
 
     /// The lines that were shown, each ended by `|` in place of its line feed, and how many polls were made.
     pub fn shown_text(&self, alloc: Global) -> Result<String> {
-        let shown = std::str::from_utf8(self.out.shown())?;
-        let shown = shown.replace(alloc, "\n", "|")?;
-        let polls = self.air.heard().len();
-        Ok(format!(in alloc; "{shown};{polls}")?)
+        let shown = self.outside.lines(alloc)?;
+        let polls = self.outside.air.heard().len();
+        text_of(alloc, format_args!("{shown};{polls}"))
     }
 
     /// The octets said, in hexadecimal.
     pub fn said_text(&self, alloc: Global) -> Result<String> {
-        Ok(hex::encode(alloc, self.air.said())?)
+        hex_text(alloc, self.outside.air.said())
     }
 
     /// What the shelf has under the name, if there is one.
     pub fn kept(&self, alloc: Global, name: Option<&str>) -> Result<Option<FileBytes>> {
-        match name.and_then(|name| self.shelf.content(name)) {
+        match name.and_then(|name| self.outside.shelf.content(name)) {
             Some(content) => Ok(Some(FileBytes::copy_of(alloc, content.as_slice())?)),
             None => Ok(None),
         }
     }
-}
-
-/// The air and the clock of a row.
-fn open_air(alloc: Global, outside: &Outside<'_>) -> Result<(MemoryAir, MemoryClock)> {
-    let failing = read_numbers(alloc, outside.failing_air)?;
-    let script = Script::read(alloc, outside.turns, outside.poll.parse::<usize>()?)?;
-    Ok(script.open(alloc, failing.as_slice())?)
 }
 
 /// A shelf whose calls with these numbers fail, and which has the content under the name; keeping it is its first call.
@@ -97,28 +88,11 @@ fn open_shelf(
     Ok(shelf)
 }
 
-/// An output whose calls with these numbers fail.
-fn open_out(alloc: Global, failing: &str) -> Result<MemoryOut> {
-    let failing = read_numbers(alloc, failing)?;
-    Ok(MemoryOut::new(alloc, failing.as_slice())?)
-}
-
 impl OverDisk for Run<'_> {
     type Told = u8;
 
     /// Runs the words over this disk, and gives the status's number.
     fn over<D: Disk>(&mut self, alloc: Global, disk: &mut D) -> Result<u8> {
-        let mut bench = fresh_bench(alloc)?;
-        let status = run(
-            alloc,
-            self.words,
-            disk,
-            &mut self.air,
-            &mut self.shelf,
-            &mut self.out,
-            &mut self.clock,
-            &mut bench,
-        );
-        Ok(status.number())
+        self.outside.run(alloc, self.words, disk)
     }
 }

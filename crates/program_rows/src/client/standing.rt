@@ -6,6 +6,7 @@ use client_notes::{Noted, Notes, StoreFault};
 use disk_model::MemoryDisk;
 use pfh_items::sum16;
 use px_base::Call;
+use row_words::text_of;
 use std::alloc::Global;
 
 /// What octets stand for as a client's notes, as a recovery of a disk with them finds it, of what a command is about.
@@ -19,8 +20,8 @@ pub fn standing_text(
     let mut disk = MemoryDisk::new(alloc, octets, &[])?;
     match Notes::recover(alloc, &mut disk) {
         Ok(notes) => notes_text(alloc, &notes, stations, about),
-        Err(StoreFault::NotAStore { .. }) => Ok(String::from_str(alloc, "no notes")?),
-        Err(StoreFault::Damaged { at }) => Ok(format!(in alloc; "damaged {at}")?),
+        Err(StoreFault::NotAStore { .. }) => text_of(alloc, "no notes"),
+        Err(StoreFault::Damaged { at }) => text_of(alloc, format_args!("damaged {at}")),
         Err(fault) => Err(fault.into()),
     }
 }
@@ -35,7 +36,7 @@ fn notes_text(
     match about {
         About::Sent { name } => noted_text(alloc, notes.noted(stations.server, stations.me, name)),
         About::Fetched { number, .. } => got_text(alloc, notes, stations.server, *number),
-        About::Listed => Ok(String::from_str(alloc, "notes")?),
+        About::Listed => text_of(alloc, "notes"),
     }
 }
 
@@ -46,15 +47,15 @@ fn got_text(alloc: Global, notes: &Notes, server: Call, number: u32) -> Result<S
     room.resize(len as usize, 0)?;
     notes.read_got(server, number, 0, room.as_mut_slice());
     let sum = sum16(room.as_slice());
-    Ok(format!(in alloc; "got {len} {sum:04x}")?)
+    text_of(alloc, format_args!("got {len} {sum:04x}"))
 }
 
 /// How a task stands.
 fn noted_text(alloc: Global, noted: Option<Noted>) -> Result<String> {
     match noted {
-        Some(Noted::Going { task, number }) => Ok(format!(in alloc; "going {task} {number}")?),
-        Some(Noted::Acked { task, number }) => Ok(format!(in alloc; "acked {task} {number}")?),
-        Some(Noted::Refused { task, code }) => Ok(format!(in alloc; "refused {task} {code}")?),
-        None => Ok(String::from_str(alloc, "none")?),
+        Some(Noted::Going { task, number }) => text_of(alloc, format_args!("going {task} {number}")),
+        Some(Noted::Acked { task, number }) => text_of(alloc, format_args!("acked {task} {number}")),
+        Some(Noted::Refused { task, code }) => text_of(alloc, format_args!("refused {task} {code}")),
+        None => text_of(alloc, "none"),
     }
 }

@@ -32,6 +32,21 @@ fn add<B: CutDisk + Drop>(bench: &mut Vec<B>, disk: B) -> Result<()>
     Ok(())
 }
 
+/// Puts three of these more on a bench.
+fn add_three(alloc: Global, bench: &mut Vec<LogDisk>) -> Result<()>
+    requires { All (IsFresh ⟦<LogDisk as Disk>⟧
+        (cuts_by ⟦<LogDisk as CutDisk>⟧.restarts ⟦<LogDisk as CutDisk>⟧.arming
+        ⟦<LogDisk as CutDisk>⟧.plain ⟦<LogDisk as CutDisk>⟧.is_starved)) bench.old.items }
+    ensures { OnOk result ((length bench.new.items ≡ length bench.old.items + 3)
+        × All (IsFresh ⟦<LogDisk as Disk>⟧
+        (cuts_by ⟦<LogDisk as CutDisk>⟧.restarts ⟦<LogDisk as CutDisk>⟧.arming
+        ⟦<LogDisk as CutDisk>⟧.plain ⟦<LogDisk as CutDisk>⟧.is_starved)) bench.new.items) }
+{
+    add(bench, log(alloc)?)?;
+    add(bench, log(alloc)?)?;
+    add(bench, log(alloc)?)
+}
+
 /// The server's disk, and those of eight clients.
 pub fn logs(alloc: Global) -> Result<Vec<LogDisk>>
     ensures { IfOk result (λ bench. AreFresh ⟦<LogDisk as Disk>⟧
@@ -39,14 +54,8 @@ pub fn logs(alloc: Global) -> Result<Vec<LogDisk>>
         ⟦<LogDisk as CutDisk>⟧.plain ⟦<LogDisk as CutDisk>⟧.is_starved) bench.items) }
 {
     let mut bench = Vec::new(alloc);
-    add(&mut bench, log(alloc)?)?;
-    add(&mut bench, log(alloc)?)?;
-    add(&mut bench, log(alloc)?)?;
-    add(&mut bench, log(alloc)?)?;
-    add(&mut bench, log(alloc)?)?;
-    add(&mut bench, log(alloc)?)?;
-    add(&mut bench, log(alloc)?)?;
-    add(&mut bench, log(alloc)?)?;
-    add(&mut bench, log(alloc)?)?;
+    add_three(alloc, &mut bench)?;
+    add_three(alloc, &mut bench)?;
+    add_three(alloc, &mut bench)?;
     Ok(bench)
 }

@@ -11,6 +11,7 @@ use anyhow::Result;
 use disk_model::{Disk, MemoryDisk};
 use file_store::{FileStore, Info, Limits, StoreFault};
 use pfh_items::sum16;
+use row_words::text_of;
 use std::alloc::Global;
 
 /// How many blocks of 512 octets a store has, where its octets don't say.
@@ -21,8 +22,8 @@ pub fn standing_text(alloc: Global, octets: &[u8]) -> Result<String> {
     let mut disk = MemoryDisk::new(alloc, octets, &[])?;
     match FileStore::recover(alloc, &mut disk, Limits { blocks: BLOCKS }) {
         Ok(mut store) => store_text(alloc, &mut store, &mut disk),
-        Err(StoreFault::NotAStore { .. }) => Ok(String::from_str(alloc, "no store")?),
-        Err(StoreFault::Damaged { at }) => Ok(format!(in alloc; "damaged {at}")?),
+        Err(StoreFault::NotAStore { .. }) => text_of(alloc, "no store"),
+        Err(StoreFault::Damaged { at }) => text_of(alloc, format_args!("damaged {at}")),
         Err(fault) => Err(fault.into()),
     }
 }
@@ -32,7 +33,7 @@ fn store_text<D: Disk>(alloc: Global, store: &mut FileStore, disk: &mut D) -> Re
     requires { IsReady D.Disk store.old disk.old }
 {
     let next = store.next_number();
-    let mut text = format!(in alloc; "next {next}")?;
+    let mut text = text_of(alloc, format_args!("next {next}"))?;
     for number in 1..next {
         let entry = entry_text(alloc, store, disk, number)?;
         text.push_str(entry.as_str())?;
@@ -73,10 +74,10 @@ fn info_text<D: Disk>(
     let length = info.length;
     if info.complete {
         let sum = sum_of(alloc, store, disk, number, info)?;
-        return Ok(format!(in alloc; " {number}:{call}:{length}:complete {sum:04x}")?);
+        return text_of(alloc, format_args!(" {number}:{call}:{length}:complete {sum:04x}"));
     }
     let held = info.held;
-    Ok(format!(in alloc; " {number}:{call}:{length}:held {held}")?)
+    text_of(alloc, format_args!(" {number}:{call}:{length}:held {held}"))
 }
 
 /// The sum of the octets of a complete entry of this number.

@@ -1,9 +1,9 @@
 //! Steps of disks over files.
 
 use crate::disk_calls::make_call;
-use crate::texts::text_of;
 use anyhow::{Context, Result, bail};
 use real_outside::FileDisk;
+use row_words::text_of;
 use std::alloc::Global;
 use std::fs::File;
 use std::rt::Files;

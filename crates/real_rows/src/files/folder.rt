@@ -1,8 +1,8 @@
 //! Steps of the folder itself.
 
-use crate::texts::{octets_text, text_of};
+use crate::texts::octets_text;
 use anyhow::{Result, bail};
-use row_words::{read_octets, written};
+use row_words::{read_octets, text_of, written};
 use std::alloc::Global;
 use std::fs::{self, Metadata, Permissions};
 use std::io::{self, ErrorKind};
@@ -52,5 +52,5 @@ pub fn content_text(alloc: Global, content: io::Result<Vec<u8>>) -> Result<Strin
 /// Who may read, write and run a file, in octal. Takes memory.
 pub fn mode_text(alloc: Global, found: &Metadata) -> Result<String> {
     let bits = found.permissions().mode() & MODE_BITS;
-    Ok(format!(in alloc; "{bits:o}")?)
+    text_of(alloc, format_args!("{bits:o}"))
 }

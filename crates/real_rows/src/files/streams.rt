@@ -1,11 +1,11 @@
 //! Steps of an air and an output over files.
 
 use crate::air_calls::{poll, put};
-use crate::texts::{answer_text, text_of};
+use crate::texts::answer_text;
 use anyhow::{Context, Result, bail};
 use px_base::Out;
 use real_outside::{StdAir, StdOut, SystemStream};
-use row_words::{read_octets, written};
+use row_words::{read_octets, text_of, written};
 use std::alloc::Global;
 use std::fs::{File, OpenOptions};
 use std::io::{self, BufWriter};

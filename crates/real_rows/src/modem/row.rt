@@ -2,10 +2,10 @@
 
 use crate::air_calls::{poll, put};
 use crate::steps::Steps;
-use crate::texts::{octets_text, text_of};
+use crate::texts::octets_text;
 use anyhow::{Context, Result, bail};
 use real_outside::TcpAir;
-use row_words::{read_octets, written};
+use row_words::{read_octets, text_of, written};
 use std::alloc::Global;
 use std::io::{Read, Write};
 use std::net::{Net, OpenListener, Shutdown, TcpStream};
@@ -46,7 +46,7 @@ impl<'a, R: Net<Stream = TcpStream> + Clock> ModemSteps<'a, R> {
         let polled = poll(alloc, &mut self.air)?;
         let waited = start.elapsed(self.rt)?.as_millis();
         if polled.as_str() == "quiet" && (waited < LEAST_WAIT || waited >= MOST_WAIT) {
-            return Ok(format!(in alloc; "quiet after {waited} milliseconds")?);
+            return text_of(alloc, format_args!("quiet after {waited} milliseconds"));
         }
         Ok(polled)
     }
@@ -65,7 +65,7 @@ impl<'a, R: Net<Stream = TcpStream> + Clock> ModemSteps<'a, R> {
             .read_timeout()?
             .context("no limit of reads")?
             .as_millis();
-        Ok(format!(in alloc; "{nodelay}, {wait} milliseconds")?)
+        text_of(alloc, format_args!("{nodelay}, {wait} milliseconds"))
     }
 
     /// What the modem hears: so many octets.

@@ -4,10 +4,8 @@ use Rattle.std.specs.Prelude.{Ok}
 use Rattle.ftl0_packets.specs.Items.{texts}
 use Rattle.ftl0_packets.specs.Layout.{ul_go_resp, upload_cmd}
 use Rattle.file_store.specs.Command.{begin}
-use Rattle.file_store.specs.State.{store_in, store_on}
-use Rattle.file_store.specs.Store.{Store}
+use Rattle.file_store.specs.State.{store_in}
 use Rattle.file_store.specs.Upload.{Upload}
-use Rattle.file_store.proofs.Offered.{on_like}
 use Rattle.ftl0_session.specs.Uploads.Events.{packet_of}
 use Rattle.ftl0_session.specs.Uploads.Session.{command, granted_row, receiving}
 use Rattle.ftl0_session.specs.Uploads.SessionState.{NoOtherOut, receiving_of}
@@ -26,11 +24,9 @@ returns-in-Ok g c =
     let number : up.number ≡ next = ap (λ (u : Upload). u.number) c.in-Ok.ensures.upload in
     record {
       takes =
-          takes-done g.D.Disk (packet_of c.args.caller c.args.moment (Ok (upload_cmd 0 c.args.length))) command store c.args.disk.now (receiving_of now up) now c.begin.new.disk _ _
-          (begin next c.args.caller c.args.length c.args.moment ∷ []) (λ e. absurd (true≢false (sym e))) does
-          (λ known.
-          let files : Store = store_on g.D.Disk store c.args.disk.now in
-          let like = on_like g.D.Disk store c.args.disk.now c.requires.ready known in (
+          takes-done g.D.Disk (packet_of c.args.caller c.args.moment (Ok (upload_cmd 0 c.args.length))) command store c.args.disk.now c.requires.ready (receiving_of now up) now c.begin.new.disk _ _
+          (begin next c.args.caller c.args.length c.args.moment ∷ []) (λ e. absurd (true≢false (sym e))) does c.in-Ok.ensures.made
+          (λ files like. (
             granted_row c.args.caller c.args.moment files.next c.args.length,
             granted-like c.args.caller c.args.moment c.args.length (store_in store) files like c.state_law.ensures.rules c.in-Ok.ensures.can.0,
             begin-like c.args.caller c.args.moment c.args.length (store_in store) files like,

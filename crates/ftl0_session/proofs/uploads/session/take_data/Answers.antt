@@ -3,9 +3,8 @@ use Rattle.std.proofs.Common.{◌≡◌, ◌⊎◌, ℕ, [], ◌∷◌, refl, ap
 use Rattle.std.specs.Prelude.{Ok}
 use Rattle.ftl0_packets.specs.Layout.{Item, data_part, ul_nak_resp}
 use Rattle.file_store.specs.Command.{unfilled_block}
-use Rattle.file_store.specs.State.{rest_in, store_on}
+use Rattle.file_store.specs.State.{rest_in}
 use Rattle.file_store.specs.Upload.{Upload, appending, with_bytes}
-use Rattle.file_store.proofs.Offered.{on_like}
 use Rattle.ftl0_session.specs.declared.uploads.phase.Phase.TheVariants as phase
 use Rattle.ftl0_session.specs.Uploads.Events.{packet_of}
 use Rattle.ftl0_session.specs.Uploads.Session.{aborting, command, taken_row}
@@ -30,10 +29,10 @@ returns-in-Ok g c = λ moment.
     rw c.reply_nothing.ensures.taken
     (record {
       takes =
-          takes-done g.D.Disk (packet_of a.caller moment (Ok (data_part bytes))) (receiving_of store a.up) store a.disk.now (receiving_of now c.in-Ok.up) now c.append.new.disk _ _ (appending store a.up bytes) fine does
-          (λ known. (
+          takes-done g.D.Disk (packet_of a.caller moment (Ok (data_part bytes))) (receiving_of store a.up) store a.disk.now c.requires.ready (receiving_of now c.in-Ok.up) now c.append.new.disk _ _ (appending store a.up bytes) fine does c.in-Ok.ensures.memory
+          (λ files like. (
             taken_row a.up.number (with_bytes store a.up bytes),
-            taken a.caller store a.up holds (store_on g.D.Disk store a.disk.now) (on_like g.D.Disk store a.disk.now c.requires.ready known) moment bytes c.in-Ok.ensures.can.0,
+            taken a.caller store a.up holds files like moment bytes c.in-Ok.ensures.can.0,
             refl,
             receiving-at now c.in-Ok.up a.up.number (unfilled_block (with_bytes store a.up bytes)) number (ap (λ (n : ℕ). rest_in now n) number ∙ c.in-Ok.ensures.rest),
             c.reply_nothing.ensures.text,
@@ -66,8 +65,8 @@ returns-in-Err-TooMuch g c = λ moment.
     let uploads = rw (same, refused.1) at c.park.ensures.uploads in
     let item : Item = Ok (data_part c.args.octets.now) in
     rw still
-    (answered-alone g.D.Disk (packet_of c.args.caller moment item) (receiving_of c.args.store.now c.args.up) c.args.store.now c.args.disk.now c.park.new.self _ (phase.Aborting, Ok tt)
-    c.requires.ready (g.met.D.Disk.lasts_same c.args.disk.now)
+    (answered-alone g.D.Disk (packet_of c.args.caller moment item) (receiving_of c.args.store.now c.args.up) c.args.store.now c.args.disk.now c.requires.ready c.park.new.self _ (phase.Aborting, Ok tt)
+    (g.met.D.Disk.lasts_same c.args.disk.now)
     (parked c.args.caller c.args.store.now c.args.up holds moment item c.park.new.self phase.Aborting
     (record { state = aborting; commands = []; replies = ul_nak_resp 1 ∷ [] }) _
     (λ files like. too_much c.args.caller c.args.store.now c.args.up holds files like moment c.args.octets.now refused.0) refl refl c.write_packet.ensures.text refl tt c.requires.held.1 changes journal uploads
@@ -86,10 +85,10 @@ returns-in-Err-Disk g c = λ moment.
     let spent = rw c.in-Err-Disk.field-0-is at c.in-Err-Disk.ensures.spent in
     record {
       takes =
-          takes-cut g.D.Disk (packet_of a.caller moment (Ok (data_part bytes))) (receiving_of store a.up) store a.disk.now command now c.append.new.disk _ _ (appending store a.up bytes) refl does
-          (λ known. (
+          takes-cut g.D.Disk (packet_of a.caller moment (Ok (data_part bytes))) (receiving_of store a.up) store a.disk.now c.requires.ready command now c.append.new.disk _ _ (appending store a.up bytes) refl does
+          (λ files like. (
             taken_row a.up.number (with_bytes store a.up bytes),
-            taken a.caller store a.up holds (store_on g.D.Disk store a.disk.now) (on_like g.D.Disk store a.disk.now c.requires.ready known) moment bytes refused.0,
+            taken a.caller store a.up holds files like moment bytes refused.0,
             refl,
           )) refl c.write_packet-in-Err-Disk.ensures.text;
       failed = λ e. (does.cut refl).failed;
@@ -114,10 +113,10 @@ returns-in-Err-OutOfMemory g c = λ moment.
     rw (still, same, refused.2)
     (record {
       takes =
-          takes-memory g.D.Disk (packet_of a.caller moment (Ok (data_part a.octets.now))) (receiving_of store a.up) store a.disk.now _ (g.met.D.Disk.lasts_same a.disk.now)
-          (λ known. (
+          takes-memory g.D.Disk (packet_of a.caller moment (Ok (data_part a.octets.now))) (receiving_of store a.up) store a.disk.now c.requires.ready _ (g.met.D.Disk.lasts_same a.disk.now)
+          (λ files like. (
             taken_row a.up.number (with_bytes store a.up a.octets.now),
-            taken a.caller store a.up holds (store_on g.D.Disk store a.disk.now) (on_like g.D.Disk store a.disk.now c.requires.ready known) moment a.octets.now refused.0,
+            taken a.caller store a.up holds files like moment a.octets.now refused.0,
             refl,
           )) c.clear.ensures;
       failed = λ e. absurd (cc e);

@@ -35,7 +35,7 @@ returns g c =
     let did = server-did all terms (lent station mid c.args.air.now c.args.clock.now) (lent last new.disk new.air new.clock) c.drive-station.result.1 c.drive-station.ensures.turns g.met.D.Disk.lasts_same g.met.D.Disk.lasts_on up.0 c.args.disk.now (λ known. known_on g.D.Disk c.args.disk.now mid h.runs.told known) up.1 in
     let serves = served all g.met.D.Disk.lasts_on blocks None (Ran (IsKnown g.D.Disk c.args.disk.now) terms) old now mid c.in_ok-server.server station.server.store last.server.store terms.polls c.answer_of.result recovers
     (rw c.answer_of.ensures did) in
-    grind (arith, common_steps, serves)
+    record { refuses = serves.refuses; ends = serves.ends; counts = serves.counts; runs = serves.runs }
 
 pub returns-in_err-server : goal.returns-in_err-server
 returns-in_err-server g c =

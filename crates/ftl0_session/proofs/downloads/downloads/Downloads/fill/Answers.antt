@@ -8,6 +8,7 @@ use Rattle.ftl0_session.specs.Downloads.Needs.{IsDueIn}
 use Rattle.ftl0_session.specs.Downloads.Table.{DownloadState, ready}
 use Rattle.ftl0_session.specs.Downloads.Sending.{is_due, next_due, octets_due, octets_left, state_after, state_at_end}
 use Rattle.ftl0_session.proofs.AnsweringLemmas.{left-after, left-some}
+use Rattle.ftl0_session.proofs.CauseLemmas.{end-no_error, part-no_error}
 use Rattle.ftl0_session.proofs.downloads.DueLemmas.{due-after}
 use Rattle.ftl0_session.proofs.downloads.LikeLemmas.{due-length-like, end-after, next-data, next-end, next-error}
 use Rattle.ftl0_session.proofs.downloads.downloads.Downloads.fill.Goals as goal
@@ -49,6 +50,7 @@ returns-in-Err-clause-puts g c =
       reads = reads_same D disk c.read_part.new.disk _ (true ≡ true) (λ e. refl) (λ e. refl) c.in-Err.ensures.reads.reads;
       told = λ known failed. rw (next known) refl;
       is_due = λ known. rw (next known) (refl, search rules, c.write_packet.ensures.text);
+      tells = (λ failed. (refl, c.write_packet.ensures.text), λ both. refl);
     }
 
 pub returns-in-Ok-clause-puts : goal.returns-in-Ok-clause-puts
@@ -67,6 +69,7 @@ returns-in-Ok-clause-puts g c =
       fails = false;
       reads = reads_same D disk c.read_part.new.disk _ (false ≡ true) (λ e. absurd cc) (λ e. absurd (true≢false (sym e))) c.in-Ok.ensures.reads.reads;
       told = λ known failed. absurd (true≢false (sym failed));
+      tells = (λ failed. absurd (true≢false (sym failed)), λ both. absurd (end-no_error (sym c.write_packet-in-Ok.ensures.text ∙ both.1)));
       is_due = λ known. rw (next known) (refl, c.end.ensures ∙ ap state_at_end c.in-Ok.ensures.state ∙ end-after state, c.write_packet-in-Ok.ensures.text);
     }
 
@@ -87,6 +90,7 @@ returns-in-Ok-2-clause-puts g c =
       fails = false;
       reads = reads_same D disk c.read_part.new.disk _ (false ≡ true) (λ e. absurd cc) (λ e. absurd (true≢false (sym e))) c.in-Ok.ensures.reads.reads;
       told = λ known failed. absurd (true≢false (sym failed));
+      tells = (λ failed. absurd (true≢false (sym failed)), λ both. absurd (part-no_error _ (sym c.write_packet-in-Ok-2.ensures.text ∙ both.1)));
       is_due = λ known.
           let part : c.deref.result.now ≡ take 254 (octets_due files state) = c.deref.ensures.0 ∙ c.in-Ok.ensures.octets known in
           rw (next known) (refl, c.in-Ok.ensures.state, c.write_packet-in-Ok-2.ensures.text ∙ ap (λ (l : List ℕ). packet_text (data_part l)) part);

@@ -17,5 +17,5 @@ pub returns-in-Aborting : goal.returns-in-Aborting
 returns-in-Aborting g c = λ item is.
     let only = rw c.in-Aborting.is at c.requires.only in
     rw c.in-Aborting.is
-    (answered-alone g.D.Disk (packet_of c.args.self.now.caller c.args.moment item) aborting c.args.store.now c.args.disk.now c.args.store.now _ _ c.requires.ready
+    (answered-alone g.D.Disk (packet_of c.args.self.now.caller c.args.moment item) aborting c.args.store.now c.args.disk.now c.requires.ready c.args.store.now _ _
     (g.met.D.Disk.lasts_same c.args.disk.now) (c.take_aborting.ensures c.args.self.now.caller c.args.moment c.args.store.now item only is))

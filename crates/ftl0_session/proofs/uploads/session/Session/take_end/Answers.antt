@@ -2,7 +2,7 @@
 use Rattle.std.proofs.Common.{◌≡◌, ◌⊎◌, ℕ, List, [], ◌∷◌, refl, ap, sym, ◌∙◌, subst, inl, inr, Option, None, Some, true, false, true≢false}
 use Rattle.std.specs.Prelude.{Ok, ⊤}
 use Rattle.pfh_items.specs.Faults.{fault_code}
-use Rattle.ftl0_packets.specs.Layout.{Item, data_end, ul_nak_resp}
+use Rattle.ftl0_packets.specs.Layout.{Item, data_end, ul_ack_resp, ul_nak_resp}
 use Rattle.file_store.specs.Command.{Command, last_grow}
 use Rattle.file_store.specs.EntriesKept.{KeepsComplete}
 use Rattle.file_store.specs.Files.{KeepsRests}
@@ -16,7 +16,9 @@ use Rattle.ftl0_session.specs.Uploads.Events.{packet_of}
 use Rattle.ftl0_session.specs.Uploads.Session.{command, unread_row, whole_row}
 use Rattle.ftl0_session.specs.Uploads.SessionState.{receiving_of}
 use Rattle.ftl0_session.proofs.uploads.DoesLemmas.{answered-alone, takes-among, takes-fault}
-use Rattle.ftl0_session.proofs.uploads.HoldLemmas.{own-entry, parked, sealing-some, short, unread, whole, whole-sealing}
+use Rattle.ftl0_session.proofs.uploads.HoldLemmas.{end-looks, own-entry, parked, sealing-some, short, unread, whole, whole-sealing}
+use Rattle.ftl0_session.proofs.CauseLemmas.{says-one}
+use Rattle.ftl0_session.proofs.uploads.FaultCodes.{fault-other}
 use Rattle.ftl0_session.proofs.uploads.OtherLemmas.{only-none, others-kept}
 use Rattle.ftl0_session.proofs.uploads.session.Session.take_end.Goals as goal
 
@@ -33,7 +35,7 @@ returns-in-Ok g c =
     let commands : List Command = sealing files store a.up a.moment in
     record {
       takes =
-          takes-among g.D.Disk (packet_of caller a.moment (Ok data_end)) (receiving_of store a.up) store disk command now disk_now _ _ false commands (λ e. cc e) c.in-Ok.ensures.puts c.in-Ok.ensures.misses
+          takes-among g.D.Disk (packet_of caller a.moment (Ok data_end)) (receiving_of store a.up) store disk c.requires.ready command now disk_now _ _ false commands (λ e. cc e) c.in-Ok.ensures.puts c.in-Ok.ensures.misses
           (λ known. among-same g.D.Disk _ ⊥ 0 0 store now disk disk_now commands (λ e. cc e) (λ never. absurd never) refl (c.in-Ok.ensures.does refl known))
           (λ known. (
             whole_row a.moment a.up.number (waiting store a.up) None,
@@ -41,7 +43,9 @@ returns-in-Ok g c =
             whole-sealing files store a.up a.moment None (c.in-Ok.ensures.good known),
             refl,
             c.ack.ensures,
-          )) (λ known failed. absurd (true≢false (sym failed))) (λ ok none. absurd (sealing-some files store a.up a.moment none));
+          )) (λ known failed. absurd (true≢false (sym failed))) (λ ok none. absurd (sealing-some files store a.up a.moment none))
+          (λ row looks. absurd (end-looks caller store a.up holds a.moment row c.in-Ok.ensures.can.0 looks))
+          (says-one g.D.Disk disk false _ ul_ack_resp c.ack.ensures (λ failed. absurd (true≢false (sym failed))) tt);
       failed = λ e. absurd (cc e);
       healthy = λ ok. c.in-Ok.ensures.goes_on (λ e. cc e) ∙ c.requires.ready.healthy;
       stands_on = c.in-Ok.ensures.keeps.stands_on;
@@ -68,8 +72,8 @@ returns-in-Err-Short g c =
     let uploads = rw (same, refused.1) at c.park.ensures.uploads in
     let item : Item = Ok data_end in
     rw still
-    (answered-alone g.D.Disk (packet_of c.args.self.now.caller c.args.moment item) (receiving_of c.args.store.now c.args.up) c.args.store.now c.args.disk.now c.park.new.self _ (phase.Command, Ok tt)
-    c.requires.ready (g.met.D.Disk.lasts_same c.args.disk.now)
+    (answered-alone g.D.Disk (packet_of c.args.self.now.caller c.args.moment item) (receiving_of c.args.store.now c.args.up) c.args.store.now c.args.disk.now c.requires.ready c.park.new.self _ (phase.Command, Ok tt)
+    (g.met.D.Disk.lasts_same c.args.disk.now)
     (parked c.args.self.now.caller c.args.store.now c.args.up holds c.args.moment item c.park.new.self phase.Command
     (record { state = command; commands = []; replies = ul_nak_resp 16 ∷ [] }) _
     (λ files like. short c.args.self.now.caller c.args.store.now c.args.up holds files like c.args.moment refused.0) refl refl c.write_packet.ensures.text refl tt c.requires.held.1 changes journal uploads
@@ -95,7 +99,7 @@ returns-in-Err-Header g c =
     let commands : List Command = sealing files store a.up a.moment in
     record {
       takes =
-          takes-among g.D.Disk (packet_of caller a.moment (Ok data_end)) (receiving_of store a.up) store disk command now disk_now _ _ false commands (λ e. cc e) puts misses
+          takes-among g.D.Disk (packet_of caller a.moment (Ok data_end)) (receiving_of store a.up) store disk c.requires.ready command now disk_now _ _ false commands (λ e. cc e) puts misses
           (λ known. among-same g.D.Disk _ ⊥ 0 0 store now disk disk_now commands (λ e. cc e) (λ never. absurd never) refl (reached refl known))
           (λ known. (
             whole_row a.moment a.up.number (waiting store a.up) (Some code),
@@ -103,7 +107,10 @@ returns-in-Err-Header g c =
             whole-sealing files store a.up a.moment (Some code) (refused.1.1 known),
             refl,
             c.write_packet-in-Err-Header.ensures.text,
-          )) (λ known failed. absurd (true≢false (sym failed))) (λ ok none. absurd (sealing-some files store a.up a.moment none));
+          )) (λ known failed. absurd (true≢false (sym failed))) (λ ok none. absurd (sealing-some files store a.up a.moment none))
+          (λ row looks. absurd (end-looks caller store a.up holds a.moment row refused.0.0 looks))
+          (says-one g.D.Disk disk false _ (ul_nak_resp code) c.write_packet-in-Err-Header.ensures.text (λ failed. absurd (true≢false (sym failed)))
+          (λ three. absurd (fault-other (Some refused.1.0.0) code (ap (λ (k : ℕ). Some k) (sym refused.1.0.1)) three)));
       failed = λ e. absurd (cc e);
       healthy = λ ok. goes_on (λ e. cc e) ∙ c.requires.ready.healthy;
       stands_on = c.in-Err-Header.ensures.keeps.stands_on;
@@ -141,7 +148,7 @@ returns-in-Err-Read g c =
     let rests : KeepsRests store.files now.files a.up.number = λ other ne. parks.others other ne ∙ keeps.rests other ne in
     record {
       takes =
-          takes-among g.D.Disk (packet_of caller a.moment (Ok data_end)) (receiving_of store a.up) store disk command now disk_now _ _ true commands (λ e. cc e) puts misses
+          takes-among g.D.Disk (packet_of caller a.moment (Ok data_end)) (receiving_of store a.up) store disk c.requires.ready command now disk_now _ _ true commands (λ e. cc e) puts misses
           (λ known.
           among-parked g.D.Disk ⊥ 1 store mid now disk disk_now commands parks.store_is journal
           (among-same g.D.Disk _ ⊥ 1 1 store mid disk disk_now commands (λ e. cc e) (λ never. absurd never) refl (reached refl known)))
@@ -151,7 +158,8 @@ returns-in-Err-Read g c =
             refl,
             refl,
             c.write_packet-in-Err-Read.ensures.text,
-          )) (λ known failed. refl) (λ ok none. absurd (true≢false ok));
+          )) (λ known failed. refl) (λ ok none. absurd (true≢false ok)) (λ row looks. absurd (end-looks caller store a.up holds a.moment row refused.0.0 looks))
+          (says-one g.D.Disk disk true _ (ul_nak_resp 3) c.write_packet-in-Err-Read.ensures.text (λ failed. refl) (λ three. refl));
       failed = λ e. absurd (cc e);
       healthy = λ ok. ap (λ j. j.failed) journal ∙ goes_on (λ e. cc e) ∙ c.requires.ready.healthy;
       stands_on = stands_parked g.D.Disk mid now disk_now parks.store_is journal keeps.stands_on;
@@ -183,13 +191,14 @@ returns-in-Err-Disk g c =
     let commands : List Command = sealing files store a.up a.moment in
     record {
       takes =
-          takes-fault g.D.Disk (packet_of caller a.moment (Ok data_end)) (receiving_of store a.up) store disk command now disk_now _ _ commands refl puts misses
+          takes-fault g.D.Disk (packet_of caller a.moment (Ok data_end)) (receiving_of store a.up) store disk c.requires.ready command now disk_now _ _ commands refl puts misses
           (λ known. among-same g.D.Disk _ ⊤ 0 0 store now disk disk_now commands (λ e. tt) (λ t. refl) refl (reached refl known))
           (λ known. (
             whole_row a.moment a.up.number (waiting store a.up) fault,
             whole caller store a.up holds files (on_like g.D.Disk store disk c.requires.ready known) a.moment fault refused.0 refl,
             whole-sealing files store a.up a.moment fault refl,
-          )) (λ none. absurd (sealing-some files store a.up a.moment none)) refl c.write_packet-in-Err-Disk.ensures.text;
+          )) (λ none. absurd (sealing-some files store a.up a.moment none)) refl c.write_packet-in-Err-Disk.ensures.text
+          (λ row looks. absurd (end-looks caller store a.up holds a.moment row refused.0 looks));
       failed = λ e. stops refl;
       healthy = λ ok. absurd (ok refl);
       stands_on = c.in-Err-Disk.ensures.keeps.stands_on;

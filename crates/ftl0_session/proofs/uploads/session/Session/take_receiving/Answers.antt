@@ -15,8 +15,8 @@ returns-in-Part g c = λ item is.
 
 pub returns-in_default : goal.returns-in_default
 returns-in_default g c = λ item is.
-    answered-alone g.D.Disk (packet_of c.args.self.now.caller c.args.moment item) (receiving_of c.args.store.now c.args.up) c.args.store.now c.args.disk.now c.args.store.now _ _
-    c.requires.ready (g.met.D.Disk.lasts_same c.args.disk.now)
+    answered-alone g.D.Disk (packet_of c.args.self.now.caller c.args.moment item) (receiving_of c.args.store.now c.args.up) c.args.store.now c.args.disk.now c.requires.ready c.args.store.now _ _
+    (g.met.D.Disk.lasts_same c.args.disk.now)
     (alone-refused c.args.self.now.caller c.args.moment (receiving_of c.args.store.now c.args.up) item c.args.store.now (phase.Receiving c.args.up) 1 _ _
     (λ files. error-receiving c.args.self.now.caller c.args.moment files c.args.up.number (waiting c.args.store.now c.args.up) item _ c.in_default.not-Part c.in_default.not-End is) refl c.refuse.ensures.taken
     c.refuse.ensures.text c.requires.held c.requires.only)
