@@ -1,6 +1,7 @@
 -- The file of a task that was acknowledged: an upload without fault, which the server's store keeps.
 use Rattle.std.proofs.Common.{◌≡◌, ℕ, zero, suc, ◌+◌, true, List, [], ◌∷◌, length, Option, None, Some, refl, ap, sym}
-use Rattle.std.proofs.Common.{subst, ◌∙◌}
+use Rattle.std.proofs.Common.{◌++◌, arith, take, subst, ◌∙◌}
+use Rattle.std.proofs.lemmas.Grind.{common_steps}
 use Rattle.std.specs.List.{AllByRecursion, slice_get}
 use Rattle.std.specs.Option.{option_and_then, option_map}
 use Rattle.std.proofs.lemmas.Option.{same_Some}
@@ -8,7 +9,7 @@ use Rattle.px_base.specs.CallSign.{CallSign}
 use Rattle.pfh_items.specs.Faults.{fault_code}
 use Rattle.file_store.specs.EntriesInfo.{Info}
 use Rattle.file_store.specs.Info.{info_of, is_complete}
-use Rattle.file_store.specs.Outlined.{IsStoreLike}
+use Rattle.file_store.specs.Like.{IsStoreLike}
 use Rattle.file_store.specs.Store.{Entry, Holding, Store, entry_of, octets_at, octets_of}
 use Rattle.file_store.proofs.Offered.{like_back, like_entry, like_is_complete, like_octets_length}
 use Rattle.client_notes.specs.Answers.{noted_as, noted_at, noted_by}
@@ -122,3 +123,7 @@ stamped-kept store number file caller octets kept is =
       octets_are = same ∙ ap (λ (h : Holding). octets_of h) kept.whole;
       faultless = subst (λ (o : List ℕ). fault_code o ≡ None) (sym same) kept.keeps.faultless;
     }
+
+-- octets that were written at the front of a room of as many
+pub written : (count : ℕ) (front later : List ℕ) → length front ≡ count → take count (front ++ later) ≡ front
+written count front later all = grind (arith, common_steps)

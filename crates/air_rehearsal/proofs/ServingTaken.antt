@@ -93,8 +93,7 @@ module _ {B : Type 0} (g : Ghosts B) (world : World) (sound : Sound world) (c pl
 
   pub taken-so :
       IsKnown g old.disk → (frame : FrameValue) → frame ≡ it.t.frame
-      → HearsEvent g (λ server. server_hearing server frame old.stations.moment) old.server new.server old.disk new.disk
-      answer
+      → HearsEvent g (hears frame old.stations.moment) old.server new.server old.disk new.disk answer
       → new.stations.parties.items
       ≡ slice_set old.stations.parties.items c (record self { attempt = record self.attempt { from_client = lane } })
       → new.stations.me ≡ old.stations.me → new.stations.k ≡ old.stations.k

@@ -66,8 +66,8 @@ least_done Unarmed calls S C form commands = length commands
 least_done (Passes left) calls S C form commands = length commands
 least_done Failed calls S C form commands = done_within form commands calls
 
--- The octets stand for what those before stand for, and differ from them only as a recovery may leave them: 18 octets
--- or more are left as they are.
+-- The octets stand for what those before stand for, and differ from them only as a recovery may leave them: a formatted
+-- content, which has both gates, is left as it is.
 abbrev pub StandsAlike : Station → List ℕ → List ℕ → Type 0
 StandsAlike the_server before image = store_recovery.StandsAlike store_blocks before image
 StandsAlike (client_at c) before image = notes_recovery.StandsAlike before image

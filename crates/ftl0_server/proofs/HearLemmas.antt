@@ -1,6 +1,6 @@
 -- What a frame makes of a server, by what it makes of one place.
 use Rattle.std.proofs.lemmas.Grind.{common_steps}
-use Rattle.std.proofs.Common.{◌≡◌, ℕ, zero, suc, ◌<◌, List, [], ◌∷◌, length, get_or, set, Bool, true, false, Option, rules, None, Some, refl, sym, ◌∙◌, ap, subst, inl, inr, arith}
+use Rattle.std.proofs.Common.{◌≡◌, ◌⊎◌, ℕ, zero, suc, ◌<◌, List, [], ◌∷◌, length, get_or, set, Bool, true, false, Option, rules, None, Some, refl, sym, ◌∙◌, ap, subst, inl, inr, arith}
 use Rattle.std.specs.Prelude.{slice_get, ⊤, Result, Ok, Err, IsErrOf}
 use Rattle.std.specs.List.{position}
 use Rattle.std.proofs.lemmas.List.Quantifiers.{position-Some}
@@ -10,12 +10,11 @@ use Rattle.disk_model.specs.declared.disk.Disk.{Ghosts}
 use Rattle.ax25_frames.specs.FrameText.{FrameValue}
 use Rattle.ax25_frames.specs.Kinds.{FitsControl}
 use Rattle.ax25_link.specs.Kept.{is_pending}
-use Rattle.ax25_link.specs.Window.{Window}
 use Rattle.ftl0_session.specs.Lists.Lists.{CallerList}
 use Rattle.file_store.specs.Store.{Store}
 use Rattle.file_store.specs.State.{IsKnown, IsReady, StoreState, store_on}
 use Rattle.file_store.specs.Working.{DoesAmongReads}
-use Rattle.file_store.proofs.Offered.{among-store, puts-among, puts_none}
+use Rattle.file_store.proofs.Offered.{puts-among, puts_none}
 use Rattle.file_store.specs.Command.{after_all}
 use Rattle.ftl0_session.specs.Uploads.Failures.{Failure}
 use Rattle.ftl0_session.proofs.uploads.UploadRows.{same_call-decides}
@@ -25,14 +24,15 @@ use Rattle.disk_model.specs.declared.halt.Halt.{Halt as Stop}
 use Rattle.disk_model.specs.declared.halt.Halt.TheVariants as stop
 use Rattle.ftl0_server.specs.Connection.Connected.{Connected}
 use Rattle.ftl0_server.specs.Connection.ConnectionState.{ConnectionState, with_reads}
-use Rattle.ftl0_server.specs.Connection.Hearing.{Happened, hearing}
-use Rattle.node.specs.Events.{IsFor}
+use Rattle.ftl0_server.specs.Connection.Hearing.{Happened, LooksAtNone, hearing}
+use Rattle.node.specs.Events.{IsFor, hears}
 use Rattle.ftl0_server.specs.AtPlace.{IsPlace, KeepsStore, MayHear, PlaceHears, PlaceHearsBy, Works}
 use Rattle.ftl0_server.specs.Calls.{Hears, HearsBy, HearsEvent, HearsStranger, SameStore}
 use Rattle.ftl0_server.specs.declared.place.Place.{Place}
 use Rattle.ftl0_server.specs.declared.place.Place.TheVariants.{Free, Talking}
 use Rattle.ftl0_server.specs.Kept.{IsAt, IsSettled}
-use Rattle.ftl0_server.specs.Server.{Server, becoming, heard_at, hearing_at, hearing_by, hearing_stranger, server_hearing}
+use Rattle.ftl0_server.specs.Server.{Server, becoming, heard_at, hearing_at, hearing_by, hearing_stranger}
+use Rattle.ftl0_server.specs.ServerStep.{LooksAtNoFile, LooksAtNoneAt, LooksAtNoneBy, happening}
 use Rattle.ftl0_server.specs.ServerState.{AllPlaces, IsServer, SaysAs, SendsAs, SendsFor, ServerState, any_pending, has_caller, is_empty_place, place_pending}
 use Rattle.ftl0_server.specs.Slots.{Slot, connected, first_empty, is_callers, place_of, slot_after}
 use Rattle.ftl0_server.proofs.AllPlaces.{all-both, all-get, all-set, all-to, never, same-position}
@@ -107,7 +107,7 @@ module _ (over : Store) (self : ServerState) (server : Server) (is : IsServer ov
 
 -- ---- a frame of a connected caller
 
-module _ {D : Type 0} (g : Ghosts D) (old new : ServerState) (server : Server) (disk disk_now : D) (known : IsKnown g disk) (is : IsServer (store_on g old.store disk) old server)
+module _ {D : Type 0} (g : Ghosts D) (old new : ServerState) (server : Server) (disk disk_now : D) (is : IsServer (store_on g old.store disk) old server)
     (settled : IsSettled old.me old.k old.store old.places) (frame : FrameValue) (moment : ℕ) (place : ℕ)
     (found : position (has_caller frame.src) old.places ≡ Some place) (c : ConnectionState) (is_at : IsAt old.places place c) (p : Place)
     (works : Works old.store new.store (Talking c) p) (me : new.me ≡ old.me) (k : new.k ≡ old.k) (stray : new.stray ≡ old.stray)
@@ -125,30 +125,40 @@ module _ {D : Type 0} (g : Ghosts D) (old new : ServerState) (server : Server) (
       let sends = now-sends s store lists here.0 in grind (arith, common_steps)
 
   module _ (event : List Failure → Happened) where
-    heard-by : (result : Result ⊤ Stop) → PlaceHearsBy g server.window event (at old.store disk) (working_on new.store new.lists disk_now) p result
+    heard-by : (result : Result ⊤ Stop) → (result ≡ Ok tt → store_on g new.store disk_now ≡ after_all (store_on g old.store disk) (event []).done) → PlaceHearsBy g server.window event (at old.store disk) (working_on new.store new.lists disk_now) p result
         → HearsBy g (λ failures. heard_at server place (event failures)) old new disk disk_now result
-    heard-by (Ok done) by =
-        let same : store_on g new.store disk_now ≡ after_all server.store (event []).done =
-        among-store g (event []).missed old.store new.store disk disk_now (event []).done known by.3 ∙ ap (λ (s : Store). after_all s (event []).done) is.store in
+    heard-by (Ok done) store by =
+        let same : store_on g new.store disk_now ≡ after_all server.store (event []).done = store refl ∙ ap (λ (s : Store). after_all s (event []).done) is.store in
         (by.0, now-is (slot_after (event [])) (store_on g new.store disk_now) (after_all server.store (event []).done) (event []).lists by.2 same by.1, by.3)
-    heard-by (Err stop.Disk) by = search (rules, arith, now-sends)
-    heard-by (Err stop.OutOfMemory) by = inr by
+    heard-by (Err stop.Disk) store by = search (rules, arith, now-sends)
+    heard-by (Err stop.OutOfMemory) store by = inr by
 
   -- the slot of the place
   slot_is : (d : Connected) × (slice_get server.slots place ≡ Some (connected d)) × IsPlace server.window old.store (Talking c) (connected d)
   slot_is = grind (arith, common_steps, all-get, all-are)
 
-  pub server-hears : (result : Result ⊤ Stop)
-      → ((w : Window) (d : Connected) → IsPlace w old.store (Talking c) (connected d)
-      → PlaceHears g w (hearing w moment (store_on g old.store disk) old.lists d frame) (at old.store disk) (working_on new.store new.lists disk_now) p result)
-      → Hears g (server_hearing server frame moment) old new disk disk_now result
-  server-hears result hears =
+  abbrev Seen : Connected → Type 0
+  Seen d = IsKnown g disk ⊎ LooksAtNone server.window moment (store_on g old.store disk) old.lists d frame
+
+  -- what the frame looks at of the connection there
+  seen-at : IsKnown g disk ⊎ LooksAtNoFile server (hears frame moment) → (d : Connected) → slice_get server.slots place ≡ Some (connected d) → Seen d
+  seen-at (inl known) d at = inl known
+  seen-at (inr looks) d at =
+      let here = subst (LooksAtNoneBy server frame moment) (sym (sym found ∙ same-place_of _ old server is old.me old.k settled frame.src)) looks in
+      let there : LooksAtNone server.window moment server.store server.lists d frame = subst (LooksAtNoneAt server frame moment) at here in
+      inr (rw (is.store, is.lists) there)
+
+  pub server-hears : (result : Result ⊤ Stop) → IsKnown g disk ⊎ LooksAtNoFile server (hears frame moment)
+      → ((d : Connected) → IsPlace server.window old.store (Talking c) (connected d) → Seen d
+      → PlaceHears g server.window (hearing server.window moment (store_on g old.store disk) old.lists d frame) (at old.store disk) (working_on new.store new.lists disk_now) p result)
+      → Hears g (happening server (hears frame moment)) old new disk disk_now result
+  server-hears result seen hears_at =
       let slot = slot_is in
-      let heard = hears server.window slot.0 slot.2 in
+      let heard = hears_at slot.0 slot.2 (seen-at seen slot.0 slot.1) in
       let by : Hears g (λ failures. heard_at server place (hearing server.window moment (store_on g old.store disk) old.lists slot.0 frame failures)) old new disk disk_now result =
       record {
         parts = heard.parts;
-        by = heard-by (with_reads (hearing server.window moment (store_on g old.store disk) old.lists slot.0 frame) heard.parts) result heard.by;
+        by = heard-by (with_reads (hearing server.window moment (store_on g old.store disk) old.lists slot.0 frame) heard.parts) result heard.store heard.by;
         since = heard.since;
       } in
       let over = subst (λ (s : Store). Hears g (λ failures. heard_at server place (hearing server.window moment s old.lists slot.0 frame failures)) old new disk disk_now result) is.store by in
@@ -177,7 +187,7 @@ module _ {D : Type 0} (g : Ghosts D) (old new : ServerState) (settled : IsSettle
     stranger-by (Err stop.OutOfMemory) heard = inl nothing-done
 
     stranger-hears : (result : Result ⊤ Stop) → HearsStranger (λ s. hearing_stranger s frame moment) old new result
-        → Hears g (server_hearing server frame moment) old new disk disk result
+        → Hears g (happening server (hears frame moment)) old new disk disk result
     stranger-hears result heard =
         let by : Hears g (λ failures. becoming (hearing_stranger server frame moment)) old new disk disk result =
         record { parts = []; by = stranger-by result heard; since = nothing-done.since } in
@@ -199,8 +209,8 @@ module _ {D : Type 0} (g : Ghosts D) (old new : ServerState) (settled : IsSettle
 
   -- what it does to the server
   pub stranger-event : (result : Result ⊤ Stop) → HearsStranger (λ s. hearing_stranger s frame moment) old new result
-      → HearsEvent g (λ server. server_hearing server frame moment) old new disk disk result
-  stranger-event result heard = record { hears = λ known server is. stranger-hears server is result heard; keeps = stranger-keeps result heard; me = same.me }
+      → HearsEvent g (hears frame moment) old new disk disk result
+  stranger-event result heard = record { hears = λ known server is. stranger-hears server is result heard; alone = λ server is looks. stranger-hears server is result heard; keeps = stranger-keeps result heard; me = same.me }
 
 -- what a frame of a station without a connection makes of a server, said otherwise
 pub stranger-at : (step other : Server → Server) (old new : ServerState) (result : Result ⊤ Stop) → ((s : Server) → step s ≡ other s)

@@ -4,6 +4,7 @@ mod EndLemmas
 mod FitsLemmas
 mod HappeningLemmas
 mod HearLemmas
+mod KnownLemmas
 mod NextLemmas
 pub mod Offered
 mod OutLemmas

@@ -1,6 +1,6 @@
 -- What an event at one place leaves.
 use Rattle.std.proofs.lemmas.Grind.{common_steps}
-use Rattle.std.proofs.Common.{◌≡◌, List, [], Bool, true, false, sym, subst, arith}
+use Rattle.std.proofs.Common.{◌≡◌, List, [], Bool, true, false, sym, ◌∙◌, subst, arith}
 use Rattle.std.specs.Prelude.{⊤, Result, Ok, Err}
 use Rattle.px_base.specs.CallSign.{CallSign}
 use Rattle.disk_model.specs.declared.disk.Disk.{Ghosts}
@@ -8,7 +8,7 @@ use Rattle.ax25_link.specs.Kept.{StandsFor}
 use Rattle.ax25_link.specs.Window.{Window}
 use Rattle.file_store.specs.State.{StoreState}
 use Rattle.ftl0_session.specs.Lists.Lists.{CallerList}
-use Rattle.file_store.proofs.Offered.{among-parked}
+use Rattle.file_store.proofs.Offered.{among-parked, on_parked}
 use Rattle.ftl0_session.specs.Uploads.Failures.{Failure, failed_write}
 use Rattle.ftl0_session.specs.Uploads.Others.{KeepsOtherCallers}
 use Rattle.disk_model.specs.AtDisk.{AtDisk, at}
@@ -79,6 +79,7 @@ hears-over g w event store mid now lists disk disk_now connection told gives_up 
       parts = heard.parts;
       by = heard-over g w (with_reads event heard.parts) store mid now lists disk disk_now connection gives_up told.1 (subst here ends heard.by);
       since = heard.since;
+      store = λ fine. on_parked g mid now disk_now gives_up.entries ∙ heard.store fine;
     }
 
 -- it goes on
@@ -91,6 +92,7 @@ hears-on g w event store now lists disk disk_now connection told stays heard =
       parts = heard.parts;
       by = heard-on g w (with_reads event heard.parts) store now lists disk disk_now connection told.1 (subst here stays heard.by);
       since = heard.since;
+      store = heard.store;
     }
 
 -- the place that has a connection stands for what that stands for

@@ -1,11 +1,12 @@
 -- What an event at one place of a server needs, and what it leaves.
-use Rattle.std.specs.Prelude.{◌≡◌, ℕ, List, [], ◌∷◌, false, slice_get, None, Some, Result, Ok, Err, ⊤}
+use Rattle.std.specs.Prelude.{◌≡◌, ◌⊎◌, ℕ, List, [], ◌∷◌, false, slice_get, None, Some, Result, Ok, Err, ⊤}
 use Rattle.disk_model.specs.declared.disk.Disk.{Ghosts}
 use Rattle.ax25_frames.specs.FrameText.{FrameValue}
 use Rattle.ax25_link.specs.Kept.{Fits, IsFromPeer, SameStations, is_pending}
 use Rattle.ax25_link.specs.Window.{Window}
 use Rattle.ax25_link.specs.declared.state.LinkState.TheVariants.{Up}
 use Rattle.file_store.specs.Calls.{Leaves}
+use Rattle.file_store.specs.Command.{after_all}
 use Rattle.file_store.specs.EntriesKept.{KeepsComplete}
 use Rattle.file_store.specs.OnDisk.{MakesFirst}
 use Rattle.file_store.specs.Files.{store_of}
@@ -21,7 +22,7 @@ use Rattle.disk_model.specs.declared.halt.Halt.{Halt as Stop}
 use Rattle.disk_model.specs.declared.halt.Halt.TheVariants as stop
 use Rattle.ftl0_server.specs.Connection.ConnectionState.{ConnectionState, with_reads}
 use Rattle.ftl0_server.specs.Connection.Connected.{Connected}
-use Rattle.ftl0_server.specs.Connection.Hearing.{Happened, hearing}
+use Rattle.ftl0_server.specs.Connection.Hearing.{Happened, LooksAtNone, hearing}
 use Rattle.ftl0_server.specs.Connection.Taking.{fails, goes_on}
 use Rattle.ftl0_server.specs.declared.place.Place.{Place}
 use Rattle.ftl0_server.specs.declared.place.Place.TheVariants.{Free, Talking, Leaving}
@@ -111,7 +112,8 @@ PlaceHearsBy g w event before now place (Err stop.OutOfMemory) =
 
 -- A frame was heard at a place, of which this is what it makes of the connection there by the failures of the disk;
 -- reads failed at these parts of it. Since it came each image stands for the store after the first of the commands that
--- it has where no write and no sync fails, for some number of them.
+-- it has where no write and no sync fails, for some number of them. Where there was no stop the store is the one after
+-- all of them.
 pub record PlaceHears {D : Type 0} (g : Ghosts D) (w : Window) (event : List Failure → Happened)
     (before : AtDisk StoreState D) (now : WorkingOn D) (place : Place) (result : Result ⊤ Stop) : Type 0 where
   pub parts : List ℕ
@@ -119,13 +121,17 @@ pub record PlaceHears {D : Type 0} (g : Ghosts D) (w : Window) (event : List Fai
   pub since :
       Leaves g before.disk now.disk
       (λ _. MakesFirst (store_on g before.it before.disk) (with_reads event parts []).done)
+  pub store :
+      result ≡ Ok tt
+      → store_on g now.store now.disk ≡ after_all (store_on g before.it before.disk) (with_reads event parts []).done
 
 -- A frame was heard at this moment, of whichever connection the place stood for: where it is known what octets the
--- files have, it is of that connection what the frame makes.
+-- files have, or no octet of a file is looked at, it is of that connection what the frame makes.
 abbrev pub PlaceHearsFrame :
     {D : Type 0} → Ghosts D → ℕ → FrameValue → WorkingOn D → WorkingOn D → Place → Place → Result ⊤ Stop → Type 0
 PlaceHearsFrame g moment frame before now old new result =
-    IsKnown g before.disk → (w : Window) (c : Connected) → IsPlace w before.store old (connected c)
+    (w : Window) (c : Connected) → IsPlace w before.store old (connected c)
+    → IsKnown g before.disk ⊎ LooksAtNone w moment (store_on g before.store before.disk) before.lists c frame
     → PlaceHears g w (hearing w moment (store_on g before.store before.disk) before.lists c frame)
     (at before.store before.disk) now new result
 

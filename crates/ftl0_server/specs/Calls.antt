@@ -16,7 +16,7 @@ use Rattle.ftl0_session.specs.Uploads.Failures.{Failure, failed_write}
 use Rattle.ftl0_session.specs.SessionState.{caller_of, new_session}
 use Rattle.disk_model.specs.declared.halt.Halt.{Halt as Stop}
 use Rattle.disk_model.specs.declared.halt.Halt.TheVariants as stop
-use Rattle.node.specs.Events.{IsFor}
+use Rattle.node.specs.Events.{IsFor, NodeEvent}
 use Rattle.ftl0_server.specs.AtPlace.{KeepsStore}
 use Rattle.ftl0_server.specs.Connection.ConnectionState.{ConnectionState, with_reads}
 use Rattle.ftl0_server.specs.Connection.Taking.{fails, goes_on}
@@ -25,6 +25,7 @@ use Rattle.ftl0_server.specs.declared.place.Place.TheVariants.{Talking}
 use Rattle.ftl0_server.specs.Places.{SamePlace}
 use Rattle.ftl0_server.specs.Server.{Server, ServerHappened, ServerSends, server_next}
 use Rattle.ftl0_server.specs.ServerState.{IsServer, SendsFor, ServerState, server_pending}
+use Rattle.ftl0_server.specs.ServerStep.{LooksAtNoFile, happening}
 
 -- What an event does, where `event` gives what it makes of the server by the writes and syncs that fail in it. Where
 -- all was taken none failed, and its commands are done. Where the disk failed, at a write or a sync of some packet and
@@ -67,14 +68,17 @@ pub record AwaitsFrame {D : Type 0} (g : Ghosts D) (self : ServerState) (disk : 
   pub numbers : FitsControl frame.kind.control
   pub awaits : AwaitsEvent g self disk
 
--- What an event does, which makes this of a server by the failures of the disk: of whichever server it stood for, over
--- the store of files that the disk holds, it is what the event makes of that, or it stops; this where it is known what
--- octets the files have. It keeps its store and its call.
-pub record HearsEvent {D : Type 0} (g : Ghosts D) (event : Server → List Failure → ServerHappened)
-    (old new : ServerState) (disk disk_now : D) (result : Result ⊤ Stop) : Type 0 where
+-- What an event does: of whichever server it stood for, over the store of files that the disk holds, it is what the
+-- event makes of that, or it stops; this where it is known what octets the files have, and on every disk where no octet
+-- of a file is looked at. It keeps its store and its call.
+pub record HearsEvent {D : Type 0} (g : Ghosts D) (event : NodeEvent) (old new : ServerState) (disk disk_now : D)
+    (result : Result ⊤ Stop) : Type 0 where
   pub hears :
       IsKnown g disk → (server : Server) → IsServer (store_on g old.store disk) old server
-      → Hears g (event server) old new disk disk_now result
+      → Hears g (happening server event) old new disk disk_now result
+  pub alone :
+      (server : Server) → IsServer (store_on g old.store disk) old server → LooksAtNoFile server event
+      → Hears g (happening server event) old new disk disk_now result
   pub keeps : KeepsStore g (IsErrOf result stop.Disk) old.store new.store disk disk_now
   pub me : new.me ≡ old.me
 

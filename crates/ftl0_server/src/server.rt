@@ -8,16 +8,15 @@ ghost use Rattle.file_store.specs.IsStore.{IsStore};
 ghost use Rattle.file_store.specs.Calls.{Leaves, Runs, TakesStep};
 ghost use Rattle.file_store.specs.Journal.{IsAfterRecovery};
 ghost use Rattle.file_store.specs.Recovery.{IsRecovered, LeavesAlikeSinceSync, RefusesRecovery, StandsAlike};
-ghost use Rattle.file_store.specs.State.{IsKnown, IsRead, IsReady, store_in, store_layout, store_magic, store_on};
+ghost use Rattle.file_store.specs.State.{IsRead, IsReady, store_in, store_layout, store_magic, store_on};
 ghost use Rattle.file_store.specs.Store.{Store};
 ghost use Rattle.ftl0_session.specs.SessionState.{caller_of};
-ghost use Rattle.node.specs.Events.{ticks};
-ghost use Rattle.ftl0_server.specs.ServerStep.{happening};
+ghost use Rattle.node.specs.Events.{hears, ticks};
 ghost use Rattle.ftl0_server.specs.AtPlace.{AllFit};
 ghost use Rattle.ftl0_server.specs.Calls.{AwaitsEvent, AwaitsFrame, HandsOutNext, HearsStranger, IsNew, SameButLinks};
 ghost use Rattle.ftl0_server.specs.Calls.{SameStore, Seats, HearsEvent};
 ghost use Rattle.ftl0_server.specs.Server.{Server as ServerValue, called_by, hearing_stranger, new_server, refusing};
-ghost use Rattle.ftl0_server.specs.Server.{server_hearing, server_ticking, settled};
+ghost use Rattle.ftl0_server.specs.Server.{server_ticking, settled};
 ghost use Rattle.ftl0_server.specs.ServerState.{IsServer, SendsFor, has_caller, is_empty_place, server_most};
 ghost use Rattle.ftl0_server.specs.ServerState.{server_pending, sessions_in};
 ghost use Rattle.ftl0_server.specs.Slots.{first_empty};
@@ -88,8 +87,7 @@ impl Server {
             IsServer store server (new_server me (window_of k) store)) }
         ensures magic { IfOk result (λ server. server.store.journal.magic ≡ store_magic) }
         ensures rules { IfOk result (λ server. IsStore (store_in server.store)) }
-        ensures known_rules { IfOk result (λ server. IsKnown D.Disk disk.new →
-            IsStore (store_on D.Disk server.store disk.new)) }
+        ensures rules_on { IfOk result (λ server. IsStore (store_on D.Disk server.store disk.new)) }
         ensures silent { IfOk result (λ server. server_pending server ≡ false) }
         ensures me { IfOk result (λ server. server.me ≡ me) }
 
@@ -148,9 +146,9 @@ impl Server {
         requires { AwaitsFrame D.Disk self.old disk.old (value_of frame.now) }
 
         // Of whichever server it stands for, over the store that the disk holds, it is what the frame makes of that, or
-        // it stops, where it is known what octets the files have. It keeps what the next event needs.
-        ensures { HearsEvent D.Disk (λ server. server_hearing server (value_of frame.now) moment)
-            self.old self.new disk.old disk.new result }
+        // it stops: where it is known what octets the files have, and on every disk where none of them is looked at, as
+        // for a stranger's frame, or one that brings no packet or refused ones. It keeps what the next event needs.
+        ensures { HearsEvent D.Disk (hears (value_of frame.now) moment) self.old self.new disk.old disk.new result }
     {
         match place_of(&self.places, frame.src) {
             Some(place) => self.hear_at(place, disk, frame, moment),
@@ -166,8 +164,7 @@ impl Server {
         ensures ok { result ≡ Ok tt }
 
         // What a power cut inside it leaves, said as of a frame.
-        ensures takes { HearsEvent D.Disk (λ server. happening server (ticks _moment))
-            self.old self.new _disk.old _disk.new result }
+        ensures takes { HearsEvent D.Disk (ticks _moment) self.old self.new _disk.old _disk.new result }
         ensures ticks { (store : Store) → (server : ServerValue) → IsServer store self.old server →
             IsServer store self.new (server_ticking server) }
         ensures untouched { _disk.new ≡ _disk.old }
@@ -261,8 +258,7 @@ impl Server {
     ) -> Result<(), Halt>
         requires place { position (has_caller (value_of frame.now).src) self.old.places ≡ Some place }
         requires awaits { AwaitsFrame D.Disk self.old disk.old (value_of frame.now) }
-        ensures { HearsEvent D.Disk (λ server. server_hearing server (value_of frame.now) moment)
-            self.old self.new disk.old disk.new result }
+        ensures { HearsEvent D.Disk (hears (value_of frame.now) moment) self.old self.new disk.old disk.new result }
     {
         let places: &mut [Place] = &mut self.places;
         let at = &mut places[place];

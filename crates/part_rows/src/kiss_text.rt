@@ -57,7 +57,11 @@ fn read(alloc: Global, octets: &[u8]) -> Result<String> {
     let text = read_whole(alloc, octets)?;
     for len in LENGTHS {
         let found = read_in_pieces(alloc, octets, len)?;
-        same_text(found.as_str(), text.as_str(), format_args!("in pieces of {len} octets"))?;
+        same_text(
+            found.as_str(),
+            text.as_str(),
+            format_args!("in pieces of {len} octets"),
+        )?;
     }
     Ok(text)
 }

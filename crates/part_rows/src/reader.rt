@@ -30,7 +30,11 @@ fn check_all(alloc: Global, file: &[u8]) -> Result<String> {
     let text = check_cut(alloc, file, 1)?;
     for len in 2..89 {
         let found = check_cut(alloc, file, len)?;
-        same_text(found.as_str(), text.as_str(), format_args!("in pieces of {len}"))?;
+        same_text(
+            found.as_str(),
+            text.as_str(),
+            format_args!("in pieces of {len}"),
+        )?;
     }
     Ok(text)
 }
@@ -50,7 +54,10 @@ fn sums_text(alloc: Global, file: &[u8], sums: &Sums) -> Result<String> {
     let whole = whole_text(alloc, file)?;
     let len = sums.header_len;
     let (body, header) = (sums.body_sum, sums.header_sum);
-    text_of(alloc, format_args!("{len} {body:04x} {header:04x}; {whole}"))
+    text_of(
+        alloc,
+        format_args!("{len} {body:04x} {header:04x}; {whole}"),
+    )
 }
 
 /// A fault, which the check of the whole file has to find too.

@@ -5,7 +5,7 @@ use anyhow::{Result, bail, ensure};
 use client_notes::NotesRefusal;
 use disk_model::DiskFault;
 use file_journal::{JournalFault, ReadFault, RecoverFault, StoreFault};
-use file_store::{BeginRefusal, ResumeRefusal};
+use file_store::{BeginRefusal, HeaderFault, ResumeRefusal};
 use row_words::{Player, kind_and_rest, text_of, two_parts};
 use std::alloc::Global;
 
@@ -27,6 +27,7 @@ impl Player for RefusalRows {
             }
             "file_store::BeginRefusal" => text_of(alloc, begin_refusal(name, value)?),
             "file_store::ResumeRefusal" => text_of(alloc, resume_refusal(name)?),
+            "file_store::HeaderFault" => text_of(alloc, header_fault(name)?),
             "client_notes::NotesRefusal" => text_of(alloc, notes_refusal(name, value)?),
             _ => bail!("no type of a refusal"),
         }
@@ -119,6 +120,15 @@ fn resume_refusal(name: &str) -> Result<ResumeRefusal> {
         "Bad" => ResumeRefusal::Bad,
         "Complete" => ResumeRefusal::Complete,
         "Failed" => ResumeRefusal::Failed,
+        _ => bail!("no refusal"),
+    })
+}
+
+/// `Disk`, `NoHeader`
+fn header_fault(name: &str) -> Result<HeaderFault> {
+    Ok(match name {
+        "Disk" => HeaderFault::Disk,
+        "NoHeader" => HeaderFault::NoHeader,
         _ => bail!("no refusal"),
     })
 }

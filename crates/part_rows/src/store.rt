@@ -58,7 +58,10 @@ fn standing_text(alloc: Global, info: Option<Info>) -> Result<String> {
     } else {
         "under way"
     };
-    text_of(alloc, format_args!("{held} of {length}, {end}, begun {begun}"))
+    text_of(
+        alloc,
+        format_args!("{held} of {length}, {end}, begun {begun}"),
+    )
 }
 
 /// What an upload tells, and the store of it.

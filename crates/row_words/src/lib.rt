@@ -30,9 +30,7 @@ use std::alloc::Global;
 use std::fs;
 use std::io::Print;
 use std::rt::Files;
-pub use texts::{
-    four_parts, hex_text, kind_and_rest, push_shown, text_of, three_parts, two_parts,
-};
+pub use texts::{four_parts, hex_text, kind_and_rest, push_shown, text_of, three_parts, two_parts};
 
 /// What plays rows, one after another.
 pub trait Player {

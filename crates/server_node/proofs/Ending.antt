@@ -119,7 +119,7 @@ module _ {A C D T : Type 0} (seen : Seen D A C) (blocks : ℕ) (given : Option �
 -- The recovery gave this, with this store on the disk.
 pub record Recovers {D T : Type 0} (g : Ghosts D) (blocks : ℕ) (old mid : D) (value : T) (start : StoreState) : Type 0 where
   pub recovered : IsRecovered g blocks old mid start
-  pub rules : IsKnown g mid → IsStore (store_on g start mid)
+  pub rules : IsStore (store_on g start mid)
   pub runs : Runs g (IsErrOf {T = T} (Ok value) fault.Disk) old mid
   pub octets : TakesStep g old mid (IsAfterRecovery store_magic store_layout blocks)
   pub since_start : Leaves g old mid (StandsAlike blocks)
@@ -230,7 +230,7 @@ module _ {A C D T : Type 0} (seen : Seen D A C) (on : (first second third : D) �
     refuses = λ no_disk no_memory. told_weaker (g.content old.disk) _ _ (λ octets told stood. grind (arith, common_steps, did.ends, stood)) h.recovered.content;
     ends = inr (record {
       start = store_on g start mid;
-      rules = λ known. h.rules (known_on g old.disk mid h.runs.told known);
+      rules = h.rules;
       stood = h.recovered.content;
       recovered = mid;
       octets = h.octets;

@@ -1,16 +1,14 @@
 -- Events one after another, and a stop at one of them, whatever serves them; and whether it is known what octets the
 -- store's files have.
 use Rattle.std.proofs.lemmas.Grind.{common_steps}
-use Rattle.std.proofs.Common.{◌≡◌, ◌⊎◌, inl, inr, ℕ, ◌+◌, List, [], ◌∷◌, ◌++◌, Bool, Option, None, Some, refl, ap, sym, ◌∙◌, append_assoc, arith}
+use Rattle.std.proofs.Common.{◌≡◌, ℕ, ◌+◌, List, [], ◌∷◌, ◌++◌, Bool, refl, ap, sym, ◌∙◌, append_assoc, arith}
 use Rattle.std.proofs.Math.Nat.{add_assoc}
-use Rattle.disk_model.specs.Disk.{IsTold}
 use Rattle.disk_model.specs.declared.disk.Disk.{Ghosts}
 use Rattle.file_store.specs.Command.{Command}
-use Rattle.file_store.specs.Layout.{Layout}
-use Rattle.file_store.specs.Layout.TheVariants as layout
-use Rattle.file_store.specs.State.{IsKnown, IsReady, StoreState, store_form}
+use Rattle.file_store.specs.State.{IsReady, StoreState}
 use Rattle.file_store.specs.Working.{CutsOffAmongReads, DoesAmongReads, PutsAmongReads}
 use Rattle.file_store.proofs.Offered.{Does-none, among-then, cuts-among-then, does-among, puts_none, puts-among, puts-among-then}
+pub use Rattle.ftl0_server.proofs.Offered.{known-or-not}
 use Rattle.node.specs.Course.{AtDisk, at}
 use Rattle.node.specs.declared.stop.NodeStop.{NodeStop}
 use Rattle.node.specs.declared.stop.NodeStop.TheVariants as stop
@@ -29,19 +27,6 @@ pub does-none : {D : Type 0} (g : Ghosts D) (store : StoreState) (disk : D) → 
 does-none g store disk ready lasts = does-among g ⊥ store store disk disk [] (Does-none g ⊥ store disk (λ never. never) ready lasts)
 
 -- ---- whatever the disk tells
-
--- what octets the files have is known, or it isn't
-knows-or-not : (l : Layout) (content : Option (List ℕ)) → ((l ≡ layout.Growing) ⊎ IsTold content) ⊎ ¬ ((l ≡ layout.Growing) ⊎ IsTold content)
-knows-or-not layout.Growing content = inl (inl refl)
-knows-or-not layout.Blocks (Some octets) = inl (inr refl)
-knows-or-not layout.Blocks None = inr neither
-  where
-    neither : (layout.Blocks ≡ layout.Growing) ⊎ IsTold None → ⊥
-    neither (inl growing) = cc growing
-    neither (inr told) = cc told
-
-pub known-or-not : {D : Type 0} (g : Ghosts D) (disk : D) → IsKnown g disk ⊎ ¬ IsKnown g disk
-known-or-not g disk = knows-or-not store_form.layout (g.content disk)
 
 -- no call
 pub puts-still : {D : Type 0} (g : Ghosts D) (P : Type 0) (disk : D) → ¬ P → g.lasts disk disk → PutsAmongReads g P disk disk

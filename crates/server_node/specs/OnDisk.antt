@@ -10,8 +10,8 @@ use Rattle.file_store.specs.StoreFault.{StoreFault}
 use Rattle.file_store.specs.StoreFault.TheVariants as fault
 
 -- What a recovery that is refused leaves on the disk: what a crash might have left before, or what stands for the same
--- as the content, and is the content where that has 18 octets or more; since the end of the first sync the latter, but
--- where that sync failed.
+-- as the content, and is the content where that is a store formatted to its end; since the end of the first sync the
+-- latter, but where that sync failed.
 pub record LeavesStanding {D : Type 0} (g : Ghosts D) (blocks : ℕ) (why : StoreFault) (disk disk_now : D) : Type 0 where
   pub since_sync :
       IfSome (g.content disk) (λ before. IsSyncedFirst g disk disk_now (StandsAlike blocks before)

@@ -65,7 +65,7 @@ pub record IsUnrecovered {A C D : Type 0} (seen : Seen D A C) (blocks : ℕ) (ol
 pub record IsServed {A C D : Type 0} (seen : Seen D A C) (blocks : ℕ) (given : Option ℕ)
     (Ran : Store → Run → Type 0) (old new : Lent D A C) (result : Result Served NodeStop) : Type 0 where
   pub start : Store
-  pub rules : IsKnown seen.disk old.disk → IsStore start
+  pub rules : IsStore start
   pub stood : IfSome (seen.disk.content old.disk) (λ octets. standing_of blocks octets ≡ state start)
   pub recovered : D
   pub octets : TakesStep seen.disk old.disk recovered (IsAfterRecovery store_magic store_layout blocks)

@@ -1,7 +1,7 @@
 -- How a connection queues what is due, behind the packets of a frame.
 use Rattle.std.proofs.lemmas.Grind.{common_steps}
 use Rattle.std.proofs.Common.{◌≡◌, ◌⊎◌, inl, inr, ℕ, suc, ◌+◌, ◌<◌, ◌≤◌, Bool, true, false, List, [], ◌++◌, refl, ap, sym, ◌∙◌, subst, arith, append-nil}
-use Rattle.std.specs.Prelude.{All, Some, Result, Ok, ⊤}
+use Rattle.std.specs.Prelude.{All, None, Some, Result, Ok, ⊤}
 use Rattle.std.proofs.Math.Nat.{add-zero, add_assoc}
 use Rattle.std.proofs.lemmas.List.Elements.{All-append, All-nil, All-weaker}
 use Rattle.disk_model.specs.declared.disk.Disk.{Ghosts}
@@ -16,18 +16,32 @@ use Rattle.file_store.proofs.Offered.{among-same, among-store, among-then, does-
 use Rattle.ftl0_session.specs.Uploads.Failures.{Failure, failed_reads, read_fails}
 use Rattle.disk_model.specs.declared.halt.Halt.{Halt as Stop}
 use Rattle.ftl0_session.specs.SessionState.{WorkingOn, state_in}
-use Rattle.ftl0_session.specs.Table.{State, due_at, next_due, tells_failed_read}
+use Rattle.ftl0_session.specs.Table.{DuePacket, State, due_at, next_due, tells_failed_read}
 use Rattle.disk_model.specs.AtDisk.{AtDisk}
 use Rattle.ftl0_server.specs.declared.connection.fate.Fate.{Fate}
 use Rattle.ftl0_server.specs.declared.connection.fate.Fate.TheVariants.{Stays}
 use Rattle.ftl0_server.specs.Connection.ConnectionState.{ConnectionState, Hears, HearsBy}
 use Rattle.ftl0_server.specs.Connection.Feeding.{AreFree, HearsParts, IsNothingDue, KeepsFit, Queued, QueuesBy, QueuesDue, QueuesPacket}
-use Rattle.ftl0_server.specs.Connection.Hearing.{progressed}
+use Rattle.ftl0_server.specs.Connection.Hearing.{NoneDue, progressed}
 use Rattle.ftl0_server.specs.Connection.Taking.{Progress, after_due, enough_free, fails, queued, queuing}
 use Rattle.ftl0_server.proofs.connection.FailureLemmas.{alike-second, All-at, among-at as among-one, among-first, at_part, none-writes, reads-among}
 use Rattle.packet_link.proofs.Fronts.{stations-then}
 use Rattle.ftl0_server.proofs.connection.HearsLemmas.{IsStop}
 use Rattle.ftl0_server.proofs.connection.QueuingLemmas.{KeepsRest, queued-keeps, queued-on, queuing-alike, queuing-fewer, queuing-keeps, queuing-next, queuing-none}
+
+-- ---- nothing is due
+
+pub none-due : (store : Store) (state : State) (fails : Bool) → NoneDue state → next_due store state fails ≡ None
+none-due store state reads none = rw none refl
+
+-- and a packet is
+due-no : (store : Store) (state : State) (fails : Bool) (due : DuePacket) → NoneDue state → next_due store state fails ≡ Some due → ⊥
+due-no store state reads due none is = cc (sym (none-due store state reads none) ∙ is)
+
+-- a packet was put, so the other is so
+pub known-or : {Known : Type 0} {put due : Bool} → put ≡ due → put ≡ true → Known ⊎ (due ≡ false) → Known
+known-or same is (inl known) = known
+known-or same is (inr none) = absurd (let x : true ≡ false = sym is ∙ same ∙ none in cc x)
 
 module _ {D : Type 0} (g : Ghosts D) (lasts : (disk : D) → g.lasts disk disk) (on : (first second third : D) → g.lasts first second → g.lasts second third → g.lasts first third) where
   -- ---- no packet
@@ -50,16 +64,17 @@ module _ {D : Type 0} (g : Ghosts D) (lasts : (disk : D) → g.lasts disk disk) 
       missed = 0;
       missed_is = sym (add-zero progress.missed);
       reads = subst (λ (d : D). DoesAmongReads g ⊥ 0 store store disk d []) (sym untouched) (does-none store disk ready);
+      store_is = ap (λ (d : D). store_on g store d) untouched;
     }
 
     queues-none : IsNothingDue g store disk old.session ⊎ AreFree old.link (λ free. free < enough_free) → QueuesDue g store disk disk_n old new
-    queues-none (inl none) known w progress stands stood =
+    queues-none (inl none) seen w progress stands stood =
         still w progress stands stood
         (sym (queuing-none (store_on g store disk) (failed_reads []) (free_octets progress.end) progress (ap (λ (s : State). next_due (store_on g store disk) s false) (sym stood) ∙ none false)))
-    queues-none (inr few) known w progress stands stood = grind (arith, common_steps, still, queuing-fewer)
+    queues-none (inr few) seen w progress stands stood = grind (arith, common_steps, still, queuing-fewer)
 
-  pub queues-last : (store : StoreState) (disk disk_n : D) (old new : ConnectionState) → IsReady g store disk → (IsKnown g disk → QueuesBy g store disk disk_n old new false) → QueuesDue g store disk disk_n old new
-  queues-last store disk disk_n old new ready last known = let is = last known in queues-none store disk disk_n old new ready is.0 is.1 is.2 is.3 known
+  pub queues-last : (store : StoreState) (disk disk_n : D) (old new : ConnectionState) → IsReady g store disk → (IsKnown g disk ⊎ NoneDue (state_in store old.session) → QueuesBy g store disk disk_n old new false) → QueuesDue g store disk disk_n old new
+  queues-last store disk disk_n old new ready last seen = let is = last seen in queues-none store disk disk_n old new ready is.0 is.1 is.2 is.3 seen
 
   -- ---- one packet, and then the others
 
@@ -110,14 +125,17 @@ module _ {D : Type 0} (g : Ghosts D) (lasts : (disk : D) → g.lasts disk disk) 
           missed = one_if (tells_failed_read one.due.packet) + more.missed;
           missed_is = more.missed_is ∙ add_assoc progress.missed (one_if (tells_failed_read one.due.packet)) more.missed;
           reads = among-then g on ⊥ ⊥ (one_if (tells_failed_read one.due.packet)) more.missed store store store disk disk_m disk_n [] [] (λ never. never) one.reads more.reads;
+          store_is = more.store_is ∙ same-store;
         }
 
-  pub queues-then : (store : StoreState) (disk disk_m disk_n : D) (old mid new : ConnectionState) → (IsKnown g disk → QueuesPacket g store disk disk_m old mid) → QueuesDue g store disk_m disk_n mid new
+  pub queues-then : (store : StoreState) (disk disk_m disk_n : D) (old mid new : ConnectionState) → (IsKnown g disk ⊎ NoneDue (state_in store old.session) → QueuesPacket g store disk disk_m old mid) → QueuesDue g store disk_m disk_n mid new
       → QueuesDue g store disk disk_n old new
-  queues-then store disk disk_m disk_n old mid new one more known w progress stands state =
-      let packet = one known in
+  queues-then store disk disk_m disk_n old mid new one more (inl known) w progress stands state =
+      let packet = one (inl known) in
       queued-one store disk disk_m disk_n old mid new known packet w progress stands state
-      (more (known-then store disk disk_m disk_n old mid new known packet) w (after_due packet.due progress) (packet.queued w progress.end stands) packet.state)
+      (more (inl (known-then store disk disk_m disk_n old mid new known packet)) w (after_due packet.due progress) (packet.queued w progress.end stands) packet.state)
+  queues-then store disk disk_m disk_n old mid new one more (inr none) w progress stands state =
+      let packet = one (inr none) in absurd (due-no (store_on g store disk) (state_in store old.session) packet.fails packet.due none packet.is_due)
 
   -- ---- what is left for the next event
 
@@ -132,17 +150,17 @@ module _ {D : Type 0} (g : Ghosts D) (lasts : (disk : D) → g.lasts disk disk) 
     whole failures = queued (store_on g before.it before.disk) failures (event failures)
 
     -- the connection goes on
-    pub hears-going : (between now : WorkingOn D) (mid new : ConnectionState) → IsKnown g before.disk → HearsParts g w left event before between mid (Stays, Ok tt) → now.store ≡ between.store → now.lists ≡ between.lists
+    pub hears-going : (between now : WorkingOn D) (mid new : ConnectionState) → IsKnown g between.disk ⊎ NoneDue (state_in between.store mid.session) → HearsParts g w left event before between mid (Stays, Ok tt) → now.store ≡ between.store → now.lists ≡ between.lists
         → new.octets ≡ mid.octets → QueuesDue g between.store between.disk now.disk mid new → Hears g w (λ failures. progressed left (whole failures)) before now new (Stays, Ok tt)
-    hears-going between now mid new known heard same lists octets queues =
+    hears-going between now mid new seen heard same lists octets queues =
         let h = heard.hears.by in
         let settled = heard.settled refl in
         let made : Progress = event ([] ++ failed_reads heard.hears.parts) in
         let is = h.1.1.1 in
         let q : Queued g w between.store between.disk now.disk new made =
-        queues (known_on g before.disk between.disk h.2.puts.told known) w made is.link is.state in
+        queues seen w made is.link is.state in
         let all : List Failure = [] ++ failed_reads (heard.hears.parts ++ q.parts) in
-        let stores : after_all (store_on g before.it before.disk) made.done ≡ store_on g between.store between.disk = sym ((h.2.done (λ never. never)).0 known) in
+        let stores : after_all (store_on g before.it before.disk) made.done ≡ store_on g between.store between.disk = sym (heard.hears.store refl) in
         let alike : (part : ℕ) → made.part ≤ part → read_fails all part ≡ read_fails (failed_reads q.parts) part =
         λ part later. (alike-second [] heard.hears.parts q.parts made.part (suc part) none-writes settled.before part later (omega arith)).0 in
         let now_is : whole all ≡ q.now =
@@ -152,7 +170,9 @@ module _ {D : Type 0} (g : Ghosts D) (lasts : (disk : D) → g.lasts disk disk) 
         let does : DoesAmongReads g ⊥ q.now.missed before.it now.store before.disk now.disk q.now.done = grind (arith, among-same, among-then, append-nil) in
         let by =
         subst (λ p. HearsBy g w (λ writes. progressed left p) before now new Stays (Ok tt)) (sym now_is) (grind arith) in
-        record { parts = heard.hears.parts ++ q.parts; by = by; since = by.2.since }
+        let store : store_on g now.store now.disk ≡ after_all (store_on g before.it before.disk) (whole all).done =
+        rw (same, now_is, rest.done) (q.store_is ∙ sym stores) in
+        record { parts = heard.hears.parts ++ q.parts; by = by; since = by.2.since; store = λ fine. store }
 
     -- it stopped, and nothing is queued
     module _ (now : WorkingOn D) (new : ConnectionState) (over : (failures : List Failure) → (event failures).halt ≡ fails → (event failures).over ≡ true) (parts : List ℕ) where
@@ -169,4 +189,5 @@ module _ {D : Type 0} (g : Ghosts D) (lasts : (disk : D) → g.lasts disk disk) 
       parts = heard.hears.parts;
       by = by-stopped now new heard.over heard.hears.parts told.0 told.1 stops heard.hears.by;
       since = rw (queued-keeps (store_on g before.it before.disk) ([] ++ failed_reads heard.hears.parts) (event ([] ++ failed_reads heard.hears.parts))).done heard.hears.since;
+      store = rw (queued-keeps (store_on g before.it before.disk) ([] ++ failed_reads heard.hears.parts) (event ([] ++ failed_reads heard.hears.parts))).done heard.hears.store;
     }

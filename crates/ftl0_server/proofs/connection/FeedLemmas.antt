@@ -11,7 +11,7 @@ use Rattle.packet_link.specs.PacketLink.{HasFront}
 use Rattle.packet_link.proofs.Fronts.{front-none, front-then, stations-same, stations-then}
 use Rattle.file_store.specs.Store.{Store, entry_of}
 use Rattle.file_store.specs.Position.{Position}
-use Rattle.file_store.proofs.Offered.{does-among, Does-none, in_parked, known_on, puts-among, puts-among-same, puts-among-then, puts_none, stands_parked}
+use Rattle.file_store.proofs.Offered.{does-among, Does-none, in_parked, puts-among, puts-among-same, puts-among-then, puts_none, stands_parked}
 use Rattle.file_store.specs.State.{StoreState, store_in}
 use Rattle.ftl0_session.specs.Uploads.Others.{KeepsOtherCallers}
 use Rattle.disk_model.specs.AtDisk.{AtDisk, at}
@@ -25,7 +25,7 @@ use Rattle.ftl0_server.specs.declared.connection.fate.Fate.TheVariants.{Stays}
 use Rattle.ftl0_server.specs.AtPlace.{GivesUp}
 use Rattle.ftl0_server.specs.Connection.ConnectionState.{ConnectionState}
 use Rattle.ftl0_server.specs.Connection.Feeding.{Feeds, FeedsAll, IsAmong, IsGoing, KeepsFit, LeavesFit, MayQueue, MayTake, TakesSome, carrying}
-use Rattle.ftl0_server.proofs.connection.HearsLemmas.{IsStop, takes-then}
+use Rattle.ftl0_server.proofs.connection.HearsLemmas.{IsStop, seen-first, seen-then, takes-then}
 use Rattle.ftl0_server.proofs.connection.Invariants.{IsTaking}
 
 -- ---- what is left for the next packet
@@ -120,10 +120,11 @@ module _ {D : Type 0} (g : Ghosts D) where
         feeds = record {
           items = [];
           front = front-none old.octets;
-          takes = λ known w end first stands. record {
+          takes = λ seen w end first stands. record {
             parts = [];
             among = All-nil (IsAmong first 0);
             by = (refl, (refl, (refl, record { link = stands; rest = refl; state = refl })), does-among g ⊥ _ _ _ _ [] (Does-none g ⊥ _ _ (λ never. never) may.may.ready lasts));
+            store = λ fine. refl;
           };
         };
         fit = fit-heard before old.link old.link old.session Stays lasts may.may (λ stays. may.up) (stations-same old.link);
@@ -136,9 +137,11 @@ module _ {D : Type 0} (g : Ghosts D) where
         feeds-one = record {
           items = h.feeds.items ++ item ∷ [];
           front = front-then old.octets mid.octets new.octets h.feeds.items (item ∷ []) h.feeds.front front;
-          takes = λ known w end from stands.
-              takes-then g on w moment old mid new before between now end h.feeds.items (item ∷ []) from h.fit.caller known (h.feeds.takes known w end from stands) told
-              (λ next there. takes (known_on g before.disk between.disk h.fit.puts.told known) w next (from + length h.feeds.items) there);
+          takes = λ seen w end from stands.
+              let one = h.feeds.takes (seen-first g moment old.session before h.feeds.items (item ∷ []) seen) w end from stands in
+              takes-then g on w moment old mid new before between now end h.feeds.items (item ∷ []) from h.fit.caller one told
+              (λ next there.
+              takes (seen-then g on w moment old mid new before between now end h.feeds.items (item ∷ []) from h.fit.caller one seen) w next (from + length h.feeds.items) there);
         }
 
         module _ (fit : LeavesFit g (at between.store between.disk) now mid.link new.link mid.session new.session told) where

@@ -1,13 +1,13 @@
 -- How a connection hears a frame.
 use Rattle.std.proofs.lemmas.Grind.{common_steps}
-use Rattle.std.proofs.Common.{arith, ◌≡◌, ◌⊎◌, inl, inr, ℕ, ◌<◌, true, List, [], ◌++◌, refl, ap, sym, ◌∙◌, subst}
+use Rattle.std.proofs.Common.{arith, ◌≡◌, ◌⊎◌, inl, inr, ℕ, ◌<◌, true, false, List, [], ◌++◌, refl, ap, sym, ◌∙◌, subst}
 use Rattle.std.specs.Prelude.{Result, Ok, ⊤}
 use Rattle.std.proofs.lemmas.List.Elements.{All-nil}
 use Rattle.px_base.specs.CallSign.{CallSign}
 use Rattle.ax25_frames.specs.FrameText.{FrameValue}
 use Rattle.disk_model.specs.declared.disk.Disk.{Ghosts}
 use Rattle.ax25_link.specs.declared.state.Heard.{Heard}
-use Rattle.ax25_link.specs.declared.state.Heard.TheVariants.{Bytes, Nothing, Opened}
+use Rattle.ax25_link.specs.declared.state.Heard.TheVariants.{Bytes, Closed, Nothing, Opened, Reopened}
 use Rattle.ax25_link.specs.Ends.{LinkEnd}
 use Rattle.ax25_link.specs.Kept.{Kept, StandsFor, Tells}
 use Rattle.ax25_link.specs.Rows.{after_frame, heard_of}
@@ -15,10 +15,12 @@ use Rattle.ax25_link.specs.Window.{Window}
 use Rattle.ftl0_packets.specs.Reading.{packets_of, rest_of}
 use Rattle.ftl0_session.specs.Lists.Lists.{CallerList, has_left}
 use Rattle.file_store.specs.State.{IsReady, StoreState, store_on}
+use Rattle.file_store.specs.Store.{Store}
 use Rattle.file_store.specs.Working.{DoesAmongReads}
-use Rattle.file_store.proofs.Offered.{among-parked, does-among, Does-none}
+use Rattle.file_store.proofs.Offered.{among-parked, does-among, Does-none, on_parked}
 use Rattle.ftl0_session.specs.declared.uploads.phase.Phase.{Phase}
 use Rattle.disk_model.specs.AtDisk.{at}
+use Rattle.ftl0_session.specs.Uploads.Failures.{Failure, write_fails}
 use Rattle.ftl0_session.specs.Uploads.SessionState.{Parks}
 use Rattle.disk_model.specs.declared.halt.Halt.{Halt as Stop}
 use Rattle.ftl0_session.specs.Table.{State}
@@ -30,8 +32,9 @@ use Rattle.ftl0_server.specs.AtPlace.{GivesUp}
 use Rattle.ftl0_server.specs.Connection.Connected.{Connected, beginning}
 use Rattle.ftl0_server.specs.Connection.ConnectionState.{ConnectionState, IsConnection}
 use Rattle.ftl0_server.specs.Connection.Feeding.{HearsParts}
-use Rattle.ftl0_server.specs.Connection.Hearing.{parts_as, rest_as, with_end}
+use Rattle.ftl0_server.specs.Connection.Hearing.{LooksAtNoneAs, NoneDue, NoneDueBehind, parts_as, rest_as, with_end}
 use Rattle.ftl0_server.specs.Connection.Taking.{resting, taking}
+use Rattle.ftl0_server.proofs.connection.TakingLemmas.{looks-same}
 
 -- the session's upload was given up
 pub parks-same : (store store_n : StoreState) (of : Phase) → Parks store store_n of → GivesUp store store_n
@@ -55,7 +58,7 @@ module _ {D : Type 0} (g : Ghosts D) (lasts : (disk : D) → g.lasts disk disk) 
   pub parts-on : IsConnection w store_n connection (record { end = end; rest = left; state = state })
       → HearsParts g w left (λ failures. resting end state on.lists 0) (at on.store on.disk) (working_on store_n on.lists on.disk) connection (Stays, Ok tt)
   parts-on is = record {
-    hears = record { parts = []; by = (refl, (refl, (refl, is)), does-nothing); since = does-nothing.since };
+    hears = record { parts = []; by = (refl, (refl, (refl, is)), does-nothing); since = does-nothing.since; store = λ fine. on_parked g on.store store_n on.disk gives_up.entries };
     over = λ failures halts. absurd cc;
     settled = λ goes. record { before = All-nil (λ part. part < 0); later = λ more later. refl };
   }
@@ -63,7 +66,7 @@ module _ {D : Type 0} (g : Ghosts D) (lasts : (disk : D) → g.lasts disk disk) 
   -- the session is over
   pub parts-over : StandsFor w connection.link end
       → HearsParts g w left (λ failures. record (resting end state on.lists 0) { over = true }) (at on.store on.disk) (working_on store_n on.lists on.disk) connection (Ends, Ok tt)
-  parts-over stands = grind (arith, common_steps, does-nothing)
+  parts-over stands = grind (arith, common_steps, does-nothing, on_parked)
 
 module _ {D : Type 0} (g : Ghosts D) (w : Window) (moment : ℕ) (frame : FrameValue) (before now : WorkingOn D) (new : ConnectionState) (result : Fate × Result ⊤ Stop) where
   -- what was heard of these octets, by what the link told
@@ -88,6 +91,18 @@ module _ {D : Type 0} (g : Ghosts D) (w : Window) (moment : ℕ) (frame : FrameV
       λ caller o. HearsParts g w (rest_of (c.rest ++ o)) (λ failures. taking caller moment (session_over (store_on g before.store before.disk) before.lists c.state) end (packets_of (c.rest ++ o)) failures 0)
       (at before.store before.disk) now new result in
       subst (P c.end.peer) same (subst (λ (caller : CallSign). P caller octets) peer h)
+
+-- where no octet of a file is looked at nothing is due behind the parts, if the session goes on
+pub looks-due : (told : Heard) (moment : ℕ) (store : Store) (lists : List CallerList) (c : Connected) (end : LinkEnd) (octets : List ℕ) (failures : List Failure) → ((n : ℕ) → write_fails failures n ≡ false)
+    → LooksAtNoneAs told moment store lists c end octets → (parts_as told moment store lists c end octets failures).over ≡ false → NoneDue (parts_as told moment store lists c end octets failures).state
+looks-due Nothing moment store lists c end octets failures none looks goes = looks
+looks-due Opened moment store lists c end octets failures none looks goes = looks
+looks-due Reopened moment store lists c end octets failures none looks goes = refl
+looks-due Bytes moment store lists c end octets failures none looks goes =
+    subst NoneDueBehind
+    (sym (looks-same c.end.peer moment (session_over store lists c.state) end (packets_of (c.rest ++ octets)) failures 0 looks.0 none))
+    looks.1 goes
+looks-due (Closed why) moment store lists c end octets failures none looks goes = absurd (cc goes)
 
 -- the peer of an end is that of the link that stands for it
 pub same-peer : (w : Window) (link link_n : Kept) (end next : LinkEnd) → StandsFor w link end → StandsFor w link_n next → link_n.peer ≡ link.peer → next.peer ≡ end.peer

@@ -1,6 +1,6 @@
 -- How what packets make of a connection is put together.
 use Rattle.std.proofs.lemmas.Grind.{common_steps}
-use Rattle.std.proofs.Common.{◌≡◌, ℕ, ◌+◌, ◌<◌, ◌≤◌, Bool, true, false, not, ◌&&◌, List, [], ◌++◌, length, refl, ap, sym, ◌∙◌, subst, arith, length-append}
+use Rattle.std.proofs.Common.{◌≡◌, inl, inr, ℕ, ◌+◌, ◌<◌, ◌≤◌, Bool, true, false, not, ◌&&◌, List, [], ◌++◌, length, refl, ap, sym, ◌∙◌, subst, arith, length-append}
 use Rattle.std.specs.Prelude.{All, Result, Ok, Err, ⊤}
 use Rattle.std.proofs.lemmas.List.Elements.{All-append, All-weaker}
 use Rattle.px_base.specs.CallSign.{CallSign}
@@ -13,8 +13,8 @@ use Rattle.file_store.specs.Calls.{Leaves}
 use Rattle.file_store.specs.Command.{Command, after_all}
 use Rattle.file_store.specs.Store.{Store}
 use Rattle.file_store.specs.OnDisk.{MakesFirst}
-use Rattle.file_store.specs.State.{IsKnown, StoreState, store_on}
-use Rattle.file_store.proofs.Offered.{among-then, cuts-among-all, cuts-among-then, makes-first, makes-within, told_weaker, weaker}
+use Rattle.file_store.specs.State.{StoreState, store_on}
+use Rattle.file_store.proofs.Offered.{after_all-append, among-then, cuts-among-all, cuts-among-then, known_back, known_on, makes-first, makes-within, told_weaker, weaker}
 use Rattle.ftl0_session.specs.Uploads.Failures.{Failure, failed_reads, failed_write, write_fails}
 use Rattle.disk_model.specs.declared.halt.Halt.{Halt as Stop}
 use Rattle.disk_model.specs.declared.halt.Halt.TheVariants as stop
@@ -25,11 +25,11 @@ use Rattle.ftl0_session.specs.Run.{Session}
 use Rattle.ftl0_server.specs.declared.connection.fate.Fate.{Fate}
 use Rattle.ftl0_server.specs.declared.connection.fate.Fate.TheVariants.{Ends, Stays}
 use Rattle.ftl0_server.specs.Connection.ConnectionState.{ConnectionState, HearsBy, StandsAfter, none_left, with_reads}
-use Rattle.ftl0_server.specs.Connection.Feeding.{HearsParts, IsAmong, IsGoing, TakesPackets, session_on, taking_some}
+use Rattle.ftl0_server.specs.Connection.Feeding.{HearsParts, IsAmong, IsGoing, IsSeen, TakesPackets, session_on, taking_some}
 use Rattle.ftl0_server.specs.Connection.Hearing.{Happened, progressed}
-use Rattle.ftl0_server.specs.Connection.Taking.{Halt, Progress, fails, goes_on, taking}
+use Rattle.ftl0_server.specs.Connection.Taking.{Halt, LookAtNone, Progress, fails, goes_on, taking}
 use Rattle.ftl0_server.proofs.connection.FailureLemmas.{AreWrites, alike-first, alike-second, none-writes, one-writes, other-part, reads-among, same-part, writes-none}
-use Rattle.ftl0_server.proofs.connection.TakingLemmas.{IsFront, behind, front-part, going, is_going, on_from, taking-alike, taking-begins, taking-ended, taking-failed, taking-fails, taking-on, taking-part}
+use Rattle.ftl0_server.proofs.connection.TakingLemmas.{IsFront, behind, front-part, going, is_going, looks-first, looks-on, on_from, taking-alike, taking-begins, taking-ended, taking-failed, taking-fails, taking-on, taking-part}
 
 -- the first of some commands, for some number of them, are the first of more commands
 pub leaves-front : {D : Type 0} (g : Ghosts D) (store : Store) (disk disk_n : D) (front all : List Command) → IsFront front all → Leaves g disk disk_n (λ _. MakesFirst store front)
@@ -52,6 +52,12 @@ going-halted progress halt never is = ap (λ (h : Halt). not progress.over && is
 -- a frame stopped the connection
 abbrev pub IsStop : Fate × Result ⊤ Stop → Type 0
 IsStop told = IsGoing told → ⊥
+
+-- what is known or looked at for packets is for the first of them
+pub seen-first : {D : Type 0} (g : Ghosts D) (moment : ℕ) (session : SessionState) (before : WorkingOn D) (items others : List Item) → IsSeen g moment session before (items ++ others)
+    → IsSeen g moment session before items
+seen-first g moment session before items others (inl known) = inl known
+seen-first g moment session before items others (inr (unknown, looks)) = inr (unknown, looks-first (caller_of session) moment (session_on g session before) items others looks)
 
 module _ {D : Type 0} (g : Ghosts D) (on : (first second third : D) → g.lasts first second → g.lasts second third → g.lasts first third) (w : Window) where
   -- ---- what stands since a frame came
@@ -77,7 +83,7 @@ module _ {D : Type 0} (g : Ghosts D) (on : (first second third : D) → g.lasts 
   -- ---- packets, and then others
 
   module _ (moment : ℕ) (old mid new : ConnectionState) (before between now : WorkingOn D) (end : LinkEnd) (items others : List Item) (first : ℕ) (callers : caller_of mid.session ≡ caller_of old.session)
-      (known : IsKnown g before.disk) (one : TakesPackets g w (taking_some g moment old.session before end items first) (IsAmong first (length items)) (at before.store before.disk) between (none_left mid.link mid.session) (Stays, Ok tt)) where
+      (one : TakesPackets g w (taking_some g moment old.session before end items first) (IsAmong first (length items)) (at before.store before.disk) between (none_left mid.link mid.session) (Stays, Ok tt)) where
     -- the parts behind them begin here
     abbrev next : ℕ
     next = first + length items
@@ -101,6 +107,23 @@ module _ {D : Type 0} (g : Ghosts D) (on : (first second third : D) → g.lasts 
     abbrev part_of : List Failure → Progress
     part_of failures = taking (caller_of mid.session) moment (session_on g mid.session between) made.end others failures next
 
+    -- where it goes on, as the others find it
+    from : on_from (store_on g before.store before.disk) made ≡ session_on g mid.session between
+    from =
+        let stores : after_all (store_on g before.store before.disk) made.done ≡ store_on g between.store between.disk = sym (one.store refl) in
+        rw (stores, sym one.by.1.0, sym one.by.1.1.1.state) refl
+
+    -- what octets are known or looked at
+    pub seen-then : IsSeen g moment old.session before (items ++ others) → IsSeen g moment mid.session between others
+    seen-then (inl known) = inl (known_on g before.disk between.disk one.by.2.puts.told known)
+    seen-then (inr (unknown, looks)) =
+        inr (
+          λ known. unknown (known_back g before.disk between.disk one.by.2.puts.told known),
+          subst (λ (s : Session). LookAtNone (caller_of mid.session) moment s others) from
+              (subst (λ (caller : CallSign). LookAtNone caller moment (on_from (store_on g before.store before.disk) made) others) (sym callers)
+              (looks-on (caller_of old.session) moment (session_on g old.session before) end items others ([] ++ failed_reads one.parts) first looks goes)),
+        )
+
     -- the whole is what they made, and what the others make from there
     same : (writes : List Failure) (parts : List ℕ) → AreWrites writes → ((part : ℕ) → part < next → write_fails writes part ≡ false) → All (λ part. next ≤ part) parts
         → whole (writes ++ failed_reads (one.parts ++ parts)) ≡ behind made.missed made.done (part_of (writes ++ failed_reads parts))
@@ -109,9 +132,7 @@ module _ {D : Type 0} (g : Ghosts D) (on : (first second third : D) → g.lasts 
         let these : taking (caller_of old.session) moment (session_on g old.session before) end items all first ≡ made =
         taking-alike (caller_of old.session) moment (session_on g old.session before) end items all ([] ++ failed_reads one.parts) first
         (alike-first writes one.parts parts first next are none later) in
-        let stores : after_all (store_on g before.store before.disk) made.done ≡ store_on g between.store between.disk = sym ((one.by.2.done (λ never. never)).0 known) in
-        let here : on_from (store_on g before.store before.disk) made ≡ session_on g mid.session between = rw (stores, sym one.by.1.0, sym one.by.1.1.1.state) refl in
-        rw (taking-on (caller_of old.session) moment (session_on g old.session before) end items others all first (rw these goes), these, number, here, callers)
+        rw (taking-on (caller_of old.session) moment (session_on g old.session before) end items others all first (rw these goes), these, number, from, callers)
         (ap (behind made.missed made.done)
         (taking-alike (caller_of old.session) moment (session_on g mid.session between) made.end others all (writes ++ failed_reads parts) next
         (alike-second writes one.parts parts next (next + length others) are ahead)))
@@ -163,6 +184,12 @@ module _ {D : Type 0} (g : Ghosts D) (on : (first second third : D) → g.lasts 
               (All-weaker (IsAmong first (length items)) (IsAmong first (length (items ++ others))) (λ part among. (among.0, omega (arith, among.1, sum))) one.parts one.among)
               (All-weaker (IsAmong next (length others)) (IsAmong first (length (items ++ others))) (λ part among. (omega (arith, among.0), omega (arith, among.1, sum))) two.parts two.among);
           by = by-then two.parts later told.0 told.1 two.by;
+          store = λ fine.
+              let done : (whole ([] ++ failed_reads (one.parts ++ two.parts))).done ≡ made.done ++ (part_of ([] ++ failed_reads two.parts)).done =
+              ap (λ (p : Progress). p.done) (same [] two.parts none-writes (λ n low. refl) later) in
+              two.store fine ∙ ap (λ (s : Store). after_all s (part_of ([] ++ failed_reads two.parts)).done) (one.store refl)
+              ∙ sym (after_all-append made.done (part_of ([] ++ failed_reads two.parts)).done (store_on g before.store before.disk))
+              ∙ ap (after_all (store_on g before.store before.disk)) (sym done);
         }
 
   -- ---- a stop
@@ -198,6 +225,15 @@ module _ {D : Type 0} (g : Ghosts D) (on : (first second third : D) → g.lasts 
           (h.0, is.1, is.2, is.3)
       by-ended parts fate (Err stop.OutOfMemory) stops h = grind (arith, common_steps, ended, going-over, taking-failed, going-halted)
 
+      store-ended : (parts : List ℕ) (fate : Fate) (result : Result ⊤ Stop) → IsStop (fate, result)
+          → HearsBy g w (λ writes. progressed [] (of_items (writes ++ failed_reads parts))) (at before.store before.disk) now (none_left new.link new.session) fate result
+          → (result ≡ Ok tt → store_on g now.store now.disk ≡ after_all (store_on g before.store before.disk) (of_items ([] ++ failed_reads parts)).done)
+          → result ≡ Ok tt → store_on g now.store now.disk ≡ after_all (store_on g before.store before.disk) (of_all ([] ++ failed_reads parts)).done
+      store-ended parts Stays result stops h store fine = absurd (stops (ap (λ (r : Result ⊤ Stop). (Stays, r)) fine))
+      store-ended parts Ends (Ok done) stops h store fine =
+          rw (ended ([] ++ failed_reads parts) (going-over (of_items ([] ++ failed_reads parts)) h.1.1.0)) (store fine)
+      store-ended parts Ends (Err why) stops h store fine = absurd (cc fine)
+
       -- whatever comes behind packets that stopped the connection isn't taken
       pub parts-stopped : (told : Fate × Result ⊤ Stop) → IsStop told
           → TakesPackets g w (taking_some g moment session before end items 0) (IsAmong 0 (length items)) (at before.store before.disk) now (none_left new.link new.session) told
@@ -212,6 +248,7 @@ module _ {D : Type 0} (g : Ghosts D) (on : (first second third : D) → g.lasts 
                   since =
                       by-since (with_reads (λ failures. progressed left (of_all failures)) takes.parts) (at before.store before.disk) now new told.0 told.1
                       (taking-whole left (caller_of session) moment (session_on g session before) end (items ++ others) takes.parts 0) by;
+                  store = store-ended takes.parts told.0 told.1 stops takes.by takes.store;
                 };
             over = λ failures. taking-failed (caller_of session) moment (session_on g session before) end (items ++ others) failures 0;
             settled = λ goes. absurd (stops goes);
@@ -226,7 +263,12 @@ module _ {D : Type 0} (g : Ghosts D) (on : (first second third : D) → g.lasts 
         let number : (of_items failures).part ≡ length items =
         (let there = taking-part (caller_of session) moment (session_on g session before) end items failures 0 (going-on (of_items failures) h.1.1.0 h.0) in omega arith) in
         record {
-          hears = grind (arith, common_steps);
+          hears = record {
+            parts = takes.parts;
+            by = grind (arith, common_steps);
+            since = grind (arith, common_steps);
+            store = takes.store;
+          };
           over = λ writes. taking-failed (caller_of session) moment (session_on g session before) end items writes 0;
           settled = λ goes. record {
             before = grind (arith, All-weaker, number);

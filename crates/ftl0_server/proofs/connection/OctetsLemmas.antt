@@ -17,16 +17,17 @@ use Rattle.ftl0_session.specs.Run.{session_over}
 use Rattle.ftl0_server.specs.declared.connection.fate.Fate.{Fate}
 use Rattle.ftl0_server.specs.Connection.Connected.{Connected}
 use Rattle.ftl0_server.specs.Connection.ConnectionState.{ConnectionState, IsConnection}
-use Rattle.ftl0_server.specs.Connection.Feeding.{FeedsAll, HearsParts, IsGoing, carrying}
-use Rattle.ftl0_server.specs.Connection.Taking.{taking}
-use Rattle.ftl0_server.proofs.connection.HearsLemmas.{IsStop, parts-stopped, parts-whole}
+use Rattle.ftl0_server.specs.Connection.Feeding.{FeedsAll, HearsParts, IsGoing, IsSeen, carrying}
+use Rattle.ftl0_server.specs.Connection.Taking.{LookAtNone, taking}
+use Rattle.ftl0_server.proofs.KnownLemmas.{known-or-not}
+use Rattle.ftl0_server.proofs.connection.HearsLemmas.{IsStop, parts-stopped, parts-whole, seen-first}
 
 -- the connection goes on, or it stops
 going-or : (told : Fate × Result ⊤ Stop) → IsGoing told ⊎ IsStop told
 going-or told = grind (arith, common_steps)
 
 module _ {D : Type 0} (g : Ghosts D) (on : (first second third : D) → g.lasts first second → g.lasts second third → g.lasts first third) (moment : ℕ) (old new : ConnectionState) (octets : List ℕ)
-    (before now : WorkingOn D) (told : Fate × Result ⊤ Stop) (peer : old.link.peer ≡ caller_of old.session) (known : IsKnown g before.disk) (w : Window) (c : Connected) (is : IsConnection w before.store old c) where
+    (before now : WorkingOn D) (told : Fate × Result ⊤ Stop) (peer : old.link.peer ≡ caller_of old.session) (seen : IsSeen g moment old.session before (packets_of (old.octets ++ octets))) (w : Window) (c : Connected) (is : IsConnection w before.store old c) where
   -- what was heard, where these packets of these octets came, and others waited before
   abbrev Heard : CallSign → State → List ℕ → List Item → Type 0
   Heard caller state waiting items =
@@ -37,6 +38,10 @@ module _ {D : Type 0} (g : Ghosts D) (on : (first second third : D) → g.lasts 
   at-connected : Heard (caller_of old.session) (state_in before.store old.session) old.octets (packets_of (old.octets ++ octets)) → Heard c.end.peer c.state c.rest (packets_of (c.rest ++ octets))
   at-connected h = grind (arith, common_steps)
 
+  -- the first of the packets
+  seen-these : (items others : List Item) → packets_of (old.octets ++ octets) ≡ items ++ others → IsSeen g moment old.session before items
+  seen-these items others same = seen-first g moment old.session before items others (rw same at seen)
+
   -- they stopped at a packet, or all were taken
   pub hears-all : FeedsAll g moment (carrying old.link (old.octets ++ octets) old.session) new before now told → Heard c.end.peer c.state c.rest (packets_of (c.rest ++ octets))
   hears-all h =
@@ -46,9 +51,21 @@ module _ {D : Type 0} (g : Ghosts D) (on : (first second third : D) → g.lasts 
             let whole = front-whole (old.octets ++ octets) h.left new.octets h.feeds.items h.feeds.front (h.none going) (h.rest going) in
             at-connected
             (subst P whole.0
-            (rw going (parts-whole g on w moment old.session before now new c.end h.feeds.items (rest_of (old.octets ++ octets)) whole.1 (rw going at h.feeds.takes known w c.end 0 is.link))))
+            (rw going (parts-whole g on w moment old.session before now new c.end h.feeds.items (rest_of (old.octets ++ octets)) whole.1 (rw going at h.feeds.takes (seen-these h.feeds.items (packets_of h.left) h.feeds.front.packets) w c.end 0 is.link))))
         | inr stops ↦
             at-connected
             (subst P (sym h.feeds.front.packets)
-            (parts-stopped g on w moment old.session before now new c.end h.feeds.items (rest_of (old.octets ++ octets)) (packets_of h.left) told stops (h.feeds.takes known w c.end 0 is.link)))
+            (parts-stopped g on w moment old.session before now new c.end h.feeds.items (rest_of (old.octets ++ octets)) (packets_of h.left) told stops (h.feeds.takes (seen-these h.feeds.items (packets_of h.left) h.feeds.front.packets) w c.end 0 is.link)))
       ]
+
+-- what is known or looked at, of the connection as the code has it
+pub seen-octets : {D : Type 0} (g : Ghosts D) (moment : ℕ) (old : ConnectionState) (before : WorkingOn D) (w : Window) (c : Connected) (octets information : List ℕ) → IsConnection w before.store old c
+    → c.end.peer ≡ caller_of old.session → octets ≡ information
+    → IsKnown g before.disk ⊎ LookAtNone c.end.peer moment (session_over (store_on g before.store before.disk) before.lists c.state) (packets_of (c.rest ++ information))
+    → IsSeen g moment old.session before (packets_of (old.octets ++ octets))
+seen-octets g moment old before w c octets information is peer same (inl known) = inl known
+seen-octets g moment old before w c octets information is peer same (inr looks) =
+    elim (known-or-not g before.disk) [
+      | inl known ↦ inl known
+      | inr unknown ↦ inr (unknown, rw (same, is.rest, is.state, sym peer) looks)
+    ]

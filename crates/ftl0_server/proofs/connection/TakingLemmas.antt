@@ -15,7 +15,7 @@ use Rattle.ftl0_session.specs.Uploads.Failures.{Failure, read_fails, write_fails
 use Rattle.ftl0_session.specs.Table.{Row, row_at}
 use Rattle.ftl0_session.specs.Run.{Session, session_over}
 use Rattle.ftl0_server.specs.Connection.Laws.{TakingLaw}
-use Rattle.ftl0_server.specs.Connection.Taking.{Halt, Progress, after_row, failing_at, fails, fits, giving_up, goes_on, taking, taking_row}
+use Rattle.ftl0_server.specs.Connection.Taking.{Halt, LookAtNone, Progress, after_row, failing_at, fails, fits, giving_up, goes_on, taking, taking_row}
 use Rattle.ftl0_server.proofs.connection.FailureLemmas.{AreAlike}
 
 -- whether nothing stopped the taking
@@ -136,6 +136,38 @@ module _ (caller : CallSign) (moment : ℕ) where
       let row : Row = row_in caller moment session item failures part in
       let each = taking-part (behind_row session row) (after_push end (texts row.replies)) items failures (suc part) in
       grind (arith, common_steps)
+
+-- ---- packets for which no octet of a file is looked at
+
+module _ (caller : CallSign) (moment : ℕ) where
+  -- the first of them
+  pub looks-first : (session : Session) (items others : List Item) → LookAtNone caller moment session (items ++ others) → LookAtNone caller moment session items
+  looks-first session [] others looks = tt
+  looks-first session (item ∷ items) others looks = (looks.0, looks.1, looks.2, looks-first (behind_row session looks.0) items others looks.3)
+
+  -- those behind the first, after which it goes on
+  pub looks-on : (session : Session) (end : LinkEnd) (items others : List Item) (failures : List Failure) (part : ℕ) → LookAtNone caller moment session (items ++ others)
+      → going (taking caller moment session end items failures part) ≡ true
+      → LookAtNone caller moment (on_from session.store (taking caller moment session end items failures part)) others
+  looks-on session end [] others failures part looks goes = looks
+  looks-on session end (item ∷ items) others failures part looks goes =
+      let row : Row = row_in caller moment session item failures part in
+      let next : Session = behind_row session row in
+      let later : Progress = taking caller moment next (after_push end (texts row.replies)) items failures (suc part) in
+      let there : LookAtNone caller moment next (items ++ others) = rw (looks.1 (read_fails failures part)) looks.3 in
+      let on : going later ≡ true = grind (arith, common_steps) in
+      let same : on_from session.store (taking caller moment session end (item ∷ items) failures part) ≡ on_from next.store later = grind (arith, common_steps, after_all-append) in
+      rw same (looks-on next (after_push end (texts row.replies)) items others failures (suc part) there on)
+
+  -- whatever reads fail
+  pub looks-same : (session : Session) (end : LinkEnd) (items : List Item) (failures : List Failure) (part : ℕ) → LookAtNone caller moment session items → ((n : ℕ) → write_fails failures n ≡ false)
+      → taking caller moment session end items failures part ≡ taking caller moment session end items [] part
+  looks-same session end [] failures part looks none = refl
+  looks-same session end (item ∷ items) failures part looks none =
+      let row : Row = looks.0 in
+      rw (looks.1 (read_fails failures part), looks.1 (read_fails [] part), none part)
+      (ap (λ (later : Progress). taking_row end session.state session.lists part false later row)
+      (looks-same (behind_row session row) (after_push end (texts row.replies)) items failures (suc part) looks.3 none))
 
 -- ---- what is done is a front of what is done where no write fails
 

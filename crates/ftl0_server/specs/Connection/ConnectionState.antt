@@ -5,6 +5,7 @@ use Rattle.ax25_link.specs.Kept.{Kept, StandsFor}
 use Rattle.ax25_link.specs.Window.{Window}
 use Rattle.ftl0_session.specs.Lists.Lists.{CallerList}
 use Rattle.file_store.specs.Calls.{Leaves}
+use Rattle.file_store.specs.Command.{after_all}
 use Rattle.file_store.specs.OnDisk.{MakesFirst}
 use Rattle.file_store.specs.State.{StoreState, store_on}
 use Rattle.file_store.specs.Working.{CutsOffAmongReads, DoesAmongReads}
@@ -74,7 +75,7 @@ with_reads event parts writes = event (writes ++ failed_reads parts)
 
 -- A frame was heard, of which this is what it makes of the connection by the failures of the disk; reads failed at
 -- these parts of it. Since it came each image stands for the store after the first of the commands that it has where no
--- write and no sync fails, for some number of them.
+-- write and no sync fails, for some number of them. Where there was no stop the store is the one after all of them.
 pub record Hears {D : Type 0} (g : Ghosts D) (w : Window) (event : List Failure → Happened)
     (before : AtDisk StoreState D) (now : WorkingOn D) (connection : ConnectionState)
     (heard : Fate × Result ⊤ Stop) : Type 0 where
@@ -83,6 +84,9 @@ pub record Hears {D : Type 0} (g : Ghosts D) (w : Window) (event : List Failure 
   pub since :
       Leaves g before.disk now.disk
       (λ _. MakesFirst (store_on g before.it before.disk) (with_reads event parts []).done)
+  pub store :
+      heard.1 ≡ Ok tt
+      → store_on g now.store now.disk ≡ after_all (store_on g before.it before.disk) (with_reads event parts []).done
 
 -- the connection of this link and session, with no octets left
 abbrev pub none_left : Kept → SessionState → ConnectionState

@@ -14,6 +14,7 @@ use Rattle.ftl0_packets.specs.Layout.{Item, packet_text}
 use Rattle.ftl0_packets.specs.Reading.{packets_of, rest_of}
 use Rattle.packet_link.specs.PacketLink.{HasFront, PacketLinkState, octets_in}
 use Rattle.packet_link.specs.Queuing.{enough_free}
+use Rattle.file_store.specs.Command.{after_all}
 use Rattle.file_store.specs.EntriesKept.{KeepsComplete}
 use Rattle.ftl0_session.specs.Lists.Lists.{CallerList}
 use Rattle.file_store.specs.State.{IsKnown, IsReady, StoreState, store_in, store_on}
@@ -33,8 +34,9 @@ use Rattle.ftl0_server.specs.declared.connection.fate.Fate.TheVariants.{Stays}
 use Rattle.ftl0_server.specs.Connection.Connected.{Connected}
 use Rattle.ftl0_server.specs.Connection.ConnectionState.{ConnectionState, Hears, HearsBy, IsConnection, with_reads}
 use Rattle.ftl0_server.specs.Connection.ConnectionState.{none_left}
-use Rattle.ftl0_server.specs.Connection.Hearing.{Happened, hearing, parts_of_frame, progressed, rest_of_frame}
-use Rattle.ftl0_server.specs.Connection.Taking.{Progress, fails, queuing, taking}
+use Rattle.ftl0_server.specs.Connection.Hearing.{Happened, LooksAtNone, NoneDue, hearing, parts_of_frame, progressed}
+use Rattle.ftl0_server.specs.Connection.Hearing.{rest_of_frame}
+use Rattle.ftl0_server.specs.Connection.Taking.{LookAtNone, Progress, fails, queuing, taking}
 
 -- what a link and a session need to take packets: the link is up, and the session may take one
 pub record MayTake {D : Type 0} (g : Ghosts D) (store : StoreState) (disk : D) (lists : List CallerList) (link : Kept)
@@ -91,21 +93,30 @@ abbrev pub taking_some :
 taking_some g moment session on end items first failures =
     progressed [] (taking (caller_of session) moment (session_on g session on) end items failures first)
 
--- Packets were taken, of which this event is what they make, and reads failed at these of their parts.
+-- Packets were taken, of which this event is what they make, and reads failed at these of their parts. Where there was
+-- no stop the store is the one after all commands.
 pub record TakesPackets {D : Type 0} (g : Ghosts D) (w : Window) (event : List Failure → Happened)
     (IsPart : ℕ → Type 0) (before : AtDisk StoreState D) (now : WorkingOn D) (connection : ConnectionState)
     (told : Fate × Result ⊤ Stop) : Type 0 where
   pub parts : List ℕ
   pub among : All IsPart parts
   pub by : HearsBy g w (with_reads event parts) before now connection told.0 told.1
+  pub store :
+      told.1 ≡ Ok tt
+      → store_on g now.store now.disk ≡ after_all (store_on g before.it before.disk) (with_reads event parts []).done
+
+-- It is known what octets the files have, or it isn't, and none of them is looked at for these packets.
+abbrev pub IsSeen : {D : Type 0} → Ghosts D → ℕ → SessionState → WorkingOn D → List Item → Type 0
+IsSeen g moment session on items =
+    IsKnown g on.disk ⊎ ((¬ IsKnown g on.disk) × LookAtNone (caller_of session) moment (session_on g session on) items)
 
 -- So these packets of a connection were taken, whichever end its link stands for, and whichever part the first is,
--- where it is known what octets the files have.
+-- where it is known what octets the files have, or none is looked at.
 abbrev pub TakesSome :
     {D : Type 0} → Ghosts D → ℕ → ConnectionState → WorkingOn D → List Item → WorkingOn D → ConnectionState
     → (Fate × Result ⊤ Stop) → Type 0
 TakesSome g moment old before items now new told =
-    IsKnown g before.disk → (w : Window) (end : LinkEnd) (first : ℕ) → StandsFor w old.link end
+    IsSeen g moment old.session before items → (w : Window) (end : LinkEnd) (first : ℕ) → StandsFor w old.link end
     → TakesPackets g w (taking_some g moment old.session before end items first) (IsAmong first (length items))
     (at before.store before.disk) now (none_left new.link new.session) told
 
@@ -153,12 +164,13 @@ pub record HearsParts {D : Type 0} (g : Ghosts D) (w : Window) (left : List ℕ)
   pub settled : IsGoing told → IsSettled event hears.parts
 
 -- A frame was heard at this moment, of whichever connection this stood for: where it is known what octets the files
--- have, it is of that connection what the frame makes before what is due is queued.
+-- have, or no octet of a file is looked at, it is of that connection what the frame makes before what is due is queued.
 abbrev pub HearsFrameParts :
     {D : Type 0} → Ghosts D → ℕ → FrameValue → WorkingOn D → WorkingOn D → ConnectionState → ConnectionState
     → Fate × Result ⊤ Stop → Type 0
 HearsFrameParts g moment frame before now old new told =
-    IsKnown g before.disk → (w : Window) (c : Connected) → IsConnection w before.store old c
+    (w : Window) (c : Connected) → IsConnection w before.store old c
+    → IsKnown g before.disk ⊎ LooksAtNone w moment (store_on g before.store before.disk) before.lists c frame
     → HearsParts g w (rest_of_frame w c frame)
     (parts_of_frame w moment (store_on g before.store before.disk) before.lists c frame)
     (at before.store before.disk) now new told
@@ -168,7 +180,8 @@ abbrev pub HearsFrame :
     {D : Type 0} → Ghosts D → ℕ → FrameValue → WorkingOn D → WorkingOn D → ConnectionState → ConnectionState
     → Fate × Result ⊤ Stop → Type 0
 HearsFrame g moment frame before now old new told =
-    IsKnown g before.disk → (w : Window) (c : Connected) → IsConnection w before.store old c
+    (w : Window) (c : Connected) → IsConnection w before.store old c
+    → IsKnown g before.disk ⊎ LooksAtNone w moment (store_on g before.store before.disk) before.lists c frame
     → Hears g w (hearing w moment (store_on g before.store before.disk) before.lists c frame)
     (at before.store before.disk) now new told
 
@@ -200,11 +213,11 @@ QueuesBy g store disk disk_now old new false =
     (new.link ≡ old.link) × (state_in store new.session ≡ state_in store old.session) × (disk_now ≡ disk)
     × (IsNothingDue g store disk old.session ⊎ AreFree old.link (λ free. free < enough_free))
 
--- So it is where it is known what octets the files have. Whether or not, a packet that is queued takes some of the
--- room.
+-- So it is where it is known what octets the files have, or nothing is due. Whether or not, a packet that is queued
+-- takes some of the room.
 pub record QueuesNext {D : Type 0} (g : Ghosts D) (store : StoreState) (disk disk_now : D) (old new : ConnectionState)
     (queued : Bool) : Type 0 where
-  pub queues : IsKnown g disk → QueuesBy g store disk disk_now old new queued
+  pub queues : IsKnown g disk ⊎ NoneDue (state_in store old.session) → QueuesBy g store disk disk_now old new queued
   pub fewer : queued ≡ true → room_of new.link.queue < room_of old.link.queue
 
 -- Behind these parts of an event, at which the session goes on, what is due was queued: reads failed at these later
@@ -221,12 +234,14 @@ pub record Queued {D : Type 0} (g : Ghosts D) (w : Window) (store : StoreState) 
   pub missed : ℕ
   pub missed_is : now.missed ≡ (progress.missed + missed)
   pub reads : DoesAmongReads g ⊥ missed store store disk disk_now []
+  pub store_is : store_on g store disk_now ≡ store_on g store disk
 
--- the same behind whichever parts, where it is known what octets the files have
+-- the same behind whichever parts, where it is known what octets the files have, or nothing is due
 abbrev pub QueuesDue : {D : Type 0} → Ghosts D → StoreState → D → D → ConnectionState → ConnectionState → Type 0
 QueuesDue g store disk disk_now old new =
-    IsKnown g disk → (w : Window) (progress : Progress) → StandsFor w old.link progress.end
-    → state_in store old.session ≡ progress.state → Queued g w store disk disk_now new progress
+    IsKnown g disk ⊎ NoneDue (state_in store old.session) → (w : Window) (progress : Progress)
+    → StandsFor w old.link progress.end → state_in store old.session ≡ progress.state
+    → Queued g w store disk disk_now new progress
 
 -- What queuing what is due leaves for the next event.
 pub record KeepsFit {D : Type 0} (g : Ghosts D) (store store_now : StoreState) (disk disk_now : D)

@@ -1,5 +1,5 @@
 -- What a frame or a tick makes of a connection (AX.25 2.0, 2.4; FTL0 1990).
-use Rattle.std.specs.Prelude.{ℕ, ◌++◌, List, [], Bool, true}
+use Rattle.std.specs.Prelude.{◌≡◌, ℕ, ◌++◌, List, [], Bool, true, false, ⊤}
 use Rattle.ax25_frames.specs.FrameText.{FrameValue}
 use Rattle.ax25_link.specs.declared.state.Heard.{Heard}
 use Rattle.ax25_link.specs.declared.state.Heard.TheVariants.{Nothing, Opened, Reopened, Bytes, Closed}
@@ -13,10 +13,11 @@ use Rattle.ftl0_session.specs.Lists.Lists.{CallerList, has_left}
 use Rattle.file_store.specs.Command.{Command}
 use Rattle.file_store.specs.Store.{Store}
 use Rattle.ftl0_session.specs.Run.{session_over}
+use Rattle.ftl0_session.specs.Downloads.Sending.{is_due}
 use Rattle.ftl0_session.specs.Uploads.Failures.{Failure}
-use Rattle.ftl0_session.specs.Table.{command}
+use Rattle.ftl0_session.specs.Table.{State, command, download_part}
 use Rattle.ftl0_server.specs.Connection.Connected.{Connected, caller_of, greeted}
-use Rattle.ftl0_server.specs.Connection.Taking.{Halt, Progress, queued, resting, taking}
+use Rattle.ftl0_server.specs.Connection.Taking.{Halt, LookAtNone, Progress, queued, resting, taking}
 
 -- What an event makes of a connection: what it is now, and the lists of all callers; whether its session is over, so
 -- that only its link's last frames are left; how many parts of the event told that a read failed; the store's
@@ -87,6 +88,30 @@ abbrev pub hearing : Window → ℕ → Store → List CallerList → Connected 
 hearing w moment store lists c frame failures =
     progressed (rest_of_frame w c frame)
     (queued store failures (parts_of_frame w moment store lists c frame failures))
+
+-- nothing is due in this state
+abbrev pub NoneDue : State → Type 0
+NoneDue state = is_due (download_part state) ≡ false
+
+-- nothing is due behind these parts, if the session goes on
+abbrev pub NoneDueBehind : Progress → Type 0
+NoneDueBehind progress = progress.over ≡ false → NoneDue progress.state
+
+-- By what the link tells of a frame no octet of a file is looked at: no packet comes, or packets come for which none
+-- is; and nothing is due behind them.
+abbrev pub LooksAtNoneAs : Heard → ℕ → Store → List CallerList → Connected → LinkEnd → List ℕ → Type 0
+LooksAtNoneAs Nothing moment store lists c end octets = NoneDue c.state
+LooksAtNoneAs Opened moment store lists c end octets = NoneDue c.state
+LooksAtNoneAs Reopened moment store lists c end octets = ⊤
+LooksAtNoneAs Bytes moment store lists c end octets =
+    LookAtNone (caller_of c) moment (session_over store lists c.state) (packets_of (c.rest ++ octets))
+    × NoneDueBehind (taking_octets moment store lists c end octets [])
+LooksAtNoneAs (Closed why) moment store lists c end octets = ⊤
+
+-- the same of this frame
+abbrev pub LooksAtNone : Window → ℕ → Store → List CallerList → Connected → FrameValue → Type 0
+LooksAtNone w moment store lists c frame =
+    LooksAtNoneAs (heard_of w c.end frame) moment store lists c (after_frame w c.end frame) frame.kind.information
 
 -- what a tick makes of a connection: what it is then, and whether its session is over
 pub record Ticked : Type 0 where

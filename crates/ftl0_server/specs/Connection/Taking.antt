@@ -1,5 +1,5 @@
 -- What the packets of a frame make of a connection, one after another, and what is queued of what is due behind them.
-use Rattle.std.specs.Prelude.{ℕ, ◌+◌, suc, List, [], ◌∷◌, ◌++◌, Bool, true, false, if◌then◌else◌}
+use Rattle.std.specs.Prelude.{◌≡◌, ℕ, ◌+◌, suc, List, [], ◌∷◌, ◌++◌, Bool, true, false, if◌then◌else◌, ⊤}
 use Rattle.px_base.specs.CallSign.{CallSign}
 use Rattle.ax25_link.specs.Calls.{after_abandon, after_push}
 use Rattle.ax25_link.specs.Ends.{LinkEnd, free_octets}
@@ -9,12 +9,13 @@ use Rattle.packet_link.specs.Queuing.{filling}
 pub use Rattle.packet_link.specs.Queuing.{enough_free, fits}
 use Rattle.ftl0_session.specs.Lists.Lists.{CallerList}
 use Rattle.file_store.specs.Command.{Command, after_all}
+use Rattle.file_store.specs.OnDisk.{outlined_all}
 use Rattle.file_store.specs.Store.{Store}
 use Rattle.file_store.specs.Working.{one_if}
 use Rattle.ftl0_session.specs.Run.{Session, session_over}
 use Rattle.ftl0_session.specs.Uploads.Failures.{Failure, write_fails}
 use Rattle.ftl0_session.specs.Table.{DuePacket, Row, State, command, due_at, fault_reply, row_at, failed_reads_told}
-use Rattle.ftl0_session.specs.Table.{tells_failed_read}
+use Rattle.ftl0_session.specs.Table.{session_row, tells_failed_read}
 
 -- the end after replies of this text: they are queued, or the link is given up where they don't fit
 abbrev pub replied : LinkEnd → List ℕ → LinkEnd
@@ -114,6 +115,16 @@ taking caller moment session end (item ∷ items) failures part =
     (taking caller moment (session_over (after_all session.store row.commands) row.lists row.state)
     (after_push end (texts row.replies)) items failures (suc part))
     row
+
+-- No octet of a file is looked at for these packets, taken one after another over this session, and by none of them
+-- octets become held: each has this row, whether a read fails or none does.
+abbrev pub LookAtNone : CallSign → ℕ → Session → List Item → Type 0
+LookAtNone caller moment session [] = ⊤
+LookAtNone caller moment session (item ∷ items) =
+    (row : Row)
+    × ((fails : Bool) → session_row caller moment session.store session.lists session.state item fails ≡ row)
+    × (outlined_all row.commands ≡ row.commands)
+    × LookAtNone caller moment (session_over (after_all session.store row.commands) row.lists row.state) items
 
 -- a packet that is due was queued
 abbrev pub after_due : DuePacket → Progress → Progress

@@ -96,7 +96,7 @@ impl Connection {
     /// no room ends the session by DM. Then DATA and DATA_END that are due are queued while at least 1,280 octets are
     /// free. A read of the disk that fails is told by code 3, and the session goes on. After a stop nothing more is
     /// queued, and the server goes on no further: after `Disk` the frames that are pending are given out first, code 3
-    /// among them; after want of memory none is. Takes memory, before a packet touches the disk.
+    /// among them; after want of memory none is. Takes memory, before a packet writes to the disk.
     pub fn hear<D: Disk>(
         &mut self,
         disk: &mut D,
@@ -108,7 +108,7 @@ impl Connection {
         requires { MayHear D.Disk store.old disk.old lists.old self.old (value_of frame.now) }
 
         // Of whichever connection it stands for, it is what the frame makes of that, or the server stops, where it is
-        // known what octets the files have.
+        // known what octets the files have, or no octet of a file is looked at.
         ensures hears { HearsFrame D.Disk moment (value_of frame.now)
             (working_on store.old lists.old disk.old) (working_on store.new lists.new disk.new)
             self.old self.new result }

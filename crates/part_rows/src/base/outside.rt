@@ -5,9 +5,7 @@ use anyhow::{Result, bail, ensure};
 use px_base::{
     Air, Clock, FileBytes, MemoryAir, MemoryClock, MemoryOut, MemoryShelf, Out, ROOM, Shelf,
 };
-use row_words::{
-    hex_text, read_air, read_numbers, read_octets, three_parts, two_parts, written,
-};
+use row_words::{hex_text, read_air, read_numbers, read_octets, three_parts, two_parts, written};
 use std::alloc::Global;
 
 /// `air FAILING | TURNS | CALLS`
@@ -84,12 +82,7 @@ pub fn shelf(alloc: Global, row: &str) -> Result<String> {
 }
 
 /// Makes a call of a shelf.
-fn shelf_call(
-    alloc: Global,
-    shelf: &mut MemoryShelf,
-    call: &str,
-    parts: &mut Parts,
-) -> Result<()> {
+fn shelf_call(alloc: Global, shelf: &mut MemoryShelf, call: &str, parts: &mut Parts) -> Result<()> {
     let words = call.split_whitespace().collect::<Vec<&str>>(alloc)?;
     match words.as_slice() {
         ["keep", name, octets] => keep(alloc, shelf, written(name), written(octets), parts),

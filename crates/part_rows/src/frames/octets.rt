@@ -42,7 +42,10 @@ fn frame_text(alloc: Global, frame: &Frame<'_>) -> Result<String> {
     let kind = kind_text(alloc, kind)?;
     let command = if *command { "command" } else { "response" };
     let poll = u8::from(*poll);
-    text_of(alloc, format_args!("{dest} {src} {via} {command} {poll} {kind}"))
+    text_of(
+        alloc,
+        format_args!("{dest} {src} {via} {command} {poll} {kind}"),
+    )
 }
 
 /// A kind of frame with what it has.

@@ -213,5 +213,8 @@ fn shown_side(alloc: Global, side: &Side, other: &Side) -> Result<String> {
     let pieces = side.pieces;
     let late = side.late;
     let repeated = side.repeated;
-    text_of(alloc, format_args!("took {taken} of {pushed} in {pieces}, {late} late, {repeated} repeated"))
+    text_of(
+        alloc,
+        format_args!("took {taken} of {pushed} in {pieces}, {late} late, {repeated} repeated"),
+    )
 }

@@ -75,7 +75,11 @@ fn stamped_in_pieces(alloc: Global, file: &[u8], sums: &Sums, with: &With) -> Re
     let first = stamped_cut(alloc, file, 1, with, sum)?;
     for len in 2..132 {
         let other = stamped_cut(alloc, file, len, with, sum)?;
-        same_text(other.as_str(), first.as_str(), format_args!("in pieces of {len}"))?;
+        same_text(
+            other.as_str(),
+            first.as_str(),
+            format_args!("in pieces of {len}"),
+        )?;
     }
     Ok(first)
 }

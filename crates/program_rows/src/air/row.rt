@@ -129,5 +129,8 @@ fn shown_air(alloc: Global, air: &Air) -> Result<String> {
 fn shown_lane(alloc: Global, lane: &Lane) -> Result<String> {
     let (frames, lost) = (lane.frames, lane.lost);
     let (twice, displaced) = (lane.twice, lane.displaced);
-    text_of(alloc, format_args!("{frames} lost {lost} twice {twice} displaced {displaced}"))
+    text_of(
+        alloc,
+        format_args!("{frames} lost {lost} twice {twice} displaced {displaced}"),
+    )
 }

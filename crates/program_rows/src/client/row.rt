@@ -8,9 +8,7 @@ use disk_model::MemoryDisk;
 use pacsat_cli::Words;
 use pfh_items::sum16;
 use px_base::FileBytes;
-use row_words::{
-    Player, disk_after, octets_before, read_octets, read_words, text_of, written,
-};
+use row_words::{Player, disk_after, octets_before, read_octets, read_words, text_of, written};
 use std::alloc::Global;
 
 /// The parts of a row.

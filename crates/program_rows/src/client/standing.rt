@@ -53,9 +53,18 @@ fn got_text(alloc: Global, notes: &Notes, server: Call, number: u32) -> Result<S
 /// How a task stands.
 fn noted_text(alloc: Global, noted: Option<Noted>) -> Result<String> {
     match noted {
-        Some(Noted::Going { task, number }) => text_of(alloc, format_args!("going {task} {number}")),
-        Some(Noted::Acked { task, number }) => text_of(alloc, format_args!("acked {task} {number}")),
-        Some(Noted::Refused { task, code }) => text_of(alloc, format_args!("refused {task} {code}")),
+        Some(Noted::Going { task, number }) => text_of(
+            alloc,
+            format_args!("going {task} {number}"),
+        ),
+        Some(Noted::Acked { task, number }) => text_of(
+            alloc,
+            format_args!("acked {task} {number}"),
+        ),
+        Some(Noted::Refused { task, code }) => text_of(
+            alloc,
+            format_args!("refused {task} {code}"),
+        ),
         None => text_of(alloc, "none"),
     }
 }

@@ -10,9 +10,7 @@ use anyhow::{Context, Result, bail};
 use disk_model::{CutDisk, LogDisk, MemoryDisk};
 use pacsat_cli::{Words, fresh_bench};
 use px_base::{MemoryClock, MemoryOut, MemoryShelf, Shelf};
-use row_words::{
-    Player, push_shown, read_words, text_of, three_parts, two_parts, with_lines,
-};
+use row_words::{Player, push_shown, read_words, text_of, three_parts, two_parts, with_lines};
 use std::alloc::Global;
 
 /// The words that ask for a rehearsal of the schedule that the shelf has.

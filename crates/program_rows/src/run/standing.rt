@@ -74,7 +74,10 @@ fn info_text<D: Disk>(
     let length = info.length;
     if info.complete {
         let sum = sum_of(alloc, store, disk, number, info)?;
-        return text_of(alloc, format_args!(" {number}:{call}:{length}:complete {sum:04x}"));
+        return text_of(
+            alloc,
+            format_args!(" {number}:{call}:{length}:complete {sum:04x}"),
+        );
     }
     let held = info.held;
     text_of(alloc, format_args!(" {number}:{call}:{length}:held {held}"))

@@ -156,7 +156,7 @@ module _ {D : Type 0} (g : Ghosts D) (lasts : (disk : D) → g.lasts disk disk) 
     failed-back (Some halt.Disk) is = refl
     failed-back (Some halt.OutOfMemory) is = absurd (cc is)
 
-    pub owes-event : (why : Option Halt) → HearsEvent g (λ server. happening server event) old.it.server made old.disk disk (answer_by why) → (server_course g).owes old (event ∷ []) why [] (heard why)
+    pub owes-event : (why : Option Halt) → HearsEvent g event old.it.server made old.disk disk (answer_by why) → (server_course g).owes old (event ∷ []) why [] (heard why)
     owes-event why h = record {
       puts = puts-among-same g (IsErrOf (answer_by why) halt.Disk) (why ≡ Some halt.Disk) old.disk disk (failed-by why) (failed-back why) h.keeps.puts;
       owing = owing-by why h.keeps;

@@ -1,14 +1,11 @@
 -- The octets say a moment, and the file that is stamped with that is them.
-use Rattle.std.proofs.lemmas.Grind.{common_steps}
-use Rattle.std.proofs.Common.{◌≡◌, ℕ, List, ◌++◌, length, drop, take, ap, sym, ◌∙◌, arith, rules}
+use Rattle.std.proofs.Common.{◌≡◌, ℕ, List, length, drop, ap, sym, ◌∙◌, rules}
 use Rattle.px_base.specs.CallSign.{IsCall}
 use Rattle.px_base.specs.Numbers.{le32, le32_octets}
 use Rattle.pfh_items.specs.Stamp.{stamped}
+use Rattle.air_rehearsal.proofs.KeptLemmas.{written}
 use Rattle.air_rehearsal.proofs.StampedTime.{stamped-again, upload-says}
 use Rattle.air_rehearsal.proofs.kept.is_stamped.Goals as goal
-
-written : (count : ℕ) (front later : List ℕ) → length front ≡ count → take count (front ++ later) ≡ front
-written count front later all = grind (arith, common_steps)
 
 pub returns-in_default : goal.returns-in_default
 returns-in_default c upload is =

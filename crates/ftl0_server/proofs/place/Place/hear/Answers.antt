@@ -9,9 +9,9 @@ use Rattle.ftl0_server.proofs.connection.HearLemmas.{parks-same}
 use Rattle.ftl0_server.proofs.place.Place.hear.Goals as goal
 
 pub returns-in-Ends-clause-hears : goal.returns-in-Ends-clause-hears
-returns-in-Ends-clause-hears g c known w d is =
+returns-in-Ends-clause-hears g c w d is seen =
     let gives_up = parks-same c.hear-fate.new.store c.leave.new.store c.hear-fate.new.self.session.uploads.phase c.leave.ensures.0.parks in
-    let heard = c.hear-fate.ensures.hears known w d (talks-as w c.args.store.now c.args.self.now c.in-Talking.connection d c.in-Talking.is is) in
+    let heard = c.hear-fate.ensures.hears w d (talks-as w c.args.store.now c.args.self.now c.in-Talking.connection d c.in-Talking.is is) seen in
     rw c.leave.ensures.1 (hears-over g.D.Disk w _ _ _ _ _ _ _ c.hear-fate.new.self c.hear-fate.result gives_up c.in-Ends.is heard)
 
 pub returns-in-Ends-clause-works : goal.returns-in-Ends-clause-works
@@ -23,6 +23,6 @@ returns-in-Ends-clause-complete g c =
     subst (λ (s : Store). AreComplete s c.hear-fate.new.lists) (sym (in_parked c.hear-fate.new.store c.leave.new.store gives_up.entries)) c.hear-fate.ensures.fit.fit.complete
 
 pub returns-in_default-clause-hears : goal.returns-in_default-clause-hears
-returns-in_default-clause-hears g c known w d is =
-    let heard = c.hear-fate.ensures.hears known w d (talks-as w c.args.store.now c.args.self.now c.in-Talking.connection d c.in-Talking.is is) in
+returns-in_default-clause-hears g c w d is seen =
+    let heard = c.hear-fate.ensures.hears w d (talks-as w c.args.store.now c.args.self.now c.in-Talking.connection d c.in-Talking.is is) seen in
     hears-on g.D.Disk w _ _ _ _ _ _ c.hear-fate.new.self c.hear-fate.result c.in_default.is heard

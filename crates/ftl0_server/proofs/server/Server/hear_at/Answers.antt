@@ -1,12 +1,17 @@
 -- The frame is heard at the place of its sender's connection.
-use Rattle.std.proofs.Common.{set, refl, ap, subst, sym, ◌∙◌, rules, arith}
+use Rattle.std.proofs.Common.{◌⊎◌, inl, inr, set, refl, ap, subst, sym, ◌∙◌, rules, arith}
 use Rattle.std.proofs.lemmas.Option.{slice_get-get_or}
 use Rattle.ax25_frames.specs.Values.{value_of}
 use Rattle.ax25_link.specs.Kept.{is_there}
+use Rattle.file_store.specs.State.{IsKnown, store_on}
+use Rattle.node.specs.Events.{NodeEvent, hears}
 use Rattle.ftl0_server.specs.AtPlace.{IsPlace}
+use Rattle.ftl0_server.specs.Calls.{Hears}
 use Rattle.ftl0_server.specs.declared.place.Place.{Place}
 use Rattle.ftl0_server.specs.Kept.{server_state}
-use Rattle.ftl0_server.specs.ServerState.{ServerState, any_pending, has_caller}
+use Rattle.ftl0_server.specs.Server.{Server}
+use Rattle.ftl0_server.specs.ServerState.{IsServer, ServerState, any_pending, has_caller}
+use Rattle.ftl0_server.specs.ServerStep.{LooksAtNoFile, happening}
 use Rattle.ftl0_server.specs.Slots.{connected}
 use Rattle.ftl0_server.proofs.HearLemmas.{found-at, found-talks, found-within, may-hear, server-hears}
 use Rattle.ftl0_server.proofs.NextLemmas.{none_first}
@@ -27,18 +32,23 @@ invariant_of-self g c =
     let at = slice_get-get_or c.self.inside.places c.args.place c.index-places-place.result within in search (rules, arith, settled-works)
 
 pub returns : goal.returns
-returns g c = record {
-  hears = λ known server is.
-      let new : ServerState = record (server_state c.self.inside) { places = set c.self.inside.places c.args.place c.hear.new.self; store = c.hear.new.store; lists = c.hear.new.lists } in
-      let was = rw (sym c.self.view_is) at is in
-      let frame = value_of c.args.frame.now in
-      let found = rw (sym c.self.view_is) at c.requires.place in
-      let talks = found-talks frame.src c.self.inside.places c.args.place c.index-places-place.result found in
-      let at = found-at frame.src c.self.inside.places c.args.place c.index-places-place.result talks.0 found talks.1 in
-      rw (sym c.self.view_is)
-      (server-hears g.D.Disk (server_state c.self.inside) new server c.args.disk.now c.hear.new.disk known was c.self.invariant.settled frame c.args.moment c.args.place found talks.0 at c.hear.new.self
-      (rw talks.1 at c.hear.ensures.works) refl refl refl refl c.hear.result
-      (λ w d at_d. c.hear.ensures.hears known w d (subst (λ (p : Place). IsPlace w c.self.inside.store p (connected d)) (sym talks.1) at_d)));
-  keeps = rw (sym c.self.view_is) c.hear.ensures.keeps;
-  me = ap (λ (s : ServerState). s.me) c.self.view_is;
-}
+returns g c =
+    let old : ServerState = server_state c.self.inside in
+    let new : ServerState = record old { places = set c.self.inside.places c.args.place c.hear.new.self; store = c.hear.new.store; lists = c.hear.new.lists } in
+    let frame = value_of c.args.frame.now in
+    let event : NodeEvent = hears frame c.args.moment in
+    let found = rw (sym c.self.view_is) at c.requires.place in
+    let talks = found-talks frame.src c.self.inside.places c.args.place c.index-places-place.result found in
+    let at = found-at frame.src c.self.inside.places c.args.place c.index-places-place.result talks.0 found talks.1 in
+    let heard : (server : Server) → IsServer (store_on g.D.Disk old.store c.args.disk.now) old server → IsKnown g.D.Disk c.args.disk.now ⊎ LooksAtNoFile server event
+    → Hears g.D.Disk (happening server event) old new c.args.disk.now c.hear.new.disk c.hear.result =
+    λ server is seen.
+    server-hears g.D.Disk old new server c.args.disk.now c.hear.new.disk is c.self.invariant.settled frame c.args.moment c.args.place found talks.0 at c.hear.new.self
+    (rw talks.1 at c.hear.ensures.works) refl refl refl refl c.hear.result seen
+    (λ d at_d seen_d. c.hear.ensures.hears server.window d (subst (λ (p : Place). IsPlace server.window c.self.inside.store p (connected d)) (sym talks.1) at_d) seen_d) in
+    record {
+      hears = λ known server is. rw (sym c.self.view_is) (heard server (rw (sym c.self.view_is) at is) (inl known));
+      alone = λ server is looks. rw (sym c.self.view_is) (heard server (rw (sym c.self.view_is) at is) (inr looks));
+      keeps = rw (sym c.self.view_is) c.hear.ensures.keeps;
+      me = ap (λ (s : ServerState). s.me) c.self.view_is;
+    }

@@ -6,8 +6,13 @@ use Rattle.file_store.specs.State.{store_on}
 use Rattle.file_store.specs.Store.{Store}
 use Rattle.file_store.specs.Working.{DoesAmongReads}
 use Rattle.ftl0_session.specs.Downloads.Needs.{AreComplete}
+use Rattle.node.specs.Events.{NodeEvent, ticks}
+use Rattle.std.specs.Prelude.{Ok}
+use Rattle.ftl0_server.specs.Calls.{Hears}
 use Rattle.ftl0_server.specs.Kept.{server_state}
-use Rattle.ftl0_server.specs.ServerState.{ServerState}
+use Rattle.ftl0_server.specs.Server.{Server}
+use Rattle.ftl0_server.specs.ServerStep.{happening}
+use Rattle.ftl0_server.specs.ServerState.{IsServer, ServerState}
 use Rattle.ftl0_server.proofs.HearLemmas.{all-are}
 use Rattle.ftl0_server.proofs.connection.HearLemmas.{nothing-done}
 use Rattle.ftl0_server.proofs.StepLemmas.{server-ticked}
@@ -33,21 +38,27 @@ pub returns-clause-on_disk : goal.returns-clause-on_disk
 returns-clause-on_disk g c = rw (sym c.self.view_is) (on_parked g.D.Disk c.self.inside.store c.tick_all.new.store c.args._disk.now c.tick_all.ensures.store.entries)
 
 pub returns-clause-takes : goal.returns-clause-takes
-returns-clause-takes g c = record {
-  hears = λ known server is.
-      let ticked = rw (sym (returns-clause-on_disk g c)) at (returns-clause-ticks g c (store_on g.D.Disk c.args.self.now.store c.args._disk.now) server is) in
-      let ready = rw (sym c.self.view_is) at c.requires.ready in
-      let lasts = g.met.D.Disk.lasts_same c.args._disk.now in
-      let does : DoesAmongReads g.D.Disk ⊥ 0 c.self.inside.store c.tick_all.new.store c.args._disk.now c.args._disk.now [] =
-      nothing-done g.D.Disk c.self.inside.store c.tick_all.new.store c.args._disk.now ready lasts c.tick_all.ensures.store in
-      rw (sym c.self.view_is)
-      (record { parts = []; by = (refl, ticked, does); since = does.since });
-  keeps = record {
-    puts = grind (arith, common_steps);
-    kept = grind (arith, common_steps);
-    healthy = grind (arith, common_steps);
-    stands_on = stands_parked g.D.Disk c.self.inside.store c.tick_all.new.store c.args._disk.now c.tick_all.ensures.store.entries c.tick_all.ensures.store.journal
-        (rw (sym c.self.view_is) at c.requires.ready).stands_on;
-  };
-  me = ap (λ (s : ServerState). s.me) c.self.view_is;
-}
+returns-clause-takes g c =
+    let old : ServerState = server_state c.self.inside in
+    let new : ServerState = record old { places = c.tick_all.new.places; store = c.tick_all.new.store } in
+    let disk = c.args._disk.now in
+    let ready = rw (sym c.self.view_is) at c.requires.ready in
+    let does : DoesAmongReads g.D.Disk ⊥ 0 old.store new.store disk disk [] =
+    nothing-done g.D.Disk old.store new.store disk ready (g.met.D.Disk.lasts_same disk) c.tick_all.ensures.store in
+    let event : NodeEvent = ticks c.args._moment in
+    let ticked : (server : Server) → IsServer (store_on g.D.Disk old.store disk) old server → Hears g.D.Disk (happening server event) old new disk disk (Ok tt) =
+    λ server is.
+    let here = returns-clause-ticks g c (store_on g.D.Disk c.args.self.now.store disk) server (rw (sym c.self.view_is) is) in
+    record { parts = []; by = (refl, rw (sym (returns-clause-on_disk g c)) at here, does); since = does.since } in
+    record {
+      hears = λ known server is. rw (sym c.self.view_is) (ticked server (rw (sym c.self.view_is) at is));
+      alone = λ server is looks. rw (sym c.self.view_is) (ticked server (rw (sym c.self.view_is) at is));
+      keeps = record {
+        puts = grind (arith, common_steps);
+        kept = grind (arith, common_steps);
+        healthy = grind (arith, common_steps);
+        stands_on = stands_parked g.D.Disk c.self.inside.store c.tick_all.new.store c.args._disk.now c.tick_all.ensures.store.entries c.tick_all.ensures.store.journal
+            (rw (sym c.self.view_is) at c.requires.ready).stands_on;
+      };
+      me = ap (λ (s : ServerState). s.me) c.self.view_is;
+    }

@@ -31,7 +31,7 @@ returns g c =
     let old = lent_so c.args.disk.now c.args.air.now c.args.clock.now in
     let now = lent_so new.disk new.air new.clock in
     let up = started g.D.Disk terms blocks c.args.disk.now mid station c.in_ok-server.server c.new-station.ensures.server c.new-station.ensures.memory h.recovered h.server h.silent in
-    let recovers : Recovers g.D.Disk blocks c.args.disk.now mid c.in_ok-server.server station.server.store = rw c.new-station.ensures.server (record { recovered = h.recovered; rules = h.known_rules; runs = h.runs; octets = h.octets; since_start = h.since_start; since_sync = h.since_sync }) in
+    let recovers : Recovers g.D.Disk blocks c.args.disk.now mid c.in_ok-server.server station.server.store = rw c.new-station.ensures.server (record { recovered = h.recovered; rules = h.rules_on; runs = h.runs; octets = h.octets; since_start = h.since_start; since_sync = h.since_sync }) in
     let did = server-did all terms (lent station mid c.args.air.now c.args.clock.now) (lent last new.disk new.air new.clock) c.drive-station.result.1 c.drive-station.ensures.turns g.met.D.Disk.lasts_same g.met.D.Disk.lasts_on up.0 c.args.disk.now (λ known. known_on g.D.Disk c.args.disk.now mid h.runs.told known) up.1 in
     let serves = served all g.met.D.Disk.lasts_on blocks None (Ran (IsKnown g.D.Disk c.args.disk.now) terms) old now mid c.in_ok-server.server station.server.store last.server.store terms.polls c.answer_of.result recovers
     (rw c.answer_of.ensures did) in

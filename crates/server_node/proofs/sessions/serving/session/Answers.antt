@@ -2,7 +2,7 @@
 use Rattle.std.proofs.lemmas.Grind.{common_steps}
 use Rattle.std.proofs.Common.{refl, sym, ◌∙◌, subst, Result, arith}
 use Rattle.file_store.specs.State.{IsKnown, StoreState}
-use Rattle.file_store.proofs.Offered.{known_on, on_rules}
+use Rattle.file_store.proofs.Offered.{known_on, on_rules_always}
 use Rattle.node.specs.Course.{at}
 use Rattle.node.specs.Lent.{lent as lent_so, seen}
 use Rattle.node.specs.Turns.{lent}
@@ -55,6 +55,6 @@ returns g c =
     c.take_turns-ended.result c.take_turns-ended.ensures.turns g.met.D.Disk.lasts_same g.met.D.Disk.lasts_on c.args.disk.now (λ known. known_on g.D.Disk c.args.disk.now mid h.runs.told known) c.args.clock.now
     c.moment_of-first.ensures.moment in
     let serves = served all g.met.D.Disk.lasts_on terms.limits.blocks terms.moment (Ran (IsKnown g.D.Disk c.args.disk.now) terms) old now mid store store new.party.store terms.polls c.answer_of.result
-    (record { recovered = h.recovered; rules = λ known. on_rules g.D.Disk store mid h.recovered.ready known c.state_law.ensures.rules; runs = h.runs; octets = h.octets; since_start = h.since_start; since_sync = h.since_sync })
+    (record { recovered = h.recovered; rules = on_rules_always g.D.Disk store mid h.recovered.ready c.state_law.ensures.rules; runs = h.runs; octets = h.octets; since_start = h.since_start; since_sync = h.since_sync })
     (subst (λ (r : Result Served NodeStop). Did all terms.moment (Ran (IsKnown g.D.Disk c.args.disk.now) terms r) old now mid store new.party.store terms.polls r) (sym c.answer_of.ensures) did) in
     record { refuses = serves.refuses; ends = serves.ends; clock = λ given. c.take_turns-ended.ensures.clock given ∙ c.moment_of-first.ensures.clock given; counts = serves.counts; runs = serves.runs }

@@ -1,6 +1,6 @@
 -- What is due was queued, or it stands as it stood.
 use Rattle.std.proofs.lemmas.Grind.{common_steps}
-use Rattle.std.proofs.Common.{◌≡◌, ◌<◌, ◌≤◌, ℕ, length, ap, sym, ◌∙◌, subst, arith}
+use Rattle.std.proofs.Common.{◌≡◌, inl, inr, ◌<◌, ◌≤◌, ℕ, length, ap, sym, ◌∙◌, subst, arith}
 use Rattle.ax25_link.specs.Kept.{Kept}
 use Rattle.ax25_link.specs.Queue.{room_of}
 use Rattle.ftl0_packets.specs.Layout.{packet_text}
@@ -9,13 +9,14 @@ use Rattle.file_store.specs.State.{StoreState}
 use Rattle.ftl0_session.specs.SessionState.{state_in}
 use Rattle.ftl0_session.proofs.WorkingLemmas.{due-among, due-none}
 use Rattle.ftl0_server.specs.Connection.Feeding.{AreFree}
+use Rattle.ftl0_server.proofs.connection.DueLemmas.{known-or, none-due}
 use Rattle.ftl0_server.specs.Connection.Taking.{enough_free}
 use Rattle.packet_link.proofs.Fronts.{stations-same}
 use Rattle.ftl0_server.proofs.connection.connection.Connection.queue_next.Goals as goal
 
 pub returns-then-not-fill-clause-next : goal.returns-then-not-fill-clause-next
 returns-then-not-fill-clause-next g c = record {
-  queues = λ known. grind (arith, common_steps, due-none);
+  queues = λ seen. elim seen [ inl known ↦ grind (arith, common_steps, due-none) | inr none ↦ grind (arith, common_steps, none-due) ];
   fewer = λ queued. absurd (cc queued);
 }
 
@@ -26,7 +27,8 @@ returns-clause-next g c =
     let enough : AreFree a.link.link (λ free. enough_free ≤ free) = λ w end stands. subst (λ (n : ℕ). enough_free ≤ n) (ap (λ (k : Kept). room_of k.queue) stands.kept) room in
     let some : 0 < length c.deref.result.now = rw c.deref.ensures.0 (c.fill.ensures.some c.if-not-fill.false) in
     rw (sym c.self.view_is) (record {
-      queues = λ known.
+      queues = λ seen.
+          let known = known-or (c.fill.ensures.due) (c.if-not-fill.false) seen in
           let sent = due-among g.D.Disk c.args.store.now _ _ _ _ _ _ c.if-not-fill.ensures.puts c.requires.may.ready known in
           let text : c.deref.result.now ≡ packet_text sent.next.packet = c.deref.ensures.0 ∙ sent.text_is in
           record {
