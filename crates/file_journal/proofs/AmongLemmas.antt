@@ -7,6 +7,7 @@ use Rattle.file_journal.specs.Calls.{ChangesReads, CountsFault, Puts, Reads, Tel
 use Rattle.file_journal.specs.Form.{Form}
 use Rattle.file_journal.specs.Kept.{Does, IsKept, KeptOn, alone, kept_on}
 use Rattle.file_journal.specs.Position.{Position}
+use Rattle.file_journal.proofs.BoundLemmas.{halves_reads}
 use Rattle.file_journal.proofs.CallLemmas.{changes_none, changes_on, counts_none, counts_on, still, counts_same}
 use Rattle.file_journal.proofs.DoesLemmas.{turn_course, turn_then}
 use Rattle.file_journal.proofs.MomentLemmas.{reads}
@@ -87,7 +88,7 @@ module _ {D : Type 0} (g : Ghosts D) where
     -- one run of reads, which failed or didn't
     pub reads_only : (failed : Bool) (now : S) (journal : Position) (old new : D) → Reads g (failed ≡ true) old new → journal.failed ≡ false → IsKept g form (kept_on now journal old)
         → DoesAmongReads g form ⊥ (one_if failed) [] (kept_on now journal old) (kept_on now journal new)
-    reads_only failed now journal old new run healthy stands = grind (arith, common_steps)
+    reads_only failed now journal old new run healthy stands = grind (arith, common_steps, halves_reads)
 
     -- commands alone
     pub among_does : (P : Type 0) (commands : List C) (old new : KeptOn D S) → Does g form P commands old new → DoesAmongReads g form P 0 commands old new

@@ -11,13 +11,15 @@ use Rattle.disk_model.specs.declared.disk.Disk.{Ghosts}
 use Rattle.file_journal.specs.Appending.{IsTornFrom}
 use Rattle.file_journal.specs.Blocks.{HasBlock, IsWritingBlock, WritesBlock}
 use Rattle.file_journal.specs.Calls.{ChangesReads, Leaves, Makes, images_now}
-use Rattle.file_journal.specs.Layout.{block_in, block_place, first_gate}
+use Rattle.file_journal.specs.Layout.{block_in, block_place, first_gate, half_gate}
 use Rattle.file_journal.specs.Position.{IsAt, Position, StandsOn, gate_of, left_to_read, store_in}
 use Rattle.file_journal.specs.Records.{Record, records_text}
+use Rattle.file_journal.specs.declared.layout.Half.{Half}
 use Rattle.file_journal.specs.declared.layout.Layout.{Layout}
-use Rattle.file_journal.proofs.AppendLemmas.{AllEnd, Ends, all_end, ends_at, ends_closed, ends_store}
+use Rattle.file_journal.proofs.AppendLemmas.{AllEnd, Ends, all_end, ends_at, ends_closed, ends_store, ends_there}
 use Rattle.file_journal.proofs.CallLemmas.{on_ok_both, reads_now}
 use Rattle.file_journal.proofs.JournalLemmas.{same_header}
+use Rattle.file_journal.proofs.LayoutLemmas.{gate_of_blocks, half_behind, same_half}
 use Rattle.file_journal.proofs.MomentLemmas.{weaker}
 use Rattle.file_journal.proofs.OctetLemmas.{kept_back, torn_front, torn_length}
 use Rattle.file_journal.proofs.PositionLemmas.{among_records}
@@ -50,11 +52,11 @@ module _ (at count first : ℕ) (behind : 16 ≤ at) (within : at + count ≤ fi
       ∙ drop-drop (first - (at + count)) (at + count) octets ∙ ap (λ (i : ℕ). drop i octets) parts
 
 -- the records of octets torn so end where they ended
-ends_beside : (magic : List ℕ) (layout : Layout) (blocks : ℕ) (entries : List Record) (place at count : ℕ) (octets image : List ℕ) → Ends magic layout blocks entries place octets
-    → 16 ≤ at → at + count ≤ first_gate layout blocks → Torn at count octets image → Ends magic layout blocks entries place image
-ends_beside magic layout blocks entries place at count octets image ends behind within torn =
-    let first = first_gate layout blocks in
-    let long : first ≤ length octets = omega (arith, ends.long) in
+ends_beside : (magic : List ℕ) (layout : Layout) (blocks : ℕ) (chosen : Half) (entries : List Record) (place at count : ℕ) (octets image : List ℕ) → Ends magic layout blocks chosen entries place octets
+    → 16 ≤ at → at + count ≤ half_gate layout blocks chosen → Torn at count octets image → Ends magic layout blocks chosen entries place image
+ends_beside magic layout blocks chosen entries place at count octets image ends behind within torn =
+    let first = half_gate layout blocks chosen in
+    let long : first ≤ length octets = omega (arith, ends_there magic layout blocks chosen entries place octets ends, ends.is_place) in
     let size = same_length at count first behind within octets image long torn in
     let split : octets ≡ ends.header ++ (records_text entries ++ ends.gate ∷ ends.rest) = ends.split ∙ append_assoc ends.header (records_text entries) (ends.gate ∷ ends.rest) in
     let back : drop first image ≡ records_text entries ++ ends.gate ∷ ends.rest =
@@ -68,18 +70,22 @@ ends_beside magic layout blocks entries place at count octets image ends behind 
       rest = ends.rest;
       head = same_header 16 magic blocks ends.header (take first image) (omega arith) front ends.head;
       size = length-take-le first image (omega (arith, size, long));
+      half = same_half 16 layout ends.header (take first image) (omega arith) front ∙ ends.half;
       long = omega (arith, size, ends.long);
       are = ends.are;
       is_place = ends.is_place;
+      inside = ends.inside;
       split = sym (take-append-drop first image) ∙ ap (λ (l : List ℕ). take first image ++ l) back ∙ sym (append_assoc (take first image) (records_text entries) (ends.gate ∷ ends.rest));
       shut = ends.shut;
     }
 
 -- a block of a store stands before its first gate
-pub block_within : (journal : Position) (block count : ℕ) → HasBlock journal block → count ≤ 512 → block_place block + count ≤ gate_of journal
-block_within journal block count has most =
-    let gate : gate_of journal ≡ block_place journal.blocks = ap (λ (l : Layout). first_gate l journal.blocks) has.in_blocks in
-    omega (arith, gate, has.there, most)
+pub block_within : (journal : Position) (block count : ℕ) → HasBlock journal block → count ≤ 512 → block_place block + count ≤ first_gate journal.layout journal.blocks
+block_within journal block count has most = omega (arith, gate_of_blocks journal.layout journal.blocks has.has_blocks, has.there, most)
+
+-- and so before the first gate of its records
+pub block_before : (journal : Position) (block count : ℕ) → HasBlock journal block → count ≤ 512 → block_place block + count ≤ gate_of journal
+block_before journal block count has most = omega (arith, block_within journal block count has most, half_behind journal.layout journal.blocks journal.half)
 
 -- what was written at the front of a block
 begins_with : (block : ℕ) (bytes before now : List ℕ) → length bytes ≤ 512 → Writes (block_place block) bytes before now → take (length bytes) (block_in now block) ≡ bytes
@@ -88,16 +94,16 @@ begins_with block bytes before now most writes = take-take (length bytes) 512 (d
 -- A journal at its end, and a block of its store that is written.
 module _ {D : Type 0} (g : Ghosts D) (journal : Position) (old : D) (ok : journal.failed ≡ false) (end : journal.ended ≡ true) (stands : StandsOn g journal old)
     (block : ℕ) (has : HasBlock journal block) (bytes : List ℕ) (most : length bytes ≤ 512) where
-  beside : (entries : List Record) (octets image : List ℕ) → Ends journal.magic journal.layout journal.blocks entries journal.place octets → Torn (block_place block) (length bytes) octets image
-      → Ends journal.magic journal.layout journal.blocks entries journal.place image
+  beside : (entries : List Record) (octets image : List ℕ) → Ends journal.magic journal.layout journal.blocks journal.half entries journal.place octets → Torn (block_place block) (length bytes) octets image
+      → Ends journal.magic journal.layout journal.blocks journal.half entries journal.place image
   beside entries octets image ends torn =
-      ends_beside journal.magic journal.layout journal.blocks entries journal.place (block_place block) (length bytes) octets image ends (omega arith) (block_within journal block (length bytes) has most) torn
+      ends_beside journal.magic journal.layout journal.blocks journal.half entries journal.place (block_place block) (length bytes) octets image ends (omega arith) (block_before journal block (length bytes) has most) torn
 
-  ends_alike : (entries : List Record) (octets image : List ℕ) → Ends journal.magic journal.layout journal.blocks entries journal.place octets → Ends journal.magic journal.layout journal.blocks entries journal.place image
+  ends_alike : (entries : List Record) (octets image : List ℕ) → Ends journal.magic journal.layout journal.blocks journal.half entries journal.place octets → Ends journal.magic journal.layout journal.blocks journal.half entries journal.place image
       → (store_in journal image ≡ store_in journal octets) × (left_to_read journal image ≡ left_to_read journal octets)
   ends_alike entries octets image ends now = (
-    ends_store _ _ _ entries _ image now ∙ sym (ends_store _ _ _ entries _ octets ends),
-    ends_closed _ _ _ entries _ image now ∙ sym (ends_closed _ _ _ entries _ octets ends),
+    ends_store _ _ _ _ entries _ image now ∙ sym (ends_store _ _ _ _ entries _ octets ends),
+    ends_closed _ _ _ _ entries _ image now ∙ sym (ends_closed _ _ _ _ entries _ octets ends),
   )
 
   -- each image while it is written
@@ -111,7 +117,7 @@ module _ {D : Type 0} (g : Ghosts D) (journal : Position) (old : D) (ok : journa
 
   -- what it makes of the content
   module _ (before now : List ℕ) (told : g.content old ≡ Some before) (writes : Writes (block_place block) bytes before now) where
-    written_ends : (all : AllEnd g journal old ok end stands before) × Ends journal.magic journal.layout journal.blocks all.entries journal.place now
+    written_ends : (all : AllEnd g journal old ok end stands before) × Ends journal.magic journal.layout journal.blocks journal.half all.entries journal.place now
     written_ends =
         let all = all_end g journal old ok end stands before told in (
           all,

@@ -13,7 +13,7 @@ block_front octets place block within =
     sym (drop-take there 512 (take place octets)) ∙ ap (drop there) (take-take (there + 512) place octets within) ∙ drop-take there 512 octets
 
 -- octets that are the same up to some place hold the same in each block before it
-same_front : (octets other : List ℕ) (place block : ℕ) → block_place block + 512 ≤ place → take place other ≡ take place octets → block_in other block ≡ block_in octets block
+pub same_front : (octets other : List ℕ) (place block : ℕ) → block_place block + 512 ≤ place → take place other ≡ take place octets → block_in other block ≡ block_in octets block
 same_front octets other place block within same =
     sym (block_front other place block within) ∙ ap (λ (l : List ℕ). block_in l block) same ∙ block_front octets place block within
 
@@ -22,7 +22,7 @@ pub torn_behind : (at count block : ℕ) (old new : List ℕ) → block_place bl
 torn_behind at count block old new within le torn = same_front old new at block within (torn_front at count old new le torn)
 
 -- octets that are the same from some place on hold the same in each block behind it
-same_back : (octets other : List ℕ) (place block : ℕ) → place ≤ block_place block → drop place other ≡ drop place octets → block_in other block ≡ block_in octets block
+pub same_back : (octets other : List ℕ) (place block : ℕ) → place ≤ block_place block → drop place other ≡ drop place octets → block_in other block ≡ block_in octets block
 same_back octets other place block behind same =
     let rest = block_place block - place in
     let there : place + rest ≡ block_place block = omega (arith, behind) in

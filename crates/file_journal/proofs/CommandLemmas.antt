@@ -130,20 +130,25 @@ module _ {S C : Type 0} (form : Form S C) where
     pub stay_none : (time : ℕ → ℕ) (start : S) (commands : List C) (disk : D) → StayDone g form time 0 start commands disk
     stay_none time start commands disk count some most = absurd (omega (arith, some, most))
 
-    -- with further commands behind them
-    pub stay_longer : (ready done : ℕ) (start : S) (a b : List C) (disk : D) → done ≤ length a → StayDone g form (done_at form ready a) done start a disk
-        → StayDone g form (done_at form ready (a ++ b)) done start (a ++ b) disk
-    stay_longer ready done start a b disk few stay count some most image left =
-        let then = at_first ready count a b (omega (arith, few, most)) in
+    -- with further commands behind them, where those are done when they were
+    pub stay_by_longer : (time once : ℕ → ℕ) (done : ℕ) (start : S) (a b : List C) (disk : D) → ((count : ℕ) → count ≤ length a → time count ≡ once count) → done ≤ length a → StayDone g form once done start a disk
+        → StayDone g form time done start (a ++ b) disk
+    stay_by_longer time once done start a b disk early few stay count some most image left =
+        let then = early count (omega (arith, few, most)) in
         makes_within count (length a) count (length (a ++ b)) start (a ++ b) image (omega arith) (omega (arith, length-append a b))
         (makes_first count (length a) start a b image (omega arith) (stay count some most image (subst (λ (t : ℕ). g.images_since disk t image) then left)))
 
+    pub stay_longer : (ready done : ℕ) (start : S) (a b : List C) (disk : D) → done ≤ length a → StayDone g form (done_at form ready a) done start a disk
+        → StayDone g form (done_at form ready (a ++ b)) done start (a ++ b) disk
+    stay_longer ready done start a b disk few = stay_by_longer (done_at form ready (a ++ b)) (done_at form ready a) done start a b disk (λ count least. at_first ready count a b least) few
+
     -- Since so many of the first are done: what might have been left before the second began, or what they leave; and since
     -- so many of the second are done, they all stay.
-    pub stay_then : (ready done : ℕ) (start middle : S) (a b : List C) (mid disk : D) → middle ≡ after_all form.after start a → g.moment mid ≡ done_at form ready a (length a)
-        → StayDone g form (done_at form ready a) (length a) start a mid → LeavesOnly g.moment g.images_since mid disk (MakesFirst form middle b)
-        → StayDone g form (done_at form (g.moment mid) b) done middle b disk → StayDone g form (done_at form ready (a ++ b)) (length a + done) start (a ++ b) disk
-    stay_then ready done start middle a b mid disk at then first leaves second count some most image left =
+    pub stay_by_then : (time once again : ℕ → ℕ) (done : ℕ) (start middle : S) (a b : List C) (mid disk : D) → middle ≡ after_all form.after start a → ((count : ℕ) → count ≤ length a → time count ≡ once count)
+        → ((count : ℕ) → count ≤ done → time (length a + count) ≡ again count) → ((count : ℕ) → count ≤ length a → once count ≤ g.moment mid)
+        → StayDone g form once (length a) start a mid → LeavesOnly g.moment g.images_since mid disk (MakesFirst form middle b)
+        → StayDone g form again done middle b disk → StayDone g form time (length a + done) start (a ++ b) disk
+    stay_by_then time once again done start middle a b mid disk at early late before first leaves second count some most image left =
         let sum : length (a ++ b) ≡ length a + length b = length-append a b in
         ⊎_elim
         (λ (w : (nat_le count (length a) ≡ true) × (count ≤ length a)).
@@ -151,12 +156,18 @@ module _ {S C : Type 0} (form : Form S C) where
         ⊎_elim
         (λ was. makes_within count (length a) count (length (a ++ b)) start (a ++ b) image (omega arith) (omega (arith, sum)) (makes_first count (length a) start a b image (omega arith) (first count some few image was)))
         (λ here. makes_second 0 (length b) count (length (a ++ b)) start middle a b image at (omega (arith, few)) (omega (arith, sum)) here)
-        (leaves.each (done_at form ready a count) image (omega (arith, then, at_some ready count (length a) a few)) (subst (λ (t : ℕ). g.images_since disk t image) (at_first ready count a b few) left)))
+        (leaves.each (once count) image (before count few) (subst (λ (t : ℕ). g.images_since disk t image) (early count few) left)))
         (λ (w : (nat_le count (length a) ≡ false) × (length a < count)).
         let more = w.1 in
         let behind : length a + (count - length a) ≡ count = omega (arith, more) in
-        let later : done_at form ready (a ++ b) count ≡ done_at form (g.moment mid) b (count - length a) =
-        ap (done_at form ready (a ++ b)) (sym behind) ∙ at_later ready (g.moment mid) (count - length a) a b then in
+        let later : time count ≡ again (count - length a) = ap time (sym behind) ∙ late (count - length a) (omega (arith, more, most)) in
         makes_second (count - length a) (length b) count (length (a ++ b)) start middle a b image at (omega (arith, more)) (omega (arith, sum))
         (second (count - length a) (omega (arith, more)) (omega (arith, more, most)) image (subst (λ (t : ℕ). g.images_since disk t image) later left)))
         (leb_tells count (length a))
+
+    pub stay_then : (ready done : ℕ) (start middle : S) (a b : List C) (mid disk : D) → middle ≡ after_all form.after start a → g.moment mid ≡ done_at form ready a (length a)
+        → StayDone g form (done_at form ready a) (length a) start a mid → LeavesOnly g.moment g.images_since mid disk (MakesFirst form middle b)
+        → StayDone g form (done_at form (g.moment mid) b) done middle b disk → StayDone g form (done_at form ready (a ++ b)) (length a + done) start (a ++ b) disk
+    stay_then ready done start middle a b mid disk at then =
+        stay_by_then (done_at form ready (a ++ b)) (done_at form ready a) (done_at form (g.moment mid) b) done start middle a b mid disk at (λ count few. at_first ready count a b few)
+        (λ count few. at_later ready (g.moment mid) count a b then) (λ count few. omega (arith, then, at_some ready count (length a) a few))

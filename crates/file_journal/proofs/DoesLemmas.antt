@@ -2,20 +2,27 @@
 use Rattle.std.proofs.Common.{◌≡◌, ℕ, zero, suc, ◌+◌, ◌-◌, ◌<◌, ◌≤◌, Bool, true, false, nat_le, List, [], ◌∷◌, ◌++◌, length, take, Some, IfSome, refl, sym, ◌∙◌, ap, ap₂, subst, arith, length-append}
 use Rattle.std.proofs.lemmas.Bool.{leb-true}
 use Rattle.disk_model.specs.declared.disk.Disk.{Ghosts}
+use Rattle.file_journal.specs.Bounds.{StaysInHalves}
 use Rattle.file_journal.specs.Calls.{EachImage, Leaves, TellsAlike}
 use Rattle.file_journal.specs.Commands.{AreAllowed, MakesBetween, MakesFirst, StayDone, after_all, after_first, calls_of, done_at, done_within}
 use Rattle.file_journal.specs.Form.{Form}
-use Rattle.file_journal.specs.Kept.{Course, Does, DoesInTurn, IsCut, IsKept, KeptOn, alone, kept_on}
-use Rattle.file_journal.specs.Position.{Position}
+use Rattle.file_journal.specs.Kept.{Course, Does, DoesBy, DoesInTurn, IsCut, IsKept, KeptOn, alone, kept_on}
+use Rattle.file_journal.specs.Position.{IsSameJournal, Position}
 use Rattle.file_journal.specs.Steps.{Knows}
+use Rattle.file_journal.proofs.BoundLemmas.{halves_on, halves_same}
 use Rattle.file_journal.proofs.CallLemmas.{puts_none, puts_on, puts_same}
-use Rattle.file_journal.proofs.CommandLemmas.{after_all_append, allowed_append, at_all, at_first, at_later, at_then, first_append, first_then, makes_first, makes_later, makes_longer, makes_second, makes_within, nothing, stay_longer, stay_none, stay_then}
+use Rattle.file_journal.proofs.CommandLemmas.{after_all_append, allowed_append, at_all, at_first, at_later, at_some, at_then, first_append, first_then, makes_first, makes_later, makes_longer, makes_second, makes_within, nothing, stay_by_longer, stay_by_then, stay_none}
 use Rattle.file_journal.proofs.MomentLemmas.{joined, started, weaker}
 use Rattle.file_journal.proofs.ToldLemmas.{alike_on, at_told, if_told, knew, known_told, knows_on, told_before, told_weaker}
 
 -- the same state and the same journal, on the same disk
 pub same_on : {D S : Type 0} (now other : S) (journal else_journal : Position) (disk : D) → now ≡ other → journal ≡ else_journal → kept_on now journal disk ≡ kept_on other else_journal disk
 same_on {S = S} now other journal else_journal disk state same = ap₂ (λ (s : S) (j : Position). kept_on s j disk) state same
+
+-- a journal that is as it was, and then another time
+pub same_then : (first second third : Position) → IsSameJournal first second → IsSameJournal second third → IsSameJournal first third
+same_then first second third one other =
+    other ∙ ap (λ (j : Position). let moved : Position = record j { half = third.half; place = third.place; failed = third.failed } in moved) one
 
 module _ {S C : Type 0} (form : Form S C) where
   -- calls carry out no more commands than there are
@@ -60,10 +67,10 @@ module _ {D S C : Type 0} (g : Ghosts D) (form : Form S C) where
       (makes_first form some.count (some.count + 1) old.now a b image (omega (arith, some.fewer)) (stands image left))) some.images) some.at_most
 
   -- what comes to the same, by calls that are said otherwise
-  pub turn_course : (one other : Course D) (P Q : Type 0) (commands : List C) (old new : KeptOn D S) → (P → Q) → (Q → P) → (one.idle old.disk new.disk → other.idle old.disk new.disk)
-      → (one.puts old.disk new.disk → other.puts old.disk new.disk) → (one.reads old.disk new.disk → other.reads old.disk new.disk) → DoesInTurn g form one P commands old new
-      → DoesInTurn g form other Q commands old new
-  turn_course one other P Q commands old new there back idle puts reads does = record {
+  pub by_course : (one other : Course D) (P Q : Type 0) (time : ℕ → ℕ) (commands : List C) (old new : KeptOn D S) → (P → Q) → (Q → P) → (one.idle old.disk new.disk → other.idle old.disk new.disk)
+      → (one.puts old.disk new.disk → other.puts old.disk new.disk) → (one.reads old.disk new.disk → other.reads old.disk new.disk) → DoesBy g form one P time commands old new
+      → DoesBy g form other Q time commands old new
+  by_course one other P Q time commands old new there back idle puts reads does = record {
     healthy = does.healthy;
     stands_on = does.stands_on;
     allowed = does.allowed;
@@ -77,13 +84,19 @@ module _ {D S C : Type 0} (g : Ghosts D) (form : Form S C) where
     done = λ fine. does.done (λ p. fine (there p));
     cut = λ q. does.cut (back q);
     journal = does.journal;
+    within = does.within;
   }
+
+  pub turn_course : (one other : Course D) (P Q : Type 0) (commands : List C) (old new : KeptOn D S) → (P → Q) → (Q → P) → (one.idle old.disk new.disk → other.idle old.disk new.disk)
+      → (one.puts old.disk new.disk → other.puts old.disk new.disk) → (one.reads old.disk new.disk → other.reads old.disk new.disk) → DoesInTurn g form one P commands old new
+      → DoesInTurn g form other Q commands old new
+  turn_course one other P Q commands old new = by_course one other P Q (done_at form (g.moment old.disk) commands) commands old new
 
   -- no command
   pub turn_none : (course : Course D) (P : Type 0) (now : S) (journal : Position) (old new : D) → ¬ P → IsKept g form (kept_on now journal new) → journal.failed ≡ false
       → Leaves g old new (λ _. MakesFirst form now []) → g.moment new ≡ g.moment old → course.idle old new → course.puts old new → course.reads old new
-      → DoesInTurn g form course P [] (kept_on now journal old) (kept_on now journal new)
-  turn_none course P now journal old new fine stands healthy since same idle puts reads = record {
+      → StaysInHalves g form.layout journal.blocks old new → DoesInTurn g form course P [] (kept_on now journal old) (kept_on now journal new)
+  turn_none course P now journal old new fine stands healthy since same idle puts reads within = record {
     healthy = healthy;
     stands_on = stands;
     allowed = λ known. tt;
@@ -97,12 +110,13 @@ module _ {D S C : Type 0} (g : Ghosts D) (form : Form S C) where
     done = λ still. (λ known. refl, healthy);
     cut = λ failed. absurd (fine failed);
     journal = refl;
+    within = within;
   }
 
   -- further commands behind those in one of which the disk failed
-  pub turn_longer : (course : Course D) (P : Type 0) (a b : List C) (old new : KeptOn D S) → P → (Knows form (g.content old.disk) → AreAllowed form.allowed form.after old.now (a ++ b)) → DoesInTurn g form course P a old new
-      → DoesInTurn g form course P (a ++ b) old new
-  turn_longer course P a b old new failed allowed does =
+  pub by_longer : (course : Course D) (P : Type 0) (time once : ℕ → ℕ) (a b : List C) (old new : KeptOn D S) → P → (Knows form (g.content old.disk) → AreAllowed form.allowed form.after old.now (a ++ b))
+      → ((count : ℕ) → count ≤ length a → time count ≡ once count) → once (length a) ≤ time (length (a ++ b)) → DoesBy g form course P once a old new → DoesBy g form course P time (a ++ b) old new
+  by_longer course P time once a b old new failed allowed early more does =
       let sum : length (a ++ b) ≡ length a + length b = length-append a b in
       let some = does.cut failed in
       let few = some.fewer in
@@ -114,7 +128,7 @@ module _ {D S C : Type 0} (g : Ghosts D) (form : Form S C) where
             weaker g.moment g.images_since old.disk new.disk (MakesFirst form old.now a) (MakesFirst form old.now (a ++ b)) (λ image here. makes_longer form old.now a b image here) left) does.since;
         stay = λ fine. absurd (fine failed);
         calls = λ fine. absurd (fine failed);
-        at_most = omega (arith, does.at_most, at_then form (g.moment old.disk) a b);
+        at_most = omega (arith, does.at_most, more);
         none = λ is. let empty : length (a ++ b) ≡ 0 = ap length is in absurd (omega (arith, sum, few, empty));
         puts = does.puts;
         reads = does.reads;
@@ -126,16 +140,25 @@ module _ {D S C : Type 0} (g : Ghosts D) (form : Form S C) where
           failed = some.failed;
           images = told_weaker (g.content new.disk) _ _ (λ now told each image here.
               makes_first form some.count (some.count + 1) old.now a b image (omega (arith, few)) (each image here)) some.images;
-          stay = told_weaker (g.content old.disk) _ _ (λ before told stay. stay_longer form g (g.moment old.disk) some.count old.now a b new.disk (omega (arith, few)) stay) some.stay;
-          calls = told_weaker (g.content old.disk) _ _ (λ before told later. omega (arith, later, at_first form (g.moment old.disk) some.count a b (omega (arith, few)))) some.calls;
-          at_most = told_weaker (g.content old.disk) _ _ (λ before told soon. omega (arith, soon, at_first form (g.moment old.disk) (some.count + 1) a b (omega (arith, few)))) some.at_most;
+          stay = told_weaker (g.content old.disk) _ _ (λ before told stay. stay_by_longer form g time once some.count old.now a b new.disk early (omega (arith, few)) stay) some.stay;
+          calls = told_weaker (g.content old.disk) _ _ (λ before told later. let at = early some.count (omega (arith, few)) in omega (arith, later, at)) some.calls;
+          at_most = told_weaker (g.content old.disk) _ _ (λ before told soon. let at = early (some.count + 1) (omega (arith, few)) in omega (arith, soon, at)) some.at_most;
         };
         journal = does.journal;
+        within = does.within;
       }
 
-  -- One list of commands, and then another.
+  pub turn_longer : (course : Course D) (P : Type 0) (a b : List C) (old new : KeptOn D S) → P → (Knows form (g.content old.disk) → AreAllowed form.allowed form.after old.now (a ++ b)) → DoesInTurn g form course P a old new
+      → DoesInTurn g form course P (a ++ b) old new
+  turn_longer course P a b old new failed allowed =
+      by_longer course P (done_at form (g.moment old.disk) (a ++ b)) (done_at form (g.moment old.disk) a) a b old new failed allowed (λ count few. at_first form (g.moment old.disk) count a b few)
+      (omega (arith, at_then form (g.moment old.disk) a b))
+
+  -- One list of commands, and then another, each in its time, and both in theirs.
   module _ (one other both : Course D) (P Q : Type 0) (a b : List C) (old mid new : KeptOn D S) (fine : ¬ P) (alike : TellsAlike (g.content old.disk) (g.content mid.disk)) (later : TellsAlike (g.content mid.disk) (g.content new.disk))
-      (first : DoesInTurn g form one P a old mid) (second : DoesInTurn g form other Q b mid new) where
+      (time once again : ℕ → ℕ) (early : (count : ℕ) → count ≤ length a → time count ≡ once count)
+      (late : IfSome (g.content old.disk) (λ _. (count : ℕ) → count ≤ length b → time (length a + count) ≡ again count)) (rises : (count : ℕ) → count ≤ length a → once count ≤ once (length a))
+      (first : DoesBy g form one P once a old mid) (second : DoesBy g form other Q again b mid new) where
     sum : length (a ++ b) ≡ length a + length b
     sum = length-append a b
 
@@ -145,8 +168,11 @@ module _ {D S C : Type 0} (g : Ghosts D) (form : Form S C) where
     middle : (before : List ℕ) → g.content old.disk ≡ Some before → (octets : List ℕ) × (g.content mid.disk ≡ Some octets)
     middle before told = told_before (g.content mid.disk) (g.content old.disk) before (alike.1, alike.0) told
 
-    then : (before : List ℕ) → g.content old.disk ≡ Some before → g.moment mid.disk ≡ done_at form (g.moment old.disk) a (length a)
-    then before told = at_told (λ (_ : List ℕ). g.moment mid.disk ≡ done_at form (g.moment old.disk) a (length a)) before told (first.calls fine)
+    then : (before : List ℕ) → g.content old.disk ≡ Some before → g.moment mid.disk ≡ once (length a)
+    then before told = at_told (λ (_ : List ℕ). g.moment mid.disk ≡ once (length a)) before told (first.calls fine)
+
+    behind : (before : List ℕ) → g.content old.disk ≡ Some before → (count : ℕ) → count ≤ length b → time (length a + count) ≡ again count
+    behind before told = at_told (λ (_ : List ℕ). (count : ℕ) → count ≤ length b → time (length a + count) ≡ again count) before told late
 
     since_both : Leaves g old.disk new.disk (λ _. MakesFirst form old.now (a ++ b))
     since_both = if_told (g.content old.disk) _ (λ before told.
@@ -156,49 +182,46 @@ module _ {D S C : Type 0} (g : Ghosts D) (form : Form S C) where
         (weaker g.moment g.images_since mid.disk new.disk (MakesFirst form mid.now b) (MakesFirst form old.now (a ++ b)) (λ image here. makes_later form old.now mid.now a b image (at (known_told form before told)) here)
         (at_told (λ (_ : List ℕ). _) (middle before told).0 (middle before told).1 second.since)))
 
-    stay_both : (done : ℕ) → IfSome (g.content mid.disk) (λ _. StayDone g form (done_at form (g.moment mid.disk) b) done mid.now b new.disk)
-        → IfSome (g.content old.disk) (λ _. StayDone g form (done_at form (g.moment old.disk) (a ++ b)) (length a + done) old.now (a ++ b) new.disk)
-    stay_both done stay = if_told (g.content old.disk) _ (λ before told.
-        stay_then form g (g.moment old.disk) done old.now mid.now a b mid.disk new.disk (at (known_told form before told)) (then before told) (at_told (λ (_ : List ℕ). _) before told (first.stay fine))
+    stay_both : (done : ℕ) → done ≤ length b → IfSome (g.content mid.disk) (λ _. StayDone g form again done mid.now b new.disk)
+        → IfSome (g.content old.disk) (λ _. StayDone g form time (length a + done) old.now (a ++ b) new.disk)
+    stay_both done most stay = if_told (g.content old.disk) _ (λ before told.
+        stay_by_then form g time once again done old.now mid.now a b mid.disk new.disk (at (known_told form before told)) early (λ count few. behind before told count (omega (arith, few, most)))
+        (λ count few. let at = rises count few in omega (arith, at, then before told)) (at_told (λ (_ : List ℕ). _) before told (first.stay fine))
         (at_told (λ (_ : List ℕ). _) (middle before told).0 (middle before told).1 second.since) (at_told (λ (_ : List ℕ). _) (middle before told).0 (middle before told).1 stay))
 
-    cut_both : IsCut g form (done_at form (g.moment mid.disk) b) b mid new → IsCut g form (done_at form (g.moment old.disk) (a ++ b)) (a ++ b) old new
-    cut_both some = record {
+    by_cut : IsCut g form again b mid new → IsCut g form time (a ++ b) old new
+    by_cut some = record {
       count = length a + some.count;
       fewer = omega (arith, sum, some.fewer);
       state = λ known. some.state (knows_on form _ _ alike known) ∙ ap (λ (s : S). after_first form some.count s b) (at known) ∙ sym (first_then form some.count a b old.now);
       failed = some.failed;
       images = told_weaker (g.content new.disk) _ _ (λ now told each image here.
           makes_second form some.count (some.count + 1) (length a + some.count) (length a + some.count + 1) old.now mid.now a b image (at (knew form _ _ (alike_on _ _ _ alike later) (known_told form now told))) (omega arith) (omega arith) (each image here)) some.images;
-      stay = stay_both some.count some.stay;
+      stay = stay_both some.count (let few = some.fewer in omega (arith, few)) some.stay;
       calls = if_told (g.content old.disk) _ (λ before told.
-          let later : done_at form (g.moment mid.disk) b some.count ≤ g.moment new.disk = at_told (λ (_ : List ℕ). _) (middle before told).0 (middle before told).1 some.calls in
-          omega (arith, at_later form (g.moment old.disk) (g.moment mid.disk) some.count a b (then before told), later));
+          let begun : again some.count ≤ g.moment new.disk = at_told (λ (_ : List ℕ). _) (middle before told).0 (middle before told).1 some.calls in
+          let there = behind before told some.count (let few = some.fewer in omega (arith, few)) in
+          omega (arith, there, begun));
       at_most = if_told (g.content old.disk) _ (λ before told.
-          let soon : g.moment new.disk ≤ done_at form (g.moment mid.disk) b (some.count + 1) = at_told (λ (_ : List ℕ). _) (middle before told).0 (middle before told).1 some.at_most in
-          let one : done_at form (g.moment old.disk) (a ++ b) (length a + some.count + 1) ≡ done_at form (g.moment old.disk) (a ++ b) (length a + (some.count + 1)) =
-          ap (done_at form (g.moment old.disk) (a ++ b)) (omega arith) in
-          omega (arith, one, at_later form (g.moment old.disk) (g.moment mid.disk) (some.count + 1) a b (then before told), soon));
+          let soon : g.moment new.disk ≤ again (some.count + 1) = at_told (λ (_ : List ℕ). _) (middle before told).0 (middle before told).1 some.at_most in
+          let same : time (length a + some.count + 1) ≡ time (length a + (some.count + 1)) = ap time (omega arith) in
+          let there = behind before told (some.count + 1) (let few = some.fewer in omega (arith, few)) in
+          omega (arith, same, there, soon));
     }
 
-    -- and then no fewer of both are done than the first were
-    pub cut_least : IsCut g form (done_at form (g.moment mid.disk) b) b mid new → (all : IsCut g form (done_at form (g.moment old.disk) (a ++ b)) (a ++ b) old new) × (length a ≤ all.count)
-    unfolding cut_both
-    cut_least some = (cut_both some, omega arith)
-
-    pub turn_then : (one.idle old.disk mid.disk → other.idle mid.disk new.disk → both.idle old.disk new.disk) → both.puts old.disk new.disk → both.reads old.disk new.disk
-        → DoesInTurn g form both Q (a ++ b) old new
-    turn_then idle puts reads = record {
+    pub by_then : g.moment new.disk ≤ time (length (a ++ b)) → (one.idle old.disk mid.disk → other.idle mid.disk new.disk → both.idle old.disk new.disk) → both.puts old.disk new.disk → both.reads old.disk new.disk
+        → DoesBy g form both Q time (a ++ b) old new
+    by_then most idle puts reads = record {
       healthy = first.healthy;
       stands_on = second.stands_on;
       allowed = λ known. allowed_append form.after form.allowed a b old.now (first.allowed known)
           (subst (λ (s : S). AreAllowed form.allowed form.after s b) (at known) (second.allowed (knows_on form _ _ alike known)));
       since = since_both;
-      stay = λ still. subst (λ (n : ℕ). IfSome (g.content old.disk) (λ _. StayDone g form (done_at form (g.moment old.disk) (a ++ b)) n old.now (a ++ b) new.disk)) (sym sum) (stay_both (length b) (second.stay still));
+      stay = λ still. subst (λ (n : ℕ). IfSome (g.content old.disk) (λ _. StayDone g form time n old.now (a ++ b) new.disk)) (sym sum) (stay_both (length b) (omega arith) (second.stay still));
       calls = λ still. if_told (g.content old.disk) _ (λ before told.
-          let later : g.moment new.disk ≡ done_at form (g.moment mid.disk) b (length b) = at_told (λ (_ : List ℕ). _) (middle before told).0 (middle before told).1 (second.calls still) in
-          omega (arith, then before told, later, at_then form (g.moment old.disk) a b, at_all form (g.moment mid.disk) b));
-      at_most = omega (arith, first.at_most, second.at_most, at_then form (g.moment old.disk) a b, at_all form (g.moment mid.disk) b);
+          let all : g.moment new.disk ≡ again (length b) = at_told (λ (_ : List ℕ). _) (middle before told).0 (middle before told).1 (second.calls still) in
+          all ∙ sym (behind before told (length b) (omega arith)) ∙ ap time (sym sum));
+      at_most = most;
       none = λ is.
           let empty : length (a ++ b) ≡ 0 = ap length is in
           idle (first.none (nothing a (omega (arith, sum, empty)))) (second.none (nothing b (omega (arith, sum, empty))));
@@ -207,9 +230,37 @@ module _ {D S C : Type 0} (g : Ghosts D) (form : Form S C) where
       done = λ still.
           let all = second.done still in
           (λ known. all.0 (knows_on form _ _ alike known) ∙ ap (λ (s : S). after_all form.after s b) (at known) ∙ sym (after_all_append form.after a b old.now), all.1);
-      cut = λ failed. cut_both (second.cut failed);
-      journal = second.journal ∙ ap (λ (j : Position). let moved : Position = record j { place = new.journal.place; failed = new.journal.failed } in moved) first.journal;
+      cut = λ failed. by_cut (second.cut failed);
+      journal = same_then old.journal mid.journal new.journal first.journal second.journal;
+      within = halves_on g form.layout form.layout old.journal.blocks mid.journal.blocks old.disk mid.disk new.disk refl (ap (λ (p : Position). p.blocks) first.journal) first.within second.within;
     }
+
+  -- the same where each command takes exactly its calls
+  module _ (one other both : Course D) (P Q : Type 0) (a b : List C) (old mid new : KeptOn D S) (fine : ¬ P) (alike : TellsAlike (g.content old.disk) (g.content mid.disk)) (later : TellsAlike (g.content mid.disk) (g.content new.disk))
+      (first : DoesInTurn g form one P a old mid) (second : DoesInTurn g form other Q b mid new) where
+    abbrev in_turn : ℕ → ℕ
+    in_turn = done_at form (g.moment old.disk) (a ++ b)
+
+    turn_early : (count : ℕ) → count ≤ length a → in_turn count ≡ done_at form (g.moment old.disk) a count
+    turn_early count few = at_first form (g.moment old.disk) count a b few
+
+    turn_late : IfSome (g.content old.disk) (λ _. (count : ℕ) → count ≤ length b → in_turn (length a + count) ≡ done_at form (g.moment mid.disk) b count)
+    turn_late = told_weaker (g.content old.disk) _ _ (λ before told then count few. at_later form (g.moment old.disk) (g.moment mid.disk) count a b then) (first.calls fine)
+
+    turn_rises : (count : ℕ) → count ≤ length a → done_at form (g.moment old.disk) a count ≤ done_at form (g.moment old.disk) a (length a)
+    turn_rises count few = at_some form (g.moment old.disk) count (length a) a few
+
+    -- no fewer of both are done than the first were
+    pub cut_least : IsCut g form (done_at form (g.moment mid.disk) b) b mid new → (all : IsCut g form in_turn (a ++ b) old new) × (length a ≤ all.count)
+    unfolding by_cut
+    cut_least some =
+        (by_cut one other both P Q a b old mid new fine alike later in_turn (done_at form (g.moment old.disk) a) (done_at form (g.moment mid.disk) b) turn_early turn_late turn_rises first second some, omega arith)
+
+    pub turn_then : (one.idle old.disk mid.disk → other.idle mid.disk new.disk → both.idle old.disk new.disk) → both.puts old.disk new.disk → both.reads old.disk new.disk
+        → DoesInTurn g form both Q (a ++ b) old new
+    turn_then =
+        by_then one other both P Q a b old mid new fine alike later in_turn (done_at form (g.moment old.disk) a) (done_at form (g.moment mid.disk) b) turn_early turn_late turn_rises first second
+        (omega (arith, first.at_most, second.at_most, at_then form (g.moment old.disk) a b, at_all form (g.moment mid.disk) b))
 
   -- ---- no other call of the disk
 
@@ -217,7 +268,7 @@ module _ {D S C : Type 0} (g : Ghosts D) (form : Form S C) where
       → Does g form P [] (kept_on now journal disk) (kept_on now journal disk)
   does_none P now journal disk fine stands healthy same =
       turn_none (alone g P) P now journal disk disk fine stands healthy (if_told (g.content disk) _ (λ before told. started g.moment g.images_since disk (MakesFirst form now []))) refl refl
-      (puts_none g disk P fine same) tt
+      (puts_none g disk P fine same) tt (halves_same g form.layout journal.blocks disk)
 
   -- how the failure is named makes no difference
   pub does_same : (P Q : Type 0) (commands : List C) (old new : KeptOn D S) → (P → Q) → (Q → P) → Does g form P commands old new → Does g form Q commands old new

@@ -35,7 +35,7 @@ even_by before new long odd writes =
     ∙ ap (λ (n : ℕ). take 15 before ++ n ∷ drop 16 before) (sym (cond-true (get_or before 15 0 % 2 == 1) 0 (get_or before 15 0) (eq-eqb (get_or before 15 0 % 2) 1 odd)))
 
 -- an octet that was written
-octet_there : (at octet : ℕ) (new : List ℕ) → take 1 (drop at new) ≡ octet ∷ [] → get_or new at 0 ≡ octet
+pub octet_there : (at octet : ℕ) (new : List ℕ) → take 1 (drop at new) ≡ octet ∷ [] → get_or new at 0 ≡ octet
 octet_there at octet new is =
     ap (λ (i : ℕ). get_or new i 0) (let same : at ≡ at + 0 = omega arith in same) ∙ sym (get_or-drop at new 0 0) ∙ sym (get_or-take 1 (drop at new) 0 0 (omega arith))
     ∙ ap (λ (l : List ℕ). get_or l 0 0) is
@@ -107,7 +107,7 @@ module _ (gate : ℕ) (before : List ℕ) (behind : 16 ≤ gate) (low : 16 ≤ l
         closed = λ long. octet_kept (gate + 1) mid image torn.before gate (omega arith) (omega (arith, one.size)) ∙ one.closed;
       }
 
-even_selector_even : (before : List ℕ) → even_selector before % 2 ≡ 0
+pub even_selector_even : (before : List ℕ) → even_selector before % 2 ≡ 0
 even_selector_even before = grind (arith, nat_tests)
 
 -- The content once the selector is even.

@@ -1,5 +1,7 @@
 -- What a journal holds of a state on its disk, and how it stays or turns into the next one.
-use Rattle.std.proofs.Common.{◌≡◌, ◌⊎◌, inl, inr, ⊎_elim, ℕ, ◌+◌, ◌<◌, ◌≤◌, true, false, List, length, take, Option, None, Some, IfSome, is_some, refl, sym, ◌∙◌, ap, subst, arith}
+use Rattle.std.proofs.lemmas.Bool.{cases_lt}
+use Rattle.std.proofs.lemmas.List.{length-take}
+use Rattle.std.proofs.Common.{◌≡◌, ◌⊎◌, inl, inr, ⊎_elim, ℕ, ◌+◌, ◌<◌, ◌≤◌, true, false, List, [], length, take, Option, None, Some, IfSome, is_some, refl, sym, ◌∙◌, ap, subst, arith}
 use Rattle.disk_model.specs.Disk.{IsTold, Only, Torn}
 use Rattle.disk_model.specs.Moments.{LeavesOnly}
 use Rattle.disk_model.specs.declared.disk.Disk.{Ghosts}
@@ -7,22 +9,28 @@ use Rattle.file_journal.specs.Appending.{Appends, IsAppending, IsTornFrom, Leave
 use Rattle.file_journal.specs.Blocks.{IsWritingBlock, WritesBlock}
 use Rattle.file_journal.specs.Calls.{IsQuietNow, Leaves, Reads, TakesStep, TellsAlike, images_now}
 use Rattle.file_journal.specs.Form.{Form, StandsFor, standing_of}
-use Rattle.file_journal.specs.Journal.{Standing, with_last}
+use Rattle.file_journal.specs.Journal as journal
+use Rattle.file_journal.specs.Journal.{Standing, store_of, with_last}
 use Rattle.file_journal.specs.Kept.{IsKept, StandsAt, kept_on}
-use Rattle.file_journal.specs.Layout.{Blocks, HoldSame, block_in, block_place, blocks_on, first_gate}
-use Rattle.file_journal.specs.Position.{Position, StandsOn, gate_of, store_in}
+use Rattle.file_journal.specs.Layout.{Blocks, HasBlocks, HoldSame, block_in, block_place, blocks_on, half_gate, half_in, up_to}
+use Rattle.file_journal.specs.Ledger.{Takes}
+use Rattle.file_journal.specs.Position.{IsSameJournal, Position, StandsOn, end_of, gate_of, left_to_read, store_in}
 use Rattle.file_journal.specs.Putting.{StandsForEither, TurnsInto}
-use Rattle.file_journal.specs.Records.{Record}
+use Rattle.file_journal.specs.Records.{Reading, Record, reading_at, whole}
+use Rattle.file_journal.specs.Rewriting.{IsRewriting, KeepsBlocks, LeavesRewriting, Rewrites}
 use Rattle.file_journal.specs.Steps.{HasPut, Holds, IsSeenBy, Knows, MayPut, PutBlock, StandsAs, Steps, Turn, WritesTurn, growing_steps, walked}
-use Rattle.file_journal.specs.Walk.{stands_for, stands_of, state}
+use Rattle.file_journal.specs.Walk.{number_or, stands_for, stands_of, state}
+use Rattle.file_journal.specs.declared.layout.Half.{Half}
+use Rattle.file_journal.specs.declared.layout.Half.TheVariants as half
 use Rattle.file_journal.specs.declared.layout.Layout.{Layout}
 use Rattle.file_journal.specs.declared.layout.Layout.TheVariants as layout
-use Rattle.file_journal.proofs.AppendLemmas.{ends_from, ends_there}
 use Rattle.file_journal.proofs.BlockOctetLemmas.{torn_behind, torn_other}
 use Rattle.file_journal.proofs.CallLemmas.{reads_now}
 use Rattle.file_journal.proofs.MomentLemmas.{weaker}
 use Rattle.file_journal.proofs.PositionLemmas.{among_records}
-use Rattle.file_journal.proofs.StepsLemmas.{reached_there, seen_standing, store_same}
+use Rattle.file_journal.proofs.ReadingLemmas.{read_past}
+use Rattle.file_journal.proofs.StandingLemmas.{journal_records}
+use Rattle.file_journal.proofs.StepsLemmas.{made_there, reached_there, seen_standing, stands_made, store_same}
 use Rattle.file_journal.proofs.ToldLemmas.{at_told, content_now, if_told, told_before, told_weaker}
 use Rattle.file_journal.proofs.WalkLemmas.{one_step}
 
@@ -34,6 +42,10 @@ same_on used None (Some is) alike same block uses = absurd (let was = told_befor
 same_on used (Some was) None alike same block uses = absurd (let is = told_before None (Some was) was (alike.1, alike.0) refl in cc is.1)
 same_on used (Some was) (Some is) alike same block uses = same was is refl refl block uses
 
+-- stores that are the same have the same block number
+store_number : (one other : Option ℕ) (read left : Reading) → journal.store one read ≡ journal.store other left → one ≡ other
+store_number one other read left same = cc same
+
 some_told : (o : Option (List ℕ)) → IsTold o → (x : List ℕ) × (o ≡ Some x)
 some_told None told = absurd (cc told)
 some_told (Some x) told = (x, refl)
@@ -43,7 +55,7 @@ quiet_image : {D : Type 0} (g : Ghosts D) (disk : D) (before : List ℕ) → g.c
 quiet_image g disk before told quiet image left = at_told (Only (images_now g disk)) before told quiet image left
 
 -- Reads leave a state where it stands.
-pub read_stands : {D S V C : Type 0} (g : Ghosts D) (steps : Steps S) (form : Form V C) (old new : D) (position : Position) (now : S) {P : Type 0} → Reads g P old new → StandsAt g form steps position now old
+pub read_stands : {D S K V C : Type 0} (g : Ghosts D) (steps : Steps S K) (form : Form V C) (old new : D) (position : Position) (now : K) {P : Type 0} → Reads g P old new → StandsAt g form steps position now old
     → StandsOn g position new → StandsAt g form steps position now new
 read_stands g steps form old new position now run at stands = record {
   magic_is = at.magic_is;
@@ -61,46 +73,114 @@ read_stands g steps form old new position now run at stands = record {
   };
 }
 
-module _ {D S V C : Type 0} (g : Ghosts D) (steps : Steps S) (seen : Blocks → S → V) (form : Form V C) (law : IsSeenBy steps seen form) where
-  -- the step that a record makes of a state, where the content is told
-  pub turn_step : (now : S) (turn : Turn S C) (entry : Record) (content : Option (List ℕ)) → WritesTurn form steps seen now turn entry → (Knows form content → turn.lets (blocks_on content))
-      → (Knows form content → HasPut turn.puts (blocks_on content)) → (before : List ℕ) → content ≡ Some before → steps.step (block_in before) now entry ≡ Some turn.next
+-- a journal that goes on at another place is the same one
+pub same_journal : (before after : Position) → after ≡ record before { place = after.place; failed = after.failed } → IsSameJournal before after
+same_journal before after moved =
+    moved ∙ ap (λ (h : Half). let there : Position = record before { half = h; place = after.place; failed = after.failed } in there) (sym (ap (λ (p : Position). p.half) moved))
+
+-- and so is one that has failed, or hasn't
+pub failed_journal : (before after : Position) → after ≡ record before { failed = after.failed } → IsSameJournal before after
+failed_journal before after moved =
+    same_journal before after (moved ∙ ap (λ (n : ℕ). let there : Position = record before { place = n; failed = after.failed } in there) (sym (ap (λ (p : Position). p.place) moved)))
+
+-- where records end, the gate at the journal's place is among the octets
+gate_there : (position : Position) (octets : List ℕ) → left_to_read position octets ≡ whole [] → position.place < length octets
+gate_there position octets is = by (end_of position) is
+  where
+    read : (end : Option ℕ) → reading_at position.place (up_to end octets) ≡ whole [] → position.place < length (up_to end octets)
+    read end ends = elim (cases_lt position.place (length (up_to end octets))) [
+      | inl there ↦ there
+      | inr past ↦ absurd (cc (sym (read_past position.place (up_to end octets) past) ∙ ends))
+    ]
+
+    by : (end : Option ℕ) → reading_at position.place (up_to end octets) ≡ whole [] → position.place < length octets
+    by None ends = read None ends
+    by (Some end) ends = omega (arith, read (Some end) ends, length-take end octets)
+
+-- the blocks of a store stand before each half
+blocks_before : (layout : Layout) (blocks : ℕ) (chosen : Half) → HasBlocks layout → block_place blocks ≤ half_gate layout blocks chosen
+blocks_before layout.Growing blocks chosen has = absurd has
+blocks_before layout.Blocks blocks chosen has = omega arith
+blocks_before layout.Halves blocks half.First has = omega arith
+blocks_before layout.Halves blocks half.Second has = omega arith
+
+-- a layout has blocks or has none
+growing_or : (l : Layout) → (l ≡ layout.Growing) ⊎ HasBlocks l
+growing_or layout.Growing = inl refl
+growing_or layout.Blocks = inr tt
+growing_or layout.Halves = inr tt
+
+module _ {D S K V C : Type 0} (g : Ghosts D) (steps : Steps S K) (seen : Blocks → K → V) (form : Form V C) (law : IsSeenBy steps seen form) where
+  -- with what blocks hold, a record takes each state of which this is kept to one of which that is
+  abbrev StepsTo : Blocks → K → Record → K → Type 0
+  StepsTo held now entry next = (before : S) → steps.is_state before → steps.kept before ≡ now → (after : S) × (steps.step held before entry ≡ Some after) × (steps.kept after ≡ next)
+
+  -- the step that a record makes, where the content is told
+  pub turn_step : (now : K) (turn : Turn K C) (entry : Record) (content : Option (List ℕ)) → WritesTurn form steps seen now turn entry → (Knows form content → turn.lets (blocks_on content))
+      → (Knows form content → HasPut turn.puts (blocks_on content)) → (before : List ℕ) → content ≡ Some before → StepsTo (block_in before) now entry turn.next
   turn_step now turn entry content writes lets there before told =
       let known : Knows form content = inr (ap is_some told) in
-      subst (λ (o : Option (List ℕ)). steps.step (blocks_on o) now entry ≡ Some turn.next) told (writes.step (blocks_on content) (lets known) (there known))
+      subst (λ (o : Option (List ℕ)). StepsTo (blocks_on o) now entry turn.next) told (writes.step (blocks_on content) (lets known) (there known))
 
   -- ---- what octets stand for
 
-  module _ (position : Position) (magic_is : position.magic ≡ form.magic) (layout_is : position.layout ≡ form.layout) (before : List ℕ) (now : S) where
-    -- Octets whose store comes to a state with what the blocks of others hold stand for what it is seen as there, where
-    -- they hold the same in the blocks that it uses.
-    pub image_stands : (image : List ℕ) → stands_of steps.fresh (steps.step (block_in before)) position.layout position.blocks (store_in position image) ≡ state now
-        → HoldSame (steps.uses now) (block_in before) (block_in image) → standing_of form position.blocks image ≡ state (seen (block_in before) now)
-    image_stands image is same =
-        let there : walked steps position.magic position.layout position.blocks image ≡ state now =
-        store_same steps seen form law (block_in before) (block_in image) position.layout position.blocks (store_in position image) now same is in
-        seen_standing steps seen form law position.blocks image now
-        (subst (λ (l : Layout). walked steps form.magic l position.blocks image ≡ state now) layout_is (subst (λ (m : List ℕ). walked steps m position.layout position.blocks image ≡ state now) magic_is there))
-        ∙ ap (λ (v : V). state v)
-        (law.same_seen (block_in before) (block_in image) now (reached_there steps seen form law (block_in before) position.layout position.blocks (store_in position image) now is) same)
+  module _ (position : Position) where
+    -- with what blocks hold, a store comes to a state of which this is kept
+    abbrev pub ComesTo : Blocks → Standing → K → Type 0
+    ComesTo held found now =
+        (made : S) × (stands_of steps.fresh (steps.step held) position.layout position.half position.blocks found ≡ state made) × (steps.kept made ≡ now)
 
-    pub image_stands_for : (image : List ℕ) → stands_of steps.fresh (steps.step (block_in before)) position.layout position.blocks (store_in position image) ≡ state now
-        → HoldSame (steps.uses now) (block_in before) (block_in image) → StandsFor form (seen (block_in before) now) image
-    image_stands_for image is same = law.own_number position.blocks image (seen (block_in before) now) (image_stands image is same)
+    -- what octets stand for is what their store comes to
+    pub store_comes : (octets : List ℕ) (now : K) → StandsAs steps position now octets → ComesTo (block_in octets) (store_in position octets) now
+    store_comes octets now stands = (
+      stands.0,
+      store_same steps seen form law (block_in octets) (block_in octets) position.layout (half_in position.layout octets) position.half position.blocks (store_in position octets) stands.0 (λ block uses. refl) stands.1,
+      stands.2,
+    )
+
+    -- Octets whose store comes to what is kept of a state with what the blocks of others hold stand for that, where they
+    -- hold the same in the blocks that it uses.
+    pub image_there : (before image : List ℕ) (now : K) → ComesTo (block_in before) (store_in position image) now → HoldSame (steps.uses now) (block_in before) (block_in image) → StandsAs steps position now image
+    image_there before image now comes same = (
+      comes.0,
+      store_same steps seen form law (block_in before) (block_in image) position.layout position.half (half_in position.layout image) position.blocks (store_in position image) comes.0
+          (subst (λ (k : K). HoldSame (steps.uses k) (block_in before) (block_in image)) (sym comes.2) same) comes.1,
+      comes.2,
+    )
+
+    module _ (magic_is : position.magic ≡ form.magic) (layout_is : position.layout ≡ form.layout) (before : List ℕ) (now : K) where
+      pub image_stands : (image : List ℕ) → ComesTo (block_in before) (store_in position image) now → HoldSame (steps.uses now) (block_in before) (block_in image)
+          → standing_of form position.blocks image ≡ state (seen (block_in before) now)
+      image_stands image comes same =
+          let there = image_there before image now comes same in
+          let reached : steps.is_kept now =
+          subst steps.is_kept comes.2 (law.kept_state comes.0 (reached_there steps seen form law (block_in before) position.layout position.half position.blocks (store_in position image) comes.0 comes.1)) in
+          seen_standing steps seen form law position.blocks image there.0
+          (subst (λ (l : Layout). walked steps form.magic l position.blocks image ≡ state there.0) layout_is (subst (λ (m : List ℕ). walked steps m position.layout position.blocks image ≡ state there.0) magic_is there.1))
+          ∙ ap (λ (k : K). state (seen (block_in image) k)) there.2
+          ∙ ap (λ (v : V). state v) (law.same_seen (block_in before) (block_in image) now reached same)
+
+      pub image_stands_for : (image : List ℕ) → ComesTo (block_in before) (store_in position image) now → HoldSame (steps.uses now) (block_in before) (block_in image)
+          → StandsFor form (seen (block_in before) now) image
+      image_stands_for image comes same = law.own_number position.blocks image (seen (block_in before) now) (image_stands image comes same)
+
+  -- the same journal stands for the same
+  pub stands_moved : (before after : Position) (octets : List ℕ) (now : K) → IsSameJournal before after → StandsAs steps before now octets → StandsAs steps after now octets
+  stands_moved before after octets now moved stands = (stands.0, ap (λ (p : Position). walked steps p.magic p.layout p.blocks octets) moved ∙ stands.1, stands.2)
 
   -- What holds a state keeps what it is seen as.
-  pub held_kept : (position : Position) (now : S) (disk : D) → StandsAt g form steps position now disk → IsKept g form (kept_on (seen (blocks_on (g.content disk)) now) position disk)
+  pub held_kept : (position : Position) (now : K) (disk : D) → StandsAt g form steps position now disk → IsKept g form (kept_on (seen (blocks_on (g.content disk)) now) position disk)
   held_kept position now disk at = record {
     stands_on = at.holds.keeps.stands_on;
     ended = at.holds.keeps.ended;
     content = λ fine. if_told (g.content disk) _ (λ octets told.
-        image_stands position at.magic_is at.layout_is octets now octets (at_told (StandsAs steps position now) octets told (at.holds.keeps.content fine)) (λ block uses. refl)
+        image_stands position at.magic_is at.layout_is octets now octets (store_comes position octets now (at_told (StandsAs steps position now) octets told (at.holds.keeps.content fine))) (λ block uses. refl)
         ∙ ap (λ (o : Option (List ℕ)). state (seen (blocks_on o) now)) (sym told));
     quiet = at.holds.keeps.quiet;
   }
 
   -- it is failed
-  pub failed_holds : (position : Position) (now : S) (disk : D) → steps.is_state now → position.failed ≡ true → StandsOn g position disk → (position.layout ≡ layout.Blocks → position.blocks ≡ steps.number now) → Holds g steps position now disk
+  pub failed_holds : (position : Position) (now : K) (disk : D) → steps.is_kept now → position.failed ≡ true → StandsOn g position disk → (HasBlocks position.layout → position.blocks ≡ steps.number now) → Holds g steps position now disk
   failed_holds position now disk reached failed stands number = record {
     keeps = record {
       stands_on = stands;
@@ -113,8 +193,8 @@ module _ {D S V C : Type 0} (g : Ghosts D) (steps : Steps S) (seen : Blocks → 
   }
 
   -- it is what the content of a quiet disk stands for
-  pub quiet_holds : (position : Position) (now : S) (disk : D) → steps.is_state now → StandsOn g position disk → position.ended ≡ true → IfSome (g.content disk) (StandsAs steps position now) → IsQuietNow g disk
-      → (position.layout ≡ layout.Blocks → position.blocks ≡ steps.number now) → Holds g steps position now disk
+  pub quiet_holds : (position : Position) (now : K) (disk : D) → steps.is_kept now → StandsOn g position disk → position.ended ≡ true → IfSome (g.content disk) (StandsAs steps position now) → IsQuietNow g disk
+      → (HasBlocks position.layout → position.blocks ≡ steps.number now) → Holds g steps position now disk
   quiet_holds position now disk reached stands ended content quiet number = record {
     keeps = record {
       stands_on = stands;
@@ -131,7 +211,7 @@ module _ {D S V C : Type 0} (g : Ghosts D) (steps : Steps S) (seen : Blocks → 
   module _ (counts_now : (disk : D) (t : ℕ) (image : List ℕ) → t ≤ g.moment disk → g.images disk image → g.images_since disk t image)
       (earlier : (disk : D) (t u : ℕ) (image : List ℕ) → t ≤ u → g.images_since disk u image → g.images_since disk t image)
       (is_image : (disk : D) → IfSome (g.content disk) (g.images disk))
-      (old new : D) (position : Position) (now : S) (at : StandsAt g form steps position now old) (healthy : position.failed ≡ false) (alike : TellsAlike (g.content old) (g.content new)) where
+      (old new : D) (position : Position) (now : K) (at : StandsAt g form steps position now old) (healthy : position.failed ≡ false) (alike : TellsAlike (g.content old) (g.content new)) where
     ended_there : position.ended ≡ true
     ended_there = at.holds.keeps.ended healthy
 
@@ -143,33 +223,32 @@ module _ {D S V C : Type 0} (g : Ghosts D) (steps : Steps S) (seen : Blocks → 
     image_before before told image left = quiet_there before told image (counts_now old (g.moment old) image (omega arith) left)
 
     -- the content stands for the state
-    stood : (before : List ℕ) → g.content old ≡ Some before → StandsAs steps position now before
-    stood before told = at_told (StandsAs steps position now) before told (at.holds.keeps.content healthy)
+    stood : (before : List ℕ) → g.content old ≡ Some before → ComesTo position (block_in before) (store_in position before) now
+    stood before told = store_comes position before now (at_told (StandsAs steps position now) before told (at.holds.keeps.content healthy))
 
     -- the journal's place is among the octets, behind all blocks
     place_there : (before : List ℕ) → g.content old ≡ Some before → (gate_of position ≤ position.place) × (position.place < length before)
     place_there before told =
         let among = at_told _ before told (among_records position (g.content old) (images_now g old) healthy at.holds.keeps.stands_on) in (
           omega (arith, among.1.place),
-          ends_there position.magic position.layout position.blocks among.0 position.place before (ends_from position among.0 before ended_there among.1),
+          gate_there position before (among.1.ended ended_there),
         )
 
     -- a block of the store stands before it
-    block_there : (before : List ℕ) → g.content old ≡ Some before → form.layout ≡ layout.Blocks → (block : ℕ) → block < steps.number now → block_place block + 512 ≤ position.place
-    block_there before told is block below =
+    block_there : (before : List ℕ) → g.content old ≡ Some before → HasBlocks form.layout → (block : ℕ) → block < steps.number now → block_place block + 512 ≤ position.place
+    block_there before told has block below =
         let place = place_there before told in
-        let blocks : position.layout ≡ layout.Blocks = at.layout_is ∙ is in
+        let blocks : HasBlocks position.layout = subst HasBlocks (sym at.layout_is) has in
         let number = at.holds.number blocks in
-        let gate : gate_of position ≡ block_place position.blocks = ap (λ (l : Layout). first_gate l position.blocks) blocks in
+        let gate = blocks_before position.layout position.blocks position.half blocks in
         omega (arith, place.0, gate, number, below)
 
     -- so does one that is used
-    used_there : (before : List ℕ) → g.content old ≡ Some before → (other : S) → steps.is_state other → steps.number other ≡ steps.number now → (block : ℕ) → steps.uses other block → block_place block + 512 ≤ position.place
-    used_there before told other reached same block uses = by form.layout refl
-      where
-        by : (l : Layout) → form.layout ≡ l → block_place block + 512 ≤ position.place
-        by layout.Growing is = absurd (law.growing is other block uses)
-        by layout.Blocks is = block_there before told is block (let within = law.within other block reached uses in omega (arith, within, same))
+    used_there : (before : List ℕ) → g.content old ≡ Some before → (other : K) → steps.is_kept other → steps.number other ≡ steps.number now → (block : ℕ) → steps.uses other block → block_place block + 512 ≤ position.place
+    used_there before told other reached same block uses = ⊎_elim
+        (λ is. absurd (law.growing is other block uses))
+        (λ has. block_there before told has block (let within = law.within other block reached uses in omega (arith, within, same)))
+        (growing_or form.layout)
 
     -- what is left now was left before, or since
     left_since : (P : List ℕ → List ℕ → Type 0) → Leaves g old new P → (before : List ℕ) → g.content old ≡ Some before → (image : List ℕ) → images_now g new image → (image ≡ before) ⊎ P before image
@@ -188,26 +267,31 @@ module _ {D S V C : Type 0} (g : Ghosts D) (steps : Steps S) (seen : Blocks → 
 
     -- ---- a record that is put
 
-    module _ (after : Position) (entry : Record) (next : S) (reached : steps.is_state next) (number : steps.number next ≡ steps.number now) (since : LeavesAppending g position entry old new) where
+    module _ (after : Position) (entry : Record) (next : K) (reached : steps.is_kept next) (number : steps.number next ≡ steps.number now) (since : LeavesAppending g position entry old new) where
       -- what a crash in it leaves holds the same in each block that is used
-      record_same : (other : S) → steps.is_state other → steps.number other ≡ steps.number now → (before image : List ℕ) → g.content old ≡ Some before → IsTornFrom (g.images old) position.place (5 + length entry.content) image
+      record_same : (other : K) → steps.is_kept other → steps.number other ≡ steps.number now → (before image : List ℕ) → g.content old ≡ Some before → IsTornFrom (g.images old) position.place (5 + length entry.content) image
           → HoldSame (steps.uses other) (block_in before) (block_in image)
       record_same other is_state same before image told torn block uses =
           let place = place_there before told in
           torn_behind position.place (5 + length entry.content) block before image (used_there before told other is_state same block uses) (omega (arith, place.1))
           (torn_there position.place (5 + length entry.content) before image told torn)
 
-      pub put_same : (other : S) → steps.is_state other → steps.number other ≡ steps.number now → HoldSame (steps.uses other) (blocks_on (g.content old)) (blocks_on (g.content new))
+      pub put_same : (other : K) → steps.is_kept other → steps.number other ≡ steps.number now → HoldSame (steps.uses other) (blocks_on (g.content old)) (blocks_on (g.content new))
       put_same other is_state same = same_on (steps.uses other) (g.content old) (g.content new) alike (λ before octets told told_new block uses.
           ⊎_elim (λ was. ap (λ (l : List ℕ). block_in l block) was) (λ is. record_same other is_state same before octets told is.beside block uses) (content_since _ since before octets told told_new))
 
-      module _ (steps_on : (before : List ℕ) → g.content old ≡ Some before → steps.step (block_in before) now entry ≡ Some next) where
+      module _ (steps_on : (before : List ℕ) → g.content old ≡ Some before → StepsTo (block_in before) now entry next) where
         -- with one record more the store comes to the next state
-        next_there : (before : List ℕ) → g.content old ≡ Some before → (more : Standing) → more ≡ with_last (store_in position before) entry
-            → stands_of steps.fresh (steps.step (block_in before)) position.layout position.blocks more ≡ state next
+        next_there : (before : List ℕ) → g.content old ≡ Some before → (more : Standing) → more ≡ with_last (store_in position before) entry → ComesTo position (block_in before) more next
         next_there before told more is =
-            ap (stands_of steps.fresh (steps.step (block_in before)) position.layout position.blocks) is
-            ∙ one_step (steps.step (block_in before)) steps.fresh position.layout position.blocks (store_in position before) now next entry (stood before told) (steps_on before told)
+            let stands = stood before told in
+            let reached = reached_there steps seen form law (block_in before) position.layout position.half position.blocks (store_in position before) stands.0 stands.1 in
+            let on = steps_on before told stands.0 reached stands.2 in (
+              on.0,
+              ap (stands_of steps.fresh (steps.step (block_in before)) position.layout position.half position.blocks) is
+                  ∙ one_step (steps.step (block_in before)) steps.fresh position.layout position.half position.blocks (store_in position before) stands.0 on.0 entry stands.1 on.1,
+              on.2,
+            )
 
         pub put_turns : (P : Type 0) → (¬ P → TakesStep g old new (Appends position entry) × IsQuietNow g new)
             → TurnsInto g form (seen (blocks_on (g.content old)) now) (seen (blocks_on (g.content old)) next) P old new
@@ -215,8 +299,8 @@ module _ {D S V C : Type 0} (g : Ghosts D) (steps : Steps S) (seen : Blocks → 
           since = if_told (g.content old) _ (λ before told.
               subst (λ (held : Option (List ℕ)). LeavesOnly g.moment g.images_since old new (StandsForEither form (seen (blocks_on held) now) (seen (blocks_on held) next))) (sym told)
               (weaker g.moment g.images_since old new _ _ (λ image is.
-              ⊎_elim (λ same. inl (image_stands_for position at.magic_is at.layout_is before now image
-              (ap (stands_of steps.fresh (steps.step (block_in before)) position.layout position.blocks) same ∙ stood before told) (record_same now at.holds.reached refl before image told is.beside)))
+              ⊎_elim (λ same. inl (image_stands_for position at.magic_is at.layout_is before now image (subst (λ (t : Standing). ComesTo position (block_in before) t now) (sym same) (stood before told))
+              (record_same now at.holds.reached refl before image told is.beside)))
               (λ more. inr (image_stands_for position at.magic_is at.layout_is before next image (next_there before told (store_in position image) more) (record_same next reached number before image told is.beside)))
               is.store)
               (at_told (λ (octets : List ℕ). LeavesOnly g.moment g.images_since old new (IsAppending position entry (g.images old) octets)) before told since)));
@@ -240,23 +324,22 @@ module _ {D S V C : Type 0} (g : Ghosts D) (steps : Steps S) (seen : Blocks → 
               holds = quiet_holds after next new reached stands (ap (λ (p : Position). p.ended) moved ∙ ended_there)
                   (if_told (g.content new) _ (λ octets told_new.
                   let was = content_now _ _ (Appends position entry) octets alike ok told_new in
-                  let same : HoldSame (steps.uses next) (block_in was.0) (block_in octets) =
-                  λ block uses. ⊎_elim (λ same. ap (λ (l : List ℕ). block_in l block) same) (λ is. record_same next reached number was.0 octets was.1 is.beside block uses) (content_since _ since was.0 octets was.1 told_new) in
-                  ap (λ (p : Position). walked steps p.magic p.layout p.blocks octets) moved
-                  ∙ store_same steps seen form law (block_in was.0) (block_in octets) position.layout position.blocks (store_in position octets) next same
-                  (next_there was.0 was.1 (store_in position octets) was.2.store)))
-                  quiet (λ is. blocks_is ∙ at.holds.number (sym layout_is ∙ is) ∙ sym number);
+                  stands_moved position after octets next (same_journal position after moved)
+                  (image_there position was.0 octets next (next_there was.0 was.1 (store_in position octets) was.2.store)
+                  (λ block uses. ⊎_elim (λ same. ap (λ (l : List ℕ). block_in l block) same) (λ is. record_same next reached number was.0 octets was.1 is.beside block uses)
+                  (content_since _ since was.0 octets was.1 told_new)))))
+                  quiet (λ has. blocks_is ∙ at.holds.number (subst HasBlocks layout_is has) ∙ sym number);
             }
 
     -- or it failed, and holds whatever it held
-    pub cut_holds : (after : Position) → StandsOn g after new → after ≡ record position { place = after.place; failed = after.failed } → after.failed ≡ true → StandsAt g form steps after now new
+    pub cut_holds : (after : Position) → StandsOn g after new → IsSameJournal position after → after.failed ≡ true → StandsAt g form steps after now new
     cut_holds after stands moved failed =
         let blocks_is : after.blocks ≡ position.blocks = ap (λ (p : Position). p.blocks) moved in
         let layout_is : after.layout ≡ position.layout = ap (λ (p : Position). p.layout) moved in
         record {
           magic_is = ap (λ (p : Position). p.magic) moved ∙ at.magic_is;
           layout_is = layout_is ∙ at.layout_is;
-          holds = failed_holds after now new at.holds.reached failed stands (λ is. blocks_is ∙ at.holds.number (sym layout_is ∙ is));
+          holds = failed_holds after now new at.holds.reached failed stands (λ has. blocks_is ∙ at.holds.number (subst HasBlocks layout_is has));
         }
 
     -- ---- octets that are put in a block
@@ -265,7 +348,7 @@ module _ {D S V C : Type 0} (g : Ghosts D) (steps : Steps S) (seen : Blocks → 
         (since : Leaves g old new (IsWritingBlock position put.number (length put.octets) (g.images old))) where
       block_same : (before image : List ℕ) → g.content old ≡ Some before → IsTornFrom (g.images old) (block_place put.number) (length put.octets) image → HoldSame (steps.uses now) (block_in before) (block_in image)
       block_same before image told torn block uses =
-          let there = block_there before told may.layout_is put.number may.there in
+          let there = block_there before told may.has_blocks put.number may.there in
           let place = place_there before told in
           torn_other put.number block (length put.octets) before image (λ same. may.unused (subst (steps.uses now) (sym same) uses)) may.most (omega (arith, there, place.1))
           (torn_there (block_place put.number) (length put.octets) before image told torn)
@@ -277,12 +360,12 @@ module _ {D S V C : Type 0} (g : Ghosts D) (steps : Steps S) (seen : Blocks → 
       pub block_put_since : Leaves g old new (λ before. StandsFor form (seen (block_in before) now))
       block_put_since = if_told (g.content old) _ (λ before told.
           weaker g.moment g.images_since old new _ _ (λ image is.
-          image_stands_for position at.magic_is at.layout_is before now image
-          (ap (stands_of steps.fresh (steps.step (block_in before)) position.layout position.blocks) is.store ∙ stood before told) (block_same before image told is.beside))
+          image_stands_for position at.magic_is at.layout_is before now image (subst (λ (t : Standing). ComesTo position (block_in before) t now) (sym is.store) (stood before told))
+          (block_same before image told is.beside))
           (at_told (λ (octets : List ℕ). LeavesOnly g.moment g.images_since old new (IsWritingBlock position put.number (length put.octets) (g.images old) octets)) before told since))
 
       pub block_put_there : TakesStep g old new (WritesBlock position put.number put.octets) → Knows form (g.content old) → HasPut (Some put) (blocks_on (g.content new))
-      block_put_there ok (inl growing) = absurd (cc (sym growing ∙ may.layout_is))
+      block_put_there ok (inl growing) = absurd (subst HasBlocks growing may.has_blocks)
       block_put_there ok (inr told) =
           let before = some_told (g.content old) told in
           let is = at_told (λ (octets : List ℕ). (now : List ℕ) × (g.content new ≡ Some now) × WritesBlock position put.number put.octets octets now) before.0 before.1 ok in
@@ -298,19 +381,76 @@ module _ {D S V C : Type 0} (g : Ghosts D) (steps : Steps S) (seen : Blocks → 
             holds = quiet_holds after now new at.holds.reached stands (ap (λ (p : Position). p.ended) moved ∙ ended_there)
                 (if_told (g.content new) _ (λ octets told_new.
                 let was = content_now _ _ (WritesBlock position put.number put.octets) octets alike ok told_new in
-                ⊎_elim
-                (λ same. subst (StandsAs steps after now) (sym same) (ap (λ (p : Position). walked steps p.magic p.layout p.blocks was.0) moved ∙ stood was.0 was.1))
-                (λ is.
-                ap (λ (p : Position). walked steps p.magic p.layout p.blocks octets) moved
-                ∙ store_same steps seen form law (block_in was.0) (block_in octets) position.layout position.blocks (store_in position octets) now (block_same was.0 octets was.1 is.beside)
-                (ap (stands_of steps.fresh (steps.step (block_in was.0)) position.layout position.blocks) is.store ∙ stood was.0 was.1))
-                (content_since _ since was.0 octets was.1 told_new)))
-                quiet (λ is. blocks_is ∙ at.holds.number (sym layout_is ∙ is));
+                stands_moved position after octets now (failed_journal position after moved)
+                (image_there position was.0 octets now
+                (⊎_elim (λ same. subst (λ (l : List ℕ). ComesTo position (block_in was.0) (store_in position l) now) (sym same) (stood was.0 was.1))
+                (λ is. subst (λ (t : Standing). ComesTo position (block_in was.0) t now) (sym is.store) (stood was.0 was.1)) (content_since _ since was.0 octets was.1 told_new))
+                (λ block uses. ⊎_elim (λ was. ap (λ (l : List ℕ). block_in l block) was) (λ is. block_same was.0 octets was.1 is.beside block uses) (content_since _ since was.0 octets was.1 told_new)))))
+                quiet (λ has. blocks_is ∙ at.holds.number (subst HasBlocks layout_is has));
           }
 
       pub block_cut_holds : StandsOn g after new → after.failed ≡ true → StandsAt g form steps after now new
-      block_cut_holds stands failed =
-          cut_holds after stands (moved ∙ ap (λ (n : ℕ). record position { place = n; failed = after.failed }) (sym (ap (λ (p : Position). p.place) moved))) failed
+      block_cut_holds stands failed = cut_holds after stands (failed_journal position after moved) failed
+
+    -- ---- records that make what is kept anew, in place of all others
+
+    module _ (after : Position) (in_halves : form.layout ≡ layout.Halves) (leaves : LeavesRewriting g position (steps.anew now) old new) where
+      since_anew : Leaves g old new (IsRewriting position (steps.anew now))
+      since_anew = leaves healthy
+
+      -- the blocks that are used hold what they held
+      used_same : (before image : List ℕ) → KeepsBlocks position before image → HoldSame (steps.uses now) (block_in before) (block_in image)
+      used_same before image keeps block uses =
+          let has : HasBlocks position.layout = subst HasBlocks (sym (at.layout_is ∙ in_halves)) tt in
+          keeps block (let within = law.within now block at.holds.reached uses in omega (arith, within, at.holds.number has))
+
+      -- a store of these records comes to a state of which the same is kept
+      anew_there : (before : List ℕ) → g.content old ≡ Some before → (made : Standing) → made ≡ store_of position.blocks (whole (steps.anew now)) → ComesTo position (block_in before) made now
+      anew_there before told made is =
+          let held = block_in before in
+          let stands = stood before told in
+          let among = at_told _ before told (among_records position (g.content old) (images_now g old) healthy at.holds.keeps.stands_on) in
+          let was = made_there steps seen form law held position.layout position.half position.blocks (store_in position before) stands.0 stands.1 in
+          let number : was.0 ≡ Some position.blocks = store_number was.0 (Some position.blocks) _ _ (sym was.2 ∙ among.1.records) in
+          let takes = subst (λ (n : Option ℕ). Takes (steps.step held) (steps.fresh (number_or position.blocks n)) was.1 stands.0) number was.3 in
+          let are = journal_records position.magic position.layout before was.0 was.1 among.1.are_octets was.2 in
+          let anew = (law.anew in_halves).makes held position.blocks was.1 stands.0 are takes in (
+            anew.0,
+            ap (stands_of steps.fresh (steps.step held) position.layout position.half position.blocks) is
+                ∙ stands_made steps seen form law held position.layout position.half position.blocks (Some position.blocks) (steps.anew now) anew.0
+                (subst (λ (k : K). Takes (steps.step held) (steps.fresh position.blocks) (steps.anew k) anew.0) stands.2 anew.1),
+            anew.2 ∙ stands.2,
+          )
+
+      rewriting_there : (before image : List ℕ) → g.content old ≡ Some before → IsRewriting position (steps.anew now) before image → ComesTo position (block_in before) (store_in position image) now
+      rewriting_there before image told is =
+          ⊎_elim (λ same. subst (λ (t : Standing). ComesTo position (block_in before) t now) (sym same) (stood before told)) (λ made. anew_there before told (store_in position image) made) is.store
+
+      -- what is seen is known to stay
+      pub anew_same : HoldSame (steps.uses now) (blocks_on (g.content old)) (blocks_on (g.content new))
+      anew_same = same_on (steps.uses now) (g.content old) (g.content new) alike (λ before octets told told_new block uses.
+          ⊎_elim (λ was. ap (λ (l : List ℕ). block_in l block) was) (λ is. used_same before octets is.blocks block uses) (content_since _ since_anew before octets told told_new))
+
+      pub anew_since : Leaves g old new (λ before. StandsFor form (seen (block_in before) now))
+      anew_since = if_told (g.content old) _ (λ before told.
+          weaker g.moment g.images_since old new _ _ (λ image is.
+          image_stands_for position at.magic_is at.layout_is before now image (rewriting_there before image told is) (used_same before image is.blocks))
+          (at_told (λ (octets : List ℕ). LeavesOnly g.moment g.images_since old new (IsRewriting position (steps.anew now) octets)) before told since_anew))
+
+      pub anew_holds : StandsOn g after new → IsSameJournal position after → TakesStep g old new (Rewrites position (steps.anew now)) → IsQuietNow g new → StandsAt g form steps after now new
+      anew_holds stands moved ok quiet =
+          let blocks_is : after.blocks ≡ position.blocks = ap (λ (p : Position). p.blocks) moved in
+          let layout_is : after.layout ≡ position.layout = ap (λ (p : Position). p.layout) moved in
+          record {
+            magic_is = ap (λ (p : Position). p.magic) moved ∙ at.magic_is;
+            layout_is = layout_is ∙ at.layout_is;
+            holds = quiet_holds after now new at.holds.reached stands (ap (λ (p : Position). p.ended) moved ∙ ended_there)
+                (if_told (g.content new) _ (λ octets told_new.
+                let was = content_now _ _ (Rewrites position (steps.anew now)) octets alike ok told_new in
+                stands_moved position after octets now moved
+                (image_there position was.0 octets now (anew_there was.0 was.1 (store_in position octets) was.2.store) (used_same was.0 octets was.2.blocks))))
+                quiet (λ has. blocks_is ∙ at.holds.number (subst HasBlocks layout_is has));
+          }
 
 -- What keeps a state that is seen as it is holds it.
 module _ {D S C : Type 0} (g : Ghosts D) (fresh : ℕ → S) (number : S → ℕ) (step : S → Record → Option S) (form : Form S C) (layout_is : form.layout ≡ layout.Growing)
@@ -324,12 +464,15 @@ module _ {D S C : Type 0} (g : Ghosts D) (fresh : ℕ → S) (number : S → ℕ
       keeps = record {
         stands_on = keeps.stands_on;
         ended = keeps.ended;
-        content = λ fine. told_weaker (g.content disk) _ _ (λ octets told is.
-            ap (λ (m : List ℕ). stands_for fresh step m journal.layout journal.blocks octets) magic_is
-            ∙ ap (λ (l : Layout). stands_for fresh step form.magic l journal.blocks octets) same_layout ∙ sym (standing journal.blocks octets) ∙ is) (keeps.content fine);
+        content = λ fine. told_weaker (g.content disk) _ _ (λ octets told is. (
+          now,
+          ap (λ (m : List ℕ). stands_for fresh step m journal.layout journal.blocks octets) magic_is
+              ∙ ap (λ (l : Layout). stands_for fresh step form.magic l journal.blocks octets) same_layout ∙ sym (standing journal.blocks octets) ∙ is,
+          refl,
+        )) (keeps.content fine);
         quiet = keeps.quiet;
       };
       reached = tt;
-      number = λ is. absurd (cc (sym layout_is ∙ sym same_layout ∙ is));
+      number = λ has. absurd (subst HasBlocks (same_layout ∙ layout_is) has);
     };
   }

@@ -1,19 +1,21 @@
 -- What the octets of a disk stand for, by their header and their length.
-use Rattle.std.proofs.lemmas.Grind.{common_steps}
-use Rattle.std.proofs.Common.{◌≡◌, ◌≢◌, ℕ, ◌+◌, ◌<◌, ◌≤◌, false, cond, not, nat_le, nat_lt, List, [], ◌∷◌, ◌++◌, length, get_or, take, None, Some, refl, sym, ◌∙◌, ap, subst, arith, append_assoc, append-nil, length-append, take-take, get_or-take, inl, inr}
+use Rattle.std.proofs.Common.{◌≡◌, ◌≢◌, ℕ, ◌+◌, ◌%◌, ◌<◌, ◌≤◌, false, cond, not, nat_le, nat_lt, List, [], ◌∷◌, ◌++◌, length, get_or, take, None, Some, IfSome, refl, sym, ◌∙◌, ap, subst, arith, append_assoc, append-nil, length-append, take-take, get_or-take, inl, inr}
 use Rattle.std.proofs.lemmas.Bool.{cond-true, cond-false, cases_Bool, cases_lt, and_from, false_from_ne_true, both_ways, not_from_true, not_from_false, le-leb, lt-leb, lt-ltb, le-ltb}
 use Rattle.std.proofs.lemmas.Slice.Eq.{bytes_eq-Decides}
 use Rattle.std.proofs.lemmas.List.{take_at, get_or-append-add}
 use Rattle.std.specs.Str.{bytes_eq}
 use Rattle.px_base.specs.Numbers.{le32, le32_octets}
-use Rattle.file_journal.specs.Layout.{first_gate}
+use Rattle.file_journal.specs.Layout.{first_gate, half_end, half_in, up_to}
 use Rattle.file_journal.specs.Records.{Record, whole, reading_at}
+use Rattle.file_journal.specs.declared.layout.Half.{Half}
+use Rattle.file_journal.specs.declared.layout.Half.TheVariants as half
 use Rattle.file_journal.specs.declared.layout.Layout.{Layout}
-use Rattle.file_journal.specs.Journal.{Standing, store, bad_number, no_store, is_block_number, store_of, journal_of, header_text, IsSameStore, HasGoodHeader}
+use Rattle.file_journal.specs.Journal.{Standing, store, bad_number, no_store, is_block_number, store_of, journal_of, read_half, header_text, IsSameStore, HasGoodHeader}
 use Rattle.file_journal.specs.Formatting.{IsMakingGates}
 use Rattle.file_journal.specs.Header.{HasHeader}
-use Rattle.file_journal.proofs.LayoutLemmas.{gate_behind}
+use Rattle.file_journal.proofs.LayoutLemmas.{even_half, first_half, gate_behind, half_long, same_half, up_to_long, up_to_octet}
 use Rattle.file_journal.proofs.ReadingLemmas.{read_closed}
+use Rattle.file_journal.proofs.ToldLemmas.{told_weaker}
 
 module _ (magic : List ℕ) (layout : Layout) (octets : List ℕ) where
   pub of_short : length octets ≤ 16 → journal_of magic layout octets ≡ store None (whole [])
@@ -41,32 +43,53 @@ module _ (magic : List ℕ) (layout : Layout) (octets : List ℕ) where
 
   module _ (blocks : ℕ) (head : HasHeader magic blocks octets) where
     -- the right block number
-    good : 16 < length octets
-        → journal_of magic layout octets ≡ cond (nat_lt (length octets) (first_gate layout blocks + 2)) (store (Some blocks) (whole [])) (store_of blocks (reading_at (first_gate layout blocks) octets))
+    good : (short more : ℕ → Standing) → cond (not (is_block_number (le32 octets 8))) bad_number (cond (nat_lt (length octets) (first_gate layout (le32 octets 8) + 2)) (short (le32 octets 8)) (more (le32 octets 8)))
+        ≡ cond (nat_lt (length octets) (first_gate layout blocks + 2)) (short blocks) (more blocks)
+    good short more =
+        cond-false (not (is_block_number (le32 octets 8))) _ _ (not_from_true _ (ap is_block_number head.blocks_are ∙ head.is_number))
+        ∙ ap (λ (n : ℕ). cond (nat_lt (length octets) (first_gate layout n + 2)) (short n) (more n)) head.blocks_are
+
+    numbered : 16 < length octets
+        → journal_of magic layout octets
+        ≡ cond (nat_lt (length octets) (first_gate layout blocks + 2)) (store (Some blocks) (whole [])) (store_of blocks (read_half layout blocks (half_in layout octets) octets))
     unfolding journal_of
-    good long = grind (arith, common_steps)
+    numbered long =
+        longer _ long ∙ known _ _ head.magic_is
+        ∙ good (λ (n : ℕ). store (Some n) (whole [])) (λ (n : ℕ). store_of n (read_half layout n (half_in layout octets) octets))
 
     pub of_interrupted : 16 < length octets → length octets < first_gate layout blocks + 2 → journal_of magic layout octets ≡ store (Some blocks) (whole [])
-    of_interrupted long short = good long ∙ cond-true (nat_lt (length octets) (first_gate layout blocks + 2)) _ _ (lt-ltb (length octets) (first_gate layout blocks + 2) short)
+    of_interrupted long short = numbered long ∙ cond-true (nat_lt (length octets) (first_gate layout blocks + 2)) _ _ (lt-ltb (length octets) (first_gate layout blocks + 2) short)
 
-    pub of_full : first_gate layout blocks + 2 ≤ length octets → journal_of magic layout octets ≡ store_of blocks (reading_at (first_gate layout blocks) octets)
-    of_full size =
-        good (omega (arith, size, gate_behind layout blocks))
+    -- the first two gates are there: what is read is that of the half that octet 15 says
+    pub of_full : (chosen : Half) → half_in layout octets ≡ chosen → first_gate layout blocks + 2 ≤ length octets → journal_of magic layout octets ≡ store_of blocks (read_half layout blocks chosen octets)
+    of_full chosen half_is size =
+        numbered (omega (arith, size, gate_behind layout blocks))
         ∙ cond-false (nat_lt (length octets) (first_gate layout blocks + 2)) _ _ (le-ltb (length octets) (first_gate layout blocks + 2) size)
+        ∙ ap (λ (h : Half). store_of blocks (read_half layout blocks h octets)) half_is
 
-    -- a store whose first gate isn't open, or isn't there yet
-    pub of_empty : 16 < length octets → (first_gate layout blocks + 1 < length octets → get_or octets (first_gate layout blocks) 0 ≢ 1)
+    -- a store whose first gate isn't there yet, or isn't open, in its first half
+    pub of_empty : 16 < length octets → (first_gate layout blocks + 1 < length octets → (half_in layout octets ≡ half.First) × (get_or octets (first_gate layout blocks) 0 ≢ 1))
         → journal_of magic layout octets ≡ store (Some blocks) (whole [])
     of_empty long shut = elim (cases_lt (first_gate layout blocks + 1) (length octets)) [
       | inr short ↦ of_interrupted long (omega (arith, short))
-      | inl more ↦ of_full (omega (arith, more)) ∙ ap (store_of blocks) (read_closed (first_gate layout blocks) octets (omega (arith, more)) (shut more))
+      | inl more ↦
+          let gate = first_gate layout blocks in
+          let end = half_end layout blocks half.First in
+          let first = first_half layout blocks in
+          let far : IfSome end (λ place. gate + 2 ≤ place) = subst (λ (n : ℕ). IfSome end (λ place. n + 2 ≤ place)) first (half_long layout blocks half.First) in
+          let inside : IfSome end (λ place. gate < place) = told_weaker end _ _ (λ place told le. omega (arith, le)) far in
+          let there : gate < length (up_to end octets) = let l = up_to_long end (gate + 2) octets far (omega (arith, more)) in omega (arith, l) in
+          of_full half.First (shut more).0 (omega (arith, more))
+          ∙ ap (store_of blocks)
+          (ap (λ (n : ℕ). reading_at n (up_to end octets)) first
+          ∙ read_closed gate (up_to end octets) there (λ is_open. (shut more).1 (sym (up_to_octet end gate octets inside) ∙ is_open)))
     ]
 
 -- such octets aren't refused
 pub is_store : (magic : List ℕ) (layout : Layout) (octets : List ℕ) (blocks : ℕ) → 16 < length octets → HasHeader magic blocks octets → HasGoodHeader (journal_of magic layout octets)
 is_store magic layout octets blocks long head = elim (cases_lt (first_gate layout blocks + 1) (length octets)) [
   | inr short ↦ (let is = of_interrupted magic layout octets blocks head long (omega (arith, short)) in (λ found foreign. cc, λ bad. cc))
-  | inl more ↦ (let is = of_full magic layout octets blocks head (omega (arith, more)) in (λ found foreign. cc, λ bad. cc))
+  | inl more ↦ (let is = of_full magic layout octets blocks head (half_in layout octets) refl (omega (arith, more)) in (λ found foreign. cc, λ bad. cc))
 ]
 
 -- octets with the same front have the same header
@@ -100,6 +123,16 @@ header_written magic blocks rest eight some most =
       is_number = and_from (nat_le 1 blocks) (nat_le blocks 65536) (le-leb 1 blocks some) (le-leb blocks 65536 most);
     }
 
+-- its selector is even
+pub header_even : (magic : List ℕ) (blocks : ℕ) → length magic ≡ 8 → get_or (header_text magic blocks) 15 0 ≡ 0
+header_even magic blocks eight =
+    ap (λ (n : ℕ). get_or (header_text magic blocks) n 0) (let at : 15 ≡ length (magic ++ le32_octets blocks) + 3 = omega (arith, eight, length-append magic (le32_octets blocks)) in at)
+    ∙ get_or-append-add (magic ++ le32_octets blocks) (0 ∷ 0 ∷ 0 ∷ 0 ∷ []) 3 0
+
+-- so a store with it has its records in the first half
+pub half_of_header : (n : ℕ) (layout : Layout) (header image : List ℕ) → 16 ≤ n → take n image ≡ take n header → get_or header 15 0 % 2 ≡ 0 → half_in layout image ≡ half.First
+half_of_header n layout header image le same even = same_half n layout header image le same ∙ even_half layout (get_or header 15 0) even
+
 -- while the gates of a new store are written
 pub new_gates : (magic : List ℕ) (layout : Layout) (blocks : ℕ) (image : List ℕ) → length magic ≡ 8 → 1 ≤ blocks → blocks ≤ 65536 → IsMakingGates (first_gate layout blocks) (header_text magic blocks) image
     → IsSameStore blocks (store None (whole [])) (journal_of magic layout image)
@@ -109,15 +142,18 @@ new_gates magic layout blocks image eight some most making = elim (cases_lt 16 (
       let head = subst (λ (l : List ℕ). HasHeader magic blocks l) (append-nil (header_text magic blocks)) (header_written magic blocks [] eight some most) in
       inr (
         refl,
-        of_empty magic layout image blocks (same_header 16 magic blocks (header_text magic blocks) image (omega arith) making.header head) long
-            (λ more is_open. absurd (omega (arith, making.closed more, is_open))),
+        of_empty magic layout image blocks (same_header 16 magic blocks (header_text magic blocks) image (omega arith) making.header head) long (λ more. (
+          half_of_header 16 layout (header_text magic blocks) image (omega arith) making.header (ap (λ (n : ℕ). n % 2) (header_even magic blocks eight)),
+          λ is_open. absurd (omega (arith, making.closed more, is_open)),
+        )),
       )
 ]
 
 -- what a whole store has, of which the first two gates are there
-pub store_parts : (magic : List ℕ) (layout : Layout) (octets : List ℕ) (blocks : ℕ) (entries : List Record) → first_gate layout blocks + 2 ≤ length octets → journal_of magic layout octets ≡ store (Some blocks) (whole entries)
-    → HasHeader magic blocks octets × (reading_at (first_gate layout blocks) octets ≡ whole entries)
-store_parts magic layout octets blocks entries full is = elim (cases_Bool (bytes_eq (take 8 octets) magic)) [
+pub store_parts : (magic : List ℕ) (layout : Layout) (octets : List ℕ) (blocks : ℕ) (chosen : Half) (entries : List Record) → first_gate layout blocks + 2 ≤ length octets → half_in layout octets ≡ chosen
+    → journal_of magic layout octets ≡ store (Some blocks) (whole entries)
+    → HasHeader magic blocks octets × (read_half layout blocks chosen octets ≡ whole entries)
+store_parts magic layout octets blocks chosen entries full half_is is = elim (cases_Bool (bytes_eq (take 8 octets) magic)) [
   | inr foreign ↦ absurd (cc (sym is ∙ of_foreign magic layout octets long (λ same. both_ways _ foreign ((bytes_eq-Decides (take 8 octets) magic).1 same))))
   | inl same ↦ elim (cases_Bool (is_block_number (le32 octets 8))) [
     | inr bad ↦ absurd (cc (sym is ∙ of_bad_number magic layout octets long ((bytes_eq-Decides (take 8 octets) magic).0 same) bad))
@@ -128,15 +164,15 @@ store_parts magic layout octets blocks entries full is = elim (cases_Bool (bytes
     long : 16 < length octets
     long = omega (arith, full, gate_behind layout blocks)
 
-    parts : HasHeader magic (le32 octets 8) octets → HasHeader magic blocks octets × (reading_at (first_gate layout blocks) octets ≡ whole entries)
+    parts : HasHeader magic (le32 octets 8) octets → HasHeader magic blocks octets × (read_half layout blocks chosen octets ≡ whole entries)
     parts head = elim (cases_lt (length octets) (first_gate layout (le32 octets 8) + 2)) [
       | inl short ↦
           (let here = of_interrupted magic layout octets (le32 octets 8) head long short in
           let number : le32 octets 8 ≡ blocks = cc (sym is ∙ here) in
           absurd (omega (arith, short, full, ap (first_gate layout) number)))
       | inr all ↦
-          (let here = of_full magic layout octets (le32 octets 8) head all in
+          (let here = of_full magic layout octets (le32 octets 8) head chosen half_is all in
           let number : le32 octets 8 ≡ blocks = cc (sym is ∙ here) in
-          let read : reading_at (first_gate layout (le32 octets 8)) octets ≡ whole entries = cc (sym is ∙ here) in
-          (subst (λ (n : ℕ). HasHeader magic n octets) number head, ap (λ (n : ℕ). reading_at (first_gate layout n) octets) (sym number) ∙ read))
+          let read : read_half layout (le32 octets 8) chosen octets ≡ whole entries = cc (sym is ∙ here) in
+          (subst (λ (n : ℕ). HasHeader magic n octets) number head, ap (λ (n : ℕ). read_half layout n chosen octets) (sym number) ∙ read))
     ]

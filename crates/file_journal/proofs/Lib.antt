@@ -2,12 +2,15 @@ mod AmongLemmas
 mod AppendLemmas
 mod BlockLemmas
 mod BlockOctetLemmas
+mod BoundLemmas
 mod CallLemmas
 mod CommandLemmas
 mod ContentLemmas
+mod CoverLemmas
 mod DoesLemmas
 mod FormatLemmas
 mod JournalLemmas
+mod HalfLemmas
 mod HoldLemmas
 mod KeptLemmas
 mod LayoutLemmas
@@ -16,12 +19,16 @@ mod MomentLemmas
 mod NextLemmas
 mod OctetLemmas
 pub mod Offered
+mod PacingLemmas
 mod PositionLemmas
 mod PutLemmas
 mod PuttingLemmas
+mod RangeLemmas
 mod ReadingLemmas
 mod RecoverLemmas
 mod RestoringLemmas
+mod RewriteLemmas
+mod RoomLemmas
 mod StepsLemmas
 mod StandingLemmas
 mod ThroughLemmas

@@ -2,7 +2,7 @@
 use Rattle.std.proofs.lemmas.Grind.{common_steps}
 use Rattle.std.proofs.Common.{◌≡◌, inl, inr, ℕ, ◌+◌, false, List, [], ◌∷◌, ◌++◌, length, Option, IfSome, refl, sym, ◌∙◌, ap, arith, append_assoc, length-append}
 use Rattle.std.specs.List.{AllByRecursion}
-use Rattle.file_journal.specs.Records.{Record, IsRecord, record_text, records_text, Reading, with_record, with_records, reading_at}
+use Rattle.file_journal.specs.Records.{Record, IsRecord, record_text, records_text, Reading, with_record, with_records}
 use Rattle.file_journal.specs.Position.{Position, left_to_read, IsAt, StandsAmong}
 use Rattle.file_journal.proofs.ToldLemmas.{at_told, if_told}
 use Rattle.file_journal.proofs.ReadingLemmas.{read_on, no_record}
@@ -27,7 +27,7 @@ module _ (journal : Position) (place : ℕ) (entry : Record) (is_place : place �
   moved_at passed octets next is_at found = grind (arith, common_steps, read_on, length-records_text-push, with_records-append, no_record)
 
   pub moved : (content now : Option (List ℕ)) (images later : List ℕ → Type 0) → now ≡ content → ((image : List ℕ) → later image → images image)
-      → IfSome content (λ octets. left_to_read journal octets ≡ with_record entry (reading_at place octets))
+      → IfSome content (λ octets. left_to_read journal octets ≡ with_record entry (left_to_read (record journal { place = place }) octets))
       → StandsAmong journal content images → StandsAmong (record journal { place = place }) now later
   moved content now images later same same_images found (inl failed) = inl failed
   moved content now images later same same_images found (inr stands) =

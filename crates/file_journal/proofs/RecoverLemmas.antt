@@ -2,12 +2,14 @@
 use Rattle.std.proofs.lemmas.Grind.{common_steps}
 use Rattle.std.specs.Prelude.{if◌then◌else◌}
 use Rattle.std.proofs.Common.{◌≡◌, ◌↔◌, inl, inr, ℕ, ◌+◌, ◌%◌, ◌<◌, ◌≤◌, nat_le, List, [], ◌∷◌, ◌++◌, length, get_or, take, Some, IfSome, Result, Ok, Err, refl, sym, ◌∙◌, ap, subst, arith, append_assoc, append-nil, length-append, get_or-take, take-take}
-use Rattle.std.proofs.lemmas.List.{get_or-append-add, get_or_at, take-append-le, take_at, length-take-le}
+use Rattle.std.proofs.lemmas.List.{get_or_at, take-append-le, take_at, length-take-le}
 use Rattle.std.proofs.lemmas.Bool.{cases_lt, cond-false, cond-true, le-leb, lt-leb}
-use Rattle.px_base.specs.Numbers.{le32, le32_octets}
+use Rattle.px_base.specs.Numbers.{le32}
 use Rattle.px_base.specs.Octets.{IsOctets}
 use Rattle.disk_model.specs.Disk.{HasContent, Only}
 use Rattle.disk_model.specs.declared.disk.Disk.{Ghosts}
+use Rattle.file_journal.specs.declared.layout.Half.{Half}
+use Rattle.file_journal.specs.declared.layout.Half.TheVariants as half
 use Rattle.file_journal.specs.declared.layout.Layout.{Layout}
 use Rattle.file_journal.specs.declared.faults.RecoverFault.{RecoverFault}
 use Rattle.file_journal.specs.declared.faults.RecoverFault.TheVariants as fault
@@ -15,12 +17,13 @@ use Rattle.file_journal.specs.Calls.{ChangesReads, IsQuietNow, Leaves, TellsAlik
 use Rattle.file_journal.specs.Formatting.{IsFinishing, IsMakingGates}
 use Rattle.file_journal.specs.Header.{HasHeader}
 use Rattle.file_journal.specs.Journal.{Standing, store, no_store, bad_number, journal_of, header_text, even_header, even_selector, HasGates, HasGoodHeader, IsAfterFinishing, IsAfterRecovery, IsSameStore, store_of}
-use Rattle.file_journal.specs.Layout.{first_gate}
+use Rattle.file_journal.specs.Layout.{first_gate, half_in}
 use Rattle.file_journal.specs.Position.{Position, gate_of, left_to_read, position_at_first, IsAt, StandsOn}
 use Rattle.file_journal.specs.Records.{whole}
-use Rattle.file_journal.specs.Recovery.{IsRecovered, IsRecovering, RefusesExactly, gate_in}
-use Rattle.file_journal.proofs.JournalLemmas.{header_length, header_written, new_gates, of_empty, of_full, of_interrupted, of_short, same_header}
-use Rattle.file_journal.proofs.LayoutLemmas.{gate_behind}
+use Rattle.file_journal.specs.Recovery.{IsRecovered, IsRecovering, RefusesExactly, gate_in, number_in}
+use Rattle.file_journal.proofs.FormatLemmas.{even_selector_even}
+use Rattle.file_journal.proofs.JournalLemmas.{half_of_header, header_even, header_length, header_written, new_gates, of_empty, of_full, of_interrupted, of_short, same_header}
+use Rattle.file_journal.proofs.LayoutLemmas.{even_half, gate_behind}
 use Rattle.file_journal.proofs.ToldLemmas.{at_told, content_now, if_told, told_weaker}
 use Rattle.file_journal.proofs.MomentLemmas.{reads}
 
@@ -50,37 +53,46 @@ refusal_of magic layout octets (Err (fault.Damaged at)) good foreign bad healthy
 refusal_of magic layout octets (Err fault.Disk) good foreign bad healthy = absurd (healthy refl)
 
 -- two closed gates behind a header of 16 octets
-two_gates : (magic : List ℕ) (layout : Layout) (blocks : ℕ) (front now : List ℕ) → length front ≡ 16 → HasHeader magic blocks front → HasGates (first_gate layout blocks) front now
-    → HasHeader magic blocks now × (first_gate layout blocks + 2 ≤ length now) × (journal_of magic layout now ≡ store (Some blocks) (whole []))
-two_gates magic layout blocks front now size head gates =
+two_gates : (magic : List ℕ) (layout : Layout) (blocks : ℕ) (front now : List ℕ) → length front ≡ 16 → HasHeader magic blocks front → get_or front 15 0 % 2 ≡ 0 → HasGates (first_gate layout blocks) front now
+    → HasHeader magic blocks now × (first_gate layout blocks + 2 ≤ length now) × (half_in layout now ≡ half.First) × (journal_of magic layout now ≡ store (Some blocks) (whole []))
+two_gates magic layout blocks front now size head even gates =
     let gate = first_gate layout blocks in
     let parts : length (front ++ gates.gap) ≡ gate = omega (arith, size, gates.size, length-append front gates.gap) in
     let long : length now ≡ gate + 2 = omega (arith, ap length gates.octets, parts, length-append (front ++ gates.gap) (0 ∷ 0 ∷ [])) in
-    let has : HasHeader magic blocks now =
-    same_header 16 magic blocks front now (omega arith) (ap (λ (l : List ℕ). take 16 l) (gates.octets ∙ append_assoc front gates.gap (0 ∷ 0 ∷ [])) ∙ take-append-le 16 front (gates.gap ++ 0 ∷ 0 ∷ []) (omega (arith, size))) head in
+    let same : take 16 now ≡ take 16 front =
+    ap (λ (l : List ℕ). take 16 l) (gates.octets ∙ append_assoc front gates.gap (0 ∷ 0 ∷ [])) ∙ take-append-le 16 front (gates.gap ++ 0 ∷ 0 ∷ []) (omega (arith, size)) in
+    let has : HasHeader magic blocks now = same_header 16 magic blocks front now (omega arith) same head in
+    let first : half_in layout now ≡ half.First = half_of_header 16 layout front now (omega arith) same even in
     let closed : get_or now gate 0 ≡ 0 = ap (λ (l : List ℕ). get_or l gate 0) gates.octets ∙ get_or_at (front ++ gates.gap) 0 (0 ∷ []) 0 gate parts in
-    (has, omega (arith, long), of_empty magic layout now blocks has (omega (arith, long, gate_behind layout blocks)) (λ more is_open. absurd (omega (arith, closed, is_open))))
+    (has, omega (arith, long), first, of_empty magic layout now blocks has (omega (arith, long, gate_behind layout blocks)) (λ more. (first, λ is_open. absurd (omega (arith, closed, is_open)))))
 
 -- a store whose formatting is done to its end
 pub finishing : (magic : List ℕ) (layout : Layout) (blocks : ℕ) (before image : List ℕ) → 16 < length before → HasHeader magic blocks before → IsFinishing (first_gate layout blocks) before image
     → journal_of magic layout image ≡ journal_of magic layout before
 finishing magic layout blocks before image long head making =
     of_empty magic layout image blocks (same_header 15 magic blocks before image (omega arith) making.header head) (omega (arith, long, making.no_shorter))
-    (λ more is_open. absurd (omega (arith, making.closed more, is_open)))
+    (λ more. (even_half layout (get_or image 15 0) (making.even more), λ is_open. absurd (omega (arith, making.closed more, is_open))))
     ∙ sym (of_interrupted magic layout before blocks head long making.interrupted)
 
-finished_store : (magic : List ℕ) (layout : Layout) (blocks : ℕ) (before now : List ℕ) → 16 < length before → HasHeader magic blocks before → IsAfterFinishing (first_gate layout blocks) before now
-    → HasHeader magic blocks now × (first_gate layout blocks + 2 ≤ length now) × (journal_of magic layout now ≡ journal_of magic layout before)
-finished_store magic layout blocks before now long head is = elim (cases_lt (length before) (first_gate layout blocks + 2)) [
+-- the half in which a recovery of these octets finds the records: the first one where their formatting was interrupted
+abbrev pub IsHalfOf : Layout → ℕ → Half → List ℕ → Type 0
+IsHalfOf layout blocks chosen before =
+    (length before < first_gate layout blocks + 2 → chosen ≡ half.First) × (first_gate layout blocks + 2 ≤ length before → chosen ≡ half_in layout before)
+
+finished_store : (magic : List ℕ) (layout : Layout) (blocks : ℕ) (chosen : Half) (before now : List ℕ) → 16 < length before → HasHeader magic blocks before → IsHalfOf layout blocks chosen before
+    → IsAfterFinishing (first_gate layout blocks) before now
+    → HasHeader magic blocks now × (first_gate layout blocks + 2 ≤ length now) × (half_in layout now ≡ chosen) × (journal_of magic layout now ≡ journal_of magic layout before)
+finished_store magic layout blocks chosen before now long head half_is is = elim (cases_lt (length before) (first_gate layout blocks + 2)) [
   | inr full ↦
       let same : now ≡ before = is.same full in
-      (subst (λ (l : List ℕ). HasHeader magic blocks l) (sym same) head, omega (arith, ap length same, full), ap (journal_of magic layout) same)
+      (subst (λ (l : List ℕ). HasHeader magic blocks l) (sym same) head, omega (arith, ap length same, full), ap (half_in layout) same ∙ sym (half_is.1 full), ap (journal_of magic layout) same)
   | inl short ↦
       let front : length (take 15 before) ≡ 15 = length-take-le 15 before (omega (arith, long)) in
       let even_head = same_header 15 magic blocks before (even_header before) (omega arith) (take_at (take 15 before) (even_selector before ∷ []) 15 front) head in
       let made =
-      two_gates magic layout blocks (even_header before) now (omega (arith, front, length-append (take 15 before) (even_selector before ∷ []))) even_head (is.finished short) in
-      (made.0, made.1, made.2 ∙ sym (of_interrupted magic layout before blocks head long short))
+      two_gates magic layout blocks (even_header before) now (omega (arith, front, length-append (take 15 before) (even_selector before ∷ []))) even_head
+      (ap (λ (n : ℕ). n % 2) (get_or_at (take 15 before) (even_selector before) [] 0 15 front) ∙ even_selector_even before) (is.finished short) in
+      (made.0, made.1, made.2 ∙ sym (half_is.0 short), made.3 ∙ sym (of_interrupted magic layout before blocks head long short))
 ]
 
 -- What a recovery leaves of a content.
@@ -165,28 +177,25 @@ module _ (magic : List ℕ) (layout : Layout) (blocks : ℕ) (before : List ℕ)
           closed = λ less more. here.closed more;
         }
       where
-        get_or_at_end : get_or (header_text magic blocks) 15 0 ≡ 0
-        get_or_at_end =
-            ap (λ (n : ℕ). get_or (header_text magic blocks) n 0) (let at : 15 ≡ length (magic ++ le32_octets blocks) + 3 = omega (arith, eight, length-append magic (le32_octets blocks)) in at)
-            ∙ get_or-append-add (magic ++ le32_octets blocks) (0 ∷ 0 ∷ 0 ∷ 0 ∷ []) 3 0
-
         selector : get_or image 15 0 ≡ 0
         selector =
             sym (get_or-take 16 image 15 0 (omega arith)) ∙ ap (λ (l : List ℕ). get_or l 15 0) making.header ∙ get_or-take 16 (header_text magic blocks) 15 0 (omega arith)
-            ∙ get_or_at_end
+            ∙ header_even magic blocks eight
 
 -- What a recovery of a disk gives.
 module _ {D : Type 0} (g : Ghosts D) (magic : List ℕ) (layout : Layout) (blocks : ℕ) where
   -- a store that has this header now, and the records from before
-  pub record IsFormatted (number : ℕ) (before now : List ℕ) : Type 0 where
+  pub record IsFormatted (number : ℕ) (chosen : Half) (before now : List ℕ) : Type 0 where
     pub head : HasHeader magic number now
     pub long : first_gate layout number + 2 ≤ length now
+    pub half : half_in layout now ≡ chosen
     pub octets : IsAfterRecovery magic layout blocks before now
+    pub number_is : number ≡ number_in blocks before
     pub same : IsSameStore blocks (journal_of magic layout before) (journal_of magic layout now)
 
-  pub recovered : (old new : D) (number : ℕ) (journal : Position) → journal ≡ position_at_first magic layout number → TellsAlike (g.content old) (g.content new) → IsQuietNow g new
-      → IfSome (g.content new) (λ now. IsOctets now) → HasContent (g.content old) (g.content new) (IsFormatted number) → IsRecovered g magic layout blocks old new journal
-  recovered old new number journal is alike rest are has = record {
+  pub recovered : (old new : D) (number : ℕ) (chosen : Half) (journal : Position) → journal ≡ position_at_first magic layout number chosen → TellsAlike (g.content old) (g.content new) → IsQuietNow g new
+      → IfSome (g.content new) (λ now. IsOctets now) → HasContent (g.content old) (g.content new) (IsFormatted number chosen) → IsRecovered g magic layout blocks old new journal
+  recovered old new number chosen journal is alike rest are has = record {
     magic_is = ap (λ (journal : Position). journal.magic) is;
     layout_is = ap (λ (journal : Position). journal.layout) is;
     place = subst (λ (journal : Position). journal.place ≡ gate_of journal) (sym is) refl;
@@ -198,20 +207,23 @@ module _ {D : Type 0} (g : Ghosts D) (magic : List ℕ) (layout : Layout) (block
       record {
         octets = now.2.octets;
         number = ap (λ (journal : Position). journal.blocks) is ∙ sym now.2.head.blocks_are;
+        same_number = ap (λ (journal : Position). journal.blocks) is ∙ now.2.number_is;
+        half = now.2.half ∙ sym (ap (λ (journal : Position). journal.half) is);
         same = now.2.same;
         whole = subst (λ (journal : Position). journal_of magic layout now.0 ≡ store_of journal.blocks (left_to_read journal now.0)) (sym is)
-            (of_full magic layout now.0 number now.2.head now.2.long);
+            (of_full magic layout now.0 number now.2.head chosen now.2.half now.2.long);
       },
     )) has;
     quiet = rest;
     stands_on = subst (λ (journal : Position). StandsOn g journal new) (sym is) (inr (if_told (g.content new) _ (λ now told.
-        let was = content_now _ _ (IsFormatted number) now alike has told in
-        let first = position_at_first magic layout number in
+        let was = content_now _ _ (IsFormatted number chosen) now alike has told in
+        let first = position_at_first magic layout number chosen in
         let at : IsAt first [] now = record {
           are_octets = at_told _ now told are;
           formatted = was.2.long;
+          half = was.2.half;
           place = omega arith;
-          records = of_full magic layout now number was.2.head was.2.long;
+          records = of_full magic layout now number was.2.head chosen was.2.half was.2.long;
           ended = λ end. cc;
         } in (
           [],
@@ -224,22 +236,23 @@ module _ {D : Type 0} (g : Ghosts D) (magic : List ℕ) (layout : Layout) (block
 
   -- of at most 16 octets
   pub new_formatted : (old new : D) → length magic ≡ 8 → 1 ≤ blocks → blocks ≤ 65536 → IfSome (g.content old) (λ before. length before ≤ 16)
-      → HasContent (g.content old) (g.content new) (IsAfterRecovery magic layout blocks) → HasContent (g.content old) (g.content new) (IsFormatted blocks)
+      → HasContent (g.content old) (g.content new) (IsAfterRecovery magic layout blocks) → HasContent (g.content old) (g.content new) (IsFormatted blocks half.First)
   new_formatted old new eight some most short has = told_weaker (g.content old) _ _ (λ before told now.
       let less = at_told _ before told short in
       let head = subst (λ (l : List ℕ). HasHeader magic blocks l) (append-nil (header_text magic blocks)) (header_written magic blocks [] eight some most) in
-      let is = two_gates magic layout blocks (header_text magic blocks) now.0 (header_length magic blocks eight) head (now.2.new less) in
-      (now.0, now.1, record { head = is.0; long = is.1; octets = now.2; same = inr (of_short magic layout before less, is.2) })) has
+      let is = two_gates magic layout blocks (header_text magic blocks) now.0 (header_length magic blocks eight) head (ap (λ (n : ℕ). n % 2) (header_even magic blocks eight)) (now.2.new less) in
+      (now.0, now.1, record { head = is.0; long = is.1; half = is.2; octets = now.2; number_is = sym (cond-true (nat_le (length before) 16) blocks (le32 before 8) (le-leb (length before) 16 less)); same = inr (of_short magic layout before less, is.3) })) has
 
   -- of more
   module _ (old mid new : D) (number : ℕ) (only : ChangesReads g old mid) (head : IfSome (g.content old) (HasHeader magic number)) (long : IfSome (g.content old) (λ before. 16 < length before)) where
-    pub known_formatted : HasContent (g.content mid) (g.content new) (IsAfterFinishing (first_gate layout number)) → HasContent (g.content old) (g.content new) (IsFormatted number)
-    known_formatted has = if_told (g.content old) _ (λ before told.
+    pub known_formatted : (chosen : Half) → IfSome (g.content old) (IsHalfOf layout number chosen) → HasContent (g.content mid) (g.content new) (IsAfterFinishing (first_gate layout number))
+        → HasContent (g.content old) (g.content new) (IsFormatted number chosen)
+    known_formatted chosen half_is has = if_told (g.content old) _ (λ before told.
         let now = at_told _ before (only.same_content ∙ told) has in
         let more = at_told _ before told long in
         let is_head = at_told (HasHeader magic number) before told head in
-        let is = finished_store magic layout number before now.0 more is_head now.2 in
-        (now.0, now.1, record { head = is.0; long = is.1; octets = known_after magic layout blocks before number is_head more now.0 now.2; same = inl is.2 }))
+        let is = finished_store magic layout number chosen before now.0 more is_head (at_told (IsHalfOf layout number chosen) before told half_is) now.2 in
+        (now.0, now.1, record { head = is.0; long = is.1; half = is.2; octets = known_after magic layout blocks before number is_head more now.0 now.2; number_is = sym (cond-false (nat_le (length before) 16) blocks (le32 before 8) (lt-leb (length before) 16 more) ∙ is_head.blocks_are); same = inl is.3 }))
 
     pub known_leaves : Leaves g mid new (IsFinishing (first_gate layout number)) → Leaves g old new (IsRecovering magic layout blocks)
     known_leaves leaves = grind (arith, common_steps, reads, recovering_finishing, head, long)

@@ -8,33 +8,36 @@ use Rattle.px_base.specs.Numbers.{le32}
 use Rattle.px_base.specs.Outside.{Rose}
 use Rattle.disk_model.specs.Disk.{Only}
 use Rattle.disk_model.specs.declared.disk.Disk.{Ghosts}
+use Rattle.file_journal.specs.Bounds.{RecoversInHalves}
 use Rattle.file_journal.specs.Calls.{ChangesReads, IsQuietNow, Leaves, Reads, Runs, TellsAlike, images_now}
 use Rattle.file_journal.specs.Form.{Form, standing_of}
 use Rattle.file_journal.specs.Journal as journal
-use Rattle.file_journal.specs.Journal.{IsAfterRecovery, IsSameStore, Standing, is_block_number, journal_of}
+use Rattle.file_journal.specs.Journal.{IsAfterRecovery, IsSameStore, Standing, is_block_number, journal_of, read_half}
 use Rattle.file_journal.specs.Kept.{StandsAt, kept_on}
-use Rattle.file_journal.specs.Layout.{Blocks, block_in, blocks_on, first_gate}
+use Rattle.file_journal.specs.Layout.{Blocks, HasBlocks, block_in, blocks_on, first_gate, half_gate, half_in}
 use Rattle.file_journal.specs.Ledger.{AnswersAll, AppliesAll}
 use Rattle.file_journal.specs.Position.{Position, StandsOn, left_to_read}
-use Rattle.file_journal.specs.Records.{Reading, Record, reading_at, whole}
+use Rattle.file_journal.specs.Records.{Reading, Record, whole}
 use Rattle.file_journal.specs.Recovery as recovering
 use Rattle.file_journal.specs.Recovery.{IsFailedSync, IsRecovering, IsSyncedFirst, Recovers, gate_in}
 use Rattle.file_journal.specs.Refusals.{fault_of_read, fault_of_recovery}
 use Rattle.file_journal.specs.Restoring.{AnswersRecovery, IsRestored, RefusesExactly, StandsAlike}
 use Rattle.file_journal.specs.Steps.{IsSeenBy, Steps, walked}
 use Rattle.file_journal.specs.Walk.{Stands, damaged_at, no_store, number_or, see, stands_of, state, walk, walk_left}
+use Rattle.file_journal.specs.declared.layout.Half.{Half}
 use Rattle.file_journal.specs.declared.layout.Layout.{Layout}
-use Rattle.file_journal.specs.declared.layout.Layout.TheVariants as layout
 use Rattle.file_journal.specs.declared.faults.RecoverFault.{RecoverFault}
 use Rattle.file_journal.specs.declared.faults.RecoverFault.TheVariants as recovery
 use Rattle.file_journal.specs.declared.faults.ReadFault.{ReadFault}
 use Rattle.file_journal.specs.declared.faults.ReadFault.TheVariants as read
 use Rattle.file_journal.specs.declared.faults.StoreFault.{StoreFault}
 use Rattle.file_journal.specs.declared.faults.StoreFault.TheVariants as fault
+use Rattle.file_journal.proofs.BoundLemmas.{recovers_reads}
 use Rattle.file_journal.proofs.CallLemmas.{changes_none, reads_now, stops_on, stops_reads}
 use Rattle.file_journal.proofs.HoldLemmas.{held_kept, quiet_holds}
 use Rattle.file_journal.proofs.LayoutLemmas.{gate_behind}
 use Rattle.file_journal.proofs.MomentLemmas.{joined, reads, weaker}
+use Rattle.file_journal.proofs.PositionLemmas.{among_records}
 use Rattle.file_journal.proofs.StepsLemmas.{fresh_same}
 use Rattle.file_journal.proofs.ToldLemmas.{alike_on, alike_same, at_told, content_now, if_told, told_before, told_weaker}
 
@@ -85,7 +88,11 @@ see_damaged seen (no_store found) at is = absurd (cc is)
 see_damaged seen (damaged_at place) at is = ap (λ (n : ℕ). damaged_at n) (let same : place ≡ at = cc is in same)
 see_damaged seen (state now) at is = absurd (cc is)
 
-module _ {S V C : Type 0} (steps : Steps S) (seen : Blocks → S → V) (form : Form V C) (law : IsSeenBy steps seen form) (blocks : ℕ) where
+module _ {S K V C : Type 0} (steps : Steps S K) (seen : Blocks → K → V) (form : Form V C) (law : IsSeenBy steps seen form) (blocks : ℕ) where
+  -- a state as what is kept of it is seen
+  abbrev sees : Blocks → S → V
+  sees held now = seen held (steps.kept now)
+
   -- the place of the first gate of octets that have their block number
   abbrev gate_at : List ℕ → ℕ
   gate_at octets = first_gate form.layout (le32 octets 8)
@@ -95,22 +102,23 @@ module _ {S V C : Type 0} (steps : Steps S) (seen : Blocks → S → V) (form : 
   unfolding journal_of
   short_store octets short =
       tests_short (nat_le (length octets) 16) (not (bytes_eq (take 8 octets) form.magic)) (not (is_block_number (le32 octets 8))) (nat_lt (length octets) (gate_at octets + 2)) (take 8 octets)
-      (le32 octets 8) (reading_at (gate_at octets) octets) (lt-ltb (length octets) (gate_at octets + 2) short)
+      (le32 octets 8) (read_half form.layout (le32 octets 8) (half_in form.layout octets) octets) (lt-ltb (length octets) (gate_at octets + 2) short)
 
   -- so it is no damage, but by its number
-  short_sound : (held : Blocks) (stands : Standing) (at : ℕ) → HasNoRecords stands → (stands ≡ journal.bad_number → ⊥) → stands_of steps.fresh (steps.step held) form.layout blocks stands ≡ damaged_at at → ⊥
-  short_sound held (journal.no_store found) at none good is = cc is
-  short_sound held journal.bad_number at none good is = good refl
-  short_sound held (journal.store number reading) at none good is =
-      let damage : walk (steps.step held) (steps.fresh (number_or blocks number)) (first_gate form.layout (number_or blocks number)) (whole []) ≡ damaged_at at =
-      ap (λ (r : Reading). walk (steps.step held) (steps.fresh (number_or blocks number)) (first_gate form.layout (number_or blocks number)) r) (sym none) ∙ is in
+  short_sound : (held : Blocks) (chosen : Half) (stands : Standing) (at : ℕ) → HasNoRecords stands → (stands ≡ journal.bad_number → ⊥) → stands_of steps.fresh (steps.step held) form.layout chosen blocks stands ≡ damaged_at at → ⊥
+  short_sound held chosen (journal.no_store found) at none good is = cc is
+  short_sound held chosen journal.bad_number at none good is = good refl
+  short_sound held chosen (journal.store number reading) at none good is =
+      let place = half_gate form.layout (number_or blocks number) chosen in
+      let damage : walk (steps.step held) (steps.fresh (number_or blocks number)) place (whole []) ≡ damaged_at at =
+      ap (λ (r : Reading). walk (steps.step held) (steps.fresh (number_or blocks number)) place r) (sym none) ∙ is in
       cc damage
 
   formatted : (octets : List ℕ) (at : ℕ) → (journal_of form.magic form.layout octets ≡ journal.bad_number → ⊥) → standing_of form blocks octets ≡ damaged_at at → gate_at octets + 2 ≤ length octets
   formatted octets at good is = elim (cases_lt (length octets) (gate_at octets + 2)) [
     | inl short ↦
-        absurd (short_sound (block_in octets) (journal_of form.magic form.layout octets) at (short_store octets short) good
-        (see_damaged (seen (block_in octets)) (walked steps form.magic form.layout blocks octets) at (sym (law.standing blocks octets) ∙ is)))
+        absurd (short_sound (block_in octets) (half_in form.layout octets) (journal_of form.magic form.layout octets) at (short_store octets short) good
+        (see_damaged (sees (block_in octets)) (walked steps form.magic form.layout blocks octets) at (sym (law.standing blocks octets) ∙ is)))
     | inr long ↦ long
   ]
 
@@ -118,15 +126,15 @@ module _ {S V C : Type 0} (steps : Steps S) (seen : Blocks → S → V) (form : 
   stays octets now full after = (after.known (omega (arith, full, gate_behind form.layout (le32 octets 8)))).same full
 
   -- without records it stands for the same, whatever the blocks hold
-  fresh_seen : (one other : Blocks) (store : Standing) → HasNoRecords store
-      → see (seen other) (stands_of steps.fresh (steps.step other) form.layout blocks store) ≡ see (seen one) (stands_of steps.fresh (steps.step one) form.layout blocks store)
-  fresh_seen one other (journal.no_store found) none = refl
-  fresh_seen one other journal.bad_number none = refl
-  fresh_seen one other (journal.store number reading) none =
+  fresh_seen : (one other : Blocks) (chosen half_now : Half) (store : Standing) → HasNoRecords store
+      → see (sees other) (stands_of steps.fresh (steps.step other) form.layout half_now blocks store) ≡ see (sees one) (stands_of steps.fresh (steps.step one) form.layout chosen blocks store)
+  fresh_seen one other chosen half_now (journal.no_store found) none = refl
+  fresh_seen one other chosen half_now journal.bad_number none = refl
+  fresh_seen one other chosen half_now (journal.store number reading) none =
       let n = number_or blocks number in
-      let at : (held : Blocks) → see (seen held) (walk (steps.step held) (steps.fresh n) (first_gate form.layout n) reading) ≡ state (seen held (steps.fresh n)) =
-      λ held. ap (λ (r : Reading). see (seen held) (walk (steps.step held) (steps.fresh n) (first_gate form.layout n) r)) none in
-      at other ∙ ap (λ (v : V). state v) (fresh_same steps seen form law one other n) ∙ sym (at one)
+      let at : (held : Blocks) (h : Half) → see (sees held) (walk (steps.step held) (steps.fresh n) (half_gate form.layout n h) reading) ≡ state (sees held (steps.fresh n)) =
+      λ held h. ap (λ (r : Reading). see (sees held) (walk (steps.step held) (steps.fresh n) (half_gate form.layout n h) r)) none in
+      at other half_now ∙ ap (λ (v : V). state v) (fresh_same steps seen form law one other n) ∙ sym (at one chosen)
 
   -- Octets that are the same store stand for the same, where a store that is formatted whole is left as it is.
   same_standing : (before image : List ℕ) → IsSameStore blocks (journal_of form.magic form.layout before) (journal_of form.magic form.layout image) → (gate_at before + 2 ≤ length before → image ≡ before)
@@ -136,15 +144,21 @@ module _ {S V C : Type 0} (steps : Steps S) (seen : Blocks → S → V) (form : 
     | inl short ↦ law.standing blocks image ∙ by (short_store before short) same ∙ sym (law.standing blocks before)
   ]
     where
+      was : Half
+      was = half_in form.layout before
+
+      is_now : Half
+      is_now = half_in form.layout image
+
       by : HasNoRecords (journal_of form.magic form.layout before) → IsSameStore blocks (journal_of form.magic form.layout before) (journal_of form.magic form.layout image)
-          → see (seen (block_in image)) (walked steps form.magic form.layout blocks image) ≡ see (seen (block_in before)) (walked steps form.magic form.layout blocks before)
+          → see (sees (block_in image)) (walked steps form.magic form.layout blocks image) ≡ see (sees (block_in before)) (walked steps form.magic form.layout blocks before)
       by none (inl is) =
-          ap (λ (s : Standing). see (seen (block_in image)) (stands_of steps.fresh (steps.step (block_in image)) form.layout blocks s)) is
-          ∙ fresh_seen (block_in before) (block_in image) (journal_of form.magic form.layout before) none
+          ap (λ (s : Standing). see (sees (block_in image)) (stands_of steps.fresh (steps.step (block_in image)) form.layout is_now blocks s)) is
+          ∙ fresh_seen (block_in before) (block_in image) was is_now (journal_of form.magic form.layout before) none
       by none (inr is) =
-          ap (λ (s : Standing). see (seen (block_in image)) (stands_of steps.fresh (steps.step (block_in image)) form.layout blocks s)) is.1
+          ap (λ (s : Standing). see (sees (block_in image)) (stands_of steps.fresh (steps.step (block_in image)) form.layout is_now blocks s)) is.1
           ∙ ap (λ (v : V). state v) (fresh_same steps seen form law (block_in before) (block_in image) blocks)
-          ∙ sym (ap (λ (s : Standing). see (seen (block_in before)) (stands_of steps.fresh (steps.step (block_in before)) form.layout blocks s)) is.0)
+          ∙ sym (ap (λ (s : Standing). see (sees (block_in before)) (stands_of steps.fresh (steps.step (block_in before)) form.layout was blocks s)) is.0)
 
   stands_alike : (before image : List ℕ) → IsRecovering form.magic form.layout blocks before image → StandsAlike form blocks before image
   stands_alike before image left = record { same = same_standing before image left.same (λ full. left.formatted (full_in before full)); octets = left }
@@ -215,10 +229,12 @@ reads_fault (Err read.OutOfMemory) result is = ((λ was. cc, λ was. cc), λ was
 
 -- ---- what is answered
 
-module _ {D S V C : Type 0} (g : Ghosts D) (steps : Steps S) (seen : Blocks → S → V) (form : Form V C) (law : IsSeenBy steps seen form) (blocks : ℕ) where
+module _ {D S K V C : Type 0} (g : Ghosts D) (steps : Steps S K) (seen : Blocks → K → V) (form : Form V C) (law : IsSeenBy steps seen form) (blocks : ℕ) where
   refused_as : (before : List ℕ) (stands : Standing) → journal_of form.magic form.layout before ≡ stands
-      → standing_of form blocks before ≡ see (seen (block_in before)) (stands_of steps.fresh (steps.step (block_in before)) form.layout blocks stands)
-  refused_as before stands is = law.standing blocks before ∙ ap (λ (s : Standing). see (seen (block_in before)) (stands_of steps.fresh (steps.step (block_in before)) form.layout blocks s)) is
+      → standing_of form blocks before ≡ see (sees steps seen form law blocks (block_in before)) (stands_of steps.fresh (steps.step (block_in before)) form.layout (half_in form.layout before) blocks stands)
+  refused_as before stands is =
+      law.standing blocks before
+      ∙ ap (λ (s : Standing). see (sees steps seen form law blocks (block_in before)) (stands_of steps.fresh (steps.step (block_in before)) form.layout (half_in form.layout before) blocks s)) is
 
   -- a refusal of the journal
   refused_recovery : {T U : Type 0} (before : List ℕ) (result : Result T StoreFault) (e : RecoverFault) → recovering.RefusesExactly {T = U} form.magic form.layout before (Err e) → result ≡ Err (fault_of_recovery e)
@@ -232,8 +248,8 @@ module _ {D S V C : Type 0} (g : Ghosts D) (steps : Steps S) (seen : Blocks → 
   -- where the journal is refused
   pub answers_refused : {U T : Type 0} (old new : D) (e : RecoverFault) (result : Result T StoreFault) → result ≡ Err (fault_of_recovery e) → recovering.Refuses {T = U} form.magic form.layout (g.content old) (Err e)
       → (¬ IsErrOf {T = U} (Err e) recovery.Disk → g.content new ≡ g.content old) → Runs g (IsErrOf {T = U} (Err e) recovery.Disk) old new → Leaves g old new (IsRecovering form.magic form.layout blocks)
-      → recovering.LeavesSinceSync {T = U} g (Err e) old new (IsRecovering form.magic form.layout blocks) → AnswersRecovery g form blocks result old new
-  answers_refused {U} old new e result is refuses same runs since_start since_sync =
+      → recovering.LeavesSinceSync {T = U} g (Err e) old new (IsRecovering form.magic form.layout blocks) → RecoversInHalves g form.layout blocks old new → AnswersRecovery g form blocks result old new
+  answers_refused {U} old new e result is refuses same runs since_start since_sync within =
       let there = λ (was : IsErrOf {T = U} (Err e) recovery.Disk). let is_disk : e ≡ recovery.Disk = cc in is ∙ ap (λ (e : RecoverFault). Err (fault_of_recovery e)) is_disk in
       record {
         refuses = λ healthy room. told_weaker (g.content old) _ _ (λ before told refuses. refused_recovery before result e refuses is healthy) (refuses (λ was. healthy (there was)));
@@ -242,67 +258,80 @@ module _ {D S V C : Type 0} (g : Ghosts D) (steps : Steps S) (seen : Blocks → 
         runs = runs_same g _ _ old new there (λ was. ap Err (recovery_disk e (cc (is, was)))) runs;
         since_start = leaves_alike steps seen form law blocks g old new new since_start;
         since_sync = told_weaker (g.content old) _ _ (λ before told left. ⊎_elim (λ synced. inl (synced_alike steps seen form law blocks g old new new before (changes_none g new) synced)) (λ failed. inr (there failed.0, failed.1)) left) since_sync;
+        within = within;
       }
 
   -- What was recovered, and read from then on.
   module _ {P Q : Type 0} (old mid new : D) (first : Position) (start : S) (recovered : recovering.IsRecovered g form.magic form.layout blocks old mid first) (fine : ¬ P) (runs : Runs g P old mid)
       (fresh : start ≡ steps.fresh first.blocks) (run : Reads g Q mid new) where
+    -- the journal stands in the half that the octets say
+    half_there : (octets : List ℕ) → g.content mid ≡ Some octets → half_in form.layout octets ≡ first.half
+    half_there octets told =
+        let among = at_told _ octets told (among_records first (g.content mid) (images_now g mid) recovered.healthy recovered.stands_on) in
+        ap (λ (l : Layout). half_in l octets) (sym recovered.layout_is) ∙ among.1.half
+
     -- what is read of the store is what is left
-    walked_left : (octets : List ℕ) → journal_of form.magic form.layout octets ≡ journal.store_of first.blocks (left_to_read first octets) → (n : ℕ)
+    walked_left : (octets : List ℕ) → g.content mid ≡ Some octets → journal_of form.magic form.layout octets ≡ journal.store_of first.blocks (left_to_read first octets) → (n : ℕ)
         → walked steps form.magic form.layout n octets ≡ walk_left (steps.step (block_in octets)) first start octets
-    walked_left octets stands n =
+    walked_left octets told stands n =
         let step = steps.step (block_in octets) in
-        ap (stands_of steps.fresh step form.layout n) stands ∙ ap (λ (s : S). walk step s (first_gate form.layout first.blocks) (left_to_read first octets)) (sym fresh)
-        ∙ ap (λ (place : ℕ). walk step start place (left_to_read first octets)) (sym (recovered.place ∙ ap (λ (l : Layout). first_gate l first.blocks) recovered.layout_is))
+        ap (stands_of steps.fresh step form.layout (half_in form.layout octets) n) stands
+        ∙ ap (λ (s : S). walk step s (half_gate form.layout first.blocks (half_in form.layout octets)) (left_to_read first octets)) (sym fresh)
+        ∙ ap (λ (h : Half). walk step start (half_gate form.layout first.blocks h) (left_to_read first octets)) (half_there octets told)
+        ∙ ap (λ (place : ℕ). walk step start place (left_to_read first octets)) (sym (recovered.place ∙ ap (λ (l : Layout). half_gate l first.blocks first.half) recovered.layout_is))
 
     -- all is left to read
     all_left : (before : List ℕ) → g.content old ≡ Some before
         → (octets : List ℕ) × (g.content mid ≡ Some octets) × Recovers form.magic form.layout blocks first before octets
-        × (standing_of form blocks before ≡ see (seen (block_in octets)) (walk_left (steps.step (block_in octets)) first start octets))
+        × (standing_of form blocks before ≡ see (sees steps seen form law blocks (block_in octets)) (walk_left (steps.step (block_in octets)) first start octets))
     all_left before told =
         let made = at_told (λ (b : List ℕ). (octets : List ℕ) × (g.content mid ≡ Some octets) × Recovers form.magic form.layout blocks first b octets) before told recovered.content in (
           made.0,
           made.1,
           made.2,
           sym (same_standing steps seen form law blocks before made.0 made.2.same (λ full. stays steps seen form law blocks before made.0 full made.2.octets))
-              ∙ law.standing blocks made.0 ∙ ap (see (seen (block_in made.0))) (walked_left made.0 made.2.whole blocks),
+              ∙ law.standing blocks made.0 ∙ ap (see (sees steps seen form law blocks (block_in made.0))) (walked_left made.0 made.1 made.2.whole blocks),
         )
 
     -- a state was read
     module _ (position : Position) (now : S) (all : IfSome (g.content mid) (λ octets. walk_left (steps.step (block_in octets)) first start octets ≡ state now)) (stands : StandsOn g position new)
-        (same : position ≡ record first { place = position.place; ended = position.ended }) (ended : position.ended ≡ true) (number : steps.number now ≡ steps.number start) (reached : steps.is_state now) where
+        (same : position ≡ record first { place = position.place; ended = position.ended }) (ended : position.ended ≡ true) (number : steps.number (steps.kept now) ≡ steps.number (steps.kept start)) (reached : steps.is_state now) where
       quiet_now : IsQuietNow g new
       quiet_now = if_told (g.content new) _ (λ octets told image here. at_told (Only (images_now g mid)) octets (sym run.only.same_content ∙ told) recovered.quiet image (reads_now g mid new run.only image here))
 
-      pub restored_at : StandsAt g form steps position now new
+      pub restored_at : StandsAt g form steps position (steps.kept now) new
       restored_at = record {
         magic_is = ap (λ (p : Position). p.magic) same ∙ recovered.magic_is;
         layout_is = ap (λ (p : Position). p.layout) same ∙ recovered.layout_is;
-        holds = quiet_holds g steps seen form law position now new reached stands ended
+        holds = quiet_holds g steps seen form law position (steps.kept now) new (law.kept_state now reached) stands ended
             (if_told (g.content new) _ (λ octets told_new.
             let told_mid : g.content mid ≡ Some octets = sym run.only.same_content ∙ told_new in
-            let was = content_now (g.content old) (g.content mid) (Recovers form.magic form.layout blocks first) octets runs.told recovered.content told_mid in
-            ap (λ (p : Position). walked steps p.magic p.layout p.blocks octets) same
-            ∙ subst (λ (m : List ℕ). walked steps m first.layout first.blocks octets ≡ state now) (sym recovered.magic_is)
-            (subst (λ (l : Layout). walked steps form.magic l first.blocks octets ≡ state now) (sym recovered.layout_is)
-            (walked_left octets was.2.whole first.blocks ∙ at_told (λ (o : List ℕ). walk_left (steps.step (block_in o)) first start o ≡ state now) octets told_mid all))))
+            let was = content_now (g.content old) (g.content mid) (Recovers form.magic form.layout blocks first) octets runs.told recovered.content told_mid in (
+              now,
+              ap (λ (p : Position). walked steps p.magic p.layout p.blocks octets) same
+                  ∙ subst (λ (m : List ℕ). walked steps m first.layout first.blocks octets ≡ state now) (sym recovered.magic_is)
+                  (subst (λ (l : Layout). walked steps form.magic l first.blocks octets ≡ state now) (sym recovered.layout_is)
+                  (walked_left octets told_mid was.2.whole first.blocks ∙ at_told (λ (o : List ℕ). walk_left (steps.step (block_in o)) first start o ≡ state now) octets told_mid all)),
+              refl,
+            )))
             quiet_now
-            (λ is.
-            let blocks_layout : form.layout ≡ layout.Blocks = sym recovered.layout_is ∙ sym (ap (λ (p : Position). p.layout) same) ∙ is in
-            ap (λ (p : Position). p.blocks) same ∙ sym (number ∙ ap steps.number fresh ∙ law.fresh_number blocks_layout first.blocks));
+            (λ has.
+            let blocks_layout : HasBlocks form.layout = subst HasBlocks (ap (λ (p : Position). p.layout) same ∙ recovered.layout_is) has in
+            ap (λ (p : Position). p.blocks) same ∙ sym (number ∙ ap (λ (s : S). steps.number (steps.kept s)) fresh ∙ law.fresh_number blocks_layout first.blocks));
       }
 
-      pub restored : IsRestored g form blocks old (kept_on (seen (blocks_on (g.content new)) now) position new)
+      pub restored : IsRestored g form blocks old (kept_on (seen (blocks_on (g.content new)) (steps.kept now)) position new)
       restored = record {
         content = if_told (g.content old) _ (λ before told.
             let left = all_left before told in
-            left.3 ∙ ap (see (seen (block_in left.0))) (at_told (λ (o : List ℕ). walk_left (steps.step (block_in o)) first start o ≡ state now) left.0 left.1 all)
-            ∙ ap (λ (o : Option (List ℕ)). state (seen (blocks_on o) now)) (sym (run.only.same_content ∙ left.1)));
+            left.3 ∙ ap (see (sees steps seen form law blocks (block_in left.0))) (at_told (λ (o : List ℕ). walk_left (steps.step (block_in o)) first start o ≡ state now) left.0 left.1 all)
+            ∙ ap (λ (o : Option (List ℕ)). state (seen (blocks_on o) (steps.kept now))) (sym (run.only.same_content ∙ left.1)));
         octets = if_told (g.content old) _ (λ before told. let left = all_left before told in (left.0, run.only.same_content ∙ left.1, left.2.octets));
         healthy = ap (λ (p : Position). p.failed) same ∙ recovered.healthy;
         ended = ended;
         magic_is = restored_at.magic_is;
-        keeps = held_kept g steps seen form law position now new restored_at;
+        number = told_weaker (g.content old) _ _ (λ before told made. ap (λ (p : Position). p.blocks) same ∙ made.2.same_number) recovered.content;
+        keeps = held_kept g steps seen form law position (steps.kept now) new restored_at;
         quiet = quiet_now;
       }
 
@@ -315,7 +344,7 @@ module _ {D S V C : Type 0} (g : Ghosts D) (steps : Steps S) (seen : Blocks → 
         by None none = run.only.same_content ∙ untold (g.content old) (g.content mid) runs.told none ∙ sym none
         by (Some before) told =
             let left = all_left before told in
-            let is = left.3 ∙ ap (see (seen (block_in left.0))) (at_told (λ (octets : List ℕ). walk_left (steps.step (block_in octets)) first start octets ≡ damaged_at at) left.0 left.1 damaged) in
+            let is = left.3 ∙ ap (see (sees steps seen form law blocks (block_in left.0))) (at_told (λ (octets : List ℕ). walk_left (steps.step (block_in octets)) first start octets ≡ damaged_at at) left.0 left.1 damaged) in
             let long = formatted steps seen form law blocks before at (at_told (λ (l : List ℕ). journal_of form.magic form.layout l ≡ journal.bad_number → ⊥) before told good) is in
             run.only.same_content ∙ left.1 ∙ ap (λ (l : List ℕ). Some l) (stays steps seen form law blocks before left.0 long left.2.octets) ∙ sym told
 
@@ -323,14 +352,14 @@ module _ {D S V C : Type 0} (g : Ghosts D) (steps : Steps S) (seen : Blocks → 
       (reading : Result U ReadFault) (result : Result T StoreFault) → IsAnswerOf reading result → start ≡ steps.fresh first.blocks
       → recovering.IsRecovered g form.magic form.layout blocks old mid first → recovering.Refuses form.magic form.layout (g.content old) (Ok first) → Runs g (IsErrOf (Ok first) recovery.Disk) old mid
       → Leaves g old mid (IsRecovering form.magic form.layout blocks) → recovering.LeavesSinceSync g (Ok first) old mid (IsRecovering form.magic form.layout blocks)
-      → AnswersAll steps.step first start now (g.content mid) reading → Reads g (IsErrOf reading read.Disk) mid new → AnswersRecovery g form blocks result old new
-  answers_read on same old mid new first start now reading result is fresh recovered refuses runs since_start since_sync all run =
+      → RecoversInHalves g form.layout blocks old mid → AnswersAll steps.step first start now (g.content mid) reading → Reads g (IsErrOf reading read.Disk) mid new → AnswersRecovery g form blocks result old new
+  answers_read on same old mid new first start now reading result is fresh recovered refuses runs since_start since_sync within all run =
       let faults = reads_fault reading result is in
       let fine : ¬ IsErrOf (Ok first) recovery.Disk = λ failed. cc in
       record {
         refuses = λ healthy room. if_told (g.content old) _ (λ before told.
             let left = all_left old mid new first start recovered fine runs fresh run before told in
-            answered_read form blocks before result (steps.step (block_in left.0)) (seen (block_in left.0)) reading first start now left.0 left.3
+            answered_read form blocks before result (steps.step (block_in left.0)) (sees steps seen form law blocks (block_in left.0)) reading first start now left.0 left.3
             (at_told _ left.0 left.1 (all (λ was. healthy (faults.0.0 was)) (λ was. room (faults.1 was)))) is healthy room);
         untouched = λ found was. absurd (faults.3 found was);
         untouched_damage = λ at was.
@@ -342,4 +371,5 @@ module _ {D S V C : Type 0} (g : Ghosts D) (steps : Steps S) (seen : Blocks → 
             joined g.moment g.images_since old mid new (StandsAlike form blocks before) left (reads g.moment g.images_since mid new (StandsAlike form blocks before) run.only.same_moment run.only.same_past))
             (leaves_alike steps seen form law blocks g old mid new since_start);
         since_sync = told_weaker (g.content old) _ _ (λ before told left. ⊎_elim (λ synced. inl (synced_alike steps seen form law blocks g old mid new before run.only synced)) (λ failed. absurd (fine failed.0)) left) since_sync;
+        within = recovers_reads g form.layout blocks old mid new run.only within;
       }

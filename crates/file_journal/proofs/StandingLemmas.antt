@@ -10,12 +10,13 @@ use Rattle.file_journal.specs.Commands.{AreAllowed, after_all}
 use Rattle.file_journal.specs.Form.{Form, StandsFor}
 use Rattle.file_journal.specs.Journal as journal
 use Rattle.file_journal.specs.Journal.{Standing, is_block_number, journal_of}
-use Rattle.file_journal.specs.Layout.{first_gate}
+use Rattle.file_journal.specs.Layout.{half_end, half_gate, half_in, up_to}
 use Rattle.file_journal.specs.Laws.{ComesTo}
 use Rattle.file_journal.specs.Ledger.{Takes}
 use Rattle.file_journal.specs.Records.{IsRecord, Reading, Record, StandsFrom, reading_from, whole}
 use Rattle.file_journal.specs.Walk.{number_or, stands_for, stands_of, state}
 use Rattle.file_journal.specs.declared.layout.Layout.{Layout}
+use Rattle.file_journal.proofs.LayoutLemmas.{up_to_octets}
 use Rattle.file_journal.proofs.ReadingLemmas.{reading_none, stands_from_read}
 use Rattle.file_journal.proofs.WalkLawLemmas.{one_walk}
 
@@ -107,13 +108,18 @@ tested_records false false false true found n reading number entries reads is =
     let none : [] ≡ entries = cc is in subst (λ (es : List Record). AllByRecursion IsRecord es) none tt
 tested_records false false false false found n reading number entries reads is = reads entries (cc is)
 
-journal_records : (magic : List ℕ) (layout : Layout) (octets : List ℕ) (number : Option ℕ) (entries : List Record)
+pub journal_records : (magic : List ℕ) (layout : Layout) (octets : List ℕ) (number : Option ℕ) (entries : List Record)
     → IsOctets octets → journal_of magic layout octets ≡ journal.store number (whole entries)
     → AllByRecursion IsRecord entries
 unfolding journal_of
 journal_records magic layout octets number entries are is =
     tested_records _ _ _ _ _ _ _ number entries
-    (λ read same. read_records _ _ read (All-drop (λ octet. octet < 256) (first_gate layout (le32 octets 8)) octets are) same)
+    (λ read same.
+    let n = le32 octets 8 in
+    let chosen = half_in layout octets in
+    read_records _ _ read
+    (All-drop (λ octet. octet < 256) (half_gate layout n chosen) (up_to (half_end layout n chosen) octets) (up_to_octets (half_end layout n chosen) octets are))
+    same)
     is
 
 -- ---- what octets stand for
@@ -167,11 +173,11 @@ module _ {S C : Type 0} (form : Form S C) (written : Written form) where
   pub after_stands : (octets : List ℕ) (now : S) (commands : List C) → IsAfter form written octets now commands
       → StandsFor form now octets
   after_stands octets now commands is =
-      let place = λ (n : Option ℕ). first_gate form.layout (number_or (form.number now) n) in
+      let place = λ (n : Option ℕ). half_gate form.layout (number_or (form.number now) n) (half_in form.layout octets) in
       let start : S = written.fresh (number_or (form.number now) is.number) in
       let entries = map written.record_of commands in
       written.standing (form.number now) octets
-      ∙ ap (stands_of written.fresh written.step form.layout (form.number now)) is.records
+      ∙ ap (stands_of written.fresh written.step form.layout (half_in form.layout octets) (form.number now)) is.records
       ∙ sym ((one_walk written.step start (place is.number) (whole entries) (state now)).0 (
         entries,
         refl,
@@ -186,12 +192,12 @@ module _ {S C : Type 0} (form : Form S C) (written : Written form) where
       by (journal_of form.magic form.layout octets) refl (sym (written.standing (form.number now) octets) ∙ stands)
     where
       by : (standing : Standing) → journal_of form.magic form.layout octets ≡ standing
-          → stands_of written.fresh written.step form.layout (form.number now) standing ≡ state now
+          → stands_of written.fresh written.step form.layout (half_in form.layout octets) (form.number now) standing ≡ state now
           → (commands : List C) × IsAfter form written octets now commands
       by (journal.no_store found) is made = absurd (cc made)
       by journal.bad_number is made = absurd (cc made)
       by (journal.store number reading) is made =
-          let place = λ (n : Option ℕ). first_gate form.layout (number_or (form.number now) n) in
+          let place = λ (n : Option ℕ). half_gate form.layout (number_or (form.number now) n) (half_in form.layout octets) in
           let start : S = written.fresh (number_or (form.number now) number) in
           let comes : ComesTo written.step start (place number) reading (state now) =
           (one_walk written.step start (place number) reading (state now)).1 (sym made) in

@@ -4,10 +4,11 @@ use Rattle.std.proofs.Common.{◌≡◌, ◌⊎◌, inl, inr, ℕ, ◌+◌, List
 use Rattle.file_journal.specs.Journal as journal
 use Rattle.file_journal.specs.Journal.{Standing}
 use Rattle.file_journal.specs.Laws.{ComesTo, IsOneWalk, IsRefusedAt}
-use Rattle.file_journal.specs.Layout.{first_gate}
+use Rattle.file_journal.specs.Layout.{half_gate}
 use Rattle.file_journal.specs.Ledger.{Takes}
 use Rattle.file_journal.specs.Records.{Reading, Record, broken, records_text, whole, with_record, with_records}
-use Rattle.file_journal.specs.Walk.{Stands, damaged_at, no_store, stands_of, state, walk}
+use Rattle.file_journal.specs.Walk.{Stands, damaged_at, no_store, number_or, stands_of, state, walk}
+use Rattle.file_journal.specs.declared.layout.Half.{Half}
 use Rattle.file_journal.specs.declared.layout.Layout.{Layout}
 use Rattle.file_journal.proofs.ReadingLemmas.{all_broken, all_whole}
 use Rattle.file_journal.proofs.WalkLemmas.{walk_on, walk_on_all, walk_refused}
@@ -85,14 +86,24 @@ module _ {S : Type 0} (step : S → Record → Option S) where
       let came : ComesTo step before place reading (state now) = (one_walk before place reading (state now)).1 (sym is) in
       takes_keeps P keeps came.0 before now holds came.2
 
-  module _ (fresh : ℕ → S) (layout : Layout) where
+  -- a state is come to from any place
+  pub walk_from_any : (before now : S) (one other : ℕ) (reading : Reading) → walk step before one reading ≡ state now → walk step before other reading ≡ state now
+  walk_from_any before now one other reading is = sym ((one_walk before other reading (state now)).0 ((one_walk before one reading (state now)).1 (sym is)))
+
+  -- and so in any half
+  pub stands_in_any : (fresh : ℕ → S) (layout : Layout) (one other : Half) (blocks : ℕ) (store : Standing) (now : S) → stands_of fresh step layout one blocks store ≡ state now → stands_of fresh step layout other blocks store ≡ state now
+  stands_in_any fresh layout one other blocks (journal.no_store found) now is = is
+  stands_in_any fresh layout one other blocks journal.bad_number now is = is
+  stands_in_any fresh layout one other blocks (journal.store number reading) now is = walk_from_any (fresh (number_or blocks number)) now _ _ reading is
+
+  module _ (fresh : ℕ → S) (layout : Layout) (chosen : Half) where
     -- Where a state tells the number of its fresh one, that number serves as well as the one that was given.
     pub own_number : (number : S → ℕ) → ((n : ℕ) → number (fresh n) ≡ n) → ((before after : S) (entry : Record) → step before entry ≡ Some after → number after ≡ number before)
-        → (blocks : ℕ) (store : Standing) (now : S) → stands_of fresh step layout blocks store ≡ state now → stands_of fresh step layout (number now) store ≡ state now
+        → (blocks : ℕ) (store : Standing) (now : S) → stands_of fresh step layout chosen blocks store ≡ state now → stands_of fresh step layout chosen (number now) store ≡ state now
     own_number number starts keeps blocks (journal.no_store found) now is = absurd (cc is)
     own_number number starts keeps blocks journal.bad_number now is = absurd (cc is)
     own_number number starts keeps blocks (journal.store (Some n) reading) now is = is
     own_number number starts keeps blocks (journal.store None reading) now is =
         let same : number now ≡ blocks =
-        walk_keeps (λ (s : S). number s ≡ blocks) (λ before after entry holds allowed. keeps before after entry allowed ∙ holds) (fresh blocks) now (first_gate layout blocks) reading (starts blocks) is in
-        ap (λ (n : ℕ). walk step (fresh n) (first_gate layout n) reading) same ∙ is
+        walk_keeps (λ (s : S). number s ≡ blocks) (λ before after entry holds allowed. keeps before after entry allowed ∙ holds) (fresh blocks) now (half_gate layout blocks chosen) reading (starts blocks) is in
+        ap (λ (n : ℕ). walk step (fresh n) (half_gate layout n chosen) reading) same ∙ is

@@ -2,7 +2,7 @@
 use Rattle.std.proofs.Common.{◌≡◌, inl, inr, ℕ, ◌+◌, List, [], ◌∷◌, ◌++◌, length, Option, None, Some, refl, sym, ◌∙◌, ap, ap₂, arith, length-append}
 use Rattle.file_journal.specs.Journal as journal
 use Rattle.file_journal.specs.Journal.{journal_of, store_of, with_last}
-use Rattle.file_journal.specs.Layout.{first_gate}
+use Rattle.file_journal.specs.Layout.{half_gate}
 use Rattle.file_journal.specs.Ledger.{Takes}
 use Rattle.file_journal.specs.Records.{Reading, Record, broken, records_text, whole, with_end, with_record, with_records}
 use Rattle.file_journal.specs.Walk.{IsOneStep, Stands, StandsForSame, damaged_at, number_or, on_from, stands_of, state, walk, walk_over}
@@ -75,11 +75,11 @@ module _ {S : Type 0} (step : S → Record → Option S) where
   walk_end (broken entries at) before now after place entry is allowed = absurd (broken_no_state entries before now place at is)
 
   pub one_step : IsOneStep step
-  one_step fresh layout blocks (journal.no_store found) before after entry is allowed = absurd (cc is)
-  one_step fresh layout blocks journal.bad_number before after entry is allowed = absurd (cc is)
-  one_step fresh layout blocks (journal.store number reading) before after entry is allowed =
-      walk_end reading (fresh (number_or blocks number)) before after (first_gate layout (number_or blocks number)) entry is allowed
+  one_step fresh layout chosen blocks (journal.no_store found) before after entry is allowed = absurd (cc is)
+  one_step fresh layout chosen blocks journal.bad_number before after entry is allowed = absurd (cc is)
+  one_step fresh layout chosen blocks (journal.store number reading) before after entry is allowed =
+      walk_end reading (fresh (number_or blocks number)) before after (half_gate layout (number_or blocks number) chosen) entry is allowed
 
   pub for_same : StandsForSame step
-  for_same fresh layout blocks before now (inl same) = ap (stands_of fresh step layout blocks) same
-  for_same fresh layout blocks before now (inr new) = ap (stands_of fresh step layout blocks) new.1 ∙ sym (ap (stands_of fresh step layout blocks) new.0)
+  for_same fresh layout chosen blocks before now (inl same) = ap (stands_of fresh step layout chosen blocks) same
+  for_same fresh layout chosen blocks before now (inr new) = ap (stands_of fresh step layout chosen blocks) new.1 ∙ sym (ap (stands_of fresh step layout chosen blocks) new.0)

@@ -5,13 +5,12 @@ use Rattle.disk_model.specs.Moments.{LeavesSince}
 use Rattle.disk_model.specs.declared.disk.Disk.{Ghosts}
 use Rattle.file_journal.specs.Appending.{IsTornFrom}
 use Rattle.file_journal.specs.Calls.{IsQuietNow, Leaves}
-use Rattle.file_journal.specs.Layout.{block_in, block_place}
+use Rattle.file_journal.specs.Layout.{HasBlocks, block_in, block_place}
 use Rattle.file_journal.specs.Position.{Position, left_to_read, store_in}
-use Rattle.file_journal.specs.declared.layout.Layout.TheVariants as layout
 
 -- the journal's store has this block
 pub record HasBlock (journal : Position) (block : ℕ) : Type 0 where
-  pub in_blocks : journal.layout ≡ layout.Blocks
+  pub has_blocks : HasBlocks journal.layout
   pub there : block < journal.blocks
 
 -- the journal was read to its end, and so many octets may be written over the front of this block

@@ -24,6 +24,11 @@ abbrev pub calls_of : {S C : Type 0} → Form S C → List C → ℕ
 calls_of form [] = 0
 calls_of form (command ∷ commands) = form.calls command + calls_of form commands
 
+-- how many octets the records of these commands have, with their gates
+abbrev pub octets_of : {S C : Type 0} → Form S C → List C → ℕ
+octets_of form [] = 0
+octets_of form (command ∷ commands) = form.octets command + octets_of form commands
+
 -- at which moment the first so many of these commands are done, where the first of them begins at this one
 abbrev pub done_at : {S C : Type 0} → Form S C → ℕ → List C → ℕ → ℕ
 done_at form start commands count = start + calls_of form (take count commands)

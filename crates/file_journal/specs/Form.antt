@@ -6,7 +6,8 @@ use Rattle.file_journal.specs.declared.layout.Layout.{Layout}
 
 -- What a journal of this magic and layout keeps: its states S; the block number with which octets that have none yet
 -- are read as a state, and what octets stand for, read with a block number; which commands C a state allows, and the
--- state after one; and how many calls of the disk, each a write or a sync, a command takes.
+-- state after one; how many calls of the disk, each a write or a sync, a command takes; and how many octets its record
+-- has, with its gate.
 pub record Form (S C : Type 0) : Type 1 where
   pub magic : List ℕ
   pub layout : Layout
@@ -15,6 +16,7 @@ pub record Form (S C : Type 0) : Type 1 where
   pub allowed : S → C → Type 0
   pub after : S → C → S
   pub calls : C → ℕ
+  pub octets : C → ℕ
 
 -- one record takes four calls of the disk
 abbrev pub record_calls : ℕ
@@ -50,6 +52,7 @@ pub record IsFormOf {L S C T D : Type 0} (one : Form S C) (held_by : Blocks → 
   pub after :
       (now : S) (command : C) → state_of (one.after now command) ≡ other.after (state_of now) (command_of command)
   pub calls : (command : C) → one.calls command ≡ other.calls (command_of command)
+  pub octets : (command : C) → one.octets command ≡ other.octets (command_of command)
   pub holds : (blocks : Blocks) (ledger : L) → state_of (held_by blocks ledger) ≡ held blocks ledger
 
 -- each form is that of itself
@@ -66,5 +69,6 @@ same_form form held =
       allowed = λ now command is. is;
       after = λ now command. refl;
       calls = λ command. refl;
+      octets = λ command. refl;
       holds = λ blocks ledger. refl;
     }

@@ -2,12 +2,14 @@
 use Rattle.std.specs.Prelude.{◌≡◌, ◌⊎◌, ℕ, ◌+◌, ◌%◌, ◌<◌, ◌≤◌, List, [], ◌∷◌, ◌++◌, length, take, slice_index, Bool, not, ◌&&◌, ◌==◌, nat_le, nat_lt, if◌then◌else◌, Option, None, Some}
 use Rattle.std.specs.Str.{bytes_eq}
 use Rattle.px_base.specs.Numbers.{le32, le32_octets}
-use Rattle.file_journal.specs.Layout.{first_gate}
+use Rattle.file_journal.specs.Layout.{first_gate, half_end, half_gate, half_in, up_to}
+use Rattle.file_journal.specs.declared.layout.Half.{Half}
 use Rattle.file_journal.specs.Records.{Record, Reading, whole, reading_at, with_end}
 use Rattle.file_journal.specs.declared.layout.Layout.{Layout}
 
 -- What octets stand for: for no store, since they begin with these eight octets; for none, since the block number isn't
--- in 1 to 65,536; or for a store with a block number, where it has one yet, and what is read from its first gate on.
+-- in 1 to 65,536; or for a store with a block number, where it has one yet, and what is read of the records in its
+-- half.
 pub data Standing : Type 0 where
   no_store : List ℕ → Standing
   bad_number : Standing
@@ -21,16 +23,22 @@ is_block_number blocks = nat_le 1 blocks && nat_le blocks 65536
 abbrev pub store_of : ℕ → Reading → Standing
 store_of blocks reading = store (Some blocks) reading
 
+-- what is read of the records of this half, which end where it ends
+abbrev pub read_half : Layout → ℕ → Half → List ℕ → Reading
+read_half layout blocks chosen octets =
+    reading_at (half_gate layout blocks chosen) (up_to (half_end layout blocks chosen) octets)
+
 -- Octets 0 to 7 are the magic, 8 to 11 the block number, 12 to 14 zero, 15 the selector. The layout and the block
--- number say where the first gate stands. At most 16 octets are a store that isn't formatted yet; where they end before
--- or with the first gate its formatting was interrupted, and it has no records.
+-- number say where the first gate stands, and with the selector in which half the records are. At most 16 octets are a
+-- store that isn't formatted yet; where they end before or with the first gate its formatting was interrupted, and it
+-- has no records.
 unfoldable pub journal_of : List ℕ → Layout → List ℕ → Standing
 journal_of magic layout octets =
     if nat_le (length octets) 16 then store None (whole [])
     else if not (bytes_eq (take 8 octets) magic) then no_store (take 8 octets)
     else if not (is_block_number (le32 octets 8)) then bad_number
     else if nat_lt (length octets) (first_gate layout (le32 octets 8) + 2) then store (Some (le32 octets 8)) (whole [])
-    else store_of (le32 octets 8) (reading_at (first_gate layout (le32 octets 8)) octets)
+    else store_of (le32 octets 8) (read_half layout (le32 octets 8) (half_in layout octets) octets)
 
 -- not refused by its magic or its block number
 abbrev pub HasGoodHeader : Standing → Type 0

@@ -1,12 +1,14 @@
 -- What a call does to a state that is kept in a journal, and to its disk, at every moment of it.
-use Rattle.std.specs.Prelude.{◌≡◌, ℕ, ◌+◌, ◌<◌, ◌≤◌, List, [], length, false, true, IfSome}
+use Rattle.std.specs.Prelude.{◌≡◌, ℕ, ◌+◌, ◌<◌, ◌≤◌, List, [], length, slice_get, false, true, Some, IfSome}
 use Rattle.std.specs.Prelude.{⊤}
 use Rattle.disk_model.specs.declared.disk.Disk.{Ghosts}
+use Rattle.file_journal.specs.Bounds.{StaysInHalves}
 use Rattle.file_journal.specs.Calls.{EachImage, Leaves, Puts}
-use Rattle.file_journal.specs.Commands.{AreAllowed, MakesBetween, MakesFirst, StayDone, after_all, after_first, done_at}
+use Rattle.file_journal.specs.Commands.{AreAllowed, MakesBetween, MakesFirst, StayDone, after_all, after_first}
+use Rattle.file_journal.specs.Commands.{done_at, octets_of}
 use Rattle.file_journal.specs.Form.{Form}
 use Rattle.file_journal.specs.Layout.{Blocks, blocks_on}
-use Rattle.file_journal.specs.Position.{Position}
+use Rattle.file_journal.specs.Position.{HasRoom, IsSameJournal, MovesOn, Position}
 use Rattle.file_journal.specs.Steps.{Holds, Knows, Steps}
 use Rattle.file_journal.specs.Walk.{KeepsStanding, state}
 use Rattle.file_journal.specs.declared.kept.Kept.{Kept}
@@ -21,8 +23,8 @@ pub record KeptOn (D S : Type 0) : Type 0 where
 abbrev pub kept_on : {D S : Type 0} → S → Position → D → KeptOn D S
 kept_on now journal disk = record { now = now; journal = journal; disk = disk }
 
--- what a kept state and its disk are, by the state that a ledger holds, and what that is seen as
-abbrev pub kept_at : {D L S V : Type 0} → Ghosts D → (Blocks → S → V) → (L → S) → Kept L → D → KeptOn D V
+-- what a kept state and its disk are, by what a ledger holds of a state, and what that is seen as
+abbrev pub kept_at : {D L K V : Type 0} → Ghosts D → (Blocks → K → V) → (L → K) → Kept L → D → KeptOn D V
 kept_at g seen held kept disk =
     kept_on (seen (blocks_on (g.content disk)) (held kept.ledger)) kept.journal disk
 
@@ -32,16 +34,16 @@ abbrev pub IsKept : {D S C : Type 0} → Ghosts D → Form S C → KeptOn D S �
 IsKept g form at =
     KeepsStanding g at.journal (λ octets. form.standing at.journal.blocks octets ≡ state at.now) at.disk
 
--- A journal of this form's magic and layout holds the state that records made on the disk.
-pub record StandsAt {D S V C : Type 0} (g : Ghosts D) (form : Form V C) (steps : Steps S) (journal : Position)
-    (now : S) (disk : D) : Type 0 where
+-- A journal of this form's magic and layout holds this of the state that records made on the disk.
+pub record StandsAt {D S K V C : Type 0} (g : Ghosts D) (form : Form V C) (steps : Steps S K) (journal : Position)
+    (now : K) (disk : D) : Type 0 where
   pub magic_is : journal.magic ≡ form.magic
   pub layout_is : journal.layout ≡ form.layout
   pub holds : Holds g steps journal now disk
 
 -- It hasn't failed, and the change of the state may be made.
-pub record MayTurn {D S V C : Type 0} (g : Ghosts D) (form : Form V C) (steps : Steps S) (journal : Position)
-    (now : S) (disk : D) (allowed : Type 0) : Type 0 where
+pub record MayTurn {D S K V C : Type 0} (g : Ghosts D) (form : Form V C) (steps : Steps S K) (journal : Position)
+    (now : K) (disk : D) (allowed : Type 0) : Type 0 where
   pub stands_at : StandsAt g form steps journal now disk
   pub healthy : journal.failed ≡ false
   pub may : allowed
@@ -70,8 +72,8 @@ pub record Course (D : Type 0) : Type 1 where
 -- A state whose journal hadn't failed did these commands, or the disk failed in one of them; what the state is is known
 -- where it stands in no block, or where the disk tells. A crash since the start
 -- leaves the state after the first of them, for some number of them, and no fewer than were done when it came: the
--- first so many are done at the moment that `time` has of that number. The journal keeps the state; but for its place,
--- and whether it failed, it is as it was.
+-- first so many are done at the moment that `time` has of that number. The journal keeps the state; but for its
+-- place, its half, and whether it failed, it is as it was. In two halves the disk gets no longer than the store.
 pub record DoesBy {D S C : Type 0} (g : Ghosts D) (form : Form S C) (course : Course D) (failed : Type 0)
     (time : ℕ → ℕ) (commands : List C) (old new : KeptOn D S) : Type 0 where
   pub healthy : old.journal.failed ≡ false
@@ -91,7 +93,31 @@ pub record DoesBy {D S C : Type 0} (g : Ghosts D) (form : Form S C) (course : Co
       → (Knows form (g.content old.disk) → new.now ≡ after_all form.after old.now commands)
       × (new.journal.failed ≡ false)
   pub cut : failed → IsCut g form time commands old new
-  pub journal : new.journal ≡ record old.journal { place = new.journal.place; failed = new.journal.failed }
+  pub journal : IsSameJournal old.journal new.journal
+  pub within : StaysInHalves g form.layout old.journal.blocks old.disk new.disk
+
+-- When commands are done that come one behind another from this moment on: each takes the calls of the disk that its
+-- form says, and more only where the journal has no room for all of their records.
+pub record Paces {S C : Type 0} (form : Form S C) (journal : Position) (start : ℕ) (commands : List C) (time : ℕ → ℕ)
+    : Type 0 where
+  pub starts : time 0 ≡ start
+  pub rises :
+      (count : ℕ) (command : C) → slice_get commands count ≡ Some command
+      → time count + form.calls command ≤ time (count + 1)
+  pub exact :
+      HasRoom journal (octets_of form commands)
+      → (count : ℕ) → count ≤ length commands → time count ≡ done_at form start commands count
+
+-- The commands come one behind another, and each takes its calls of the disk. Where there was room for all of their
+-- records, the journal goes on behind them in its half.
+pub record DoesPacing {D S C : Type 0} (g : Ghosts D) (form : Form S C) (course : Course D) (failed : Type 0)
+    (commands : List C) (old new : KeptOn D S) : Type 0 where
+  pub time : ℕ → ℕ
+  pub paces : Paces form old.journal (g.moment old.disk) commands time
+  pub does : DoesBy g form course failed time commands old new
+  pub moves :
+      ¬ failed → HasRoom old.journal (octets_of form commands)
+      → MovesOn (octets_of form commands) old.journal new.journal
 
 -- the commands come one behind another, and each takes the calls of the disk that its form says
 abbrev pub DoesInTurn :

@@ -1,6 +1,7 @@
 pub mod AmongReads
 pub mod Appending
 pub mod Blocks
+pub mod Bounds
 pub mod Calls
 pub mod Commands
 pub mod Form
@@ -19,6 +20,7 @@ pub mod Records
 pub mod Recovery
 pub mod Refusals
 pub mod Restoring
+pub mod Rewriting
 pub mod Steps
 pub mod Through
 pub mod Walk

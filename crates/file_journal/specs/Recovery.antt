@@ -7,18 +7,25 @@ use Rattle.disk_model.specs.declared.disk.Disk.{Ghosts}
 use Rattle.file_journal.specs.Calls.{IsQuietNow, TakesStep}
 use Rattle.file_journal.specs.Journal.{IsAfterRecovery, IsSameStore, header_text}
 use Rattle.file_journal.specs.Journal.{bad_number, journal_of, no_store, store_of}
-use Rattle.file_journal.specs.Layout.{first_gate}
+use Rattle.file_journal.specs.Layout.{first_gate, half_in}
 use Rattle.file_journal.specs.Position.{Position, StandsOn, gate_of, left_to_read}
 use Rattle.file_journal.specs.declared.layout.Layout.{Layout}
 use Rattle.file_journal.specs.declared.faults.RecoverFault.{RecoverFault}
 use Rattle.file_journal.specs.declared.faults.RecoverFault.TheVariants as fault
 
--- What a recovery makes of the content: the octets are those of a formatted store, with the journal's block number; it
--- stands for the records from before, and all of them are left to read.
+-- the block number of a store of this content, or this one where it has none yet
+abbrev pub number_in : ℕ → List ℕ → ℕ
+number_in blocks octets = if nat_le (length octets) 16 then blocks else le32 octets 8
+
+-- What a recovery makes of the content: the octets are those of a formatted store, with the journal's block number,
+-- which is the one it had, where it had one, and their records are in the journal's half; it stands for the records
+-- from before, and all of them are left to read.
 pub record Recovers (magic : List ℕ) (layout : Layout) (blocks : ℕ) (journal : Position) (before now : List ℕ)
     : Type 0 where
   pub octets : IsAfterRecovery magic layout blocks before now
   pub number : journal.blocks ≡ le32 now 8
+  pub same_number : journal.blocks ≡ number_in blocks before
+  pub half : half_in layout now ≡ journal.half
   pub same : IsSameStore blocks (journal_of magic layout before) (journal_of magic layout now)
   pub whole : journal_of magic layout now ≡ store_of journal.blocks (left_to_read journal now)
 
@@ -47,9 +54,9 @@ abbrev pub Refuses : {T : Type 0} → List ℕ → Layout → Option (List ℕ) 
 Refuses magic layout content result =
     ¬ IsErrOf result fault.Disk → IfSome content (λ before. RefusesExactly magic layout before result)
 
--- the place of the first gate of a store of this content, which has this block number where it has none yet
+-- the place of the first gate of that store
 abbrev pub gate_in : Layout → ℕ → List ℕ → ℕ
-gate_in layout blocks octets = first_gate layout (if nat_le (length octets) 16 then blocks else le32 octets 8)
+gate_in layout blocks octets = first_gate layout (number_in blocks octets)
 
 -- What a crash leaves of a recovery of this content: the same store. A formatted content stays as it is. Of another
 -- there are no octets behind the second gate; where they are more than 16, the first 15 are those of the header; where

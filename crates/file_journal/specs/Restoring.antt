@@ -1,18 +1,19 @@
 -- What a recovery of a state makes of a disk, what it answers, and what a crash in it leaves.
 use Rattle.std.specs.Prelude.{◌≡◌, ◌⊎◌, ◌↔◌, ℕ, List, false, true, Option, IfSome, Result, IsErrOf}
 use Rattle.disk_model.specs.declared.disk.Disk.{Ghosts}
+use Rattle.file_journal.specs.Bounds.{RecoversInHalves}
 use Rattle.file_journal.specs.Calls.{IsQuietNow, Leaves, Runs, TakesStep}
 use Rattle.file_journal.specs.Form.{Form, standing_of}
 use Rattle.file_journal.specs.Journal.{IsAfterRecovery}
 use Rattle.file_journal.specs.Kept.{IsKept, KeptOn}
-use Rattle.file_journal.specs.Recovery.{IsFailedSync, IsRecovering, IsSyncedFirst}
+use Rattle.file_journal.specs.Recovery.{IsFailedSync, IsRecovering, IsSyncedFirst, number_in}
 use Rattle.file_journal.specs.Walk.{damaged_at, no_store, state}
 use Rattle.file_journal.specs.declared.faults.StoreFault.{StoreFault}
 use Rattle.file_journal.specs.declared.faults.StoreFault.TheVariants as fault
 
 -- The state that a recovery gives is the one that the content stood for. No octet of a formatted store changed, and any
--- other content was made a formatted one. The journal hasn't failed, was read to its end, and keeps the state on the
--- disk, which is quiet.
+-- other content was made a formatted one. The journal has the block number that the content had, or this one,
+-- hasn't failed, was read to its end, and keeps the state on the disk, which is quiet.
 pub record IsRestored {D S C : Type 0} (g : Ghosts D) (form : Form S C) (blocks : ℕ) (disk : D) (new : KeptOn D S)
     : Type 0 where
   pub content : IfSome (g.content disk) (λ before. standing_of form blocks before ≡ state new.now)
@@ -20,6 +21,7 @@ pub record IsRestored {D S C : Type 0} (g : Ghosts D) (form : Form S C) (blocks 
   pub healthy : new.journal.failed ≡ false
   pub ended : new.journal.ended ≡ true
   pub magic_is : new.journal.magic ≡ form.magic
+  pub number : IfSome (g.content disk) (λ before. new.journal.blocks ≡ number_in blocks before)
   pub keeps : IsKept g form new
   pub quiet : IsQuietNow g new.disk
 
@@ -54,7 +56,7 @@ LeavesAlikeSinceSync g form blocks result disk disk_now =
 -- What a recovery answers and leaves on the disk, whether it is refused or not. But for a fault of the disk and want of
 -- memory each refusal comes exactly where the content stands for it, and leaves it as it was. A crash since the start
 -- leaves what it might have left before, or what stands for the same; since the end of the first sync the latter, but
--- where that sync failed.
+-- where that sync failed. In two halves the disk gets no longer than the store whose block number it has, or gets.
 pub record AnswersRecovery {D S C T : Type 0} (g : Ghosts D) (form : Form S C) (blocks : ℕ)
     (result : Result T StoreFault) (disk disk_now : D) : Type 0 where
   pub refuses : RefusesRecovery form blocks (g.content disk) result
@@ -63,3 +65,4 @@ pub record AnswersRecovery {D S C T : Type 0} (g : Ghosts D) (form : Form S C) (
   pub runs : Runs g (IsErrOf result fault.Disk) disk disk_now
   pub since_start : Leaves g disk disk_now (StandsAlike form blocks)
   pub since_sync : LeavesAlikeSinceSync g form blocks result disk disk_now
+  pub within : RecoversInHalves g form.layout blocks disk disk_now

@@ -5,9 +5,10 @@ use Rattle.disk_model.specs.declared.disk.Disk.{Ghosts}
 use Rattle.file_journal.specs.Calls.{IsQuietNow}
 use Rattle.file_journal.specs.Journal as journal
 use Rattle.file_journal.specs.Journal.{IsSameStore, Standing, journal_of, with_last}
-use Rattle.file_journal.specs.Layout.{first_gate}
+use Rattle.file_journal.specs.Layout.{half_gate, half_in}
 use Rattle.file_journal.specs.Position.{Position, StandsOn, left_to_read}
 use Rattle.file_journal.specs.Records.{Reading, Record, broken, whole}
+use Rattle.file_journal.specs.declared.layout.Half.{Half}
 use Rattle.file_journal.specs.declared.layout.Layout.{Layout}
 
 -- What octets stand for: for no store, since they begin with these eight octets; for none, by what stands at this
@@ -43,17 +44,18 @@ abbrev pub number_or : ℕ → Option ℕ → ℕ
 number_or blocks None = blocks
 number_or blocks (Some number) = number
 
--- what a store of this layout stands for, whose state before the first record is the fresh one of its block number;
--- where it has no number yet, that of the number `blocks`
-abbrev pub stands_of : {S : Type 0} → (ℕ → S) → (S → Record → Option S) → Layout → ℕ → Standing → Stands S
-stands_of fresh step layout blocks (journal.no_store found) = no_store found
-stands_of fresh step layout blocks journal.bad_number = damaged_at 8
-stands_of fresh step layout blocks (journal.store number reading) =
-    walk step (fresh (number_or blocks number)) (first_gate layout (number_or blocks number)) reading
+-- what a store of this layout stands for, whose records are in this half, and whose state before the first record is
+-- the fresh one of its block number; where it has no number yet, that of the number `blocks`
+abbrev pub stands_of : {S : Type 0} → (ℕ → S) → (S → Record → Option S) → Layout → Half → ℕ → Standing → Stands S
+stands_of fresh step layout chosen blocks (journal.no_store found) = no_store found
+stands_of fresh step layout chosen blocks journal.bad_number = damaged_at 8
+stands_of fresh step layout chosen blocks (journal.store number reading) =
+    walk step (fresh (number_or blocks number)) (half_gate layout (number_or blocks number) chosen) reading
 
 -- what the octets of a disk stand for
 abbrev pub stands_for : {S : Type 0} → (ℕ → S) → (S → Record → Option S) → List ℕ → Layout → ℕ → List ℕ → Stands S
-stands_for fresh step magic layout blocks octets = stands_of fresh step layout blocks (journal_of magic layout octets)
+stands_for fresh step magic layout blocks octets =
+    stands_of fresh step layout (half_in layout octets) blocks (journal_of magic layout octets)
 
 -- octets stand for what other octets stood for
 abbrev pub StandAsBefore :
@@ -79,12 +81,14 @@ pub record KeepsStanding {D : Type 0} (g : Ghosts D) (position : Position) (stan
 -- A record that the state allows, put at the end of a store, takes what it stands for to the state after it.
 abbrev pub IsOneStep : {S : Type 0} → (S → Record → Option S) → Type 0
 IsOneStep {S} step =
-    (fresh : ℕ → S) (layout : Layout) (blocks : ℕ) (store : Standing) (before after : S) (entry : Record)
-    → stands_of fresh step layout blocks store ≡ state before → step before entry ≡ Some after
-    → stands_of fresh step layout blocks (with_last store entry) ≡ state after
+    (fresh : ℕ → S) (layout : Layout) (chosen : Half) (blocks : ℕ) (store : Standing) (before after : S)
+    (entry : Record)
+    → stands_of fresh step layout chosen blocks store ≡ state before → step before entry ≡ Some after
+    → stands_of fresh step layout chosen blocks (with_last store entry) ≡ state after
 
 -- The same store stands for the same, whether it had its block number already or gets it.
 abbrev pub StandsForSame : {S : Type 0} → (S → Record → Option S) → Type 0
 StandsForSame {S} step =
-    (fresh : ℕ → S) (layout : Layout) (blocks : ℕ) (before now : Standing) → IsSameStore blocks before now
-    → stands_of fresh step layout blocks now ≡ stands_of fresh step layout blocks before
+    (fresh : ℕ → S) (layout : Layout) (chosen : Half) (blocks : ℕ) (before now : Standing)
+    → IsSameStore blocks before now
+    → stands_of fresh step layout chosen blocks now ≡ stands_of fresh step layout chosen blocks before

@@ -5,7 +5,8 @@ ghost use Rattle.file_journal.specs.Form.{Form, IsFormOf};
 ghost use Rattle.std.specs.Option.{option_map};
 ghost use Rattle.file_journal.specs.Layout.{Blocks, HoldSame};
 ghost use Rattle.file_journal.specs.Records.{record_of};
-ghost use Rattle.file_journal.specs.Steps.{IsSeenBy, MayPut, Steps, Turn, WritesTurn, put_of};
+ghost use Rattle.file_journal.specs.Steps.{IsSeenBy, MayPut, Steps, Turn, WritesTurn, kept_by, put_of};
+ghost use Rattle.file_journal.specs.declared.layout.Layout.TheVariants as Layout;
 
 use crate::{Ledger, RecordContent};
 
@@ -24,7 +25,10 @@ pub trait Change<L: Ledger> {
     /// The states that records make.
     ghost State: { Type 0 };
 
-    /// What such a state is seen as.
+    /// What is kept of such a state.
+    ghost Kept: { Type 0 };
+
+    /// What that is seen as.
     ghost Seen: { Type 0 };
 
     /// The commands that change what is seen.
@@ -34,16 +38,16 @@ pub trait Change<L: Ledger> {
     ghost form: { Form Self.Seen Self.Command };
 
     /// What records make of a state.
-    ghost steps: { Steps Self.State };
+    ghost steps: { Steps Self.State Self.Kept };
 
-    /// What a state is seen as, with what the blocks of the disk hold.
-    ghost seen: { Blocks → Self.State → Self.Seen };
+    /// What is kept is seen as, with what the blocks of the disk hold.
+    ghost seen: { Blocks → Self.Kept → Self.Seen };
 
-    /// The state that a ledger holds.
-    ghost state: { L → Self.State };
+    /// What a ledger holds of a state.
+    ghost state: { L → Self.Kept };
 
     /// What it does to a ledger's state.
-    ghost turn: { Self → L → Turn Self.State Self.Command };
+    ghost turn: { Self → L → Turn Self.Kept Self.Command };
 
     /// It may be made of this ledger: the state allows it, and there is memory for what it makes.
     ghost may: { Self → L → Type 0 };
@@ -80,5 +84,9 @@ pub trait Change<L: Ledger> {
 
     /// The form is the ledger's.
     ghost of_ledger: { IsFormOf form (λ held ledger. seen held (state ledger))
-        L.form (λ held ledger. L.seen held (L.state ledger)) };
+        L.form (λ held ledger. L.seen held (kept_by L.steps L.state ledger)) };
+
+    /// The records that make what a ledger holds anew are the ledger's.
+    ghost anew_of_ledger: { (ledger : L) → form.layout ≡ Layout.Halves
+        → steps.anew (state ledger) ≡ L.steps.anew (kept_by L.steps L.state ledger) };
 }

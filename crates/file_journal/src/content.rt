@@ -7,19 +7,22 @@ use byteorder::{ByteOrder, LittleEndian};
 use std::marker::Model;
 
 /// A closed gate.
-const CLOSED: u8 = 0;
+pub(crate) const CLOSED: u8 = 0;
 
-/// The octets of a record's text before its content: its kind, and the content's length.
-const HEAD: usize = 3;
+/// An open gate.
+const OPEN: u8 = 1;
 
-/// The most octets of a record's text behind its gate, with the next gate.
-const MOST: usize = 604;
+/// The octets before a record's content: its gate, its kind, and the content's length.
+const HEAD: usize = 4;
+
+/// The most octets of a record's text with its gate and the next one.
+const MOST: usize = 605;
 
 /// The content of a record, at most 600 octets. It is written where the record's text has it, so that it isn't copied
 /// again; one that is kept costs only what is put in it. Contracts see it as a list.
 #[derive(Debug, Drop)]
 pub struct RecordContent {
-    /// Room for the kind and the length, the content, and room for a gate.
+    /// Room for the gate, the kind and the length, the content, and room for the next gate.
     pub(crate) text: [u8; MOST],
     /// The length of the content in octets.
     pub(crate) len: usize,
@@ -30,7 +33,7 @@ impl Model for RecordContent {
 
     ghost Value = { List ℕ };
 
-    ghost view = { λ a. take a.len (drop 3 a.text) };
+    ghost view = { λ a. take a.len (drop 4 a.text) };
 
     ghost invariant = { λ a. a.len ≤ 600 };
 }
@@ -63,19 +66,29 @@ impl RecordContent {
         let text = &mut self.text[..];
         text[start..start + octets.len()].copy_from_slice(octets);
     }
+
+    /// The number of octets. Takes no memory.
+    pub(crate) fn len(&self) -> usize
+        ensures value { result ≡ length self.now }
+        ensures most { result ≤ 600 }
+    {
+        self.len
+    }
 }
 
-/// Writes the kind of a record before its content, which has so many octets, with this length, and a closed gate behind
-/// it.
-pub(crate) fn close_text(text: &mut [u8; 604], kind: u8, len: usize)
+/// Writes the kind of a record before its content, which has so many octets, with this length, between an open gate and
+/// a closed one.
+pub(crate) fn close_text(text: &mut [u8; 605], kind: u8, len: usize)
     requires { len ≤ 600 }
-    ensures text { take (4 + len) text.new ≡ record_text (record_of kind (take len (drop 3 text.old))) ++ 0 ∷ [] }
-    ensures content { take len (drop 3 text.new) ≡ take len (drop 3 text.old) }
-    ensures size { length (take len (drop 3 text.old)) ≡ len }
-    ensures fits { IsRecord (record_of kind (take len (drop 3 text.old))) }
+    ensures text { take (5 + len) text.new
+        ≡ 1 ∷ record_text (record_of kind (take len (drop 4 text.old))) ++ 0 ∷ [] }
+    ensures content { take len (drop 4 text.new) ≡ take len (drop 4 text.old) }
+    ensures size { length (take len (drop 4 text.old)) ≡ len }
+    ensures fits { IsRecord (record_of kind (take len (drop 4 text.old))) }
 {
     let text = &mut text[..];
-    text[0] = kind;
-    LittleEndian::write_u16(&mut text[1..HEAD], len as u16);
+    text[0] = OPEN;
+    text[1] = kind;
+    LittleEndian::write_u16(&mut text[2..HEAD], len as u16);
     text[HEAD + len] = CLOSED;
 }

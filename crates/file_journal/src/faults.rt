@@ -22,8 +22,8 @@ pub enum RecoverFault {
         found: [u8; 8],
     },
     /// There are more than 16 octets that begin with the magic, and the block number isn't in 1..=65,536; or a gate is
-    /// open, and the record behind it is cut by the end of the disk, has no gate behind it, or has a content length
-    /// above 600; or the disk has become shorter than the gate's place.
+    /// open, and the record behind it is cut by the end of the disk or of the half of the records, has no gate behind
+    /// it there, or has a content length above 600; or the disk ends before the gate's place.
     #[error("the store is damaged at octet {at}")]
     Damaged {
         /// 8 for the block number, else the place of the gate.

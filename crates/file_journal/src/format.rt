@@ -15,7 +15,7 @@ use byteorder::{ByteOrder, LittleEndian};
 use disk_model::{Disk, DiskFault};
 
 /// The place of the selector.
-const SELECTOR: u64 = 15;
+pub(crate) const SELECTOR: u64 = 15;
 
 /// Formats a disk of at most 16 octets.
 pub(crate) fn format_new<D: Disk>(
@@ -81,8 +81,8 @@ fn make_selector_even<D: Disk>(disk: &mut D, selector: u8) -> Result<(), DiskFau
     if selector % 2 == 0 {
         return Ok(());
     }
-    // An odd selector chooses the other half of the records once there are two: so it is made even before there is an
-    // octet behind the first gate. A crash before this is synced leaves none there, and no record is read, whatever
+    // An odd selector chooses the second half of the records, where there are two: so it is made even before there is
+    // an octet behind the first gate. A crash before this is synced leaves none there, and no record is read, whatever
     // octet 15 is.
     write_synced(disk, SELECTOR, &[0])
 }

@@ -5,18 +5,19 @@ ghost use Rattle.disk_model.specs.Disk.{FillsRoom};
 ghost use Rattle.file_journal.specs.Appending.{Appends, LeavesAppending, LeavesBeforeOrAfter, TakesCalls};
 ghost use Rattle.file_journal.specs.Blocks.{GoesOnOrFails, HasBlock, LeavesRecords, LeavesWritingBlock};
 ghost use Rattle.file_journal.specs.Blocks.{MayWriteBlock, WritesBlock};
+ghost use Rattle.file_journal.specs.Bounds.{RecoversInHalves, StaysInHalves};
 ghost use Rattle.file_journal.specs.Calls.{IsQuietNow, Leaves, Puts, Reads, Runs, TakesStep};
 ghost use Rattle.file_journal.specs.Header.{AreBlocks};
-ghost use Rattle.file_journal.specs.Layout.{block_in};
-ghost use Rattle.file_journal.specs.Next.{AnswersNext, HasLength};
-ghost use Rattle.file_journal.specs.Position.{StandsOn, position_at_first};
+ghost use Rattle.file_journal.specs.Layout.{block_in, half_end, half_gate, half_size, other_half};
+ghost use Rattle.file_journal.specs.Next.{AnswersNext, IsReadable};
+ghost use Rattle.file_journal.specs.Position.{HasRoom, MovesOn, StandsOn, end_of, position_at_first, readable, room_in};
 ghost use Rattle.file_journal.specs.Records.{IsRecord, record_of, record_text};
 ghost use Rattle.file_journal.specs.Recovery.{IsRecovered, IsRecovering, LeavesSinceSync, Refuses};
 
 use crate::content::{RecordContent, close_text};
 use crate::format::{finish_format, format_new};
 use crate::header::read_header;
-use crate::layout::{HEADER, block_place};
+use crate::layout::{HEADER, Half, block_place};
 use crate::record::{RecordRoom, put_record, read_record};
 use crate::write::write_synced;
 use crate::{JournalFault, Layout, RecoverFault};
@@ -30,6 +31,8 @@ pub struct Journal {
     magic: [u8; 8],
     layout: Layout,
     blocks: u32,
+    /// The half that the records are in.
+    half: Half,
     /// The place of the next gate.
     place: u64,
     /// Whether the next gate was read, and isn't open.
@@ -39,8 +42,9 @@ pub struct Journal {
 }
 
 impl Model for Journal {
+    ghost use Rattle.file_journal.specs.Layout.{half_end};
     ghost use Rattle.file_journal.specs.Position.{Position};
-    ghost use Rattle.std.specs.Prelude.{◌<◌, ◌≤◌, ◌^◌};
+    ghost use Rattle.std.specs.Prelude.{◌<◌, ◌≤◌, ◌^◌, IfSome};
 
     ghost Value = { Position };
 
@@ -49,12 +53,14 @@ impl Model for Journal {
           magic = a.magic;
           layout = a.layout;
           blocks = a.blocks;
+          half = a.half;
           place = a.place;
           ended = a.ended;
           failed = a.failed;
         } };
 
-    ghost invariant = { λ a. (a.place < 2 ^ 63) × (1 ≤ a.blocks) × (a.blocks ≤ 65536) };
+    ghost invariant = { λ a. (a.place < 2 ^ 63) × (1 ≤ a.blocks) × (a.blocks ≤ 65536)
+        × IfSome (half_end a.layout a.blocks a.half) (λ end. a.place < end) };
 }
 
 impl Journal {
@@ -86,6 +92,9 @@ impl Journal {
         // first sync the same records, but where that sync failed.
         ensures since_start { Leaves D.Disk disk.old disk.new (IsRecovering magic layout blocks) }
         ensures since_sync { LeavesSinceSync D.Disk result disk.old disk.new (IsRecovering magic layout blocks) }
+
+        // In two halves the disk gets no longer than the store whose block number it has, or gets.
+        ensures within { RecoversInHalves D.Disk layout blocks disk.old disk.new }
     {
         // A crash before this sync leaves any octets where an earlier write wasn't synced, whatever a read gives; after
         // it, what is read. Where it fails, nothing is read, and it isn't tried again.
@@ -114,23 +123,31 @@ impl Journal {
     {
         if len <= HEADER {
             format_new(disk, magic, blocks, layout)?;
-            return Ok(Journal::at_first_gate(magic, layout, blocks));
+            return Ok(Journal::at_first_gate(magic, layout, blocks, Half::First));
         }
         let header = read_header(disk, magic)?;
-        finish_format(disk, len, layout.first_gate(header.blocks), header.selector)?;
-        Ok(Journal::at_first_gate(magic, layout, header.blocks))
+        let gate = layout.first_gate(header.blocks);
+        finish_format(disk, len, gate, header.selector)?;
+        // Behind an interrupted formatting the selector is even.
+        let half = if len < gate + 2 {
+            Half::First
+        } else {
+            layout.half(header.selector)
+        };
+        Ok(Journal::at_first_gate(magic, layout, header.blocks, half))
     }
 
-    /// At the first gate, with nothing read yet.
-    fn at_first_gate(magic: [u8; 8], layout: Layout, blocks: u32) -> Journal
+    /// At the first gate of this half, with nothing read yet.
+    fn at_first_gate(magic: [u8; 8], layout: Layout, blocks: u32, half: Half) -> Journal
         requires blocks { AreBlocks blocks }
-        ensures { result ≡ position_at_first magic layout blocks }
+        ensures { result ≡ position_at_first magic layout blocks half }
     {
         Journal {
             magic,
             layout,
             blocks,
-            place: layout.first_gate(blocks),
+            half,
+            place: layout.half_gate(blocks, half),
             ended: false,
             failed: false,
         }
@@ -139,8 +156,8 @@ impl Journal {
     /// Reads the next record: its kind, with its content in `room`; `None` exactly at the first gate that isn't open.
     /// Only a record replaces what is in `room`. No append failed before. Takes no memory.
     ///
-    /// `Damaged`: the gate is open, and no whole record with a gate behind it follows. It and `Disk` leave the journal
-    /// as it was. `NotAStore` is not answered.
+    /// `Damaged`: the gate isn't there, or it is open, and no whole record with a gate behind it follows, in the half
+    /// of the journal's records. It and `Disk` leave the journal as it was. `NotAStore` is not answered.
     pub fn next<D: Disk>(
         &mut self,
         disk: &mut D,
@@ -163,7 +180,7 @@ impl Journal {
         ensures reads { Reads D.Disk (IsErrOf result RecoverFault.Disk) disk.old disk.new }
     {
         let _ = &self.magic;
-        let end = disk.len()?;
+        let end = self.readable(disk.len()?);
         let mut found = RecordRoom::new();
         match self.find_next(disk, end, &mut found) {
             Ok(None) => Ok(None),
@@ -176,15 +193,43 @@ impl Journal {
         }
     }
 
-    /// Reads the next record of a disk of so many octets, as [`next`](Journal::next) does, whatever the room holds then
-    /// where there is none.
+    /// Where what it reads of a disk of so many octets ends: where its half ends, or the disk.
+    pub(crate) fn readable(&self, len: u64) -> u64
+        ensures { result ≡ readable (end_of self.now) len }
+    {
+        match self.end() {
+            Some(end) => len.min(end),
+            None => len,
+        }
+    }
+
+    /// Where the half of its records ends, if it does.
+    fn end(&self) -> Option<u64>
+        ensures { result ≡ end_of self.now }
+    {
+        self.layout.half_end(self.blocks, self.half)
+    }
+
+    /// How many octets there is room for behind the next gate, up to the end of its half; 2^62 where the records have
+    /// no end. Takes no memory.
+    pub fn room(&self) -> u64
+        ensures { result ≡ room_in self.now.place (end_of self.now) }
+    {
+        match self.end() {
+            Some(end) => end - self.place - 1,
+            None => 1 << 62,
+        }
+    }
+
+    /// Reads the next record of what is read of its disk up to this place, as [`next`](Journal::next) does, whatever
+    /// the room holds then where there is none.
     pub(crate) fn find_next<D: Disk>(
         &mut self,
         disk: &mut D,
         end: u64,
         room: &mut RecordRoom,
     ) -> Result<Option<u8>, RecoverFault>
-        requires end { HasLength D.Disk disk.old end }
+        requires end { IsReadable D.Disk self.old disk.old end }
         requires stands_on { StandsOn D.Disk self.old disk.old }
         requires healthy { self.old.failed ≡ false }
         ensures stands_on { StandsOn D.Disk self.new disk.new }
@@ -210,9 +255,9 @@ impl Journal {
         }
     }
 
-    /// Puts a record at the end. `next` has to have answered `None`; the content has at most 600 octets. After `Ok` a
-    /// crash leaves the records from before and this one, until then these or the ones from before. It makes two
-    /// writes and two syncs, and reads nothing. Takes no memory.
+    /// Puts a record at the end. `next` has to have answered `None`; the content has at most 600 octets, and there is
+    /// room for it, with the four octets before it. After `Ok` a crash leaves the records from before and this one,
+    /// until then these or the ones from before. It makes two writes and two syncs, and reads nothing. Takes no memory.
     ///
     /// `Disk`: the record may stand or not, and the journal answers `Failed` from then on, where nothing is touched;
     /// a new recovery is needed. No write and no sync follows a call of the disk that failed. A record that would pass
@@ -226,6 +271,7 @@ impl Journal {
         requires stands_on { StandsOn D.Disk self.old disk.old }
         requires ended { self.old.ended ≡ true }
         requires most { length content.now ≤ 600 }
+        requires room { HasRoom self.old (4 + length content.now) }
         ensures stands_on { StandsOn D.Disk self.new disk.new }
         ensures journal { self.new ≡ record self.old { place = self.new.place; failed = self.new.failed } }
         ensures ok { OnOk result (TakesStep D.Disk disk.old disk.new (Appends self.old (record_of kind content.now))) }
@@ -242,7 +288,9 @@ impl Journal {
         // the record and the gates before and behind it, the octets of an image from before.
         ensures any_moment { LeavesBeforeOrAfter D.Disk self.old (record_of kind content.now) disk.old disk.new }
         ensures since { LeavesAppending D.Disk self.old (record_of kind content.now) disk.old disk.new }
+        ensures moves { OnOk result (MovesOn (4 + length content.now) self.old self.new) }
         ensures calls { TakesCalls D.Disk 4 disk.old disk.new result }
+        ensures within { StaysInHalves D.Disk self.old.layout self.old.blocks disk.old disk.new }
     {
         if self.failed {
             return Err(JournalFault::Failed);
@@ -264,6 +312,7 @@ impl Journal {
         requires stands_on { StandsOn D.Disk self.old disk.old }
         requires healthy { self.old.failed ≡ false }
         requires ended { self.old.ended ≡ true }
+        requires room { HasRoom self.old (4 + length content.old) }
         ensures stands_on { StandsOn D.Disk self.new disk.new }
         ensures journal { self.new ≡ record self.old { place = self.new.place; failed = self.new.failed } }
         ensures ok { OnOk result (TakesStep D.Disk disk.old disk.new (Appends self.old (record_of kind content.old))) }
@@ -273,10 +322,12 @@ impl Journal {
         ensures puts { Puts D.Disk (IsErr result) disk.old disk.new }
         ensures any_moment { LeavesBeforeOrAfter D.Disk self.old (record_of kind content.old) disk.old disk.new }
         ensures since { LeavesAppending D.Disk self.old (record_of kind content.old) disk.old disk.new }
+        ensures moves { OnOk result (MovesOn (4 + length content.old) self.old self.new) }
         ensures calls { TakesCalls D.Disk 4 disk.old disk.new result }
+        ensures within { StaysInHalves D.Disk self.old.layout self.old.blocks disk.old disk.new }
     {
         close_text(&mut content.text, kind, content.len);
-        let text = &content.text[..4 + content.len];
+        let text = &content.text[1..5 + content.len];
         let octets = &text[3..3 + content.len];
         self.put_text(disk, kind, octets, text)
     }
@@ -291,7 +342,7 @@ impl Journal {
     ) -> Result<(), DiskFault>
         requires stands_on { StandsOn D.Disk self.old disk.old }
         requires end { (self.old.failed ≡ false) × (self.old.ended ≡ true) }
-        requires fits { IsRecord (record_of _kind _content.now) }
+        requires fits { IsRecord (record_of _kind _content.now) × HasRoom self.old (4 + length _content.now) }
         requires text { text.now ≡ record_text (record_of _kind _content.now) ++ 0 ∷ [] }
         ensures stands_on { StandsOn D.Disk self.new disk.new }
         ensures journal { (self.new ≡ record self.old { place = self.new.place; failed = self.new.failed })
@@ -302,6 +353,8 @@ impl Journal {
         ensures puts { Puts D.Disk (IsErr result) disk.old disk.new }
         ensures any_moment { LeavesBeforeOrAfter D.Disk self.old (record_of _kind _content.now) disk.old disk.new }
         ensures since { LeavesAppending D.Disk self.old (record_of _kind _content.now) disk.old disk.new }
+        ensures moves { OnOk result (MovesOn (4 + length _content.now) self.old self.new) }
+        ensures within { StaysInHalves D.Disk self.old.layout self.old.blocks disk.old disk.new }
     {
         match put_record(disk, self.place, text) {
             Ok(()) => {
@@ -366,6 +419,7 @@ impl Journal {
         ensures any_moment { LeavesRecords D.Disk self.old disk.old disk.new }
         ensures since { LeavesWritingBlock D.Disk self.old block (length bytes.now) disk.old disk.new }
         ensures calls { TakesCalls D.Disk 2 disk.old disk.new result }
+        ensures within { StaysInHalves D.Disk self.old.layout self.old.blocks disk.old disk.new }
     {
         if self.failed {
             return Err(JournalFault::Failed);
@@ -392,12 +446,40 @@ impl Journal {
         ensures puts { Puts D.Disk (IsErr result) disk.old disk.new × TakesCalls D.Disk 2 disk.old disk.new result }
         ensures any_moment { LeavesRecords D.Disk self.old disk.old disk.new }
         ensures since { LeavesWritingBlock D.Disk self.old block (length bytes.now) disk.old disk.new }
+        ensures within { StaysInHalves D.Disk self.old.layout self.old.blocks disk.old disk.new }
     {
         // A crash before these octets are synced leaves any in their place, which is before the first gate: each record
         // stays as it is.
         let written = write_synced(disk, block_place(block), bytes);
         self.failed = written.is_err();
         written
+    }
+
+    /// The half that its records aren't in, and the place of its first gate.
+    pub(crate) fn other_half(&self) -> (Half, u64)
+        ensures half { result.0 ≡ other_half self.now.half }
+        ensures gate { result.1 ≡ half_gate self.now.layout self.now.blocks (other_half self.now.half) }
+        ensures fits { result.1 + half_size self.now.blocks < 2 ^ 27 }
+    {
+        let half = self.half.other();
+        (half, self.layout.half_gate(self.blocks, half))
+    }
+
+    /// Goes on in this half, behind its records, at this gate.
+    pub(crate) fn choose(&mut self, half: Half, place: u64)
+        requires place { IfSome (half_end self.old.layout self.old.blocks half) (λ end. place < end) }
+        requires far { place < 2 ^ 63 }
+        ensures { self.new ≡ record self.old { half = half; place = place } }
+    {
+        self.half = half;
+        self.place = place;
+    }
+
+    /// Notes that a write or a sync failed.
+    pub(crate) fn fail(&mut self)
+        ensures { self.new ≡ record self.old { failed = true } }
+    {
+        self.failed = true;
     }
 
     /// The place of the next gate. Takes no memory.

@@ -1,20 +1,23 @@
 //! A state that is kept in a journal.
 
-ghost use Rattle.std.specs.Prelude.{◌≡◌, ◌+◌, ◌<◌, ◌≤◌, ◌∷◌, [], length, false, IfOk, IfSome, IsErr, OnErr, OnOk};
+ghost use Rattle.std.specs.Prelude.{◌≡◌, ◌+◌, ◌<◌, ◌≤◌, ◌∷◌, [], length, false, true, IfOk, IfSome, IsErr, OnErr, OnOk};
 ghost use Rattle.file_journal.specs.Appending.{TakesCalls};
 ghost use Rattle.disk_model.specs.Disk.{FillsRoom};
-ghost use Rattle.file_journal.specs.Calls.{Leaves, Reads};
-ghost use Rattle.file_journal.specs.Form.{StandsFor, record_calls};
+ghost use Rattle.file_journal.specs.Bounds.{StaysWithin, longest};
+ghost use Rattle.file_journal.specs.Calls.{IsQuietNow, Puts, Reads, TakesStep};
+ghost use Rattle.file_journal.specs.Form.{record_calls};
 ghost use Rattle.file_journal.specs.Header.{AreBlocks};
-ghost use Rattle.file_journal.specs.Kept.{Does, MayTurn, StandsAt, kept_at};
+ghost use Rattle.file_journal.specs.Kept.{DoesPacing, MayTurn, StandsAt, alone, kept_at, kept_on};
 ghost use Rattle.file_journal.specs.declared.layout.Layout.TheVariants as Layout;
-ghost use Rattle.file_journal.specs.Layout.{HoldSame, block_in, blocks_on};
-ghost use Rattle.file_journal.specs.Putting.{GoesOn, TurnsInto};
+ghost use Rattle.file_journal.specs.Layout.{HasBlocks, HoldSame, block_in, blocks_on};
+ghost use Rattle.file_journal.specs.Position.{HasRoom, MovesOn, StandsOn};
+ghost use Rattle.file_journal.specs.Putting.{GoesOn, StaysKept, TurnsInto};
 ghost use Rattle.file_journal.specs.Records.{record_of};
 ghost use Rattle.file_journal.specs.Restoring.{AnswersRecovery, IsRestored};
-ghost use Rattle.file_journal.specs.Steps.{HasPut, Knows, WritesTurn, block_calls};
+ghost use Rattle.file_journal.specs.Rewriting.{LeavesRewriting, MayRewrite, Rewrites, rewritten};
+ghost use Rattle.file_journal.specs.Steps.{HasPut, Knows, WritesTurn, block_calls, kept_by};
 
-use crate::{Change, Journal, Ledger, RecordContent, StoreFault};
+use crate::{Change, Journal, Ledger, RecordContent, RecordPlace, Records, StoreFault};
 use disk_model::{Disk, DiskFault};
 use std::alloc::Global;
 
@@ -40,9 +43,9 @@ impl<L: Ledger> Kept<L> {
     pub fn recover<D: Disk>(alloc: Global, disk: &mut D, blocks: u32) -> Result<Kept<L>, StoreFault>
         requires blocks { AreBlocks blocks }
         ensures restored { IfOk result (λ kept.
-            IsRestored D.Disk L.form blocks disk.old (kept_at D.Disk L.seen L.state kept disk.new)) }
+            IsRestored D.Disk L.form blocks disk.old (kept_at D.Disk L.seen (kept_by L.steps L.state) kept disk.new)) }
         ensures stands_at { IfOk result (λ kept.
-            StandsAt D.Disk L.form L.steps kept.journal (L.state kept.ledger) disk.new) }
+            StandsAt D.Disk L.form L.steps kept.journal (kept_by L.steps L.state kept.ledger) disk.new) }
         ensures by_records { IfOk result (λ kept. L.by_records kept.ledger) }
         ensures answers { AnswersRecovery D.Disk L.form blocks result disk.old disk.new }
     {
@@ -56,10 +59,11 @@ impl<L: Ledger> Kept<L> {
         })
     }
 
-    /// Makes a change of the ledger that may be made. What it puts in a block, if anything, is written and synced
-    /// first. Then its record is put at the end of the journal and synced, by two writes and two syncs, before memory
-    /// changes: after `Ok` a crash leaves the state after it; before, the one before it or the one after it. No put
-    /// failed before. Takes no memory.
+    /// Makes a change of the ledger that may be made. Where the journal has two halves and no room for its record, the
+    /// records that make the ledger's state anew are written into the other half first. Then what it puts in a block,
+    /// if anything, is written and synced. Then its record is put at the end of the journal and synced, by two writes
+    /// and two syncs, before memory changes: after `Ok` a crash leaves the state after it; before, the one before it or
+    /// the one after it. No put failed before. Takes no memory.
     ///
     /// An error: the record may stand or not; the ledger is as it was, and has failed from then on. A new recovery is
     /// needed.
@@ -70,7 +74,8 @@ impl<L: Ledger> Kept<L> {
         requires lets { Knows C.form (D.content disk.old)
             → (C.turn change.now self.old.ledger).lets (blocks_on (D.content disk.old)) }
         ensures stands_at { StandsAt D.Disk C.form C.steps self.new.journal (C.state self.new.ledger) disk.new }
-        ensures does { Does D.Disk C.form (IsErr result) ((C.turn change.now self.old.ledger).command ∷ [])
+        ensures does { DoesPacing D.Disk C.form (alone D.Disk (IsErr result)) (IsErr result)
+            ((C.turn change.now self.old.ledger).command ∷ [])
             (kept_at D.Disk C.seen C.state self.old disk.old) (kept_at D.Disk C.seen C.state self.new disk.new) }
         ensures goes { GoesOn D.Disk (IsErr result) self.old.journal self.new.journal disk.old disk.new }
         ensures state { OnOk result (C.state self.new.ledger ≡ (C.turn change.now self.old.ledger).next) }
@@ -78,11 +83,75 @@ impl<L: Ledger> Kept<L> {
         ensures err { OnErr result (self.new.ledger ≡ self.old.ledger) }
     {
         let kind = change.write(&self.ledger, &mut self.content);
+        let kind = self.make_room(disk, change, kind)?;
         self.put_block(disk, change)?;
         match self.put_record(disk, change, kind) {
             Ok(()) => Ok(()),
             Err(fault) => Err(fault),
         }
+    }
+
+    /// Makes room in the journal for the record of a change, of this kind, whose content was written: where there is
+    /// none, the records that make the ledger anew are written into the other half. The record's kind, with its content
+    /// written.
+    fn make_room<D: Disk, C: Change<L>>(
+        &mut self,
+        disk: &mut D,
+        change: &C,
+        kind: u8,
+    ) -> Result<u8, DiskFault>
+        requires may { MayTurn D.Disk C.form C.steps self.old.journal (C.state self.old.ledger) disk.old
+            (C.may change.now self.old.ledger) }
+        requires writes { WritesTurn C.form C.steps C.seen (C.state self.old.ledger) (C.turn change.now self.old.ledger)
+            (record_of kind self.old.content) }
+        ensures ledger { self.new.ledger ≡ self.old.ledger }
+        ensures stays { StaysKept D.Disk C.form C.steps C.seen (IsErr result)
+            (kept_on (C.state self.old.ledger) self.old.journal disk.old)
+            (kept_on (C.state self.new.ledger) self.new.journal disk.new) }
+        ensures writes { IfOk result (λ kind.
+            WritesTurn C.form C.steps C.seen (C.state self.old.ledger) (C.turn change.now self.old.ledger)
+            (record_of kind self.new.content)) }
+        ensures room { OnOk result (HasRoom self.new.journal (4 + length self.new.content)) }
+        ensures untouched { HasRoom self.old.journal (4 + length self.old.content)
+            → (self.new ≡ self.old) × (disk.new ≡ disk.old) }
+    {
+        if self.journal.room() >= 4 + self.content.len() as u64 {
+            return Ok(kind);
+        }
+        self.write_anew(disk)?;
+        Ok(change.write(&self.ledger, &mut self.content))
+    }
+
+    /// Writes the records that make what the ledger holds anew into the other half of its journal, and goes on there. A
+    /// crash leaves those from before, or these. It makes a write for each of them and one more, a sync, a write and a
+    /// sync.
+    fn write_anew<D: Disk>(&mut self, disk: &mut D) -> Result<(), DiskFault>
+        requires stands_on { StandsOn D.Disk self.old.journal disk.old }
+        requires quiet { IsQuietNow D.Disk disk.old }
+        requires healthy { self.old.journal.failed ≡ false }
+        requires in_halves { L.form.layout ≡ Layout.Halves }
+        requires may { MayRewrite self.old.journal (L.steps.anew (kept_by L.steps L.state self.old.ledger)) }
+        ensures ledger { self.new.ledger ≡ self.old.ledger }
+        ensures stands_on { StandsOn D.Disk self.new.journal disk.new }
+        ensures ok { OnOk result (TakesStep D.Disk disk.old disk.new
+            (Rewrites self.old.journal (L.steps.anew (kept_by L.steps L.state self.old.ledger)))) }
+        ensures quiet { OnOk result (IsQuietNow D.Disk disk.new) }
+        ensures goes_on { OnOk result (self.new.journal
+            ≡ rewritten self.old.journal (L.steps.anew (kept_by L.steps L.state self.old.ledger))) }
+        ensures fails { OnErr result (self.new.journal ≡ record self.old.journal { failed = true }) }
+        ensures puts { Puts D.Disk (IsErr result) disk.old disk.new }
+        ensures since { LeavesRewriting D.Disk self.old.journal (L.steps.anew (kept_by L.steps L.state self.old.ledger))
+            disk.old disk.new }
+        ensures calls { TakesCalls D.Disk (length (L.steps.anew (kept_by L.steps L.state self.old.ledger)) + 4)
+            disk.old disk.new result }
+        ensures within { StaysWithin D.Disk (longest self.old.journal.blocks) disk.old disk.new }
+    {
+        let mut records = LedgerRecords {
+            ledger: &self.ledger,
+            place: RecordPlace { entry: 0, part: 0 },
+        };
+        self.journal
+            .put_records(disk, &mut records, &mut self.content)
     }
 
     /// Puts what a change puts in a block before its record, if anything.
@@ -93,15 +162,13 @@ impl<L: Ledger> Kept<L> {
     ) -> Result<(), DiskFault>
         requires may { MayTurn D.Disk C.form C.steps self.old.journal (C.state self.old.ledger) disk.old
             (C.may change.now self.old.ledger) }
-        ensures kept { self.new ≡ record self.old { journal = self.new.journal } }
-        ensures stands_at { StandsAt D.Disk C.form C.steps self.new.journal (C.state self.old.ledger) disk.new }
-        ensures same { HoldSame (C.steps.uses (C.state self.old.ledger))
-            (blocks_on (D.content disk.old)) (blocks_on (D.content disk.new)) }
+        ensures kept { self.new
+            ≡ record self.old { journal = record self.old.journal { failed = self.new.journal.failed } } }
+        ensures stays { StaysKept D.Disk C.form C.steps C.seen (IsErr result)
+            (kept_on (C.state self.old.ledger) self.old.journal disk.old)
+            (kept_on (C.state self.new.ledger) self.new.journal disk.new) }
         ensures there { OnOk result (Knows C.form (D.content disk.old)
             → HasPut (C.turn change.now self.old.ledger).puts (blocks_on (D.content disk.new))) }
-        ensures since { Leaves D.Disk disk.old disk.new (λ before.
-            StandsFor C.form (C.seen (block_in before) (C.state self.old.ledger))) }
-        ensures goes { GoesOn D.Disk (IsErr result) self.old.journal self.new.journal disk.old disk.new }
         ensures calls { TakesCalls D.Disk (block_calls (C.turn change.now self.old.ledger).puts)
             disk.old disk.new result }
     {
@@ -131,6 +198,7 @@ impl<L: Ledger> Kept<L> {
             → HasPut (C.turn change.now self.old.ledger).puts (blocks_on (D.content disk.old)) }
         requires writes { WritesTurn C.form C.steps C.seen (C.state self.old.ledger) (C.turn change.now self.old.ledger)
             (record_of kind self.old.content) }
+        requires room { HasRoom self.old.journal (4 + length self.old.content) }
         ensures stands_at { StandsAt D.Disk C.form C.steps self.new.journal (C.state self.new.ledger) disk.new }
         ensures same { HoldSame (C.steps.uses (C.state self.new.ledger))
             (blocks_on (D.content disk.old)) (blocks_on (D.content disk.new)) }
@@ -140,6 +208,7 @@ impl<L: Ledger> Kept<L> {
             (IsErr result) disk.old disk.new }
         ensures goes { GoesOn D.Disk (IsErr result) self.old.journal self.new.journal disk.old disk.new }
         ensures calls { TakesCalls D.Disk record_calls disk.old disk.new result }
+        ensures moves { OnOk result (MovesOn (4 + length self.old.content) self.old.journal self.new.journal) }
         ensures state { OnOk result (C.state self.new.ledger ≡ (C.turn change.now self.old.ledger).next) }
         ensures makes { OnOk result (C.makes change.now self.old.ledger self.new.ledger) }
         ensures err { OnErr result (self.new.ledger ≡ self.old.ledger) }
@@ -164,12 +233,14 @@ impl<L: Ledger> Kept<L> {
         at: u16,
         room: &mut [u8],
     ) -> Result<(), DiskFault>
-        requires stands_at { StandsAt D.Disk L.form L.steps self.now.journal (L.state self.now.ledger) disk.old }
+        requires stands_at { StandsAt D.Disk L.form L.steps self.now.journal
+            (kept_by L.steps L.state self.now.ledger) disk.old }
         requires healthy { self.now.journal.failed ≡ false }
-        requires layout { L.form.layout ≡ Layout.Blocks }
-        requires block { block < L.steps.number (L.state self.now.ledger) }
+        requires has_blocks { HasBlocks L.form.layout }
+        requires block { block < L.steps.number (kept_by L.steps L.state self.now.ledger) }
         requires within { at + length room.old ≤ 512 }
-        ensures stands_at { StandsAt D.Disk L.form L.steps self.now.journal (L.state self.now.ledger) disk.new }
+        ensures stands_at { StandsAt D.Disk L.form L.steps self.now.journal
+            (kept_by L.steps L.state self.now.ledger) disk.new }
         ensures room { OnOk result (IfSome (D.content disk.old) (λ octets.
             FillsRoom (block_in octets block) at (length room.old) room.new)) }
         ensures reads { Reads D.Disk (IsErr result) disk.old disk.new }
@@ -182,5 +253,20 @@ impl<L: Ledger> Kept<L> {
         ensures { result ≡ self.now.journal.failed }
     {
         self.journal.failed()
+    }
+}
+
+/// The records that make a ledger anew, from a place among them on.
+#[derive(Drop)]
+struct LedgerRecords<'a, L> {
+    ledger: &'a L,
+    place: RecordPlace,
+}
+
+impl<L: Ledger> Records for LedgerRecords<'_, L> {
+    ghost left = { λ records. L.left records.ledger.now records.place };
+
+    fn next(&mut self, content: &mut RecordContent) -> Option<u8> {
+        self.ledger.next_record(&mut self.place, content)
     }
 }

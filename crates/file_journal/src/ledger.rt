@@ -1,29 +1,44 @@
 //! What the records of a journal are applied to.
 
-ghost use Rattle.std.specs.Prelude.{◌≡◌, ◌+◌, ◌^◌, ◌<◌, ◌≤◌, ℕ, List, length, true, false, Option, None, Some, IfSome, IsErrOf};
+ghost use Rattle.std.specs.Prelude.{◌≡◌, ◌+◌, ◌^◌, ◌<◌, ◌≤◌, ℕ, List, [], ◌∷◌, length, true, false, Option, None};
+ghost use Rattle.std.specs.Prelude.{Some, IfSome, IsErrOf};
 ghost use Rattle.std.specs.Prelude.{IfOk, OnErr, OnOk};
 ghost use Rattle.file_journal.specs.Calls.{Reads};
 ghost use Rattle.file_journal.specs.Form.{Form};
 ghost use Rattle.file_journal.specs.Header.{AreBlocks};
 ghost use Rattle.file_journal.specs.Ledger.{AnswersAll, AppliesNext, AppliesSome};
-ghost use Rattle.file_journal.specs.Layout.{Blocks, block_in, blocks_on};
-ghost use Rattle.file_journal.specs.Next.{HasLength};
+ghost use Rattle.file_journal.specs.Layout.{Blocks, HasBlocks, block_in, blocks_on};
+ghost use Rattle.file_journal.specs.Next.{IsReadable};
 ghost use Rattle.file_journal.specs.Position.{StandsOn};
 ghost use Rattle.file_journal.specs.Records.{Record, record_of};
+ghost use Rattle.file_journal.specs.declared.layout.Layout.TheVariants as Layout;
+ghost use Rattle.file_journal.specs.declared.ledger.RecordPlace.{RecordPlace};
 ghost use Rattle.file_journal.specs.Steps.{IsSeenBy, Knows, Steps};
 
 use crate::record::RecordRoom;
-use crate::{ApplyFault, Journal, Layout, ReadFault, RecoverFault};
+use crate::{ApplyFault, Journal, Layout, ReadFault, RecordContent, RecoverFault};
 use disk_model::Disk;
 use px_base::OutOfMemory;
 use std::alloc::Global;
+
+/// A place among the records that make a ledger anew: for which entry a record is, and which of its records it is.
+#[derive(Clone, Copy, Debug)]
+pub struct RecordPlace {
+    /// The number of the entry, from 0 on.
+    pub entry: u32,
+    /// The number of the record among those of the entry, from 0 on.
+    pub part: u32,
+}
 
 /// What the records of a journal are applied to, in order: it holds the state that they make, and in memory maybe more.
 pub trait Ledger: Drop {
     /// The states that records make.
     ghost State: { Type 0 };
 
-    /// What such a state is seen as.
+    /// What is kept of such a state once all records are read.
+    ghost Kept: { Type 0 };
+
+    /// What that is seen as.
     ghost Seen: { Type 0 };
 
     /// The commands that change what is seen, each of which is one record.
@@ -33,13 +48,17 @@ pub trait Ledger: Drop {
     ghost form: { Form Self.Seen Self.Command };
 
     /// What records make of a state.
-    ghost steps: { Steps Self.State };
+    ghost steps: { Steps Self.State Self.Kept };
 
-    /// What a state is seen as, with what the blocks of the disk hold.
-    ghost seen: { Blocks → Self.State → Self.Seen };
+    /// What is kept of a state is seen as, with what the blocks of the disk hold.
+    ghost seen: { Blocks → Self.Kept → Self.Seen };
 
-    /// The state that a ledger holds.
+    /// The state that a ledger holds. Behind changes of what is kept of it the rest isn't what further records would
+    /// be read with.
     ghost state: { Self → Self.State };
+
+    /// The records from a place on that make what is kept of the ledger's state anew.
+    ghost left: { Self → RecordPlace → List Record };
 
     /// What a ledger is that records alone made, beside its state.
     ghost by_records: { Self → Type 0 };
@@ -75,7 +94,7 @@ pub trait Ledger: Drop {
         requires stands_on { StandsOn D.Disk journal.now disk.old }
         requires healthy { journal.now.failed ≡ false }
         requires layout { journal.now.layout ≡ form.layout }
-        requires number { form.layout ≡ Layout.Blocks → journal.now.blocks ≡ steps.number (state self.old) }
+        requires number { HasBlocks form.layout → journal.now.blocks ≡ steps.number (steps.kept (state self.old)) }
         ensures allowed { result ≡ Ok true → Knows form (D.content disk.old)
             → steps.step (blocks_on (D.content disk.old)) (state self.old) (record_of kind content.now)
             ≡ Some (state self.new) }
@@ -83,12 +102,25 @@ pub trait Ledger: Drop {
             → steps.step (blocks_on (D.content disk.old)) (state self.old) (record_of kind content.now) ≡ None }
         ensures same { result ≡ Ok false → self.new ≡ self.old }
         ensures untouched { IsErrOf result ApplyFault.Disk → self.new ≡ self.old }
-        ensures number { OnOk result (steps.number (state self.new) ≡ steps.number (state self.old)) }
+        ensures number { OnOk result (steps.number (steps.kept (state self.new))
+            ≡ steps.number (steps.kept (state self.old))) }
         ensures by_records { OnOk result (by_records self.new) }
         ensures reads { Reads D.Disk (IsErrOf result ApplyFault.Disk) disk.old disk.new };
 
+    /// Writes the record at this place among those that make what is kept of its state anew, and moves the place to the
+    /// next one: its kind, with the content in place of what `content` holds; `None` behind the last one. Takes no
+    /// memory.
+    fn next_record(&self, place: &mut RecordPlace, content: &mut RecordContent) -> Option<u8>
+        ensures some { IfSome result (λ kind.
+            left self.now place.old ≡ record_of kind content.new ∷ left self.now place.new) }
+        ensures none { result ≡ None → left self.now place.old ≡ [] };
+
     /// What is seen is what octets stand for.
     ghost is_seen: { IsSeenBy steps seen form };
+
+    /// From the first place on all of those records are left.
+    ghost all_left: { (ledger : Self) → form.layout ≡ Layout.Halves
+        → left ledger (record { entry = 0; part = 0 }) ≡ steps.anew (steps.kept (state ledger)) };
 
     /// A ledger that records alone made holds a state that they make.
     ghost reached: { (ledger : Self) → by_records ledger → steps.is_state (state ledger) };
@@ -114,7 +146,8 @@ impl Journal {
     /// each record once, and asks for the disk's length once before. The ledger may take memory.
     ///
     /// `Damaged`: what is left comes to damage at this place: a record that the state before it doesn't allow, or,
-    /// where each before it is allowed, an open gate that no whole record with a gate behind it follows. After it and
+    /// where each before it is allowed, a gate that isn't there, or an open one that no whole record with a gate behind
+    /// it follows, in the half of the journal's records. After it and
     /// after `Disk` the ledger has the state after some of the records, from the first on; after `OutOfMemory` nothing
     /// is said of it. The journal stays on its disk, and no octet is changed.
     pub fn read_into<D: Disk, L: Ledger>(
@@ -126,7 +159,8 @@ impl Journal {
         requires healthy { self.old.failed ≡ false }
         requires by_records { L.by_records ledger.old }
         requires layout { self.old.layout ≡ L.form.layout }
-        requires number { L.form.layout ≡ Layout.Blocks → self.old.blocks ≡ L.steps.number (L.state ledger.old) }
+        requires number { HasBlocks L.form.layout
+            → self.old.blocks ≡ L.steps.number (L.steps.kept (L.state ledger.old)) }
         ensures stands_on { StandsOn D.Disk self.new disk.new }
         ensures journal { self.new ≡ record self.old { place = self.new.place; ended = self.new.ended } }
         ensures ended { OnOk result (self.new.ended ≡ true) }
@@ -135,19 +169,19 @@ impl Journal {
         ensures all { AnswersAll L.steps.step self.old (L.state ledger.old) (L.state ledger.new)
             (D.content disk.old) result }
         ensures by_records { OnOk result (L.by_records ledger.new) }
-        ensures number { OnOk result (L.steps.number (L.state ledger.new) ≡ L.steps.number (L.state ledger.old)) }
+        ensures number { OnOk result (L.steps.number (L.steps.kept (L.state ledger.new))
+            ≡ L.steps.number (L.steps.kept (L.state ledger.old))) }
         ensures some { ¬ IsErrOf result ReadFault.OutOfMemory → IfSome (D.content disk.old)
             (AppliesSome L.steps.step self.old (L.state ledger.old) (L.state ledger.new)) }
         ensures reads { Reads D.Disk (IsErrOf result ReadFault.Disk) disk.old disk.new }
     {
-        let end = disk.len()?;
+        let end = self.readable(disk.len()?);
         let mut room = RecordRoom::new();
         while self.apply_next(disk, end, ledger, &mut room)? {}
         Ok(())
     }
 
-    /// Reads the next record that is left of a disk of so many octets, into this room, and applies it: whether there
-    /// was one.
+    /// Reads the next record that is left, up to this place, into this room, and applies it: whether there was one.
     fn apply_next<D: Disk, L: Ledger>(
         &mut self,
         disk: &mut D,
@@ -155,12 +189,13 @@ impl Journal {
         ledger: &mut L,
         room: &mut RecordRoom,
     ) -> Result<bool, ReadFault>
-        requires end { HasLength D.Disk disk.old end }
+        requires end { IsReadable D.Disk self.old disk.old end }
         requires stands_on { StandsOn D.Disk self.old disk.old }
         requires healthy { self.old.failed ≡ false }
         requires by_records { L.by_records ledger.old }
         requires layout { self.old.layout ≡ L.form.layout }
-        requires number { L.form.layout ≡ Layout.Blocks → self.old.blocks ≡ L.steps.number (L.state ledger.old) }
+        requires number { HasBlocks L.form.layout
+            → self.old.blocks ≡ L.steps.number (L.steps.kept (L.state ledger.old)) }
         ensures stands_on { StandsOn D.Disk self.new disk.new }
         ensures journal { self.new ≡ record self.old { place = self.new.place; ended = self.new.ended } }
         ensures ended { result ≡ Ok false → self.new.ended ≡ true }
@@ -171,7 +206,8 @@ impl Journal {
             AppliesNext (L.steps.step (block_in octets)) self.old self.new
             (L.state ledger.old) (L.state ledger.new) octets result) }
         ensures by_records { OnOk result (L.by_records ledger.new) }
-        ensures number { OnOk result (L.steps.number (L.state ledger.new) ≡ L.steps.number (L.state ledger.old)) }
+        ensures number { OnOk result (L.steps.number (L.steps.kept (L.state ledger.new))
+            ≡ L.steps.number (L.steps.kept (L.state ledger.old))) }
         ensures same { ¬ IsErrOf result ReadFault.OutOfMemory → OnErr result (ledger.new ≡ ledger.old) }
         ensures reads { Reads D.Disk (IsErrOf result ReadFault.Disk) disk.old disk.new }
     {

@@ -1,10 +1,10 @@
 //! One record: its text, putting it, and reading it.
 
-ghost use Rattle.std.specs.Prelude.{◌≡◌, ◌+◌, ◌^◌, ◌<◌, ◌≤◌, [], length, IfOk, IfSome, OnOk, IsErrOf, None};
+ghost use Rattle.std.specs.Prelude.{◌≡◌, ◌+◌, ◌^◌, ◌<◌, ◌≤◌, [], length, take, IfOk, IfSome, OnOk, IsErrOf, None};
 ghost use Rattle.file_journal.specs.Appending.{IsPutting, OpensGate};
 ghost use Rattle.file_journal.specs.Calls.{Makes, Reads};
 ghost use Rattle.file_journal.specs.Finding.{IsFound};
-ghost use Rattle.file_journal.specs.Next.{FindsRecord, HasLength, RefusesAt};
+ghost use Rattle.file_journal.specs.Next.{FindsRecord, HasOctets, RefusesAt};
 ghost use Rattle.file_journal.specs.Records.{reading_at, record_of, whole};
 
 use crate::RecoverFault;
@@ -115,19 +115,20 @@ impl RecordRoom {
 }
 
 /// Reads the record behind the gate at this place: its kind, with its content in `room`; `None` exactly where the gate
-/// isn't open. The disk has so many octets. It reads once, into the room.
+/// isn't open. The disk has `end` octets at least, and none behind them is read. It reads once, into the room.
 pub(crate) fn read_record<D: Disk>(
     disk: &mut D,
     end: u64,
     place: u64,
     room: &mut RecordRoom,
 ) -> Result<Option<u8>, RecoverFault>
-    requires end { HasLength D.Disk disk.old end }
+    requires end { HasOctets D.Disk disk.old end }
     requires far { place < 2 ^ 63 }
-    ensures found { IfOk result (FindsRecord place room.new (D.content disk.old)) }
-    ensures fits { IfOk result (λ next. IfSome next (λ kind. place + 4 + length room.new < 2 ^ 63)) }
-    ensures none { result ≡ Ok None → IfSome (D.content disk.old) (λ octets. reading_at place octets ≡ whole []) }
-    ensures refuses { RefusesAt place (D.content disk.old) result }
+    ensures found { IfOk result (FindsRecord place end room.new (D.content disk.old)) }
+    ensures fits { IfOk result (λ next. IfSome next (λ kind. place + 4 + length room.new < end)) }
+    ensures none { result ≡ Ok None → IfSome (D.content disk.old) (λ octets.
+        reading_at place (take end octets) ≡ whole []) }
+    ensures refuses { RefusesAt place end (D.content disk.old) result }
     ensures reads { Reads D.Disk (IsErrOf result RecoverFault.Disk) disk.old disk.new }
 {
     if place >= end {

@@ -11,6 +11,6 @@ pub returns-clause-fits : goal.returns-clause-fits
 returns-clause-fits c =
     record {
       kind = omega (arith, c.ranges.kind);
-      octets = All-take (λ (o : ℕ). o < 256) c.args.len _ (All-drop (λ (o : ℕ). o < 256) 3 _ (All-from_get_or (λ (o : ℕ). o < 256) c.args.text.now 0 (λ i lt. c.fits-text i)));
+      octets = All-take (λ (o : ℕ). o < 256) c.args.len _ (All-drop (λ (o : ℕ). o < 256) 4 _ (All-from_get_or (λ (o : ℕ). o < 256) c.args.text.now 0 (λ i lt. c.fits-text i)));
       most = most c.args.len _ c.requires;
     }

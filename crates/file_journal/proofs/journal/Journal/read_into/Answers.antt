@@ -1,7 +1,9 @@
-use Rattle.std.proofs.Common.{◌≡◌, List, ℕ, length, IfSome, Option, sym, ◌∙◌, subst, arith}
+use Rattle.std.proofs.Common.{sym, ◌∙◌, ap, arith}
 use Rattle.std.proofs.lemmas.Grind.{common_steps}
 use Rattle.std.proofs.lemmas.Result.{err_from_is_err_and}
 use Rattle.file_journal.proofs.CallLemmas.{reads_on, reads_same}
+use Rattle.file_journal.specs.Position.{end_of}
+use Rattle.file_journal.proofs.NextLemmas.{readable_on}
 use Rattle.file_journal.proofs.LedgerLemmas.{all_damaged, all_read, on_end, on_more, on_walk}
 use Rattle.file_journal.proofs.journal.Journal.read_into.Goals as goal
 
@@ -11,7 +13,7 @@ returns-in_err-apply_next-clause-all g c healthy memory = grind (arith, common_s
 pub loop-preserved : goal.loop-preserved
 loop-preserved g c =
     let before = c.loop.invariant.0 in
-    let length_is = c.loop.invariant.1 in
+    let readable = c.loop.invariant.1 in
     let same = c.apply_next.ensures.reads.only.same_content in (
       (
         c.apply_next.ensures.stands_on,
@@ -22,10 +24,7 @@ loop-preserved g c =
         grind (arith, common_steps),
         grind (arith, common_steps),
       ),
-      record {
-        told = subst (λ (content : Option (List ℕ)). IfSome content (λ octets. c.in_ok-end.end ≡ length octets)) (sym same) length_is.told;
-        most = length_is.most;
-      },
+      readable_on g.D.Disk c.loop.self c.apply_next.new.self c.loop.disk c.apply_next.new.disk c.readable-end.result (ap end_of c.apply_next.ensures.journal) same readable,
     )
 
 pub returns-clause-all : goal.returns-clause-all

@@ -1,7 +1,7 @@
 use Rattle.std.proofs.Common.{◌≡◌, ◌-◌, ◌^◌, IfSome}
 use Rattle.file_journal.specs.Calls.{Reads}
 use Rattle.file_journal.specs.Layout.{block_in}
-use Rattle.file_journal.specs.Next.{HasLength}
+use Rattle.file_journal.specs.Next.{IsReadable}
 use Rattle.file_journal.specs.Position.{StandsOn}
 use Rattle.file_journal.proofs.LedgerLemmas.{IsOn}
 use Rattle.file_journal.proofs.journal.Journal.read_into.Given as goal
@@ -13,8 +13,8 @@ invariant-loop g l =
     × Reads g.D.Disk ⊥ l.fn.disk l.disk
     × IfSome (g.D.Disk.content l.fn.disk) (λ octets. IsOn (g.L.Ledger.steps.step (block_in octets)) l.fn.self l.self (g.L.Ledger.state l.fn.ledger) (g.L.Ledger.state l.ledger) octets)
     × g.L.Ledger.by_records l.ledger
-    × (g.L.Ledger.steps.number (g.L.Ledger.state l.ledger) ≡ g.L.Ledger.steps.number (g.L.Ledger.state l.fn.ledger)))
-    × HasLength g.D.Disk l.disk l.end
+    × (g.L.Ledger.steps.number (g.L.Ledger.steps.kept (g.L.Ledger.state l.ledger)) ≡ g.L.Ledger.steps.number (g.L.Ledger.steps.kept (g.L.Ledger.state l.fn.ledger))))
+    × IsReadable g.D.Disk l.self l.disk l.end
 
 abbrev pub decreases-loop : goal.decreases-loop
 decreases-loop g l = 2 ^ 63 - l.self.place

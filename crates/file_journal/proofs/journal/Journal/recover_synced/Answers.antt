@@ -1,16 +1,19 @@
-use Rattle.std.proofs.Common.{◌≡◌, ℕ, length, Ok, Err, rules, ◌∙◌, ap, arith, subst}
+use Rattle.std.proofs.Common.{◌≡◌, ℕ, length, get_or, IfSome, Ok, Err, rules, ◌∙◌, ap, arith, subst}
 use Rattle.std.proofs.lemmas.Grind.{common_steps}
 use Rattle.std.proofs.lemmas.Result.{err_from_is_err_and}
 use Rattle.disk_model.specs.Disk.{HasContent}
 use Rattle.file_journal.specs.Calls.{Leaves}
 use Rattle.file_journal.specs.Formatting.{IsFinishing}
 use Rattle.file_journal.specs.Journal.{IsAfterFinishing}
+use Rattle.file_journal.specs.Layout.{first_gate, half_by}
 use Rattle.file_journal.specs.declared.faults.RecoverFault.TheVariants as fault
 use Rattle.file_journal.specs.declared.header.Header.{Header}
+use Rattle.file_journal.specs.declared.layout.Half.TheVariants as half
 use Rattle.file_journal.proofs.JournalLemmas.{of_short}
-use Rattle.file_journal.proofs.RecoverLemmas.{known_formatted, known_leaves, new_formatted, recovered, refuses_alike, refuses_none}
+use Rattle.file_journal.proofs.RecoverLemmas.{IsHalfOf, known_formatted, known_leaves, new_formatted, recovered, refuses_alike, refuses_none}
 use Rattle.file_journal.proofs.ToldLemmas.{alike_on, alike_same, at_told, if_told, told_weaker}
 use Rattle.file_journal.proofs.journal.Journal.recover_synced.Goals as goal
+use Rattle.file_journal.proofs.journal.Journal.recover_synced.Goals.{else-len-gate, then-len-gate}
 
 pub returns-then-len-le-HEADER-clause-recovered : goal.returns-then-len-le-HEADER-clause-recovered
 returns-then-len-le-HEADER-clause-recovered g c =
@@ -18,7 +21,7 @@ returns-then-len-le-HEADER-clause-recovered g c =
     let old = c.args.disk.now in
     let new = c.format_new.new.disk in
     let eight : length c.args.magic ≡ 8 = search rules in
-    recovered D c.args.magic c.args.layout c.args.blocks old new c.args.blocks c.at_first_gate.result c.at_first_gate.ensures c.format_new.ensures.puts.told c.in_ok-format_new.ensures.quiet
+    recovered D c.args.magic c.args.layout c.args.blocks old new c.args.blocks half.First c.at_first_gate.result c.at_first_gate.ensures c.format_new.ensures.puts.told c.in_ok-format_new.ensures.quiet
     (told_weaker (D.content new) _ _ (λ now told image. (g.met.D.Disk.images_fit new now image).0) (g.met.D.Disk.content_is_image new))
     (new_formatted D c.args.magic c.args.layout c.args.blocks old new eight c.requires.blocks.some c.requires.blocks.most
     (if_told (D.content old) _ (λ before told. omega (arith, at_told _ before told c.requires.len, c.if-len-le-HEADER.true))) c.in_ok-format_new.ensures.ok)
@@ -43,7 +46,7 @@ returns-in_err-finish_format-clause-since g c =
     let new = c.finish_format.new.disk in
     known_leaves D c.args.magic c.args.layout c.args.blocks c.args.disk.now mid new c.in_ok-header.header.blocks c.read_header.ensures.reads.only c.in_ok-header.ensures.header
     (if_told (D.content c.args.disk.now) _ (λ before told. omega (arith, at_told _ before told c.requires.len, c.if-len-le-HEADER.false)))
-    (subst (λ (n : ℕ). Leaves D mid new (IsFinishing n)) c.first_gate.ensures.place c.finish_format.ensures.since)
+    (subst (λ (n : ℕ). Leaves D mid new (IsFinishing n)) c.first_gate-gate.ensures.place c.finish_format.ensures.since)
 
 pub returns-clause-since : goal.returns-clause-since
 returns-clause-since g c =
@@ -52,7 +55,7 @@ returns-clause-since g c =
     let new = c.finish_format.new.disk in
     known_leaves D c.args.magic c.args.layout c.args.blocks c.args.disk.now mid new c.in_ok-header.header.blocks c.read_header.ensures.reads.only c.in_ok-header.ensures.header
     (if_told (D.content c.args.disk.now) _ (λ before told. omega (arith, at_told _ before told c.requires.len, c.if-len-le-HEADER.false)))
-    (subst (λ (n : ℕ). Leaves D mid new (IsFinishing n)) c.first_gate.ensures.place c.finish_format.ensures.since)
+    (subst (λ (n : ℕ). Leaves D mid new (IsFinishing n)) c.first_gate-gate.ensures.place c.finish_format.ensures.since)
 
 pub returns-clause-recovered : goal.returns-clause-recovered
 returns-clause-recovered g c =
@@ -61,12 +64,22 @@ returns-clause-recovered g c =
     let mid = c.read_header.new.disk in
     let new = c.finish_format.new.disk in
     let only = c.read_header.ensures.reads.only in
-    recovered D c.args.magic c.args.layout c.args.blocks old new c.in_ok-header.header.blocks c.at_first_gate-2.result c.at_first_gate-2.ensures
+    let number = c.in_ok-header.header.blocks in
+    let gate : c.first_gate-gate.result ≡ first_gate c.args.layout number = c.first_gate-gate.ensures.place in
+    let half_is : IfSome (D.content old) (IsHalfOf c.args.layout number c.if-len-gate.half) =
+    if_told (D.content old) _ (λ before told.
+    let len : c.args.len ≡ length before = at_told _ before told c.requires.len in
+    let selector : c.in_ok-header.header.selector ≡ get_or before 15 0 = at_told _ before told c.in_ok-header.ensures.selector in
+    elim c.if-len-gate.branch [
+      | then-len-gate w ↦ (λ short. w.half-is, λ full. absurd (omega (arith, w.if-len-gate.true, gate, len, full)))
+      | else-len-gate w ↦ (λ short. absurd (omega (arith, w.if-len-gate.false, gate, len, short)), λ full. w.half-is ∙ w.half-half.ensures ∙ ap (half_by c.args.layout) selector)
+    ]) in
+    recovered D c.args.magic c.args.layout c.args.blocks old new number c.if-len-gate.half c.at_first_gate-2.result c.at_first_gate-2.ensures
     (alike_on _ _ _ (alike_same _ _ only.same_content) c.finish_format.ensures.puts.told) c.in_ok-finish_format.ensures.quiet
     (told_weaker (D.content new) _ _ (λ now told image. (g.met.D.Disk.images_fit new now image).0) (g.met.D.Disk.content_is_image new))
-    (known_formatted D c.args.magic c.args.layout c.args.blocks old mid new c.in_ok-header.header.blocks only c.in_ok-header.ensures.header
-    (if_told (D.content old) _ (λ before told. omega (arith, at_told _ before told c.requires.len, c.if-len-le-HEADER.false)))
-    (subst (λ (n : ℕ). HasContent (D.content mid) (D.content new) (IsAfterFinishing n)) c.first_gate.ensures.place c.in_ok-finish_format.ensures.ok))
+    (known_formatted D c.args.magic c.args.layout c.args.blocks old mid new number only c.in_ok-header.ensures.header
+    (if_told (D.content old) _ (λ before told. omega (arith, at_told _ before told c.requires.len, c.if-len-le-HEADER.false))) c.if-len-gate.half half_is
+    (subst (λ (n : ℕ). HasContent (D.content mid) (D.content new) (IsAfterFinishing n)) gate c.in_ok-finish_format.ensures.ok))
 
 pub returns-clause-refuses : goal.returns-clause-refuses
 returns-clause-refuses g c healthy =

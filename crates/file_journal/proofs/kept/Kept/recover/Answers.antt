@@ -14,7 +14,7 @@ returns-in_err-journal-clause-answers g c =
     let made = rw c.magic.ensures at (rw c.layout.ensures at c.in_err-journal.ensures) in
     let ledger = g.L.Ledger in
     answers_refused g.D.Disk ledger.steps ledger.seen ledger.form g.met.L.Ledger.is_seen c.args.blocks c.args.disk.now c.recover.new.disk c.in_err-journal.field-0.0 _ (p.1 ∙ ap Err p.2)
-    made.refuses made.untouched made.runs made.since_start made.since_sync
+    made.refuses made.untouched made.runs made.since_start made.since_sync made.within
 
 pub returns-in_err-ledger-clause-answers : goal.returns-in_err-ledger-clause-answers
 returns-in_err-ledger-clause-answers g c =
@@ -24,7 +24,7 @@ returns-in_err-ledger-clause-answers g c =
     let reading : Result ⊤ ReadFault = Err read.OutOfMemory in
     answers_read g.D.Disk ledger.steps ledger.seen ledger.form g.met.L.Ledger.is_seen c.args.blocks g.met.D.Disk.lasts_on g.met.D.Disk.lasts_same c.args.disk.now c.recover.new.disk c.recover.new.disk c.in_ok-journal.journal
     (ledger.steps.fresh c.in_ok-journal.journal.blocks) (ledger.steps.fresh c.in_ok-journal.journal.blocks) reading _ (p.1 ∙ ap Err p.2) refl
-    made.recovered made.refuses made.runs made.since_start made.since_sync (λ healthy memory. absurd (memory refl)) (reads_none g.D.Disk c.recover.new.disk _ (λ was. cc was) (g.met.D.Disk.lasts_same c.recover.new.disk))
+    made.recovered made.refuses made.runs made.since_start made.since_sync made.within (λ healthy memory. absurd (memory refl)) (reads_none g.D.Disk c.recover.new.disk _ (λ was. cc was) (g.met.D.Disk.lasts_same c.recover.new.disk))
 
 pub returns-in_err-read_into-clause-answers : goal.returns-in_err-read_into-clause-answers
 returns-in_err-read_into-clause-answers g c =
@@ -33,7 +33,7 @@ returns-in_err-read_into-clause-answers g c =
     let ledger = g.L.Ledger in
     answers_read g.D.Disk ledger.steps ledger.seen ledger.form g.met.L.Ledger.is_seen c.args.blocks g.met.D.Disk.lasts_on g.met.D.Disk.lasts_same c.args.disk.now c.recover.new.disk c.read_into.new.disk c.in_ok-journal.journal _ _
     (Err c.in_err-read_into.field-0.0) _ (p.1 ∙ ap Err p.2) (c.in_ok-ledger.ensures.state ∙ ap ledger.steps.fresh c.blocks-2.ensures.value)
-    made.recovered made.refuses made.runs made.since_start made.since_sync c.in_err-read_into.ensures.all c.in_err-read_into.ensures.reads
+    made.recovered made.refuses made.runs made.since_start made.since_sync made.within c.in_err-read_into.ensures.all c.in_err-read_into.ensures.reads
 
 pub returns-clause-answers : goal.returns-clause-answers
 returns-clause-answers g c =
@@ -41,7 +41,7 @@ returns-clause-answers g c =
     let ledger = g.L.Ledger in
     answers_read g.D.Disk ledger.steps ledger.seen ledger.form g.met.L.Ledger.is_seen c.args.blocks g.met.D.Disk.lasts_on g.met.D.Disk.lasts_same c.args.disk.now c.recover.new.disk c.read_into.new.disk c.in_ok-journal.journal _ _
     (Ok c.in_ok-read_into.field-0) _ (_, refl) (c.in_ok-ledger.ensures.state ∙ ap ledger.steps.fresh c.blocks-2.ensures.value)
-    made.recovered made.refuses made.runs made.since_start made.since_sync c.in_ok-read_into.ensures.all c.in_ok-read_into.ensures.reads
+    made.recovered made.refuses made.runs made.since_start made.since_sync made.within c.in_ok-read_into.ensures.all c.in_ok-read_into.ensures.reads
 
 pub returns-clause-restored : goal.returns-clause-restored
 returns-clause-restored g c =

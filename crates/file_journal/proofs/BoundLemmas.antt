@@ -1,0 +1,210 @@
+-- How long a disk gets.
+use Rattle.std.proofs.Common.{◌≡◌, inl, inr, ⊎_elim, ℕ, ◌+◌, ◌<◌, ◌≤◌, true≢false, List, length, is_some, Option, None, Some, IfSome, refl, sym, ◌∙◌, ap, subst, arith}
+use Rattle.std.proofs.lemmas.Bool.{cases_lt}
+use Rattle.disk_model.specs.Disk.{AreAmong, IsTold}
+use Rattle.disk_model.specs.Moments.{TimePasses}
+use Rattle.disk_model.specs.declared.disk.Disk.{Ghosts}
+use Rattle.file_journal.specs.Appending.{IsTornFrom, LeavesAppending}
+use Rattle.file_journal.specs.Blocks.{HasBlock, LeavesWritingBlock}
+use Rattle.file_journal.specs.Bounds.{IsWithin, KeepsWithin, RecoversInHalves, StaysInHalves, StaysWithin, longest}
+use Rattle.file_journal.specs.Calls.{ChangesReads, Leaves, TellsAlike, images_now}
+use Rattle.file_journal.specs.Layout.{block_place, first_gate, half_end, half_gate, half_size}
+use Rattle.file_journal.specs.Position.{HasRoom, Position}
+use Rattle.file_journal.specs.Records.{Record}
+use Rattle.file_journal.specs.Recovery.{IsRecovering, gate_in, number_in}
+use Rattle.file_journal.specs.Rewriting.{IsChoosing}
+use Rattle.file_journal.specs.declared.layout.Half.{Half}
+use Rattle.file_journal.specs.declared.layout.Half.TheVariants as half
+use Rattle.file_journal.specs.declared.layout.Layout.{Layout}
+use Rattle.file_journal.specs.declared.layout.Layout.TheVariants as variant
+use Rattle.file_journal.proofs.CallLemmas.{reads_now}
+use Rattle.file_journal.proofs.MomentLemmas.{joined, reads, weaker}
+use Rattle.file_journal.proofs.ToldLemmas.{alike_same, at_told, if_told, told_before, told_weaker}
+
+-- what is told is something
+some_of : (o : Option (List ℕ)) → IsTold o → (x : List ℕ) × (o ≡ Some x)
+some_of None told = absurd (true≢false (sym told))
+some_of (Some x) told = (x, refl)
+
+module _ {D : Type 0} (g : Ghosts D) where
+  -- by reads alone
+  pub stays_reads : (most : ℕ) (old new : D) → ChangesReads g old new → StaysWithin g most old new
+  stays_reads most old new only bound le = record {
+    told = (alike_same _ _ only.same_content).1;
+    now = λ within.
+        if_told (g.content new) _ (λ now told.
+        let was = at_told _ now (sym only.same_content ∙ told) within in
+        (was.0, λ image left. was.1 image (reads_now g old new only image left)));
+    since = λ within. if_told (g.content old) _ (λ before told. reads g.moment g.images_since old new _ only.same_moment only.same_past);
+  }
+
+  -- where nothing is called
+  pub stays_same : (most : ℕ) (disk : D) → StaysWithin g most disk disk
+  stays_same most disk =
+      stays_reads most disk disk
+      (record { same_content = refl; same_images = λ image. (λ now. now, λ was. was); same_moment = refl; same_past = λ t image. (λ now. now, λ was. was); same_write_faults = refl })
+
+  -- by one run of calls and another
+  pub stays_on : (most : ℕ) (old mid new : D) → StaysWithin g most old mid → StaysWithin g most mid new → StaysWithin g most old new
+  stays_on most old mid new first second bound le =
+      let early = first bound le in
+      let late = second bound le in
+      record {
+        told = λ told. late.told (early.told told);
+        now = λ within. late.now (early.now within);
+        since = λ within.
+            if_told (g.content old) _ (λ before told.
+            let mid_told = some_of _ (early.told (ap is_some told)) in
+            joined g.moment g.images_since old mid new _ (at_told _ before told (early.since within)) (at_told _ mid_told.0 mid_told.1 (late.since (early.now within))));
+      }
+
+  -- no longer than that is no longer than more
+  pub stays_more : (most more : ℕ) (old new : D) → most ≤ more → StaysWithin g most old new → StaysWithin g more old new
+  stays_more most more old new le stays bound fits = stays bound (omega (arith, le, fits))
+
+  -- what is torn from an image from before in a range that ends within so many octets has no more
+  pub torn_within : (counts_now : (disk : D) (t : ℕ) (image : List ℕ) → t ≤ g.moment disk → g.images disk image → g.images_since disk t image) (bound : ℕ) (old : D) → IsWithin g bound old
+      → (before : List ℕ) → g.content old ≡ Some before → (at count : ℕ) → at + count ≤ bound → (image : List ℕ) → IsTornFrom (g.images old) at count image → length image ≤ bound
+  torn_within counts_now bound old within before is at count ends image torn =
+      let few = (at_told _ before is within).1 torn.0 (counts_now old (g.moment old) torn.0 (omega arith) torn.1) in
+      omega (arith, few, ends, torn.2.no_longer)
+
+  -- by what a crash leaves of a run of calls
+  module _ (counts_now : (disk : D) (t : ℕ) (image : List ℕ) → t ≤ g.moment disk → g.images disk image → g.images_since disk t image)
+      (earlier : (disk : D) (t u : ℕ) (image : List ℕ) → t ≤ u → g.images_since disk u image → g.images_since disk t image)
+      (is_image : (disk : D) → IfSome (g.content disk) (g.images disk)) (most : ℕ) (old new : D) (told : TellsAlike (g.content old) (g.content new)) where
+    pub stays_by : (stands : List ℕ → List ℕ → Type 0) → Leaves g old new stands
+        → ((bound : ℕ) → most ≤ bound → IsWithin g bound old → (before : List ℕ) → g.content old ≡ Some before → (image : List ℕ) → stands before image → length image ≤ bound)
+        → StaysWithin g most old new
+    stays_by stands leaves fits bound le =
+        let since : IsWithin g bound old → Leaves g old new (λ before image. length image ≤ bound) =
+        λ within. told_weaker (g.content old) _ _ (λ before is left. weaker g.moment g.images_since old new _ _ (fits bound le within before is) left) leaves in
+        record {
+          told = told.1;
+          now = λ within.
+              if_told (g.content new) _ (λ now is.
+              let was = told_before _ _ now told is in
+              let left = at_told _ was.0 was.1 (since within) in
+              let each : (image : List ℕ) → images_now g new image → length image ≤ bound =
+              λ image here. ⊎_elim (λ past. (at_told _ was.0 was.1 within).1 image past) (λ few. few) (left.each (g.moment old) image (omega arith) (earlier new (g.moment old) (g.moment new) image left.later here)) in
+              (each now (counts_now new (g.moment new) now (omega arith) (at_told _ now is (is_image new))), each));
+          since = since;
+        }
+
+    -- by a sync
+    pub stays_sync : AreAmong (g.images new) (g.images old) → TimePasses g.moment g.images g.images_since old new → StaysWithin g most old new
+    stays_sync among time =
+        stays_by (λ before image. ⊥)
+        (if_told (g.content old) _ (λ before is. record {
+          later = time.later;
+          each = λ t image le left. inl (⊎_elim (λ past. past) (λ here. counts_now old t image le (among image here)) (time.nothing_else t image le left));
+        }))
+        (λ bound le within before is image never. absurd never)
+
+    -- by octets that are torn in a range that ends within so many
+    pub stays_torn : (at count : ℕ) → at + count ≤ most → Leaves g old new (λ _. IsTornFrom (g.images old) at count) → StaysWithin g most old new
+    stays_torn at count ends leaves =
+        stays_by (λ _. IsTornFrom (g.images old) at count) leaves
+        (λ bound le within before is image torn. torn_within counts_now bound old within before is at count (omega (arith, ends, le)) image torn)
+
+module _ {D : Type 0} (g : Ghosts D) where
+  -- the same of two halves
+  pub halves_same : (layout : Layout) (blocks : ℕ) (disk : D) → StaysInHalves g layout blocks disk disk
+  halves_same layout blocks disk in_halves = stays_same g (longest blocks) disk
+
+  pub halves_reads : (layout : Layout) (blocks : ℕ) (old new : D) → ChangesReads g old new → StaysInHalves g layout blocks old new
+  halves_reads layout blocks old new only in_halves = stays_reads g (longest blocks) old new only
+
+  pub halves_on : (layout other_layout : Layout) (blocks other : ℕ) (old mid new : D) → other_layout ≡ layout → other ≡ blocks
+      → StaysInHalves g layout blocks old mid → StaysInHalves g other_layout other mid new → StaysInHalves g layout blocks old new
+  halves_on layout other_layout blocks other old mid new same number first second in_halves =
+      stays_on g (longest blocks) old mid new (first in_halves) (subst (λ (n : ℕ). StaysWithin g (longest n) mid new) number (second (same ∙ in_halves)))
+
+  -- a recovery, and reads behind it
+  pub recovers_reads : (layout : Layout) (blocks : ℕ) (old mid new : D) → ChangesReads g mid new → RecoversInHalves g layout blocks old mid → RecoversInHalves g layout blocks old new
+  recovers_reads layout blocks old mid new only first = told_weaker (g.content old) _ _ (λ before told within. halves_on layout layout (number_in blocks before) _ old mid new refl refl within (halves_reads layout _ mid new only)) first
+
+  -- and calls behind it, of a journal that has that block number
+  pub recovers_on : (layout : Layout) (blocks number : ℕ) (old mid new : D) → IfSome (g.content old) (λ before. number ≡ number_in blocks before) → RecoversInHalves g layout blocks old mid
+      → StaysInHalves g layout number mid new → RecoversInHalves g layout blocks old new
+  recovers_on layout blocks number old mid new same first later = if_told (g.content old) _ (λ before told.
+      halves_on layout layout (number_in blocks before) number old mid new refl (at_told (λ (l : List ℕ). number ≡ number_in blocks l) before told same)
+      (at_told (λ (l : List ℕ). StaysInHalves g layout (number_in blocks l) old mid) before told first) later)
+
+  -- a recovery of a disk that got no longer before it
+  pub recovers_none : (layout : Layout) (blocks : ℕ) (old new : D) → ((most : ℕ) → StaysWithin g most old new) → RecoversInHalves g layout blocks old new
+  recovers_none layout blocks old new stays = if_told (g.content old) _ (λ before told in_halves. stays _)
+
+  pub recovers_behind : (layout : Layout) (blocks : ℕ) (old mid new : D) → g.content mid ≡ g.content old → ((most : ℕ) → StaysWithin g most old mid) → RecoversInHalves g layout blocks mid new
+      → RecoversInHalves g layout blocks old new
+  recovers_behind layout blocks old mid new same stays later = if_told (g.content old) _ (λ before told.
+      halves_on layout layout (number_in blocks before) (number_in blocks before) old mid new refl refl (λ in_halves. stays _)
+      (at_told (λ (l : List ℕ). StaysInHalves g layout (number_in blocks l) mid new) before (same ∙ told) later))
+
+-- ---- where a store in two halves has its records and its blocks
+
+-- each half ends within the most octets of the store
+pub half_longest : (blocks : ℕ) (chosen : Half) → half_gate variant.Halves blocks chosen + half_size blocks ≤ longest blocks
+half_longest blocks half.First = omega arith
+half_longest blocks half.Second = omega arith
+
+-- so does a record with the gates around it that there is room for
+pub room_longest : (journal : Position) (count : ℕ) → journal.layout ≡ variant.Halves → HasRoom journal count → journal.place + 1 + count ≤ longest journal.blocks
+room_longest journal count in_halves room =
+    let within : journal.place + 1 + count ≤ half_gate variant.Halves journal.blocks journal.half + half_size journal.blocks =
+    subst (λ (l : Layout). IfSome (half_end l journal.blocks journal.half) (λ end. journal.place + 1 + count ≤ end)) in_halves room in
+    omega (arith, within, half_longest journal.blocks journal.half)
+
+-- and a block
+pub block_longest : (blocks block count : ℕ) → block < blocks → count ≤ 512 → block_place block + count ≤ longest blocks
+block_longest blocks block count there most = omega (arith, there, most)
+
+-- and the first two gates
+pub gates_longest : (blocks : ℕ) → first_gate variant.Halves blocks + 2 ≤ longest blocks
+gates_longest blocks = omega arith
+
+some_same : (a b : List ℕ) → Some a ≡ Some b → a ≡ b
+some_same a b same = cc same
+
+-- ---- the calls of a journal
+
+module _ {D : Type 0} (g : Ghosts D) (counts_now : (disk : D) (t : ℕ) (image : List ℕ) → t ≤ g.moment disk → g.images disk image → g.images_since disk t image)
+    (earlier : (disk : D) (t u : ℕ) (image : List ℕ) → t ≤ u → g.images_since disk u image → g.images_since disk t image) (is_image : (disk : D) → IfSome (g.content disk) (g.images disk))
+    (old new : D) (told : TellsAlike (g.content old) (g.content new)) where
+  pub append_stays : (journal : Position) (entry : Record) → HasRoom journal (4 + length entry.content) → LeavesAppending g journal entry old new → StaysInHalves g journal.layout journal.blocks old new
+  append_stays journal entry room leaves in_halves =
+      stays_torn g counts_now earlier is_image (longest journal.blocks) old new told journal.place (5 + length entry.content)
+      (let ends = room_longest journal (4 + length entry.content) in_halves room in omega (arith, ends))
+      (told_weaker (g.content old) _ _ (λ before is left. weaker g.moment g.images_since old new _ _ (λ image there. there.beside) left) leaves)
+
+  pub block_stays : (journal : Position) (block count : ℕ) → HasBlock journal block → count ≤ 512 → LeavesWritingBlock g journal block count old new → StaysInHalves g journal.layout journal.blocks old new
+  block_stays journal block count has most leaves in_halves =
+      stays_torn g counts_now earlier is_image (longest journal.blocks) old new told (block_place block) count (block_longest journal.blocks block count has.there most)
+      (told_weaker (g.content old) _ _ (λ before is left. weaker g.moment g.images_since old new _ _ (λ image there. there.beside) left) leaves)
+
+  pub rewrite_stays : (journal : Position) (text : List ℕ) (gate : ℕ) (chosen : Half) → journal.layout ≡ variant.Halves → gate ≡ half_gate journal.layout journal.blocks chosen → length text ≤ half_size journal.blocks
+      → Leaves g old new (IsChoosing gate text) → StaysWithin g (longest journal.blocks) old new
+  rewrite_stays journal text gate chosen in_halves gate_is fits leaves =
+      let at : gate ≡ half_gate variant.Halves journal.blocks chosen = subst (λ (l : Layout). gate ≡ half_gate l journal.blocks chosen) in_halves gate_is in
+      let ends : gate + length text ≤ longest journal.blocks = omega (arith, at, fits, half_longest journal.blocks chosen) in
+      stays_by g counts_now earlier is_image (longest journal.blocks) old new told (IsChoosing gate text) leaves
+      (λ bound le within before is image left.
+      let few = (at_told _ before is within).0 in
+      elim left [
+        | inl torn ↦ omega (arith, few, ends, le, torn.no_longer)
+        | inr chosen_there ↦ omega (arith, few, ends, le, chosen_there.1.torn.no_longer, chosen_there.2.no_longer)
+      ])
+
+  pub recovery_stays : (magic : List ℕ) (layout : Layout) (blocks : ℕ) → Leaves g old new (IsRecovering magic layout blocks) → RecoversInHalves g layout blocks old new
+  recovery_stays magic layout blocks leaves = if_told (g.content old) _ (λ before told_before in_halves.
+      stays_by g counts_now earlier is_image (longest (number_in blocks before)) old new told (IsRecovering magic layout blocks) leaves
+      (λ bound le within other is image left.
+      let few = (at_told _ other is within).0 in
+      let same : other ≡ before = some_same other before (sym is ∙ told_before) in
+      let gate : gate_in layout blocks other + 2 ≤ longest (number_in blocks before) =
+      subst (λ (l : Layout). first_gate l (number_in blocks other) + 2 ≤ longest (number_in blocks before)) (sym in_halves)
+      (subst (λ (l : List ℕ). first_gate variant.Halves (number_in blocks other) + 2 ≤ longest (number_in blocks l)) same (gates_longest (number_in blocks other))) in
+      elim (cases_lt (length other) (gate_in layout blocks other + 2)) [
+        | inl short ↦ omega (arith, left.no_longer short, gate, le)
+        | inr long ↦ omega (arith, few, ap length (left.formatted long))
+      ]))
