@@ -19,7 +19,7 @@ use Rattle.file_journal.specs.Journal as journal
 use Rattle.file_journal.specs.Journal.{Standing, journal_of}
 use Rattle.file_journal.specs.Form.{Form, StandsFor}
 use Rattle.file_journal.specs.Kept.{StandsAt}
-use Rattle.file_journal.specs.Layout.{Blocks, block_in, blocks_on}
+use Rattle.file_journal.specs.Layout.{Blocks, block_in, blocks_on, half_in}
 use Rattle.file_journal.specs.Position.{Position}
 use Rattle.file_journal.specs.Records.{Reading, Record, broken, whole}
 use Rattle.file_journal.specs.Steps.{StandsAs, walked}
@@ -62,7 +62,7 @@ pub standing_keeps : (blocks : ℕ) (octets : List ℕ) (now : PlacedStore) → 
     → IsPlaced now × KeepsSeals (block_in octets) now
 standing_keeps blocks octets now is = by (journal_of placed_magic layout.Blocks octets) is
   where
-    by : (store : Standing) → stands_of no_entries (placed_step (block_in octets)) layout.Blocks blocks store ≡ state now → Keeps (block_in octets) now
+    by : (store : Standing) → stands_of no_entries (placed_step (block_in octets)) layout.Blocks (half_in layout.Blocks octets) blocks store ≡ state now → Keeps (block_in octets) now
     by (journal.no_store found) is = absurd (cc is)
     by journal.bad_number is = absurd (cc is)
     by (journal.store number reading) is =
@@ -81,7 +81,7 @@ kept_seals g position now disk at healthy told = by (g.content disk) told (at.ho
         let same : walked placed_steps placed_magic layout.Blocks position.blocks octets ≡ state now =
         ap (λ (m : List ℕ). walked placed_steps m layout.Blocks position.blocks octets) (sym at.magic_is)
         ∙ ap (λ (l : Layout). walked placed_steps position.magic l position.blocks octets) (sym at.layout_is)
-        ∙ stands in
+        ∙ stands.1 ∙ ap (λ (s : PlacedStore). state s) stands.2 in
         (standing_keeps position.blocks octets now same).1
 
 -- ---- octets stand for the store after the commands that their records are
@@ -96,6 +96,7 @@ held_form held = record {
   allowed = λ store command. IsTrue (is_allowed held store command);
   after = after held;
   calls = λ command. 0;
+  octets = λ command. 0;
 }
 
 -- the commands as records

@@ -64,6 +64,7 @@ placed_seen =
       own_number = placed_number;
       fresh_state = none_is_placed;
       step_state = λ held before now entry rules is. step_state held before now entry is rules;
+      kept_state = λ now rules. rules;
       fresh_number = λ is blocks. refl;
       same_number = λ held before now entry is. step_blocks held before now entry is;
       fresh_none = none_used;
@@ -74,4 +75,5 @@ placed_seen =
           step_decides held before now entry is rules block decides;
       same_step = λ one other before now entry rules is same. step_same one before now entry is other rules same;
       same_seen = λ one other now rules same. seen_same one other now same;
+      anew = λ is. absurd (cc is);
     }

@@ -100,16 +100,19 @@ placed_step held store entry = option_and_then (placed_after held store) (placed
 abbrev pub placed_magic : List ℕ
 placed_magic = 80 ∷ 88 ∷ 83 ∷ 84 ∷ 79 ∷ 82 ∷ 69 ∷ 57 ∷ []
 
--- what the records make of a store
-abbrev pub placed_steps : Steps PlacedStore
+-- what the records make of a store, which is kept whole
+abbrev pub placed_steps : Steps PlacedStore PlacedStore
 placed_steps =
     record {
       fresh = no_entries;
-      number = λ store. store.blocks;
       step = placed_step;
       is_state = IsPlaced;
+      kept = λ store. store;
+      is_kept = IsPlaced;
+      number = λ store. store.blocks;
       uses = Uses;
       decides = Decides;
+      anew = λ store. [];
     }
 
 -- these octets put in a block, whichever it is
@@ -124,6 +127,14 @@ calls_for (file.grow number octets) = block_calls (put_somewhere octets) + recor
 calls_for (file.seal number moment) = record_calls
 calls_for (file.drop_entry number) = record_calls
 
+-- how many octets the record of a command has, with its gate, whichever block or sum it says
+abbrev pub octets_for : Command → ℕ
+octets_for (file.begin number caller file_length moment) =
+    4 + length (record_of_placed (begin number caller file_length moment)).content
+octets_for (file.grow number octets) = 4 + length (record_of_placed (grow number 0 (length octets))).content
+octets_for (file.seal number moment) = 4 + length (record_of_placed (seal number moment 0)).content
+octets_for (file.drop_entry number) = 4 + length (record_of_placed (drop_entry number)).content
+
 -- The stores that a journal of these commands keeps: octets stand for the store of files that the records and the
 -- blocks make together.
 abbrev pub placed_form : Form Store Command
@@ -137,4 +148,5 @@ placed_form =
       allowed = IsAllowed;
       after = file.after;
       calls = calls_for;
+      octets = octets_for;
     }

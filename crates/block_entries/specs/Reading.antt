@@ -8,10 +8,9 @@ use Rattle.disk_model.specs.declared.disk.Disk.{Ghosts}
 use Rattle.file_entries.specs.Limits.{longest_file}
 use Rattle.file_journal.specs.Form.{Form}
 use Rattle.file_journal.specs.Kept.{StandsAt}
-use Rattle.file_journal.specs.Layout.{blocks_on}
+use Rattle.file_journal.specs.Layout.{HasBlocks, blocks_on}
 use Rattle.file_journal.specs.Position.{Position, StandsOn}
 use Rattle.file_journal.specs.Steps.{Steps}
-use Rattle.file_journal.specs.declared.layout.Layout.TheVariants as layout
 
 -- the 512 octets of a block, on a disk of this content
 abbrev pub block_octets : Option (List ℕ) → ℕ → List ℕ
@@ -21,14 +20,14 @@ block_octets content block = whole_block (blocks_on content) block
 pub record MayRead {D : Type 0} (g : Ghosts D) (journal : Position) (disk : D) : Type 0 where
   pub stands_on : StandsOn g journal disk
   pub healthy : journal.failed ≡ false
-  pub in_blocks : journal.layout ≡ layout.Blocks
+  pub has_blocks : HasBlocks journal.layout
 
--- The same of a journal that holds a state that records made.
-pub record MayReadKept {D S V C : Type 0} (g : Ghosts D) (form : Form V C) (steps : Steps S) (journal : Position)
-    (now : S) (disk : D) : Type 0 where
+-- The same of a journal that holds what is kept of a state that records made.
+pub record MayReadKept {D S K V C : Type 0} (g : Ghosts D) (form : Form V C) (steps : Steps S K) (journal : Position)
+    (now : K) (disk : D) : Type 0 where
   pub stands_at : StandsAt g form steps journal now disk
   pub healthy : journal.failed ≡ false
-  pub in_blocks : form.layout ≡ layout.Blocks
+  pub has_blocks : HasBlocks form.layout
 
 -- the blocks in which the octets of a file stand
 abbrev pub blocks_of : Table → FileBlocks → List ℕ

@@ -2,7 +2,7 @@
 
 use crate::{Entries, PlacedCommand};
 use disk_model::Disk;
-use file_journal::{ApplyFault, Journal, Layout, Ledger};
+use file_journal::{ApplyFault, Journal, Layout, Ledger, RecordContent, RecordPlace};
 use px_base::OutOfMemory;
 use std::alloc::Global;
 
@@ -15,8 +15,11 @@ impl Ledger for Entries {
     ghost use Rattle.block_entries.specs.Seen.{seen};
     ghost use Rattle.file_entries.specs.Command.{Command as StoreCommand};
     ghost use Rattle.file_entries.specs.Store.{Store};
+    ghost use Rattle.std.specs.Prelude.{[], refl};
 
     ghost State = { PlacedStore };
+
+    ghost Kept = { PlacedStore };
 
     ghost Seen = { Store };
 
@@ -29,6 +32,8 @@ impl Ledger for Entries {
     ghost seen = { seen };
 
     ghost state = { λ entries. store_of entries.files };
+
+    ghost left = { λ entries place. [] };
 
     ghost by_records = { λ entries. NothingOut entries.files × IsPlaced (store_of entries.files) };
 
@@ -63,7 +68,13 @@ impl Ledger for Entries {
         Ok(done)
     }
 
+    fn next_record(&self, _place: &mut RecordPlace, _content: &mut RecordContent) -> Option<u8> {
+        None
+    }
+
     ghost is_seen = { placed_seen };
+
+    ghost all_left = { λ entries is. refl };
 
     ghost reached = { λ entries made. made.1 };
 }

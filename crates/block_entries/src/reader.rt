@@ -4,6 +4,7 @@ ghost use Rattle.std.specs.Prelude.{◌≡◌, ℕ, ◌+◌, ◌<◌, ◌≤◌,
 ghost use Rattle.block_entries.specs.Reading.{MayRead, MayReadKept, block_octets};
 ghost use Rattle.disk_model.specs.Disk.{FillsRoom, IsTold};
 ghost use Rattle.file_journal.specs.Calls.{Reads};
+ghost use Rattle.file_journal.specs.Steps.{kept_by};
 
 use disk_model::{Disk, DiskFault};
 use file_journal::{Journal, Kept, Ledger};
@@ -51,9 +52,10 @@ impl<D: Disk> BlockReader<D> for Journal {
 }
 
 impl<D: Disk, L: Ledger> BlockReader<D> for Kept<L> {
-    ghost may_read = { λ kept disk. MayReadKept D.Disk L.form L.steps kept.journal (L.state kept.ledger) disk };
+    ghost may_read = { λ kept disk.
+        MayReadKept D.Disk L.form L.steps kept.journal (kept_by L.steps L.state kept.ledger) disk };
 
-    ghost block_count = { λ kept. L.steps.number (L.state kept.ledger) };
+    ghost block_count = { λ kept. L.steps.number (kept_by L.steps L.state kept.ledger) };
 
     fn read_block(
         &self,

@@ -23,7 +23,7 @@ use Rattle.client_notes.specs.declared.noted_lists.Coming.{Coming}
 use Rattle.client_notes.specs.declared.noted_lists.Coming.TheVariants as coming
 use Rattle.client_notes.specs.declared.noted_lists.NotedLists.{NotedLists}
 use Rattle.client_notes.specs.declared.refusals.NotesRefusal.TheVariants as refusal
-use Rattle.client_notes.proofs.PutLemmas.{IsPut, images-here, stands-notes}
+use Rattle.client_notes.proofs.PutLemmas.{IsPut, images-here, put-does, stands-notes}
 
 -- some number of one command
 before-or-after : (low high : ℕ) (lists : Lists) (command : NotesCommand) (image : List ℕ) → high ≤ 1 → MakesBetween notes_form low high lists (command ∷ []) image → IsBeforeOrAfter lists command image
@@ -71,9 +71,9 @@ module _ {D : Type 0} (g : Ghosts D) where
     answers-of : {T U E : Type 0} (came : Result U E) (result : Result T JournalFault) → (IsErr came → IsErr result) → (IsErr result → IsErr came) → ¬ IsErrOf result journal_fault.Failed
         → IsPut g command (kept_on old.lists old.journal disk) (kept_on new.lists new.journal disk_now) came → Answers g old new disk disk_now command result
     answers-of came result there back fine put = record {
-      failed = (λ was. absurd (fine was), λ before. absurd (cc (sym put.does.healthy ∙ before)));
+      failed = (λ was. absurd (fine was), λ before. absurd (cc (sym put.does.does.healthy ∙ before)));
       untouched = λ was. absurd (fine was);
-      does = λ _. does-of (IsErr result) (stands-notes g new.journal new.lists disk_now put.stands_at) (does_same g notes_form _ _ (command ∷ []) _ _ there back put.does);
+      does = λ _. does-of (IsErr result) (stands-notes g new.journal new.lists disk_now put.stands_at) (does_same g notes_form _ _ (command ∷ []) _ _ there back (put-does g command _ _ came put));
       stands_on = stands-notes g new.journal new.lists disk_now put.stands_at;
     }
 
@@ -81,19 +81,19 @@ module _ {D : Type 0} (g : Ghosts D) where
         → Noting {T = U} g old new disk disk_now command (Ok y)
     noting-done x y put = record {
       refused = tt;
-      can = λ was. cc (sym put.does.healthy ∙ was);
+      can = λ was. cc (sym put.does.does.healthy ∙ was);
       untouched = inl refl;
-      does = λ reaches. does-of _ (stands-notes g new.journal new.lists disk_now put.stands_at) (does_same g notes_form _ _ (command ∷ []) _ _ (λ is. is) (λ is. is) put.does);
+      does = λ reaches. does-of _ (stands-notes g new.journal new.lists disk_now put.stands_at) (does_same g notes_form _ _ (command ∷ []) _ _ (λ is. is) (λ is. is) (put-does g command _ _ _ put));
       stands_on = stands-notes g new.journal new.lists disk_now put.stands_at;
     }
 
     pub noting-cut : {T U E : Type 0} (e : E) → IsPut {T = T} g command (kept_on old.lists old.journal disk) (kept_on new.lists new.journal disk_now) (Err e)
         → Noting {T = U} g old new disk disk_now command (Err refusal.Disk)
     noting-cut e put = record {
-      refused = λ was. cc (sym put.does.healthy ∙ was);
+      refused = λ was. cc (sym put.does.does.healthy ∙ was);
       can = tt;
       untouched = inl refl;
-      does = λ reaches. does-of _ (stands-notes g new.journal new.lists disk_now put.stands_at) (does_same g notes_form _ _ (command ∷ []) _ _ (λ is. refl) (λ is. refl) put.does);
+      does = λ reaches. does-of _ (stands-notes g new.journal new.lists disk_now put.stands_at) (does_same g notes_form _ _ (command ∷ []) _ _ (λ is. refl) (λ is. refl) (put-does g command _ _ _ put));
       stands_on = stands-notes g new.journal new.lists disk_now put.stands_at;
     }
 
@@ -163,6 +163,7 @@ answers-as g old now one other same answers = record {
   untouched = λ found is. answers.untouched found ((same (fault.NotAStore found)).1 is);
   untouched_damage = λ at is. answers.untouched_damage at ((same (fault.Damaged at)).1 is);
   runs = runs_same g _ _ old now (same fault.Disk).0 (same fault.Disk).1 answers.runs;
+  within = answers.within;
   since_start = answers.since_start;
   since_sync = told_weaker (g.content old) _ _ (λ before told. ⊎_elim
       (λ (synced : IsSyncedFirst g old now (StandsAlike before)). inl synced)

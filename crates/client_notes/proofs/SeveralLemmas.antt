@@ -77,6 +77,7 @@ module _ {D : Type 0} (g : Ghosts D) where
       calls = λ fine. (does.done fine).calls;
       at_most = omega (arith, does.at_most);
       none = λ is. absurd (cc is);
+      within = λ in_halves. absurd (cc in_halves);
       puts = does.puts;
       reads = tt;
       done = λ fine. let made = does.done fine in (λ known. made.lists, made.healthy);

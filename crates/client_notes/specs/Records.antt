@@ -130,8 +130,12 @@ abbrev pub fresh_notes : ℕ → Lists
 fresh_notes blocks = no_notes
 
 -- what records make of notes
-abbrev pub notes_steps : Steps Lists
+abbrev pub notes_steps : Steps Lists Lists
 notes_steps = growing_steps fresh_notes (λ lists. 1) notes_step
+
+-- how many octets the record of a command has, with its gate
+abbrev pub octets_for : NotesCommand → ℕ
+octets_for command = 4 + length (record_of_command command).content
 
 -- the notes that a journal of these commands keeps, whatever its block number is
 abbrev pub notes_form : Form Lists NotesCommand
@@ -144,4 +148,5 @@ notes_form =
       allowed = λ lists command. IsTrue (is_allowed lists command);
       after = after;
       calls = λ command. record_calls;
+      octets = octets_for;
     }

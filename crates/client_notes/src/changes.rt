@@ -1,6 +1,6 @@
 //! The changes of the notes, each of which is one command.
 
-ghost use Rattle.std.specs.Prelude.{◌≡◌, IsTrue, true};
+ghost use Rattle.std.specs.Prelude.{◌≡◌, IsTrue, refl, true};
 ghost use Rattle.file_journal.specs.Form.{same_form};
 ghost use Rattle.client_notes.specs.Command.{NotesCommand, after, is_allowed};
 ghost use Rattle.client_notes.specs.Commands.{command_value};
@@ -28,6 +28,8 @@ pub(crate) struct Direct<'a> {
 
 impl<'a> Change<NotedLists> for Brought<'a> {
     ghost State = { Lists };
+
+    ghost Kept = { Lists };
 
     ghost Seen = { Lists };
 
@@ -66,10 +68,14 @@ impl<'a> Change<NotedLists> for Brought<'a> {
     ghost lets_same = { λ change noted one other same is. is };
 
     ghost of_ledger = { same_form notes_form (λ held noted. lists_of noted) };
+
+    ghost anew_of_ledger = { λ noted is. refl };
 }
 
 impl<'a> Change<NotedLists> for Direct<'a> {
     ghost State = { Lists };
+
+    ghost Kept = { Lists };
 
     ghost Seen = { Lists };
 
@@ -115,4 +121,6 @@ impl<'a> Change<NotedLists> for Direct<'a> {
     ghost lets_same = { λ change noted one other same is. is };
 
     ghost of_ledger = { same_form notes_form (λ held noted. lists_of noted) };
+
+    ghost anew_of_ledger = { λ noted is. refl };
 }

@@ -11,7 +11,7 @@ use crate::command::Command;
 use crate::lists::{Behind, Lists};
 use crate::task::StoredTask;
 use disk_model::Disk;
-use file_journal::{ApplyFault, Journal, Layout, Ledger};
+use file_journal::{ApplyFault, Journal, Layout, Ledger, RecordContent, RecordPlace};
 use px_base::{Call, OutOfMemory};
 use std::alloc::Global;
 
@@ -98,8 +98,11 @@ impl Ledger for NotedLists {
     ghost use Rattle.client_notes.specs.Notes.{Lists as NotesLists};
     ghost use Rattle.client_notes.specs.NotesLaws.{notes_seen};
     ghost use Rattle.client_notes.specs.Records.{notes_form, notes_steps};
+    ghost use Rattle.std.specs.Prelude.{refl};
 
     ghost State = { NotesLists };
+
+    ghost Kept = { NotesLists };
 
     ghost Seen = { NotesLists };
 
@@ -112,6 +115,8 @@ impl Ledger for NotedLists {
     ghost seen = { λ held now. now };
 
     ghost state = { lists_of };
+
+    ghost left = { λ noted place. [] };
 
     ghost by_records = { λ noted. noted.coming ≡ coming.Nothing };
 
@@ -140,7 +145,13 @@ impl Ledger for NotedLists {
         }
     }
 
+    fn next_record(&self, _place: &mut RecordPlace, _content: &mut RecordContent) -> Option<u8> {
+        None
+    }
+
     ghost is_seen = { notes_seen };
+
+    ghost all_left = { λ noted is. refl };
 
     ghost reached = { λ noted nothing. tt };
 }

@@ -1,6 +1,6 @@
 //! The changes of the entries, each of which is one command.
 
-ghost use Rattle.std.specs.Prelude.{◌≡◌};
+ghost use Rattle.std.specs.Prelude.{◌≡◌, refl};
 ghost use Rattle.block_entries.specs.Placed.{PlacedStore};
 ghost use Rattle.block_entries.specs.PlacedCommands.{placed_value};
 ghost use Rattle.block_entries.specs.PlacedFiles.{store_of};
@@ -89,6 +89,8 @@ impl EntriesChange {
 impl Change<Entries> for EntriesChange {
     ghost State = { PlacedStore };
 
+    ghost Kept = { PlacedStore };
+
     ghost Seen = { Store };
 
     ghost Command = { StoreCommand };
@@ -152,4 +154,6 @@ impl Change<Entries> for EntriesChange {
     ghost lets_same = { λ change entries one other same. lets_same change entries.files one other same };
 
     ghost of_ledger = { same_form placed_form (λ held entries. seen held (store_of entries.files)) };
+
+    ghost anew_of_ledger = { λ entries is. refl };
 }

@@ -8,7 +8,7 @@ use Rattle.client_notes.specs.Recovery.{AnswersRecovery, Recovers}
 use Rattle.client_notes.specs.State.{NotesState, standing_of}
 use Rattle.client_notes.specs.StoreFault.{StoreFault}
 use Rattle.client_notes.specs.StoreFault.TheVariants as fault
-use Rattle.client_notes.proofs.Offered.{runs_same, told_weaker, at_told}
+use Rattle.client_notes.proofs.Offered.{if_told, runs_same, told_weaker, at_told}
 use Rattle.uploader.specs.declared.stop.SendStop.{SendStop}
 use Rattle.uploader.specs.declared.stop.SendStop.TheVariants as stop
 use Rattle.uploader.specs.OnDisk.{EndsExactly, RefusesNotes}
@@ -33,6 +33,7 @@ unmade_leaves g old now notes recovers = record {
   untouched = λ found is. absurd (cc is);
   untouched_damage = λ at is. absurd (cc is);
   runs = runs_same g _ _ old now (λ never. absurd never) (λ is. cc is) recovers.runs;
+  within = if_told (g.content old) _ (λ before told in_halves. absurd (cc in_halves));
   since_start = recovers.since_start;
   since_sync = told_weaker (g.content old) _ _ (λ before told synced. inl synced) recovers.since_sync;
 }
