@@ -12,7 +12,7 @@ use Rattle.ftl0_session.specs.Lists.Lists.{CallerList}
 use Rattle.ftl0_server.specs.Connection.Connected.{Connected}
 use Rattle.ftl0_server.specs.Entries as session
 use Rattle.ftl0_server.specs.Entries.{HearingLaw, entries_heard}
-use Rattle.ftl0_server.specs.Laws as server
+use Rattle.server_laws.specs.Steps as server
 use Rattle.air_attempt.specs.Attempt.{Attempt, IsAttempt}
 use Rattle.air_attempt.specs.Laws.{AreAttempts, HeardFrontLaw}
 use Rattle.air_attempt.specs.Lists.{AreFirstOf}

@@ -7,10 +7,10 @@ use Rattle.ax25_link.specs.declared.state.LinkState.TheVariants.{Up}
 use Rattle.ax25_link.specs.Window.{IsWindow, Window}
 use Rattle.node.specs.Events.{NodeEvent}
 use Rattle.ftl0_server.specs.Connection.Connected.{Connected, caller_of}
-use Rattle.ftl0_server.specs.Laws as server
 use Rattle.ftl0_server.specs.Server.{Server}
 use Rattle.ftl0_server.specs.ServerStep.{ServerStep, Stepped}
 use Rattle.ftl0_server.specs.Slots.{Slot, all_freed, connected, leaving}
+use Rattle.server_laws.specs.Steps as server
 use Rattle.air_attempt.specs.Laws.{IsBetween, IsKnown, IsSeatedIn}
 use Rattle.air_attempt.proofs.Places.{freed-none, freed-seat}
 use Rattle.air_attempt.proofs.ListLemmas.{set-at}

@@ -5,9 +5,9 @@ use Rattle.ax25_frames.specs.FrameText.{FrameValue}
 use Rattle.ax25_link.specs.Rows.{is_call}
 use Rattle.node.specs.Events.{hears}
 use Rattle.ftl0_server.specs.Entries.{HearingLaw}
-use Rattle.ftl0_server.specs.Laws as server
 use Rattle.ftl0_server.specs.Server.{Server}
 use Rattle.ftl0_server.specs.ServerStep.{ServerStep, Stepped}
+use Rattle.server_laws.specs.Steps as server
 use Rattle.air_attempt.specs.Attempt.{Attempt}
 use Rattle.air_attempt.specs.Laws.{Calls, IsBetween, SaysFit, ServerHearsLaw, did_in}
 use Rattle.air_attempt.specs.Transfers.{after_hearing}

@@ -11,13 +11,13 @@ use Rattle.ftl0_session.specs.Lists.Lists.{has_left}
 use Rattle.ftl0_server.specs.Connection.Connected.{Connected, answering, caller_of}
 use Rattle.ftl0_server.specs.Connection.Hearing.{Happened, hearing, with_end}
 use Rattle.ftl0_server.specs.Entries.{HearingLaw}
-use Rattle.ftl0_server.specs.Laws as server
 use Rattle.ftl0_server.specs.Server.{Server, hearing_at, hearing_by, hearing_stranger}
 use Rattle.ftl0_server.specs.ServerStep.{ServerStep, Stepped, happening}
 use Rattle.ftl0_server.specs.Slots.{Slot, all_freed, connected, first_empty, free, is_empty, leaving, place_of}
 use Rattle.ftl0_server.specs.Slots.{slot_after}
 use Rattle.server_laws.specs.Places.{refusals}
 use Rattle.server_laws.proofs.Offered.{stranger_by}
+use Rattle.server_laws.specs.Steps as server
 use Rattle.air_attempt.specs.Laws.{IsBetween, IsSeatedIn, StaysServer}
 use Rattle.air_attempt.proofs.LinkKeeps.{drains-keep}
 use Rattle.air_attempt.proofs.Places.{place-of-is, place-of-not, position-is, same-seat, seat-caller}

@@ -17,11 +17,11 @@ use Rattle.node.specs.Events.{ticks}
 use Rattle.file_store.specs.Command.{after_all}
 use Rattle.ftl0_server.specs.Connection.Connected.{Connected, caller_of}
 use Rattle.ftl0_server.specs.Connection.Hearing.{ticking, with_end}
-use Rattle.ftl0_server.specs.Laws as server
 use Rattle.ftl0_server.specs.Server.{Server}
 use Rattle.ftl0_server.specs.ServerStep.{ServerStep, Stepped}
 use Rattle.ftl0_server.specs.Slots.{Slot, connected, free, leaving, left_by, slot_ticking}
 use Rattle.server_laws.specs.Places.{SlotDrains}
+use Rattle.server_laws.specs.Steps as server
 use Rattle.air_attempt.specs.Laws.{IsBetween, IsSeatedIn, StaysServer}
 use Rattle.air_attempt.proofs.Connections.{IsBehind, left-held}
 use Rattle.air_attempt.proofs.Drained.{DrainedAt, IsHeldAt, drained-at, drained-length, to_station, was-drained}

@@ -11,11 +11,11 @@ use Rattle.ax25_link.specs.Timer as link
 use Rattle.ax25_link.specs.Window.{Window}
 use Rattle.node.specs.Events.{ticks}
 use Rattle.ftl0_server.specs.Connection.Connected.{Connected, caller_of}
-use Rattle.ftl0_server.specs.Laws as server
 use Rattle.ftl0_server.specs.Server.{Server}
 use Rattle.ftl0_server.specs.ServerStep.{ServerStep, Stepped}
 use Rattle.ftl0_server.specs.Connection.Hearing.{ticking}
 use Rattle.ftl0_server.specs.Slots.{place_of}
+use Rattle.server_laws.specs.Steps as server
 use Rattle.air_attempt.specs.Attempt.{Attempt, IsAttempt}
 use Rattle.air_attempt.specs.Laws.{AreAttempts, Calls, IsBetween, IsNewestSession, IsSeatedIn, ServerTicksLaw, did_in}
 use Rattle.air_attempt.specs.Party.{AreOver, OnlyNewestUp, newest_side, with_answered}

@@ -17,10 +17,10 @@ use Rattle.file_store.specs.Command.{after_all}
 use Rattle.ftl0_server.specs.Connection.Connected.{Connected, caller_of}
 use Rattle.ftl0_server.specs.Connection.Hearing.{Happened, hearing, with_end}
 use Rattle.ftl0_server.specs.Entries as session
-use Rattle.ftl0_server.specs.Laws as server
 use Rattle.ftl0_server.specs.Server.{Server}
 use Rattle.ftl0_server.specs.ServerStep.{ServerStep, Stepped}
 use Rattle.ftl0_server.specs.Slots.{connected, leaving, place_of}
+use Rattle.server_laws.specs.Steps as server
 use Rattle.client_notes.specs.Command.{NotesCommand}
 use Rattle.ftl0_job.specs.JobState.{IsNew, NotesGoWith}
 use Rattle.ftl0_job.specs.declared.work.Work.{Work}

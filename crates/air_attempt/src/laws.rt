@@ -3,8 +3,7 @@
 ghost use Rattle.air_attempt.specs.Laws.{ClientLaw, CurrentLaw, FrontLaw, HeardFrontLaw, HeardLaw, LeftLaw};
 ghost use Rattle.air_attempt.specs.Laws.{ServerHearsLaw, ServerTicksLaw};
 
-use ftl0_server::laws::{one_step_law, some_step_law};
-use server_laws::hearing_law;
+use server_laws::{hearing_law, one_step_law, some_step_law};
 
 /// What the server makes of a frame: the attempts of the client whose frame it is stay attempts, with what was sent and
 /// taken at it, and those of all others stay as they are (AX.25 2.0, 2.4; FTL0 1990).

@@ -11,7 +11,7 @@ use Rattle.file_store.specs.Command.{Command, after_all}
 use Rattle.file_store.specs.OnDisk.{after_first}
 use Rattle.file_store.specs.Store.{Store}
 use Rattle.ftl0_server.specs.Connection.Connected.{Connected}
-use Rattle.ftl0_server.specs.Laws.{HasStep, SomeStepLaw}
+use Rattle.server_laws.specs.Steps.{HasStep, SomeStepLaw}
 use Rattle.air_attempt.specs.Laws.{LeftLaw}
 use Rattle.air_attempt.specs.Party.{Party, sessions_over}
 use Rattle.air_attempt.specs.Transfers.{connection_of}

@@ -11,7 +11,7 @@ use Rattle.ax25_link.specs.Air.{Transmission}
 use Rattle.ax25_link.specs.declared.refusal.Refusal.{Refusal}
 use Rattle.ax25_link.specs.Sending.{Sending, next_sending}
 use Rattle.node.specs.Events.{NodeEvent, hears, ticks}
-use Rattle.ftl0_server.specs.Laws as server
+use Rattle.server_laws.specs.Steps as server
 use Rattle.client_notes.specs.Command.{is_going, new_task}
 use Rattle.client_notes.specs.Notes.{Lists, Task, task_count, task_of}
 use Rattle.ftl0_job.specs.declared.work.Work.TheVariants as work

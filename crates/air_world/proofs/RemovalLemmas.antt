@@ -10,9 +10,9 @@ use Rattle.ftl0_session.specs.Downloads.Laws.{DueStaysLaw, ListsStayLaw}
 use Rattle.ftl0_session.specs.Downloads.Sending.{due_packet, is_due}
 use Rattle.ftl0_session.specs.Table.{State, download_part, in_session, next_due}
 use Rattle.ftl0_session.specs.Uploads.Failures.{read_fails}
-use Rattle.ftl0_server.specs.Laws as server
 use Rattle.ftl0_server.specs.Server.{IsSilent, Server, sends_by, sends_of_places}
 use Rattle.ftl0_server.specs.Slots.{PlacesSend, Slot, connected, free, leaving, places_next}
+use Rattle.server_laws.specs.Steps as server
 use Rattle.air_attempt.specs.Party.{Party}
 use Rattle.air_files.proofs.Offered.{drop-keeps, drop-sound, facts-removed}
 use Rattle.air_world.specs.Laws.{RemovalLaw, without_entry}

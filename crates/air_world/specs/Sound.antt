@@ -6,7 +6,7 @@ use Rattle.ax25_link.specs.declared.state.LinkState.TheVariants.{Up}
 use Rattle.ax25_link.specs.Window.{IsWindow}
 use Rattle.ftl0_session.specs.Downloads.Needs.{AreComplete}
 use Rattle.ftl0_server.specs.Connection.Connected.{Connected, caller_of}
-use Rattle.ftl0_server.specs.Laws as server
+use Rattle.server_laws.specs.Steps as server
 use Rattle.ftl0_server.specs.Slots.{connected, leaving}
 use Rattle.ftl0_client.specs.Laws as client
 use Rattle.air_attempt.specs.Attempt.{Attempt, IsAttempt}

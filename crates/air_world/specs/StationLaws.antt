@@ -4,7 +4,7 @@ use Rattle.ftl0_client.specs.Attempt.Laws.{CallingLaw, StandsLaw}
 use Rattle.ftl0_client.specs.Entries.{HearingLaw, TickingLaw}
 use Rattle.ftl0_client.specs.Laws.{SomeStepLaw as SomeClientStep}
 use Rattle.ftl0_server.specs.Entries.{HearingLaw as EntriesLaw}
-use Rattle.ftl0_server.specs.Laws.{SomeStepLaw as SomeServerStep}
+use Rattle.server_laws.specs.Steps.{SomeStepLaw as SomeServerStep}
 use Rattle.air_attempt.specs.Laws.{ClientLaw, CurrentLaw, FrontLaw, HeardFrontLaw, HeardLaw, LeftLaw, ServerHearsLaw}
 use Rattle.air_attempt.specs.Laws.{ServerTicksLaw}
 use Rattle.air_files.specs.Laws.{BeginLaw, JobLaw, JobTasksLaw, SessionLaw, StayLaw}

@@ -9,7 +9,6 @@ use air_files::laws as files;
 use file_entries::laws::follows_law;
 use ftl0_client::attempt::laws::stands_law;
 use ftl0_client::laws as client;
-use ftl0_server::laws as server;
 use ftl0_session::downloads::laws::stays_law;
 use pfh_items::laws::{fault_law, no_front_law};
 
@@ -36,7 +35,7 @@ fn station_laws()
     client_laws::ticking_law();
     stands_law();
     client::some_step_law();
-    server::some_step_law();
+    server_laws::some_step_law();
 }
 
 /// The first world of each schedule is sound, and each event that may come keeps a world sound: frames that are lost,
@@ -70,7 +69,7 @@ pub fn existence_law()
     ensures { ExistenceLaw }
 {
     client::some_step_law();
-    server::some_step_law();
+    server_laws::some_step_law();
 }
 
 /// What is promised holds also while the next event of a sound world is under way, in all that the power may leave: of

@@ -29,6 +29,15 @@ pub sends-cases : (w : Window) (P : Place → Slot → Type 0) → P Free free �
 sends-cases w P none talks silent leaves p s sends = grind (arith, common_steps)
 
 module _ (P : Place → Slot → Type 0) where
+  -- what holds of none, and of a pair and others where it holds of the others, holds of all
+  pub by-pairs : (R : List Place → List Slot → Type 0) → R [] []
+      → ((p : Place) (s : Slot) (ps : List Place) (ss : List Slot) → P p s → AllPlaces P ps ss → R ps ss → R (p ∷ ps) (s ∷ ss))
+      → (places : List Place) (slots : List Slot) → AllPlaces P places slots → R places slots
+  by-pairs R none more [] [] all = none
+  by-pairs R none more [] (s ∷ ss) all = absurd all
+  by-pairs R none more (p ∷ ps) [] all = absurd all
+  by-pairs R none more (p ∷ ps) (s ∷ ss) all = more p s ps ss all.0 all.1 (by-pairs R none more ps ss all.1)
+
   -- what holds of the place at an index and its slot
   pub all-get : (places : List Place) (slots : List Slot) (i : ℕ) (place : Place) → AllPlaces P places slots → slice_get places i ≡ Some place
       → (slot : Slot) × (slice_get slots i ≡ Some slot) × P place slot
@@ -46,10 +55,7 @@ module _ (P : Place → Slot → Type 0) where
   all-set (p ∷ ps) (s ∷ ss) (suc i) place slot all one = (all.0, all-set ps ss i place slot all.1 one)
 
   pub all-length : (places : List Place) (slots : List Slot) → AllPlaces P places slots → length places ≡ length slots
-  all-length [] [] all = refl
-  all-length [] (s ∷ ss) all = absurd all
-  all-length (p ∷ ps) [] all = absurd all
-  all-length (p ∷ ps) (s ∷ ss) all = ap suc (all-length ps ss all.1)
+  all-length = by-pairs (λ ps ss. length ps ≡ length ss) refl (λ p s ps ss here all same. ap suc same)
 
   module _ (Q : Place → Slot → Type 0) where
     -- one fact gives another at each index
@@ -63,10 +69,9 @@ module _ (P : Place → Slot → Type 0) where
 
     pub all-both : (places : List Place) (slots : List Slot) → AllPlaces P places slots → AllPlaces Q places slots
         → AllPlaces (λ place slot. P place slot × Q place slot) places slots
-    all-both [] [] one other = tt
-    all-both [] (s ∷ ss) one other = absurd one
-    all-both (p ∷ ps) [] one other = absurd one
-    all-both (p ∷ ps) (s ∷ ss) one other = ((one.0, other.0), all-both ps ss one.1 other.1)
+    all-both =
+        by-pairs (λ ps ss. AllPlaces Q ps ss → AllPlaces (λ place slot. P place slot × Q place slot) ps ss) (λ other. tt)
+        (λ p s ps ss here all later other. ((here, other.0), later other.1))
 
 -- Another fact holds of each pair: at one index of these, and elsewhere by the one that held.
 pub all-set-to : (P Q : Place → Slot → Type 0) (places : List Place) (slots : List Slot) (i : ℕ) (place : Place) (slot : Slot)
@@ -86,10 +91,9 @@ all-set-to P Q (p ∷ ps) (s ∷ ss) (suc i) place slot to all one = (
 module _ (p : Place → Bool) (q : Slot → Bool) where
   same-front : (places : List Place) (slots : List Slot) → AllPlaces (λ place slot. p place ≡ q slot) places slots
       → prefix_len (λ (x : Place). not (p x)) places ≡ prefix_len (λ (x : Slot). not (q x)) slots
-  same-front [] [] all = refl
-  same-front [] (s ∷ ss) all = absurd all
-  same-front (x ∷ xs) [] all = absurd all
-  same-front (x ∷ xs) (s ∷ ss) all = let later = same-front xs ss all.1 in grind (arith, common_steps)
+  same-front =
+      by-pairs (λ place slot. p place ≡ q slot) (λ ps ss. prefix_len (λ (x : Place). not (p x)) ps ≡ prefix_len (λ (x : Slot). not (q x)) ss) refl
+      (λ place slot ps ss here all later. grind (arith, common_steps))
 
   pub same-position : (places : List Place) (slots : List Slot) → AllPlaces (λ place slot. p place ≡ q slot) places slots
       → position p places ≡ position q slots

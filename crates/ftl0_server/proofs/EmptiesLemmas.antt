@@ -1,8 +1,7 @@
--- Each server comes to send nothing, by one list of frames.
+-- Each server comes to send nothing.
 use Rattle.std.proofs.lemmas.Grind.{common_steps}
-use Rattle.std.proofs.Common.{◌≡◌, ◌⊎◌, ℕ, zero, suc, ◌+◌, ◌<◌, ◌≤◌, List, [], ◌∷◌, Option, None, Some, refl, sym, ◌∙◌, ap, subst, inl, inr, arith}
+use Rattle.std.proofs.Common.{◌≡◌, ◌⊎◌, ℕ, zero, suc, ◌+◌, ◌<◌, ◌≤◌, List, [], ◌∷◌, Option, None, Some, refl, sym, ap₂, subst, inl, inr, arith}
 use Rattle.std.specs.Option.{option_map}
-use Rattle.std.proofs.lemmas.Option.{same_Some}
 use Rattle.ax25_frames.specs.FrameText.{FrameValue}
 use Rattle.ax25_link.specs.Ends.{IsEnd, LinkEnd}
 use Rattle.ax25_link.specs.Kept.{count_of}
@@ -11,28 +10,12 @@ use Rattle.ax25_link.specs.Window.{Window}
 use Rattle.ax25_link.proofs.Offered.{left_to_send, next_sending-Sends}
 use Rattle.ftl0_server.specs.AtPlace.{AllFit, PlaceFits}
 use Rattle.ftl0_server.specs.declared.place.Place.{Place}
-use Rattle.ftl0_server.specs.Laws.{OneStepLaw, SlotFits, SlotsFit}
-use Rattle.ftl0_server.specs.Server.{Refused, Server, ServerSends, sends_by, sends_of_places, server_next}
+use Rattle.ftl0_server.specs.Fits.{SlotFits, SlotsFit}
+use Rattle.ftl0_server.specs.Server.{IsSilent, Refused, Server, ServerSends, sends_by, sends_of_places, server_next, settled}
 use Rattle.ftl0_server.specs.ServerState.{AllPlaces, SendsAs, SendsFor, ServerState}
 use Rattle.ftl0_server.specs.ServerStep.{Empties}
-use Rattle.ftl0_server.specs.Slots.{PlacesSend, Slot, SlotSends, connected, first_of, free, leaving, places_next, slot_next, slot_sends}
-use Rattle.ftl0_server.proofs.AllPlaces.{never, sends-cases}
-
--- ---- one list of frames
-
-pub one_way : (server : Server) (frames others : List FrameValue) (last another : Server) → Empties server frames last
-    → Empties server others another → (frames ≡ others) × (last ≡ another)
-one_way server [] [] last another h g = (refl, h.1 ∙ sym g.1)
-one_way server [] (f ∷ others) last another h g = absurd (let a = h.0 in let b = g.1 in let x : ⊥ = cc in x)
-one_way server (f ∷ frames) [] last another h g = absurd (let a = h.1 in let b = g.0 in let x : ⊥ = cc in x)
-one_way server (f ∷ frames) (e ∷ others) last another h g =
-    let same : g.0 ≡ h.0 = same_Some g.0 h.0 (sym g.1 ∙ h.1) in
-    let first : f ≡ e = h.2 ∙ ap (λ (s : ServerSends). s.frame) (sym same) ∙ sym g.2 in
-    let rest = one_way h.0.after frames others last another h.3 (subst (λ (s : ServerSends). Empties s.after others another) same g.3) in
-    ((let both : f ∷ frames ≡ e ∷ others = ap (λ (x : FrameValue). x ∷ frames) first ∙ ap (λ (l : List FrameValue). e ∷ l) rest.0 in both), rest.1)
-
-pub one_step : OneStepLaw
-one_step old event failures one other step that = grind (arith, common_steps, one_way)
+use Rattle.ftl0_server.specs.Slots.{PlacesSend, Slot, SlotSends, all_freed, connected, first_of, free, freed, leaving, places_next, slot_next, slot_sends}
+use Rattle.ftl0_server.proofs.AllPlaces.{by-pairs, never, sends-cases}
 
 -- ---- fewer frames are left
 
@@ -80,10 +63,9 @@ module _ (w : Window) where
   slot-fits = sends-cases w (λ p s. PlaceFits p → SlotFits w s) (λ fit. tt) (λ d c stands fit. fit w c.end stands) (λ link none fit. tt) (λ link c stands fit. fit w c.end stands)
 
   slots-fit : (places : List Place) (slots : List Slot) → AllFit places → AllPlaces (SendsAs w) places slots → SlotsFit w slots
-  slots-fit [] [] fit all = tt
-  slots-fit [] (s ∷ ss) fit all = absurd all
-  slots-fit (p ∷ ps) [] fit all = absurd all
-  slots-fit (p ∷ ps) (s ∷ ss) fit all = (slot-fits p s all.0 (fit 0 p refl), slots-fit ps ss (λ i here at. fit (suc i) here at) all.1)
+  slots-fit places slots fit all =
+      by-pairs (SendsAs w) (λ ps ss. AllFit ps → SlotsFit w ss) (λ fit. tt)
+      (λ p s ps ss here others later fit. (slot-fits p s here (fit 0 p refl), later (λ i there at. fit (suc i) there at))) places slots all fit
 
 -- how many are left of a server
 abbrev pub server_left : Server → ℕ
@@ -126,3 +108,28 @@ emptied (suc fuel) server fits few =
 pub empties : (self : ServerState) (server : Server) → AllFit self.places → SendsFor self server
     → (frames : List FrameValue) × (last : Server) × Empties server frames last
 empties self server fit is = emptied (server_left server) server (slots-fit server.window self.places server.slots fit is.links) (omega arith)
+
+-- the last server has nothing to send
+pub empties-silent : (server : Server) (frames : List FrameValue) (last : Server) → Empties server frames last → IsSilent last
+empties-silent server [] last h = subst (λ (s : Server). IsSilent s) (sym h.1) h.0
+empties-silent server (frame ∷ frames) last h = empties-silent h.0.after frames last h.3
+
+-- ---- what has nothing to send has nothing to send once its places are settled
+
+pub first_none : (slot : Slot) (slots : List Slot) (first : Option SlotSends) (later : Option PlacesSend) → first_of slot slots first later ≡ None → (first ≡ None) × (later ≡ None)
+first_none slot slots first later h = grind (arith, common_steps)
+
+freed_silent : (w : Window) (slot : Slot) → slot_next w slot ≡ None → slot_next w (freed slot) ≡ None
+freed_silent w slot h = grind (arith, common_steps)
+
+places_silent : (w : Window) (slots : List Slot) → places_next w slots ≡ None → places_next w (all_freed slots) ≡ None
+places_silent w [] h = h
+places_silent w (slot ∷ slots) h =
+    let both = first_none slot slots (slot_next w slot) (places_next w slots) h in
+    ap₂ (λ (a : Option SlotSends) (b : Option PlacesSend). first_of (freed slot) (all_freed slots) a b) (freed_silent w slot both.0) (places_silent w slots both.1)
+
+silent_by : (server : Server) (stray : Option Refused) → sends_by server stray ≡ None → sends_by (settled server) stray ≡ None
+silent_by server stray h = grind (arith, common_steps, places_silent)
+
+pub silent-settled : (server : Server) → IsSilent server → IsSilent (settled server)
+silent-settled server h = silent_by server server.stray h

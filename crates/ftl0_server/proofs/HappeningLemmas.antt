@@ -1,7 +1,7 @@
 -- What an event makes of a server: where no write and no sync fails no commands are cut off, and the store is the one
 -- after its commands.
 use Rattle.std.proofs.lemmas.Grind.{common_steps}
-use Rattle.std.proofs.Common.{◌≡◌, ℕ, suc, List, [], ◌∷◌, Bool, Option, None, Some, refl, ap, ◌∙◌, arith}
+use Rattle.std.proofs.Common.{◌≡◌, ℕ, suc, List, [], ◌∷◌, Bool, Option, Some, refl, ap, ◌∙◌, arith}
 use Rattle.std.specs.Prelude.{if◌then◌else◌}
 use Rattle.px_base.specs.CallSign.{CallSign}
 use Rattle.ax25_frames.specs.FrameText.{FrameValue}
@@ -20,8 +20,8 @@ use Rattle.node.specs.Events.{NodeEvent}
 use Rattle.ftl0_server.specs.Connection.Taking.{taking}
 use Rattle.ftl0_server.specs.Server.{Refused, Server, ServerSends, hearing_at, sends_by}
 use Rattle.ftl0_server.specs.ServerStep.{Empties, happening}
-use Rattle.ftl0_server.specs.Slots.{Slot, connected, free, leaving}
-use Rattle.ftl0_server.proofs.QueuedLemmas.{queued-alone}
+use Rattle.ftl0_server.specs.Slots.{Slot, connected}
+use Rattle.ftl0_server.proofs.connection.QueuingLemmas.{queued-keeps}
 
 -- ---- where no write and no sync fails no commands are cut off
 
@@ -35,10 +35,8 @@ module _ (parts : List ℕ) where
       let unlisted = writes-unlisted parts part in grind (arith, common_steps)
 
   at-uncut : (server : Server) (frame : FrameValue) (moment place : ℕ) (slot : Option Slot) → (hearing_at server frame moment (failed_reads parts) place slot).cut ≡ []
-  at-uncut server frame moment place None = refl
-  at-uncut server frame moment place (Some free) = refl
-  at-uncut server frame moment place (Some (leaving end)) = refl
-  at-uncut server frame moment place (Some (connected c)) = grind (arith, common_steps, queued-alone, taking-uncut)
+  at-uncut server frame moment place (Some (connected c)) = grind (arith, common_steps, queued-keeps, taking-uncut)
+  at-uncut server frame moment place slot = refl
 
   pub uncut : (server : Server) (event : NodeEvent) → (happening server event (failed_reads parts)).cut ≡ []
   uncut server event = grind (arith, common_steps, at-uncut)

@@ -1,7 +1,6 @@
 mod AllPlaces
 mod EmptiesLemmas
 mod EndLemmas
-mod FitsLemmas
 mod HappeningLemmas
 mod HearLemmas
 mod KnownLemmas
@@ -9,7 +8,6 @@ mod NextLemmas
 pub mod Offered
 mod OutLemmas
 mod PlaceLemmas
-mod QueuedLemmas
 mod SeatLemmas
 mod ServingLemmas
 mod SettledLemmas

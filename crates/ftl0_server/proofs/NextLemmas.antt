@@ -9,7 +9,7 @@ use Rattle.ftl0_server.specs.Places.{GivesOut, PlacesGive, SamePlace}
 use Rattle.ftl0_server.specs.declared.place.Place.{Place}
 use Rattle.ftl0_server.specs.ServerState.{AllPlaces, SendsAs, any_pending, place_most, place_pending, places_most}
 use Rattle.ftl0_server.specs.Slots.{PlacesSend, Slot, first_of, places_next, slot_next}
-use Rattle.ftl0_server.proofs.AllPlaces.{never}
+use Rattle.ftl0_server.proofs.AllPlaces.{by-pairs, never}
 
 pub true_no : {X : Type 0} → true ≡ false → X
 true_no same = absurd (let x : ⊥ = cc in x)
@@ -23,12 +23,9 @@ none_first a b h = grind (arith, common_steps)
 
 -- places with nothing pending send nothing
 pub quiet-places : (w : Window) (places : List Place) (slots : List Slot) → AllPlaces (SendsAs w) places slots → any_pending places ≡ false → places_next w slots ≡ None
-quiet-places w [] [] all none = refl
-quiet-places w [] (s ∷ ss) all none = absurd all
-quiet-places w (p ∷ ps) [] all none = absurd all
-quiet-places w (p ∷ ps) (s ∷ ss) all none =
-    let parts = none_first (place_pending p) (any_pending ps) none in
-    rw (quiet-slot w p s all.0 parts.0, quiet-places w ps ss all.1 parts.1)
+quiet-places w =
+    by-pairs (SendsAs w) (λ ps ss. any_pending ps ≡ false → places_next w ss ≡ None) (λ none. refl)
+    (λ p s ps ss here all later none. let parts = none_first (place_pending p) (any_pending ps) none in rw (quiet-slot w p s here parts.0, later parts.1))
 
 module _ (w : Window) (new : Place) (before out : List ℕ) where
   later-gives : (p : Place) (s : Slot) (ps : List Place) (ss : List Slot) (o : Option PlacesSend) → SendsAs w p s → PlacesGive o w ps out true

@@ -18,7 +18,7 @@ use Rattle.ftl0_server.specs.Places.{PlacesGive, SamePlace, SameTalk}
 use Rattle.ftl0_server.specs.Server.{Refused, Server, sends_by, sends_of_places, server_next, settled}
 use Rattle.ftl0_server.specs.ServerState.{AllPlaces, IsServer, SaysAs, SendsAs, SendsFor, ServerState, any_pending, place_pending}
 use Rattle.ftl0_server.specs.Slots.{PlacesSend, Slot, SlotSends, first_of, freed, places_next, slot_next}
-use Rattle.ftl0_server.proofs.AllPlaces.{never}
+use Rattle.ftl0_server.proofs.AllPlaces.{by-pairs, never}
 use Rattle.ftl0_server.proofs.NextLemmas.{none_first}
 
 -- the DM to a station without a connection goes out
@@ -48,11 +48,9 @@ module _ (store : StoreState) where
   first-says p ps s ss o later here all next others = grind (arith, common_steps)
 
   places-say : (w : Window) (places : List Place) (slots : List Slot) → AllPlaces (SaysAs store) places slots → AllSay places (places_next w slots)
-  places-say w [] [] all = tt
-  places-say w [] (s ∷ ss) all = absurd all
-  places-say w (p ∷ ps) [] all = absurd all
-  places-say w (p ∷ ps) (s ∷ ss) all =
-      first-says p ps s ss (slot_next w s) (places_next w ss) all.0 all.1 (slot-says w p s all.0) (places-say w ps ss all.1)
+  places-say w =
+      by-pairs (SaysAs store) (λ ps ss. AllSay ps (places_next w ss)) tt
+      (λ p s ps ss here all later. first-says p ps s ss (slot_next w s) (places_next w ss) here all (slot-says w p s here) later)
 
   same-says : (p q : Place) (s : Slot) → SamePlace p q → SaysAs store p s → SaysAs store q s
   same-says p q s same says = grind (arith, common_steps)
@@ -106,18 +104,12 @@ freed-says store p s says = grind (arith, common_steps)
 
 all-freed-sends : (w : Window) (places : List Place) (slots : List Slot) → any_pending places ≡ false → AllPlaces (SendsAs w) places slots
     → AllPlaces (SendsAs w) places (map freed slots)
-all-freed-sends w [] [] none all = tt
-all-freed-sends w [] (s ∷ ss) none all = absurd all
-all-freed-sends w (p ∷ ps) [] none all = absurd all
-all-freed-sends w (p ∷ ps) (s ∷ ss) none all =
-    let parts = none_first (place_pending p) (any_pending ps) none in
-    (freed-sends w p s all.0 parts.0, all-freed-sends w ps ss parts.1 all.1)
+all-freed-sends w places slots none all =
+    by-pairs (SendsAs w) (λ ps ss. any_pending ps ≡ false → AllPlaces (SendsAs w) ps (map freed ss)) (λ none. tt)
+    (λ p s ps ss here others later none. let parts = none_first (place_pending p) (any_pending ps) none in (freed-sends w p s here parts.0, later parts.1)) places slots all none
 
 all-freed-says : (store : StoreState) (places : List Place) (slots : List Slot) → AllPlaces (SaysAs store) places slots → AllPlaces (SaysAs store) places (map freed slots)
-all-freed-says store [] [] all = tt
-all-freed-says store [] (s ∷ ss) all = absurd all
-all-freed-says store (p ∷ ps) [] all = absurd all
-all-freed-says store (p ∷ ps) (s ∷ ss) all = (freed-says store p s all.0, all-freed-says store ps ss all.1)
+all-freed-says store = by-pairs (SaysAs store) (λ ps ss. AllPlaces (SaysAs store) ps (map freed ss)) tt (λ p s ps ss here all later. (freed-says store p s here, later))
 
 pub settles : (over : Store) (self : ServerState) (server : Server) → any_pending self.places ≡ false → IsServer over self server → IsServer over self (settled server)
 settles over self server none is = search (rules, arith, all-freed-sends, all-freed-says)

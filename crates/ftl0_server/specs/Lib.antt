@@ -2,8 +2,8 @@ pub mod AtPlace
 pub mod Calls
 pub mod Connection
 pub mod Entries
+pub mod Fits
 pub mod Kept
-pub mod Laws
 pub mod Places
 pub mod Server
 pub mod ServerState

@@ -1,5 +1,6 @@
 mod AnsweringLemmas
 mod BroughtLemmas
+mod CaseLemmas
 mod CauseLemmas
 mod DownloadLemmas
 mod FaultLemmas

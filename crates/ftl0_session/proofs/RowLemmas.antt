@@ -17,7 +17,7 @@ use Rattle.ftl0_session.proofs.uploads.Rows.{by_read-none as upload_none}
 use Rattle.ftl0_session.specs.Downloads.Table as download
 use Rattle.ftl0_session.specs.Downloads.Table.{DownloadRow, DownloadState, ready}
 use Rattle.ftl0_session.specs.SessionState.{DoesOne}
-use Rattle.ftl0_session.specs.Table.{State, aborting, by_download, by_upload, command, download_part, download_row, downloading, error_row, listing, receiving, row_among, sending, session_row, state_by, upload_part, upload_row, waiting}
+use Rattle.ftl0_session.specs.Table.{State, aborting, by_download, by_upload, command, download_part, download_row, downloading, error_row, receiving, row_among, session_row, state_by, upload_part, upload_row}
 
 -- ---- the parts of a state
 
@@ -53,16 +53,12 @@ pub none-in : (caller : CallSign) (moment : ℕ) (store : Store) (state : State)
 none-in caller moment store command item fails kind = upload_none caller moment store upload.command item fails kind
 none-in caller moment store (receiving number rest) item fails kind = upload_none caller moment store (upload.receiving number rest) item fails kind
 none-in caller moment store aborting item fails kind = upload_none caller moment store upload.aborting item fails kind
-none-in caller moment store (sending number place last) item fails kind = refl
-none-in caller moment store waiting item fails kind = refl
-none-in caller moment store (listing dues) item fails kind = refl
+none-in caller moment store state item fails kind = refl
 
 none-beside : (caller : CallSign) (moment : ℕ) (store : Store) (part : DownloadState) (item : Item) (fails : Bool) → (part ≡ ready → ⊥)
     → upload_row caller moment store (downloading part) item fails ≡ None
 none-beside caller moment store download.ready item fails busy = absurd (busy refl)
-none-beside caller moment store (download.sending number place last) item fails busy = refl
-none-beside caller moment store download.waiting item fails busy = refl
-none-beside caller moment store (download.listing dues) item fails busy = refl
+none-beside caller moment store part item fails busy = refl
 
 none-busy : (caller : CallSign) (moment : ℕ) (store : Store) (files : StoreState) (here : Phase) (part : DownloadState) (item : Item) (fails : Bool) → DoesOne here part → (part ≡ ready → ⊥)
     → upload_row caller moment store (state_by (state_of files here) part) item fails ≡ None
@@ -88,12 +84,7 @@ download-free caller store lists download.waiting packet fails = refl
 download-free caller store lists (download.listing dues) packet fails = refl
 
 pub download-malformed : (caller : CallSign) (store : Store) (lists : List CallerList) (state : State) (malformed : Malformed) (fails : Bool) → download_row caller store lists state (Err malformed) fails ≡ None
-download-malformed caller store lists command malformed fails = refl
-download-malformed caller store lists (receiving number rest) malformed fails = refl
-download-malformed caller store lists aborting malformed fails = refl
-download-malformed caller store lists (sending number place last) malformed fails = refl
-download-malformed caller store lists waiting malformed fails = refl
-download-malformed caller store lists (listing dues) malformed fails = refl
+download-malformed caller store lists state malformed fails = refl
 
 -- while a file is received, or the end of one is waited for, there is none
 pub download-busy : (caller : CallSign) (store : Store) (files : StoreState) (lists : List CallerList) (here : Phase) (part : DownloadState) (packet : PacketValue) (fails : Bool) → (here ≡ phase.Command → ⊥)

@@ -1,7 +1,7 @@
 pub mod AckLemmas
 mod BeginLemmas
+pub mod CaseLemmas
 pub mod DoesLemmas
-pub mod FaultCodes
 mod HoldLemmas
 mod OtherLemmas
 pub mod Rows

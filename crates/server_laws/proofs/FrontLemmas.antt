@@ -3,7 +3,7 @@ use Rattle.std.proofs.Common.{ℕ, List, [], ◌++◌, Option, None, Some, refl}
 use Rattle.std.specs.Prelude.{slice_get}
 use Rattle.ax25_frames.specs.FrameText.{FrameValue}
 use Rattle.ax25_link.specs.declared.state.Heard.{Heard}
-use Rattle.ax25_link.specs.declared.state.Heard.TheVariants.{Nothing, Opened, Reopened, Bytes, Closed}
+use Rattle.ax25_link.specs.declared.state.Heard.TheVariants.{Bytes}
 use Rattle.ax25_link.specs.Ends.{LinkEnd}
 use Rattle.ax25_link.specs.Rows.{after_frame, heard_of}
 use Rattle.ftl0_packets.specs.Reading.{packets_of}
@@ -16,8 +16,8 @@ use Rattle.ftl0_server.specs.Connection.Hearing.{parts_as, parts_of_frame}
 use Rattle.ftl0_server.specs.Connection.Taking.{Progress, queued}
 use Rattle.ftl0_server.specs.Server.{Server, ServerHappened, hearing_at, hearing_by}
 use Rattle.ftl0_server.specs.ServerStep.{happening}
-use Rattle.ftl0_server.specs.Slots.{Slot, connected, free, leaving, place_of}
-use Rattle.ftl0_server.proofs.Offered.{Begins, IsFront, queued-alone, taking-begins}
+use Rattle.ftl0_server.specs.Slots.{Slot, connected, place_of}
+use Rattle.ftl0_server.proofs.Offered.{Begins, IsFront, queued-keeps, taking-begins}
 use Rattle.node.specs.Events.{NodeEvent, hears, ticks}
 use Rattle.server_laws.specs.Misses.{FrontOfEventLaw, begun_in}
 
@@ -25,8 +25,8 @@ use Rattle.server_laws.specs.Misses.{FrontOfEventLaw, begun_in}
 queued-begins : (store : Store) (some all : List Failure) (before other : Progress) → Begins before other
     → Begins (queued store some before) (queued store all other)
 queued-begins store some all before other begins =
-    let kept = queued-alone store some before in
-    let others = queued-alone store all other in
+    let kept = queued-keeps store some before in
+    let others = queued-keeps store all other in
     rw (kept.done, kept.cut, others.done) begins
 
 -- what an event begins is a front of what another one does
@@ -38,25 +38,20 @@ module _ (writes : List Failure) (reads : NoReadFails writes) where
       (octets : List ℕ)
       → Begins (parts_as told moment store lists c after octets writes)
       (parts_as told moment store lists c after octets [])
-  parts-begin Nothing moment store lists c after octets = ([], refl)
-  parts-begin Opened moment store lists c after octets = ([], refl)
-  parts-begin Reopened moment store lists c after octets = ([], refl)
   parts-begin Bytes moment store lists c after octets =
       taking-begins (caller_of c) moment (session_over store lists c.state) after (packets_of (c.rest ++ octets)) writes
       [] 0 (λ part. (reads part, refl))
-  parts-begin (Closed why) moment store lists c after octets = ([], refl)
+  parts-begin told moment store lists c after octets = ([], refl)
 
   at-begins : (server : Server) (frame : FrameValue) (moment place : ℕ) (slot : Option Slot)
       → EventBegins (hearing_at server frame moment writes place slot) (hearing_at server frame moment [] place slot)
-  at-begins server frame moment place None = ([], refl)
-  at-begins server frame moment place (Some free) = ([], refl)
-  at-begins server frame moment place (Some (leaving c)) = ([], refl)
   at-begins server frame moment place (Some (connected c)) =
       queued-begins server.store writes []
       (parts_of_frame server.window moment server.store server.lists c frame writes)
       (parts_of_frame server.window moment server.store server.lists c frame [])
       (parts-begin (heard_of server.window c.end frame) moment server.store server.lists c
       (after_frame server.window c.end frame) frame.kind.information)
+  at-begins server frame moment place slot = ([], refl)
 
   by-begins : (server : Server) (frame : FrameValue) (moment : ℕ) (place : Option ℕ)
       → EventBegins (hearing_by server frame moment writes place) (hearing_by server frame moment [] place)

@@ -7,7 +7,7 @@ use Rattle.px_base.specs.CallSign.{CallSign}
 use Rattle.ax25_frames.specs.FrameText.{FrameValue}
 use Rattle.ax25_link.specs.Calls.{after_push}
 use Rattle.ax25_link.specs.declared.state.Heard.{Heard}
-use Rattle.ax25_link.specs.declared.state.Heard.TheVariants.{Nothing, Opened, Reopened, Bytes, Closed}
+use Rattle.ax25_link.specs.declared.state.Heard.TheVariants.{Bytes}
 use Rattle.ax25_link.specs.Ends.{LinkEnd, free_octets}
 use Rattle.ax25_link.specs.Rows.{after_frame, heard_of}
 use Rattle.ax25_link.specs.Window.{Window}
@@ -29,7 +29,7 @@ use Rattle.ftl0_server.specs.Connection.Hearing.{hearing, parts_as, parts_of_fra
 use Rattle.ftl0_server.specs.Connection.Taking.{Progress, after_due, after_row, failing_at, giving_up, queued, queuing, taking, taking_row}
 use Rattle.ftl0_server.specs.Server.{Server, heard_at, hearing_at, hearing_by}
 use Rattle.ftl0_server.specs.ServerStep.{happening}
-use Rattle.ftl0_server.specs.Slots.{Slot, connected, free, leaving, place_of}
+use Rattle.ftl0_server.specs.Slots.{Slot, connected, place_of}
 use Rattle.node.specs.Events.{NodeEvent, hears, ticks}
 use Rattle.server_laws.specs.Misses.{MissesLaw}
 use Rattle.server_laws.specs.Rows.{DueReadsLaw, ReadsLaw, failed_due, failed_row}
@@ -176,11 +176,8 @@ module _ (rows : ReadsLaw) (due : DueReadsLaw) (some others : List Failure) (ali
 
   parts-alike : (told : Heard) (moment : ℕ) (store : Store) (lists : List CallerList) (c : Connected) (after : LinkEnd) (octets : List ℕ)
       → (parts_as told moment store lists c after octets some).missed ≡ 0 → parts_as told moment store lists c after octets some ≡ parts_as told moment store lists c after octets others
-  parts-alike Nothing moment store lists c after octets none = refl
-  parts-alike Opened moment store lists c after octets none = refl
-  parts-alike Reopened moment store lists c after octets none = refl
   parts-alike Bytes moment store lists c after octets none = taking-alike (caller_of c) moment (session_over store lists c.state) after (packets_of (c.rest ++ octets)) 0 none
-  parts-alike (Closed why) moment store lists c after octets none = refl
+  parts-alike told moment store lists c after octets none = refl
 
   hearing-alike : (w : Window) (moment : ℕ) (store : Store) (lists : List CallerList) (c : Connected) (frame : FrameValue) → (hearing w moment store lists c frame some).missed ≡ 0
       → hearing w moment store lists c frame some ≡ hearing w moment store lists c frame others
@@ -193,10 +190,8 @@ module _ (rows : ReadsLaw) (due : DueReadsLaw) (some others : List Failure) (ali
 
   at-alike : (server : Server) (frame : FrameValue) (moment place : ℕ) (slot : Option Slot) → (hearing_at server frame moment some place slot).missed ≡ 0
       → hearing_at server frame moment some place slot ≡ hearing_at server frame moment others place slot
-  at-alike server frame moment place None none = refl
-  at-alike server frame moment place (Some free) none = refl
-  at-alike server frame moment place (Some (leaving c)) none = refl
   at-alike server frame moment place (Some (connected c)) none = ap (heard_at server place) (hearing-alike server.window moment server.store server.lists c frame none)
+  at-alike server frame moment place slot none = refl
 
   by-alike : (server : Server) (frame : FrameValue) (moment : ℕ) (place : Option ℕ) → (hearing_by server frame moment some place).missed ≡ 0
       → hearing_by server frame moment some place ≡ hearing_by server frame moment others place

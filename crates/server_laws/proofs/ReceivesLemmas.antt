@@ -1,11 +1,11 @@
 -- A file that is received stays the caller's: behind each row, once what is due was queued, and behind a frame.
 use Rattle.std.proofs.Common.{◌≡◌, ℕ, suc, List, [], ◌∷◌, ◌++◌, length, refl, ap, sym, subst, ◌∙◌}
-use Rattle.std.proofs.Common.{arith, Bool, true, false, not, Option, None, Some}
-use Rattle.std.proofs.lemmas.Bool.{cond_both, not-false}
+use Rattle.std.proofs.Common.{arith, Bool, true, Option, None, Some}
+use Rattle.std.proofs.lemmas.Bool.{cond_both}
 use Rattle.std.proofs.lemmas.Bool.Decides.{nat_tests}
 use Rattle.std.proofs.lemmas.Option.{same_Some}
-use Rattle.std.specs.Prelude.{Ok, IfSome, if◌then◌else◌, ◌==◌, ◌/◌, ◌*◌, take}
-use Rattle.std.specs.Option.{option_map, option_or}
+use Rattle.std.specs.Prelude.{◌/◌, ◌*◌, take}
+use Rattle.std.specs.Option.{option_map}
 use Rattle.px_base.specs.CallSign.{CallSign, IsCall}
 use Rattle.ax25_frames.specs.FrameText.{FrameValue}
 use Rattle.ax25_link.specs.Calls.{after_push}
@@ -14,37 +14,34 @@ use Rattle.ax25_link.specs.declared.state.Heard.TheVariants.{Nothing, Opened, Re
 use Rattle.ax25_link.specs.Ends.{LinkEnd, free_octets}
 use Rattle.ax25_link.specs.Rows.{after_frame, heard_of}
 use Rattle.ax25_link.specs.Window.{Window}
-use Rattle.pfh_items.specs.Faults.{fault_code}
-use Rattle.ftl0_packets.specs.Items.{kind_of_item, texts}
-use Rattle.ftl0_packets.specs.Layout.{Item, data_end, data_part, upload_cmd}
+use Rattle.ftl0_packets.specs.Items.{texts}
+use Rattle.ftl0_packets.specs.Layout.{Item}
 use Rattle.ftl0_packets.specs.Reading.{packets_of}
 use Rattle.packet_link.specs.Queuing.{fits}
 use Rattle.packet_link.proofs.Queuing.{filling-keeps}
 use Rattle.file_entries.specs.Follows.{AreOf, FollowsBy, IsOwnEntry}
 use Rattle.file_entries.specs.IsStore.{IsStore}
 use Rattle.file_entries.proofs.Offered.{follows_law}
-use Rattle.file_store.specs.Command.{AreAllowed, Command, after, after_all, begin, can_begin, has_room, passes}
+use Rattle.file_store.specs.Command.{AreAllowed, Command, after, after_all, begin}
 use Rattle.file_store.specs.Command.{whole_grows}
-use Rattle.file_store.specs.Info.{is_complete}
-use Rattle.file_store.specs.Store.{Entry, Store, entry_of, new_entry, octets_at, octets_of}
+use Rattle.file_store.specs.Store.{Entry, Store, entry_of, new_entry}
 use Rattle.file_store.proofs.Offered.{AreAllowed-split, after_all-append, find-push, find_past, grows-after, has_number}
 use Rattle.ftl0_session.specs.Downloads.Sending as due
 use Rattle.ftl0_session.specs.Downloads.Table as download
-use Rattle.ftl0_session.specs.Downloads.Table.{DownloadRow}
 use Rattle.ftl0_session.specs.Lists.Lists.{CallerList}
 use Rattle.ftl0_session.specs.Run.{Session, session_over}
-use Rattle.ftl0_session.specs.Table.{DuePacket, Row, State, aborting, command, download_part, download_row, downloading}
-use Rattle.ftl0_session.specs.Table.{due_at, in_session, listing, receiving, row_among, sending, session_row, state_by}
-use Rattle.ftl0_session.specs.Table.{upload_row, waiting}
+use Rattle.ftl0_session.specs.Table.{DuePacket, Row, State, download_part, downloading}
+use Rattle.ftl0_session.specs.Table.{due_at, in_session, session_row, state_by}
 use Rattle.ftl0_session.specs.Uploads.Failures.{Failure, read_fails, write_fails}
+use Rattle.ftl0_session.proofs.Offered.{OfUploads, if-there, session-case, upload-case}
 use Rattle.ftl0_session.specs.Uploads.Session as upload
-use Rattle.ftl0_session.specs.Uploads.Session.{is_all, is_theirs, is_upload_kind}
+use Rattle.ftl0_session.specs.Uploads.Session.{is_theirs}
 use Rattle.ftl0_session.proofs.uploads.UploadRows.{theirs-decides}
 use Rattle.ftl0_server.specs.Connection.Connected.{Connected, caller_of}
 use Rattle.ftl0_server.specs.Connection.Hearing.{hearing, parts_as, parts_of_frame}
 use Rattle.ftl0_server.specs.Connection.Taking.{Progress, after_due, after_row, failing_at, giving_up, queued, queuing}
 use Rattle.ftl0_server.specs.Connection.Taking.{taking}
-use Rattle.ftl0_server.proofs.Offered.{queued-alone}
+use Rattle.ftl0_server.proofs.Offered.{queued-keeps}
 use Rattle.server_laws.specs.Rows.{ReceivesAfter, ReceivesBehind, ReceivesHeard, ReceivesLaw, ReceivesOwn}
 use Rattle.server_laws.proofs.RowLemmas.{commands_own, own-grow}
 
@@ -54,9 +51,7 @@ use Rattle.server_laws.proofs.RowLemmas.{commands_own, own-grow}
 downloads-own : (caller : CallSign) (store : Store) (part : download.DownloadState)
     → ReceivesOwn caller store (downloading part)
 downloads-own caller store download.ready = tt
-downloads-own caller store (download.sending number place last) = tt
-downloads-own caller store download.waiting = tt
-downloads-own caller store (download.listing dues) = tt
+downloads-own caller store part = tt
 
 module _ (caller : CallSign) (moment : ℕ) (store : Store) where
   -- the file that is received behind a row of uploading is the caller's
@@ -74,30 +69,11 @@ module _ (caller : CallSign) (moment : ℕ) (store : Store) where
       ap (λ (e : Entry). e.caller) (sym (same_Some new entry (sym there ∙ found)))
 
   -- one that goes on is the caller's, as its row looks
-  resumed-own : (number len : ℕ) (e : Entry) → entry_of store number ≡ Some e → not (is_theirs caller len e) ≡ false
+  resumed-own : (number len : ℕ) (e : Entry) → entry_of store number ≡ Some e → is_theirs caller len e ≡ true
       → IsOwnEntry caller store number
   resumed-own number len e is theirs entry found =
-      let mine : e.caller ≡ caller = ((theirs-decides caller len e).0 (not-false (is_theirs caller len e) theirs)).0 in
+      let mine : e.caller ≡ caller = ((theirs-decides caller len e).0 theirs).0 in
       ap (λ (x : Entry). x.caller) (sym (same_Some e entry (sym is ∙ found))) ∙ mine
-
-  goes-on : (number len : ℕ) (o : Option Entry) → entry_of store number ≡ o
-      → Receives (upload.continue_row caller number len o)
-  goes-on number len None is = tt
-  goes-on number len (Some e) is =
-      cond_both (not (is_theirs caller len e)) (upload.refused_row upload.command 2) _ Receives (λ other. tt)
-      (λ theirs.
-      cond_both (is_complete e.holding) (upload.refused_row upload.command 12)
-      (upload.resumed_row number (length (octets_of e.holding))) Receives (λ whole. tt)
-      (λ partly. resumed-own number len e is theirs))
-
-  asks : (number len : ℕ) → IsStore store → Receives (upload.upload_row caller moment store number len)
-  asks number len is =
-      cond_both (number == 0) (upload.begin_row caller moment store len)
-      (upload.continue_row caller number len (entry_of store number)) Receives
-      (λ new.
-      cond_both (can_begin store len) (upload.granted_row caller moment store.next len)
-      (upload.refused_row upload.command 13) Receives (λ may. begun-own len is) (λ may. tt))
-      (λ old. goes-on number len (entry_of store number) refl)
 
   grown-own : (n : ℕ) (octets : List ℕ) → IsOwnEntry caller store n
       → IsOwnEntry caller (after_all store (whole_grows n octets)) n
@@ -106,79 +82,33 @@ module _ (caller : CallSign) (moment : ℕ) (store : Store) where
       subst (λ (now : Store). IsOwnEntry caller now n) (sym (grows-after n count octets store))
       (own-grow caller n store (take (512 * count) octets) own)
 
-  wholes : (n : ℕ) (rest : List ℕ) (fault : Option ℕ) → Receives (upload.whole_row moment n rest fault)
-  wholes n rest None = tt
-  wholes n rest (Some code) = tt
-
-  errors : (part : upload.State) (item : Item) → ReceivesOwn caller store (state_by part download.ready)
-      → IfSome (upload.error_row part item) Receives
-  errors part item own = by (is_upload_kind (kind_of_item item))
-    where
-      by : (b : Bool) → IfSome (if b then Some (upload.refused_row part 1) else None) Receives
-      by true = own
-      by false = tt
-
-  part-receives : (part : upload.State) (item : Item) → IsStore store
-      → ReceivesOwn caller store (state_by part download.ready)
-      → IfSome (upload.session_row caller moment store part item) Receives
-  unfolding upload.session_row
-  part-receives upload.command (Ok (upload_cmd number len)) is own = asks number len is
-  part-receives (upload.receiving n rest) (Ok (data_part octets)) is own =
-      cond_both (passes (λ e. has_room e.holding e.length (length (rest ++ octets))) (entry_of store n))
-      (upload.taken_row n (rest ++ octets)) _ Receives (λ room. grown-own n (rest ++ octets) own) (λ full. tt)
-  part-receives (upload.receiving n rest) (Ok data_end) is own =
-      cond_both (is_all (entry_of store n) rest) _ _ Receives
-      (λ all. wholes n rest (fault_code (octets_at (entry_of store n) ++ rest))) (λ some. tt)
-  part-receives upload.aborting (Ok (data_part octets)) is own = tt
-  part-receives upload.aborting (Ok data_end) is own = tt
-  part-receives part item is own = errors part item own
-
-  -- the row of a file that can't be read
-  unread-receives : (part : upload.State) (item : Item) → IfSome (upload.row_unread store part item) Receives
-  unread-receives (upload.receiving n rest) (Ok data_end) = by (is_all (entry_of store n) rest)
-    where
-      by : (b : Bool) → IfSome (if b then Some (upload.unread_row n rest) else None) Receives
-      by true = tt
-      by false = tt
-  unread-receives part item = tt
-
-  or-receives : (one other : Option upload.Row) → IfSome one Receives → IfSome other Receives
-      → IfSome (option_or one other) Receives
-  or-receives None other first second = second
-  or-receives (Some row) other first second = first
-
-  read-receives : (part : upload.State) (item : Item) (fails : Bool) → IsStore store
-      → ReceivesOwn caller store (state_by part download.ready)
-      → IfSome (upload.row_by_read caller moment store part item fails) Receives
-  read-receives part item true is own =
-      or-receives (upload.row_unread store part item) (upload.session_row caller moment store part item)
-      (unread-receives part item) (part-receives part item is own)
-  read-receives part item false is own = part-receives part item is own
-
-  uploads-receive : (state : State) (item : Item) (fails : Bool) → IsStore store → ReceivesOwn caller store state
-      → IfSome (upload_row caller moment store state item fails) Receives
-  uploads-receive command item fails is own = read-receives upload.command item fails is own
-  uploads-receive (receiving number rest) item fails is own =
-      read-receives (upload.receiving number rest) item fails is own
-  uploads-receive aborting item fails is own = read-receives upload.aborting item fails is own
-  uploads-receive (sending number place last) item fails is own = tt
-  uploads-receive waiting item fails is own = tt
-  uploads-receive (listing dues) item fails is own = tt
-
-  among-receive : (lists : List CallerList) (state : State) (item : Item) (o : Option upload.Row)
-      (other : Option DownloadRow) → ReceivesOwn caller store state → IfSome o Receives
-      → ReceivesBehind caller store (row_among lists state item o other)
-  among-receive lists state item (Some row) other before own = own
-  among-receive lists state item None (Some row) before own = downloads-own caller store row.state
-  among-receive lists state item None None before own = before
+  uploads-receive : (fails : Bool) → IsStore store
+      → OfUploads caller moment store fails
+      (λ part item row. ReceivesOwn caller store (state_by part download.ready) → Receives row)
+  uploads-receive fails is = record {
+    granted = λ number len can own. begun-own len is;
+    resumed = λ number len e found theirs partly own. resumed-own number len e found theirs;
+    refused = λ part item code other own. own;
+    taken = λ n rest octets room own. grown-own n (rest ++ octets) own;
+    too_many = λ n rest octets own. tt;
+    whole = λ n rest fine all good own. tt;
+    faulty = λ n rest code other own. tt;
+    unread = λ n rest failed all own. tt;
+    too_few = λ n rest own. tt;
+    waited = λ octets own. tt;
+    ended = λ own. tt;
+  }
 
   row-receives : (lists : List CallerList) (state : State) (item : Item) (fails : Bool) → IsStore store
       → ReceivesOwn caller store state
       → ReceivesBehind caller store (session_row caller moment store lists state item fails)
-  unfolding session_row
-  row-receives lists state item fails is own =
-      among-receive lists state item (upload_row caller moment store state item fails)
-      (download_row caller store lists state item fails) own (uploads-receive state item fails is own)
+  row-receives lists state item fails is =
+      session-case caller moment store lists fails
+      (λ at given row. ReceivesOwn caller store at → ReceivesBehind caller store row)
+      (upload-case (uploads-receive fails is))
+      (λ part packet.
+      if-there (download.download_row caller store lists part packet fails) _
+      (λ row own. downloads-own caller store row.state)) (λ at given own. own) state item
 
 -- ---- once what is due was queued
 
@@ -265,7 +195,7 @@ module _ (moment : ℕ) (store : Store) (lists : List CallerList) (c : Connected
       let parts : Progress = parts_of_frame w moment store lists c frame failures in
       queued-own (caller_of c) store failures parts
       (parts-own (heard_of w c.end frame) (after_frame w c.end frame) frame.kind.information
-      (subst (AreAllowed store) (queued-alone store failures parts).done allowed))
+      (subst (AreAllowed store) (queued-keeps store failures parts).done allowed))
 
 pub receives-law : ReceivesLaw
 receives-law = record {

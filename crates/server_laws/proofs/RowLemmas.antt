@@ -1,28 +1,25 @@
 -- Whose files the commands of a row are of, and what a read that fails changes.
 use Rattle.std.proofs.Common.{◌≡◌, ◌⊎◌, inl, inr, ⊎_elim, ℕ, zero, suc, List, [], ◌∷◌, ◌++◌, length, map, take, drop, refl, ap, sym, ◌∙◌, subst, Bool, true, false, not, Option, None, Some}
 use Rattle.std.proofs.lemmas.Bool.Decides.{eqb_tells}
-use Rattle.std.specs.Prelude.{Ok, Err, IfSome, Result, find, if◌then◌else◌, nat_lt, ◌==◌, ◌&&◌, ◌/◌}
+use Rattle.std.specs.Prelude.{Ok, Err, Result, find, if◌then◌else◌, nat_lt, ◌==◌, ◌&&◌, ◌/◌}
 use Rattle.std.specs.List.{list_all}
 use Rattle.std.specs.Option.{option_map, option_or}
 use Rattle.px_base.specs.CallSign.{CallSign}
-use Rattle.pfh_items.specs.Faults.{fault_code}
-use Rattle.ftl0_packets.specs.Items.{kind_of_item}
-use Rattle.ftl0_packets.specs.Layout.{Item, PacketValue, data_end, data_part, dir_long_cmd, dir_short_cmd, dl_error_resp, select_cmd, upload_cmd}
+use Rattle.ftl0_packets.specs.Layout.{Item, PacketValue, dir_long_cmd, dir_short_cmd, dl_error_resp, select_cmd}
 use Rattle.selection.specs.Layout.{Tree}
 use Rattle.selection.specs.Reading.{tree_in}
 use Rattle.selection.specs.declared.fault.SelFault.{SelFault}
 use Rattle.file_entries.specs.Follows.{AreOf, IsOf, IsOwnEntry}
-use Rattle.file_store.specs.Command.{Command, after, can_begin, changed, drop_entry, grow, grown, grows, has_room, last_grow, passes, seal}
-use Rattle.file_store.specs.Info.{is_complete}
-use Rattle.file_store.specs.Store.{Entry, Holding, Store, entry_of, octets_at, octets_of}
+use Rattle.file_store.specs.Command.{Command, after, changed, drop_entry, grow, grown, grows, last_grow, seal}
+use Rattle.file_store.specs.Store.{Entry, Holding, Store, entry_of}
 use Rattle.file_store.proofs.Offered.{has_number}
 use Rattle.ftl0_session.specs.Downloads.Sending as due
 use Rattle.ftl0_session.specs.Downloads.Table as download
 use Rattle.ftl0_session.specs.Downloads.Table.{DownloadRow, Due, files_row, has_file, listed_files, long_due, refused_row, short_due, tree_row}
 use Rattle.ftl0_session.specs.Lists.Lists.{CallerList}
-use Rattle.ftl0_session.specs.Table.{State, aborting, command, download_part, download_row, in_session, listing, receiving, row_among, sending, session_row, state_by, upload_part, upload_row, waiting}
+use Rattle.ftl0_session.specs.Table.{State, aborting, command, download_part, download_row, in_session, receiving, row_among, session_row, state_by, upload_part, upload_row}
+use Rattle.ftl0_session.proofs.Offered.{OfUploads, if-there, session-case, upload-case}
 use Rattle.ftl0_session.specs.Uploads.Session as upload
-use Rattle.ftl0_session.specs.Uploads.Session.{is_all, is_theirs, is_upload_kind}
 use Rattle.server_laws.specs.Rows.{CallerLaw, DueReadsLaw, ReadsLaw, ReceivesOwn, TellsOfRead, failed_due, failed_row}
 
 -- ---- whose files the commands are of
@@ -62,83 +59,28 @@ module _ (caller : CallSign) (n : ℕ) where
   own-held [] store own = tt
   own-held (octet ∷ octets) store own = (own, tt)
 
-module _ (caller : CallSign) (moment : ℕ) (store : Store) where
-  abbrev Own : upload.Row → Type 0
-  Own row = AreOf caller store row.commands
-
-  either : (b : Bool) (first second : upload.Row) → Own first → Own second → Own (if b then first else second)
-  either true first second a c = a
-  either false first second a c = c
-
-  goes-on : (number len : ℕ) (o : Option Entry) → Own (upload.continue_row caller number len o)
-  goes-on number len None = tt
-  goes-on number len (Some e) =
-      either (not (is_theirs caller len e)) (upload.refused_row upload.command 2) _ tt
-      (either (is_complete e.holding) (upload.refused_row upload.command 12) (upload.resumed_row number (length (octets_of e.holding))) tt tt)
-
-  asks : (number len : ℕ) → Own (upload.upload_row caller moment store number len)
-  asks number len =
-      either (number == 0) (upload.begin_row caller moment store len) (upload.continue_row caller number len (entry_of store number))
-      (either (can_begin store len) (upload.granted_row caller moment store.next len) (upload.refused_row upload.command 13) (refl, tt) tt) (goes-on number len (entry_of store number))
-
-  wholes : (n : ℕ) (rest : List ℕ) (fault : Option ℕ) → IsOwnEntry caller store n → Own (upload.whole_row moment n rest fault)
-  wholes n rest None own = own-last caller n rest (seal n moment) store (λ now own_now. own_now) own
-  wholes n rest (Some code) own = own-last caller n rest (drop_entry n) store (λ now own_now. own_now) own
-
-  errors : (state : upload.State) (item : Item) → IfSome (upload.error_row state item) Own
-  errors state item = by (is_upload_kind (kind_of_item item))
-    where
-      by : (b : Bool) → IfSome (if b then Some (upload.refused_row state 1) else None) Own
-      by true = tt
-      by false = tt
-
-  part-own : (part : upload.State) (item : Item) → ReceivesOwn caller store (state_by part download.ready) → IfSome (upload.session_row caller moment store part item) Own
-  unfolding upload.session_row
-  part-own upload.command (Ok (upload_cmd number len)) own = asks number len
-  part-own (upload.receiving n rest) (Ok (data_part octets)) own =
-      either (passes (λ e. has_room e.holding e.length (length (rest ++ octets))) (entry_of store n)) (upload.taken_row n (rest ++ octets)) _
-      (own-grows caller n (length (rest ++ octets) / 512) (rest ++ octets) store own) tt
-  part-own (upload.receiving n rest) (Ok data_end) own =
-      either (is_all (entry_of store n) rest) (upload.whole_row moment n rest (fault_code (octets_at (entry_of store n) ++ rest))) _
-      (wholes n rest (fault_code (octets_at (entry_of store n) ++ rest)) own) tt
-  part-own upload.aborting (Ok (data_part octets)) own = tt
-  part-own upload.aborting (Ok data_end) own = tt
-  part-own part item own = errors part item
-
-  -- the row of a file that can't be read
-  unread-own : (part : upload.State) (item : Item) → ReceivesOwn caller store (state_by part download.ready) → IfSome (upload.row_unread store part item) Own
-  unread-own (upload.receiving n rest) (Ok data_end) own = by (is_all (entry_of store n) rest)
-    where
-      by : (b : Bool) → IfSome (if b then Some (upload.unread_row n rest) else None) Own
-      by true = own-held caller n rest store own
-      by false = tt
-  unread-own part item own = tt
-
-  or-own : (one other : Option upload.Row) → IfSome one Own → IfSome other Own → IfSome (option_or one other) Own
-  or-own None other first second = second
-  or-own (Some row) other first second = first
-
-  read-own : (part : upload.State) (item : Item) (fails : Bool) → ReceivesOwn caller store (state_by part download.ready) → IfSome (upload.row_by_read caller moment store part item fails) Own
-  read-own part item true own = or-own (upload.row_unread store part item) (upload.session_row caller moment store part item) (unread-own part item own) (part-own part item own)
-  read-own part item false own = part-own part item own
-
-  uploads-own : (state : State) (item : Item) (fails : Bool) → ReceivesOwn caller store state → IfSome (upload_row caller moment store state item fails) Own
-  uploads-own command item fails own = read-own upload.command item fails own
-  uploads-own (receiving number rest) item fails own = read-own (upload.receiving number rest) item fails own
-  uploads-own aborting item fails own = read-own upload.aborting item fails own
-  uploads-own (sending number place last) item fails own = tt
-  uploads-own waiting item fails own = tt
-  uploads-own (listing dues) item fails own = tt
-
-  among-own : (lists : List CallerList) (state : State) (item : Item) (o : Option upload.Row) (other : Option DownloadRow) → IfSome o Own → AreOf caller store (row_among lists state item o other).commands
-  among-own lists state item (Some row) other own = own
-  among-own lists state item None (Some row) own = tt
-  among-own lists state item None None own = tt
+-- where a file that is received is the caller's, each command of a row of uploading is its own
+uploads-own : (caller : CallSign) (moment : ℕ) (store : Store) (fails : Bool)
+    → OfUploads caller moment store fails (λ part item row. ReceivesOwn caller store (state_by part download.ready) → AreOf caller store row.commands)
+uploads-own caller moment store fails = record {
+  granted = λ number len can own. (refl, tt);
+  resumed = λ number len e found theirs partly own. tt;
+  refused = λ part item code other own. tt;
+  taken = λ n rest octets room own. own-grows caller n (length (rest ++ octets) / 512) (rest ++ octets) store own;
+  too_many = λ n rest octets own. tt;
+  whole = λ n rest fine all good own. own-last caller n rest (seal n moment) store (λ now own_now. own_now) own;
+  faulty = λ n rest code other own. own-last caller n rest (drop_entry n) store (λ now own_now. own_now) own;
+  unread = λ n rest failed all own. own-held caller n rest store own;
+  too_few = λ n rest own. tt;
+  waited = λ octets own. tt;
+  ended = λ own. tt;
+}
 
 pub commands_own : CallerLaw
-unfolding session_row
-commands_own caller moment store lists state item fails own =
-    among-own caller moment store lists state item (upload_row caller moment store state item fails) (download_row caller store lists state item fails) (uploads-own caller moment store state item fails own)
+commands_own caller moment store lists =
+    λ state item fails.
+    session-case caller moment store lists fails (λ at given row. ReceivesOwn caller store at → AreOf caller store row.commands) (upload-case (uploads-own caller moment store fails))
+    (λ part packet. if-there (download.download_row caller store lists part packet fails) _ (λ row own. tt)) (λ at given own. tt) state item
 
 -- ---- what a read that fails changes
 
@@ -181,17 +123,8 @@ module _ (caller : CallSign) (store : Store) (lists : List CallerList) where
   download-tells : (state : State) (item : Item) → TellsReady state (λ fails. download_row caller store lists state item fails)
   unfolding download.download_row
   download-tells command (Ok packet) = ⊎_elim (λ same. inl same) (λ told. inr (refl, told)) (asked-tells packet)
-  download-tells (receiving number rest) (Ok packet) = inl refl
-  download-tells aborting (Ok packet) = inl refl
-  download-tells (sending number place last) (Ok packet) = inl refl
-  download-tells waiting (Ok packet) = inl refl
-  download-tells (listing dues) (Ok packet) = inl refl
-  download-tells command (Err malformed) = inl refl
-  download-tells (receiving number rest) (Err malformed) = inl refl
-  download-tells aborting (Err malformed) = inl refl
-  download-tells (sending number place last) (Err malformed) = inl refl
-  download-tells waiting (Err malformed) = inl refl
-  download-tells (listing dues) (Err malformed) = inl refl
+  download-tells state (Ok packet) = inl refl
+  download-tells state (Err malformed) = inl refl
 
   -- the row of uploading is the same, or that of a file that can't be read
   abbrev TellsUnread : Option upload.Row → (Bool → Option upload.Row) → Type 0
@@ -205,9 +138,7 @@ module _ (caller : CallSign) (store : Store) (lists : List CallerList) where
   upload-tells moment command item = unread-tells (upload.row_unread store upload.command item) (upload.session_row caller moment store upload.command item)
   upload-tells moment (receiving n rest) item = unread-tells (upload.row_unread store (upload.receiving n rest) item) (upload.session_row caller moment store (upload.receiving n rest) item)
   upload-tells moment aborting item = unread-tells (upload.row_unread store upload.aborting item) (upload.session_row caller moment store upload.aborting item)
-  upload-tells moment (sending number place last) item = inl refl
-  upload-tells moment waiting item = inl refl
-  upload-tells moment (listing dues) item = inl refl
+  upload-tells moment state item = inl refl
 
   module _ (state : State) (item : Item) (unread : Option upload.Row) (other : Bool → Option DownloadRow) (tells : TellsReady state other) where
     -- with this row of uploading where a read fails, and this one where none does

@@ -1,3 +1,4 @@
 pub mod Misses
 pub mod Places
 pub mod Rows
+pub mod Steps

@@ -5,12 +5,30 @@ ghost use Rattle.ftl0_server.specs.Entries.{HearingLaw};
 ghost use Rattle.server_laws.specs.Misses.{FrontOfEventLaw, MissesLaw};
 ghost use Rattle.server_laws.specs.Places.{StepLaw};
 ghost use Rattle.server_laws.specs.Rows.{CallerLaw, DueReadsLaw, ReadsLaw, ReceivesLaw};
+ghost use Rattle.server_laws.specs.Steps.{OneStepLaw, SomeStepLaw};
+
+use ftl0_server::connection::laws::queued_law;
 
 /// Each frame but a SABM makes of a connection whose end is up what the session's packets make of it one after another:
 /// each that is taken, with its row of the session's table, and then each that is due.
 pub fn hearing_law()
     ensures { HearingLaw }
 {}
+
+/// With the same failures of the disk an event has at most one step: these commands, these frames, and the server after
+/// it.
+pub fn one_step_law()
+    ensures { OneStepLaw }
+{}
+
+/// With any failures of the disk an event has a step, for a server that has nothing to send, whose links' ends are such
+/// as frames and ticks bring about, and that queued all that is due as far as there was room; and it is such a server
+/// after it.
+pub fn some_step_law()
+    ensures { SomeStepLaw }
+{
+    queued_law();
+}
 
 /// A step of a server goes by places: what is sent is the DM to a station without a connection, where one is, and then
 /// what each place's end drains, in order. A frame changes its sender's place alone, or that of the lowest free place

@@ -1,5 +1,5 @@
 -- What downloading makes of two stores that are like each other but for the octets of their files.
-use Rattle.std.proofs.Common.{◌≡◌, ℕ, ◌==◌, ◌<◌, List, [], ◌∷◌, length, take, Bool, true, false, true≢false, ◌&&◌, Option, None, Some, refl, sym, ap, ap₂, ◌∙◌, arith, inl, inr, length-append}
+use Rattle.std.proofs.Common.{◌≡◌, ℕ, ◌==◌, ◌<◌, List, [], ◌∷◌, length, Bool, true, false, true≢false, ◌&&◌, Option, None, Some, refl, sym, ap, ap₂, ◌∙◌, arith, inl, inr, length-append}
 use Rattle.std.specs.Prelude.{Err, IsErrOf, Result, is_some, if◌then◌else◌}
 use Rattle.std.specs.List.{list_all}
 use Rattle.std.specs.Option.{option_map}
@@ -8,7 +8,7 @@ use Rattle.std.proofs.lemmas.List.{append-nil}
 use Rattle.std.proofs.lemmas.List.Elements.{All-weaker}
 use Rattle.px_base.specs.CallSign.{CallSign}
 use Rattle.disk_model.specs.declared.disk.Disk.{Ghosts}
-use Rattle.ftl0_packets.specs.Layout.{data_end, data_part, dl_error_resp, packet_text}
+use Rattle.ftl0_packets.specs.Layout.{dl_error_resp, packet_text}
 use Rattle.file_store.specs.Calls.{Reads}
 use Rattle.file_store.specs.Info.{IsCompleteIn}
 use Rattle.file_store.specs.Like.{IsStoreLike}
@@ -19,7 +19,7 @@ use Rattle.file_store.specs.declared.refusals.HeaderFault.TheVariants as fault
 use Rattle.file_store.proofs.Offered.{like_complete, like_entry, like_none, like_octets_length, like_partial, like_whole, reads_same}
 use Rattle.ftl0_session.specs.Lists.Lists.{CallerList}
 use Rattle.ftl0_session.specs.Downloads.Needs.{AreFiles, AreStored, IsDueIn, IsStored, LiesIn}
-use Rattle.ftl0_session.specs.Downloads.Sending.{due_octets, due_packet, is_due, is_read, joined, next_due, octets_due, state_after, state_at_end}
+use Rattle.ftl0_session.specs.Downloads.Sending.{due_octets, is_due, is_read, joined, next_due, octets_due}
 use Rattle.ftl0_session.specs.Downloads.Table.{DownloadRow, DownloadState, Due, asked_file, asked_row, complete_octets, directory_row, download_cmd_row, file_of, file_row, files_row, has_file, kept, listed_files, listing, lists_after, octets_in, ready, refused_row, sending, stored, waiting}
 use Rattle.ftl0_session.specs.Downloads.Taking.{Made, MakesRow, made, made_by}
 use Rattle.ftl0_session.proofs.CauseLemmas.{says-one}
@@ -191,33 +191,9 @@ header-refused g store disk disk_now row lists now fault.NoHeader result is read
 
 -- ---- what is due next
 
-module _ (files : Store) (state : DownloadState) (here : is_due state ≡ true) where
-  abbrev octets : List ℕ
-  octets = octets_due files state
-
-  next-is : (fails : Bool) → next_due files state fails ≡ Some (due_packet files state fails)
-  next-is fails = rw here refl
-
-  -- code 3
-  pub next-error : 0 < length octets → is_read state ≡ true → next_due files state true ≡ Some (record { packet = dl_error_resp 3; state = ready })
-  next-error some read =
-      let test : (length octets == 0) ≡ false = grind (arith, nat_tests, some) in
-      next-is true ∙ rw (test, read) refl
-
-  -- DATA_END
-  pub next-end : length octets ≡ 0 → next_due files state false ≡ Some (record { packet = data_end; state = state_at_end state })
-  next-end none =
-      let test : (length octets == 0) ≡ true = grind (arith, nat_tests, none) in
-      next-is false ∙ rw test refl
-
-  -- DATA
-  pub next-data : 0 < length octets → next_due files state false ≡ Some (record { packet = data_part (take 254 octets); state = state_after 254 state })
-  next-data some =
-      let test : (length octets == 0) ≡ false = grind (arith, nat_tests, some) in
-      next-is false ∙ rw test refl
-
-pub end-after : (state : DownloadState) → state_at_end (state_after 254 state) ≡ state_at_end state
-end-after ready = refl
-end-after (sending number place last) = refl
-end-after waiting = refl
-end-after (listing dues) = refl
+-- code 3, where a read fails
+pub next-error : (files : Store) (state : DownloadState) → is_due state ≡ true → 0 < length (octets_due files state) → is_read state ≡ true
+    → next_due files state true ≡ Some (record { packet = dl_error_resp 3; state = ready })
+next-error files state here some read =
+    let test : (length (octets_due files state) == 0) ≡ false = grind (arith, nat_tests, some) in
+    rw (here, test, read) refl

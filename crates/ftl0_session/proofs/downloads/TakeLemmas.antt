@@ -24,24 +24,11 @@ pub no_row : (caller : CallSign) (store : Store) (lists : List CallerList) (p : 
     → ((number : ℕ) → p ≡ packet.DirLongCmd number → ⊥) → ((tokens : Bor (List ℕ)) → p ≡ packet.SelectCmd tokens → ⊥)
     → command_row caller store lists (value_of p) fails ≡ None
 unfolding command_row
-no_row caller store lists (packet.DataPart octets) fails a b c d = refl
-no_row caller store lists packet.DataEnd fails a b c d = refl
-no_row caller store lists (packet.LoginResp moment flags) fails a b c d = refl
-no_row caller store lists (packet.UploadCmd number len) fails a b c d = refl
-no_row caller store lists (packet.UlGoResp number offset) fails a b c d = refl
-no_row caller store lists (packet.UlErrorResp code) fails a b c d = refl
-no_row caller store lists packet.UlAckResp fails a b c d = refl
-no_row caller store lists (packet.UlNakResp code) fails a b c d = refl
 no_row caller store lists (packet.DownloadCmd number offset lock) fails a b c d = absurd (a number offset lock refl)
-no_row caller store lists (packet.DlErrorResp code) fails a b c d = refl
-no_row caller store lists packet.DlAbortedResp fails a b c d = refl
-no_row caller store lists packet.DlCompletedResp fails a b c d = refl
-no_row caller store lists packet.DlAckCmd fails a b c d = refl
-no_row caller store lists packet.DlNakCmd fails a b c d = refl
 no_row caller store lists (packet.DirShortCmd number) fails a b c d = absurd (b number refl)
 no_row caller store lists (packet.DirLongCmd number) fails a b c d = absurd (c number refl)
 no_row caller store lists (packet.SelectCmd tokens) fails a b c d = absurd (d tokens refl)
-no_row caller store lists (packet.SelectResp count) fails a b c d = refl
+no_row caller store lists p fails a b c d = refl
 
 -- the rows in Ready
 pub download-is : (caller : CallSign) (store : Store) (lists : List CallerList) (number offset lock : ℕ) (fails : Bool)

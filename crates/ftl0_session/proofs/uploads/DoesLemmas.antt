@@ -22,8 +22,7 @@ use Rattle.ftl0_session.specs.Causes.{Says}
 use Rattle.ftl0_session.specs.Uploads.Laws.{IsNoFault}
 use Rattle.ftl0_session.specs.Uploads.Taking.{Answered, AnsweredAlone, LooksAtNone, MakesAnyway, TakesPacket, Working, row_of, working_at}
 use Rattle.ftl0_session.proofs.CauseLemmas.{says-quiet}
-use Rattle.ftl0_session.proofs.FaultLemmas.{Silent, uploads-silent}
-use Rattle.ftl0_session.proofs.uploads.FaultCodes.{fault_codes}
+use Rattle.ftl0_session.proofs.FaultLemmas.{Silent, upload_codes, uploads-silent}
 use Rattle.ftl0_session.specs.Uploads.Events.{CallerPacket}
 use Rattle.disk_model.specs.AtDisk.{at}
 
@@ -40,7 +39,7 @@ pub says-row : {D : Type 0} (g : Ghosts D) (disk : D) (packet : CallerPacket) (s
 says-row g disk packet store state row replies is text =
     says-quiet g disk false row.replies replies refl text
     (at_told (λ (r : Row). Silent r.replies) row is (uploads-silent packet.caller packet.moment store state packet.item))
-    (at_told (λ (r : Row). AllByRecursion IsNoFault r.replies) row is (fault_codes packet.caller packet.moment store state packet.item))
+    (at_told (λ (r : Row). AllByRecursion IsNoFault r.replies) row is (upload_codes packet.caller packet.moment store state packet.item))
 
 -- a row with these commands
 abbrev pub HasRow : Option Row → List Command → Type 0

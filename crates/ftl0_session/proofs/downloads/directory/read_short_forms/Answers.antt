@@ -1,4 +1,5 @@
-use Rattle.std.proofs.Common.{◌≡◌, ◌++◌, get_or, length, sym, ◌∙◌, ap, subst, arith, rules, length-append}
+use Rattle.std.proofs.Common.{◌≡◌, ◌++◌, ℕ, List, flat_map, get_or, length, take, sym, ◌∙◌, ap, subst, arith, rules, length-append}
+use Rattle.std.proofs.lemmas.List.{take_all}
 use Rattle.file_store.specs.Info.{IsCompleteIn}
 use Rattle.file_store.specs.State.{StoreState, store_in, store_on}
 use Rattle.file_store.specs.Store.{Store}
@@ -36,3 +37,12 @@ loop-number-preserved g c =
       count = omega (arith, inv.count, long, ap (λ l. length l) ext, length-append forms form);
       reads = one-more g.D.Disk g.met.D.Disk.lasts_on _ (λ is. cc is) _ _ _ _ _ _ inv.reads c.in_ok-form.ensures.reads;
     }
+
+pub returns-clause-forms : goal.returns-clause-forms
+returns-clause-forms g c =
+    let numbers = c.args.numbers.now in
+    let all : take c.loop-number.number-index numbers ≡ numbers =
+    take_all c.loop-number.number-index numbers (omega (arith, c.loop-number-test.false)) in
+    λ known.
+    c.loop-number.invariant.forms known
+    ∙ ap (λ (some : List ℕ). flat_map (λ number. short_octets (octets_in (store_on g.D.Disk c.args.store.now c.args.disk.now) number)) some) all

@@ -10,7 +10,8 @@ use Rattle.ftl0_session.specs.Downloads.Sending.{is_due, next_due, octets_due, o
 use Rattle.ftl0_session.proofs.AnsweringLemmas.{left-after, left-some}
 use Rattle.ftl0_session.proofs.CauseLemmas.{end-no_error, part-no_error}
 use Rattle.ftl0_session.proofs.downloads.DueLemmas.{due-after}
-use Rattle.ftl0_session.proofs.downloads.LikeLemmas.{due-length-like, end-after, next-data, next-end, next-error}
+use Rattle.ftl0_session.proofs.downloads.LikeLemmas.{due-length-like, next-error}
+use Rattle.ftl0_session.proofs.downloads.SentLemmas.{due-data, due-end, end-after}
 use Rattle.ftl0_session.proofs.downloads.downloads.Downloads.fill.Goals as goal
 
 pub returns-in-Ok-2-clause-may : goal.returns-in-Ok-2-clause-may
@@ -64,13 +65,13 @@ returns-in-Ok-clause-puts g c =
     let none : length (octets_due (store_in store) state) ≡ 0 = search rules in
     let next : IsKnown D disk → next_due files state false ≡ Some (record { packet = data_end; state = state_at_end state }) =
     λ known.
-    next-end files state here (omega (arith, none, due-length-like (store_in store) files (on_like D store disk c.requires.ready known) state c.requires.due)) in
+    due-end files state false here (omega (arith, none, due-length-like (store_in store) files (on_like D store disk c.requires.ready known) state c.requires.due)) in
     record {
       fails = false;
       reads = reads_same D disk c.read_part.new.disk _ (false ≡ true) (λ e. absurd cc) (λ e. absurd (true≢false (sym e))) c.in-Ok.ensures.reads.reads;
       told = λ known failed. absurd (true≢false (sym failed));
       tells = (λ failed. absurd (true≢false (sym failed)), λ both. absurd (end-no_error (sym c.write_packet-in-Ok.ensures.text ∙ both.1)));
-      is_due = λ known. rw (next known) (refl, c.end.ensures ∙ ap state_at_end c.in-Ok.ensures.state ∙ end-after state, c.write_packet-in-Ok.ensures.text);
+      is_due = λ known. rw (next known) (refl, c.end.ensures ∙ ap state_at_end c.in-Ok.ensures.state ∙ end-after state 254, c.write_packet-in-Ok.ensures.text);
     }
 
 pub returns-in-Ok-2-clause-puts : goal.returns-in-Ok-2-clause-puts
@@ -85,7 +86,7 @@ returns-in-Ok-2-clause-puts g c =
     let some : 0 < length (octets_due (store_in store) state) = grind (arith, nat_tests, test) in
     let next : IsKnown D disk → next_due files state false ≡ Some (record { packet = data_part (take 254 (octets_due files state)); state = state_after 254 state }) =
     λ known.
-    next-data files state here (omega (arith, some, due-length-like (store_in store) files (on_like D store disk c.requires.ready known) state c.requires.due)) in
+    due-data files state here (omega (arith, some, due-length-like (store_in store) files (on_like D store disk c.requires.ready known) state c.requires.due)) in
     record {
       fails = false;
       reads = reads_same D disk c.read_part.new.disk _ (false ≡ true) (λ e. absurd cc) (λ e. absurd (true≢false (sym e))) c.in-Ok.ensures.reads.reads;

@@ -1,5 +1,5 @@
 -- DATA_END: its row, or code 3.
-use Rattle.std.proofs.Common.{◌≡◌, ◌⊎◌, ℕ, List, [], ◌∷◌, refl, ap, sym, ◌∙◌, subst, inl, inr, Option, None, Some, true, false, true≢false}
+use Rattle.std.proofs.Common.{◌≡◌, ◌⊎◌, ℕ, List, [], ◌∷◌, refl, ap, sym, ◌∙◌, subst, inl, inr, eq-eqb, Option, None, Some, true, false, true≢false}
 use Rattle.std.specs.Prelude.{Ok, ⊤}
 use Rattle.pfh_items.specs.Faults.{fault_code}
 use Rattle.ftl0_packets.specs.Layout.{Item, data_end, ul_ack_resp, ul_nak_resp}
@@ -18,7 +18,7 @@ use Rattle.ftl0_session.specs.Uploads.SessionState.{receiving_of}
 use Rattle.ftl0_session.proofs.uploads.DoesLemmas.{answered-alone, takes-among, takes-fault}
 use Rattle.ftl0_session.proofs.uploads.HoldLemmas.{end-looks, own-entry, parked, sealing-some, short, unread, whole, whole-sealing}
 use Rattle.ftl0_session.proofs.CauseLemmas.{says-one}
-use Rattle.ftl0_session.proofs.uploads.FaultCodes.{fault-other}
+use Rattle.ftl0_session.proofs.uploads.CaseLemmas.{fault-other}
 use Rattle.ftl0_session.proofs.uploads.OtherLemmas.{only-none, others-kept}
 use Rattle.ftl0_session.proofs.uploads.session.Session.take_end.Goals as goal
 
@@ -110,7 +110,7 @@ returns-in-Err-Header g c =
           )) (λ known failed. absurd (true≢false (sym failed))) (λ ok none. absurd (sealing-some files store a.up a.moment none))
           (λ row looks. absurd (end-looks caller store a.up holds a.moment row refused.0.0 looks))
           (says-one g.D.Disk disk false _ (ul_nak_resp code) c.write_packet-in-Err-Header.ensures.text (λ failed. absurd (true≢false (sym failed)))
-          (λ three. absurd (fault-other (Some refused.1.0.0) code (ap (λ (k : ℕ). Some k) (sym refused.1.0.1)) three)));
+          (λ three. absurd (true≢false (sym (eq-eqb code 3 three) ∙ fault-other (Some refused.1.0.0) code (ap (λ (k : ℕ). Some k) (sym refused.1.0.1))))));
       failed = λ e. absurd (cc e);
       healthy = λ ok. goes_on (λ e. cc e) ∙ c.requires.ready.healthy;
       stands_on = c.in-Err-Header.ensures.keeps.stands_on;

@@ -4,7 +4,7 @@ use Rattle.std.proofs.Common.{◌≡◌, ℕ, zero, suc, ◌-◌, List, [], ◌�
 use Rattle.std.specs.Prelude.{if◌then◌else◌}
 use Rattle.std.specs.Option.{option_map}
 use Rattle.std.proofs.lemmas.List.{drop-append-le}
-use Rattle.std.proofs.lemmas.Option.{same_Some}
+use Rattle.std.proofs.lemmas.Option.{none-some, same_Some}
 use Rattle.ax25_link.specs.Ends.{Farewell, IsEnd, LinkEnd, Reply, free_octets, held, most_held}
 use Rattle.ax25_link.specs.Sending.{Sending, after_new, last_sending, later_sending, most_information, next_piece, next_sending, sending_after, sends_again, sends_new, sends_reply}
 use Rattle.ax25_link.specs.Window.{Window}
@@ -17,10 +17,9 @@ use Rattle.ftl0_server.specs.Connection.Connected.{Connected}
 use Rattle.ftl0_server.specs.Connection.Hearing.{ticking, with_end}
 use Rattle.ftl0_server.specs.Connection.Laws.{IsQueued, QueuedLaw}
 use Rattle.ftl0_server.specs.Connection.Taking.{Progress, queued}
-use Rattle.ftl0_server.proofs.connection.QueuingLemmas.{KeepsRest, queued-keeps}
-use Rattle.ftl0_server.specs.Laws.{AreQueued, SlotFits, SlotIsQueued, SlotsFit}
+use Rattle.ftl0_server.specs.Fits.{SlotFits, SlotsFit}
 use Rattle.ftl0_server.specs.Slots.{PlacesSend, Slot, SlotSends, all_freed, connected, first_of, free, leaving, left_by, places_next, slot_next, slot_sends, slot_ticking}
-use Rattle.ftl0_server.proofs.AllPlaces.{never}
+use Rattle.server_laws.specs.Steps.{AreQueued, SlotIsQueued}
 
 -- ---- whether anything is due is the state's to tell
 
@@ -51,7 +50,7 @@ module _ (w : Window) (end : LinkEnd) (fits : IsEnd w end) where
   leaves one same sending is = subst (λ (s : Sending). free_octets s.after ≡ free_octets end) (same_Some one sending is) same
 
   last-leaves : (farewell : Option Farewell) → LeavesFree (last_sending end farewell)
-  last-leaves None sending is = absurd (never sending is)
+  last-leaves None sending is = absurd (none-some sending is)
   last-leaves (Some farewell) sending is = leaves _ refl sending is
 
   later-leaves : (again new : Bool) (farewell : Option Farewell)
@@ -112,14 +111,14 @@ module _ (store : Store) where
 
   connected-sends : (w : Window) (c : Connected) (o : Option Sending) → next_sending w c.end ≡ o → IsEnd w c.end → IsQueued store c.state c.end
       → (x : SlotSends) → option_map (slot_sends (λ end. connected (with_end c end))) o ≡ Some x → SlotIsQueued store x.after
-  connected-sends w c o is fits there x sends = grind (arith, common_steps, never, sending-leaves, same_Some)
+  connected-sends w c o is fits there x sends = grind (arith, common_steps, none-some, sending-leaves, same_Some)
 
   leaving-sends : (c : Connected) (o : Option Sending) (x : SlotSends) → option_map (slot_sends (λ end. leaving (with_end c end))) o ≡ Some x
       → SlotIsQueued store x.after
   leaving-sends c o x sends = grind (arith, common_steps)
 
   slot-sent : (w : Window) (slot : Slot) → SlotFits w slot → SlotIsQueued store slot → (x : SlotSends) → slot_next w slot ≡ Some x → SlotIsQueued store x.after
-  slot-sent w free fits is x sends = absurd (never x sends)
+  slot-sent w free fits is x sends = absurd (none-some x sends)
   slot-sent w (connected c) fits is x sends = connected-sends w c (next_sending w c.end) refl fits is x sends
   slot-sent w (leaving c) fits is x sends = leaving-sends c (next_sending w c.end) x sends
 
@@ -130,15 +129,11 @@ module _ (store : Store) where
 
   pub places-sent : (w : Window) (slots : List Slot) → SlotsFit w slots → AreQueued store slots → (z : PlacesSend) → places_next w slots ≡ Some z
       → AreQueued store z.after
-  places-sent w [] fits all z sends = absurd (never z sends)
+  places-sent w [] fits all z sends = absurd (none-some z sends)
   places-sent w (slot ∷ slots) fits all z sends =
       first-sent slot slots (slot_next w slot) (places_next w slots) (slot-sent w slot fits.0 all.0) (places-sent w slots fits.1 all.1) all z sends
 
 -- ---- a frame is heard
-
--- what is queued changes nothing of what was done
-pub queued-alone : (store : Store) (failures : List Failure) (progress : Progress) → KeepsRest progress (queued store failures progress)
-queued-alone = queued-keeps
 
 pub heard-queued : QueuedLaw → (store : Store) (failures : List Failure) (progress : Progress) → (queued store failures progress).over ≡ false
     → IsQueued (after_all store (queued store failures progress).done) (queued store failures progress).state (queued store failures progress).end

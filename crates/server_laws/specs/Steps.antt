@@ -1,11 +1,10 @@
--- Laws of a server's steps.
+-- An event of a server has one step.
 use Rattle.std.specs.Prelude.{◌≡◌, List, [], ◌∷◌, ⊤}
-use Rattle.ax25_link.specs.Ends.{IsEnd}
-use Rattle.ax25_link.specs.Window.{Window}
 use Rattle.file_store.specs.Store.{Store}
+use Rattle.node.specs.Events.{NodeEvent}
 use Rattle.ftl0_session.specs.Uploads.Failures.{Failure}
 use Rattle.ftl0_server.specs.Connection.Laws.{IsQueued}
-use Rattle.node.specs.Events.{NodeEvent}
+use Rattle.ftl0_server.specs.Fits.{SlotsFit}
 use Rattle.ftl0_server.specs.Server.{IsSilent, Server}
 use Rattle.ftl0_server.specs.ServerStep.{ServerStep, Stepped}
 use Rattle.ftl0_server.specs.Slots.{Slot, connected, free, leaving}
@@ -15,16 +14,6 @@ abbrev pub OneStepLaw : Type 0
 OneStepLaw =
     (old : Server) (event : NodeEvent) (failures : List Failure) (one other : Stepped)
     → ServerStep old event failures one → ServerStep old event failures other → one ≡ other
-
--- the end at this place, if there is one, is such as frames and ticks bring about
-abbrev pub SlotFits : Window → Slot → Type 0
-SlotFits w free = ⊤
-SlotFits w (connected c) = IsEnd w c.end
-SlotFits w (leaving c) = IsEnd w c.end
-
-abbrev pub SlotsFit : Window → List Slot → Type 0
-SlotsFit w [] = ⊤
-SlotsFit w (slot ∷ slots) = SlotFits w slot × SlotsFit w slots
 
 -- all that is due at this place was queued, as far as there was room
 abbrev pub SlotIsQueued : Store → Slot → Type 0

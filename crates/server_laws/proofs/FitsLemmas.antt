@@ -1,9 +1,10 @@
--- Each event of a server has a step: the ends of its links stay such as frames and ticks bring about.
-use Rattle.std.proofs.Common.{◌≡◌, ℕ, zero, suc, List, [], ◌∷◌, set, map, Bool, Option, None, Some, rules, refl, sym, ap₂, subst, arith}
+-- Each event of a server has one step: a server comes to send nothing by one list of frames, and the ends of its links
+-- stay such as frames and ticks bring about.
+use Rattle.std.proofs.Common.{◌≡◌, ℕ, zero, suc, List, [], ◌∷◌, set, map, Bool, Option, None, Some, rules, refl, sym, ◌∙◌, ap, subst, arith}
 use Rattle.std.proofs.lemmas.Grind.{common_steps}
 use Rattle.std.specs.Prelude.{slice_get}
 use Rattle.std.specs.Option.{option_map}
-use Rattle.std.proofs.lemmas.Option.{same_Some}
+use Rattle.std.proofs.lemmas.Option.{none-some, same_Some}
 use Rattle.px_base.specs.CallSign.{CallSign}
 use Rattle.ax25_frames.specs.FrameText.{FrameValue}
 use Rattle.ax25_link.specs.Calls.{after_push}
@@ -25,34 +26,29 @@ use Rattle.ftl0_server.specs.Connection.Connected.{Connected}
 use Rattle.ftl0_server.specs.Connection.Hearing.{parts_as, ticking, with_end}
 use Rattle.ftl0_server.specs.Connection.Laws.{QueuedLaw}
 use Rattle.ftl0_server.specs.Connection.Taking.{Progress, queued, queuing, taking}
-use Rattle.ftl0_server.specs.Laws.{AreQueued, SlotFits, SlotsFit, SomeStepLaw}
+use Rattle.ftl0_server.specs.Fits.{SlotFits, SlotsFit}
 use Rattle.ftl0_server.specs.Server.{IsSilent, Refused, Server, ServerHappened, ServerSends, hearing_at, hearing_by, hearing_stranger, sends_by, settled}
 use Rattle.ftl0_server.specs.ServerStep.{Empties, happening, stepped}
-use Rattle.ftl0_server.specs.Slots.{PlacesSend, Slot, SlotSends, all_freed, connected, first_of, free, freed, leaving, left_by, places_next, slot_next, slot_sends, slot_ticking}
-use Rattle.ftl0_server.proofs.AllPlaces.{never}
-use Rattle.ftl0_server.proofs.connection.QueuingLemmas.{queuing-holds}
-use Rattle.ftl0_server.proofs.EmptiesLemmas.{by_stray, emptied, server_left}
-use Rattle.ftl0_server.proofs.QueuedLemmas.{all-stay, freed-queued, heard-queued, left-queued, places-sent, queued-set, ticked-queued}
+use Rattle.ftl0_server.specs.Slots.{Slot, all_freed, connected, free, leaving, left_by, places_next, slot_next, slot_sends, slot_ticking}
+use Rattle.ftl0_server.proofs.Offered.{by_stray, emptied, empties-silent, first_none, queuing-holds, server_left, silent-settled}
+use Rattle.server_laws.specs.Steps.{AreQueued, OneStepLaw, SomeStepLaw}
+use Rattle.server_laws.proofs.QueuedLemmas.{all-stay, freed-queued, heard-queued, left-queued, places-sent, queued-set, ticked-queued}
 
--- ---- what has nothing to send has nothing to send once its places are settled
+-- ---- one list of frames
 
-first_none : (slot : Slot) (slots : List Slot) (first : Option SlotSends) (later : Option PlacesSend) → first_of slot slots first later ≡ None → (first ≡ None) × (later ≡ None)
-first_none slot slots first later h = grind (arith, common_steps)
+one_way : (server : Server) (frames others : List FrameValue) (last another : Server) → Empties server frames last
+    → Empties server others another → (frames ≡ others) × (last ≡ another)
+one_way server [] [] last another h g = (refl, h.1 ∙ sym g.1)
+one_way server [] (f ∷ others) last another h g = absurd (let a = h.0 in let b = g.1 in let x : ⊥ = cc in x)
+one_way server (f ∷ frames) [] last another h g = absurd (let a = h.1 in let b = g.0 in let x : ⊥ = cc in x)
+one_way server (f ∷ frames) (e ∷ others) last another h g =
+    let same : g.0 ≡ h.0 = same_Some g.0 h.0 (sym g.1 ∙ h.1) in
+    let first : f ≡ e = h.2 ∙ ap (λ (s : ServerSends). s.frame) (sym same) ∙ sym g.2 in
+    let rest = one_way h.0.after frames others last another h.3 (subst (λ (s : ServerSends). Empties s.after others another) same g.3) in
+    ((let both : f ∷ frames ≡ e ∷ others = ap (λ (x : FrameValue). x ∷ frames) first ∙ ap (λ (l : List FrameValue). e ∷ l) rest.0 in both), rest.1)
 
-freed_silent : (w : Window) (slot : Slot) → slot_next w slot ≡ None → slot_next w (freed slot) ≡ None
-freed_silent w slot h = grind (arith, common_steps)
-
-places_silent : (w : Window) (slots : List Slot) → places_next w slots ≡ None → places_next w (all_freed slots) ≡ None
-places_silent w [] h = h
-places_silent w (slot ∷ slots) h =
-    let both = first_none slot slots (slot_next w slot) (places_next w slots) h in
-    ap₂ (λ (a : Option SlotSends) (b : Option PlacesSend). first_of (freed slot) (all_freed slots) a b) (freed_silent w slot both.0) (places_silent w slots both.1)
-
-silent_by : (server : Server) (stray : Option Refused) → sends_by server stray ≡ None → sends_by (settled server) stray ≡ None
-silent_by server stray h = grind (arith, common_steps, places_silent)
-
-pub silent-settled : (server : Server) → IsSilent server → IsSilent (settled server)
-silent-settled server h = silent_by server server.stray h
+pub one_step : OneStepLaw
+one_step old event failures one other step that = grind (arith, common_steps, one_way)
 
 -- ---- ends
 
@@ -100,7 +96,7 @@ module _ (w : Window) where
   freed-fits (leaving c ∷ slots) all = (tt, freed-fits slots all.1)
 
   fits-at : (slots : List Slot) (place : ℕ) (slot : Slot) → SlotsFit w slots → slice_get slots place ≡ Some slot → SlotFits w slot
-  fits-at [] place slot all at = absurd (never slot at)
+  fits-at [] place slot all at = absurd (none-some slot at)
   fits-at (s ∷ slots) zero slot all at = subst (λ (x : Slot). SlotFits w x) (same_Some s slot at) all.0
   fits-at (s ∷ slots) (suc place) slot all at = fits-at slots place slot all.1 at
 
@@ -111,7 +107,7 @@ module _ (w : Window) where
 
   -- nothing is to be sent at any place
   quiet-at : (slots : List Slot) (place : ℕ) (slot : Slot) → places_next w slots ≡ None → slice_get slots place ≡ Some slot → slot_next w slot ≡ None
-  quiet-at [] place slot quiet at = absurd (never slot at)
+  quiet-at [] place slot quiet at = absurd (none-some slot at)
   quiet-at (s ∷ slots) zero slot quiet at = grind (arith, common_steps)
   quiet-at (s ∷ slots) (suc place) slot quiet at = quiet-at slots place slot (first_none s slots (slot_next w s) (places_next w slots) quiet).1 at
 
@@ -128,14 +124,12 @@ stranger-fits server frame moment all = grind (arith, common_steps, after_push-I
 
 at-fits : (server : Server) (frame : FrameValue) (moment : ℕ) (failures : List Failure) (place : ℕ) (slot : Option Slot) → slice_get server.slots place ≡ slot
     → places_next server.window server.slots ≡ None → IsFit server → IsFit (hearing_at server frame moment failures place slot).after
-at-fits server frame moment failures place None at quiet all = all
-at-fits server frame moment failures place (Some free) at quiet all = all
-at-fits server frame moment failures place (Some (leaving c)) at quiet all = all
 at-fits server frame moment failures place (Some (connected c)) at quiet all =
     let w = server.window in
     let fit = fits-at w server.slots place (connected c) all at in
     let still = quiet-sending w c (next_sending w c.end) (quiet-at w server.slots place (connected c) quiet at) in
     let after = after_frame-IsEnd w c.end frame fit still in search (rules, arith, queued-fits, heard-fits, fits-set, left-fits)
+at-fits server frame moment failures place slot at quiet all = all
 
 by-fits : (server : Server) (frame : FrameValue) (moment : ℕ) (failures : List Failure) (place : Option ℕ) → places_next server.window server.slots ≡ None
     → IsFit server → IsFit (hearing_by server frame moment failures place).after
@@ -152,11 +146,6 @@ empties-fits server [] last h all = subst (λ (s : Server). IsFit s) (sym h.1) a
 empties-fits server (frame ∷ frames) last h all =
     empties-fits h.0.after frames last h.3 (by_stray server server.stray refl all h.0 h.1).0
 
--- the last of them has nothing to send
-pub empties-silent : (server : Server) (frames : List FrameValue) (last : Server) → Empties server frames last → IsSilent last
-empties-silent server [] last h = subst (λ (s : Server). IsSilent s) (sym h.1) h.0
-empties-silent server (frame ∷ frames) last h = empties-silent h.0.after frames last h.3
-
 -- ---- what is due was queued
 
 abbrev IsAllQueued : Server → Type 0
@@ -167,11 +156,9 @@ stranger-queued server frame moment all = grind (arith, common_steps, queued-set
 
 at-queued : QueuedLaw → (server : Server) (frame : FrameValue) (moment : ℕ) (failures : List Failure) (place : ℕ) (slot : Option Slot) → IsAllQueued server
     → IsAllQueued (hearing_at server frame moment failures place slot).after
-at-queued law server frame moment failures place None all = all
-at-queued law server frame moment failures place (Some free) all = all
-at-queued law server frame moment failures place (Some (leaving c)) all = all
 at-queued law server frame moment failures place (Some (connected c)) all =
     search (rules, arith, queued-set, all-stay, left-queued, heard-queued)
+at-queued law server frame moment failures place slot all = all
 
 by-queued : QueuedLaw → (server : Server) (frame : FrameValue) (moment : ℕ) (failures : List Failure) (place : Option ℕ) → IsAllQueued server
     → IsAllQueued (hearing_by server frame moment failures place).after
@@ -184,7 +171,7 @@ happening-queued law server event failures all = grind (arith, common_steps, by-
 
 sent-queued : (server : Server) (o : Option Refused) → IsFit server → IsAllQueued server → (sends : ServerSends) → sends_by server o ≡ Some sends
     → IsAllQueued sends.after
-sent-queued server o fit all sends gives = grind (arith, common_steps, never, places-sent, same_Some)
+sent-queued server o fit all sends gives = grind (arith, common_steps, none-some, places-sent, same_Some)
 
 empties-queued : (server : Server) (frames : List FrameValue) (last : Server) → Empties server frames last → IsFit server → IsAllQueued server
     → IsAllQueued last

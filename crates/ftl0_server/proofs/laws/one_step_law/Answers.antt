@@ -1,5 +1,0 @@
-use Rattle.ftl0_server.proofs.EmptiesLemmas.{one_step}
-use Rattle.ftl0_server.proofs.laws.one_step_law.Goals as goal
-
-pub returns : goal.returns
-returns c = one_step
