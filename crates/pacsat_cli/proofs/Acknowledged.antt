@@ -1,7 +1,7 @@
 -- What a session or a service acknowledges stands, by how it was served.
 use Rattle.std.proofs.Common.{⊎_elim, ℕ, List, inl, subst}
 use Rattle.node.specs.Lent.{Lent, Seen}
-use Rattle.server_node.specs.Acknowledged.{ServerAcknowledgesLaw, SessionAcknowledgesLaw}
+use Rattle.acknowledged_laws.specs.Acknowledged.{ServerAcknowledgesLaw, SessionAcknowledgesLaw}
 use Rattle.command_words.specs.declared.disk.DiskWord.{DiskWord}
 use Rattle.pacsat_cli.specs.declared.status.Status.{Status}
 use Rattle.pacsat_cli.specs.Acknowledged.{ServiceStands, SessionStands}

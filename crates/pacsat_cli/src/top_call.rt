@@ -28,6 +28,7 @@ use crate::rehearsing::run_rehearsal;
 use crate::serving::{run_serve, run_session};
 use crate::task::{Task, task_of};
 use crate::{Status, Words};
+use acknowledged_laws::{server_acknowledges_law, session_acknowledges_law};
 use air_schedule::laws::one_schedule;
 use command_words::Refusal;
 use command_words::laws::one_meaning;
@@ -35,7 +36,6 @@ use disk_model::{CutDisk, Disk};
 use ftl0_client::laws::{one_step_law, stays_law};
 use node::laws::one_run_law;
 use px_base::{Air, Clock, Out, Shelf};
-use server_node::laws::{server_acknowledges_law, session_acknowledges_law};
 use std::alloc::Global;
 
 /// Does what the words ask for, over this disk, air, shelf, output, clock and bench, and shows the status's line on the

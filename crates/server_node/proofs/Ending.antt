@@ -1,7 +1,7 @@
 -- A session or a server from the recovery of its store, which is refused or gives one, to its end by the turns of its
 -- node; what it does to its disk, and what stands there.
 use Rattle.std.proofs.lemmas.Grind.{common_steps}
-use Rattle.std.proofs.Common.{◌≡◌, inl, inr, ℕ, List, ◌++◌, refl, ◌∙◌, ap, arith, [], ◌∷◌, Bool, false, sym, ◌≢◌, Result, Ok, Err, IsErrAnd, IsErrOf, Option}
+use Rattle.std.proofs.Common.{◌≡◌, inl, inr, ℕ, List, ◌++◌, refl, ◌∙◌, ap, arith, [], ◌∷◌, true, false, sym, ◌≢◌, Result, Ok, Err, IsErrAnd, IsErrOf, Option}
 use Rattle.disk_model.specs.AtDisk.{AtDisk, at}
 use Rattle.disk_model.specs.declared.disk.Disk.{Ghosts}
 use Rattle.file_journal.specs.Through.{StandsThrough}
@@ -9,26 +9,26 @@ use Rattle.file_store.specs.Calls.{Runs, Leaves, TakesStep}
 use Rattle.file_store.specs.Command.{Command}
 use Rattle.file_store.specs.Store.{Store}
 use Rattle.file_store.specs.Working.{CutsOffAmongReads, DoesAmongReads, PutsAmongReads}
-use Rattle.file_store.proofs.Offered.{told_weaker, cuts-among-all, cuts-among-same, known_on, puts-among-same, stands-through}
+use Rattle.file_store.proofs.Offered.{told_weaker, cuts-among-all, known_on, stands-through}
 use Rattle.server_node.specs.OnDisk.{NodeRuns}
 use Rattle.node.specs.declared.stop.NodeStop.{NodeStop}
 use Rattle.server_node.specs.declared.terms.Served.{Served}
 use Rattle.px_base.specs.Moments.{MomentsOf}
-use Rattle.px_base.specs.Outside.{Gains}
-use Rattle.px_base.specs.Polling.{HearsAll, IsButLast}
-use Rattle.px_base.specs.declared.air.Air.{Ghosts as AirGhosts}
+use Rattle.px_base.specs.Polling.{IsButLast}
 use Rattle.px_base.specs.declared.air.Turn.{Turn}
 use Rattle.file_store.specs.Recovery.{StandsAlike, IsRecovered, LeavesAlikeSinceSync, RefusesRecovery}
 use Rattle.file_store.specs.State.{IsKnown, StoreState, store_form, store_layout, store_magic, store_on}
 use Rattle.node.specs.Course.{AtDisk, Course}
 use Rattle.node.specs.Lent.{Lent, Seen, lent}
-use Rattle.node.specs.Turns.{HasAirCause as NodeHasCause, IsUnsaid, RanBy, StoppedInLast, TookAll, TurnsBy as NodeTurnsBy, Brought}
+use Rattle.node.specs.Turns.{HasAirCause as NodeHasCause, Lent as Driven, RanBy, StoppedInLast, TookAll, TookTurns, TurnsBy as NodeTurnsBy, party_at}
+use Rattle.node.specs.declared.terms.TurnTerms.{TurnTerms}
 use Rattle.node.specs.declared.finished.Finished.{Finished}
 use Rattle.file_journal.proofs.Offered.{runs_among, runs_missed, runs_same}
 use Rattle.server_node.specs.Served.{Run, TurnsBy, Ends}
-use Rattle.server_node.specs.Steps.{EndsOver, Made, Steps, StopsBehind, TakesAll}
+use Rattle.server_node.specs.Steps.{EndsOver, Made, Steps, StopsBehind, TakesAll, made}
+use Rattle.server_node.proofs.StepsLemmas.{DidOnDisk}
 use Rattle.node.specs.Stops.{stop_of_fault}
-use Rattle.server_node.specs.Stops.{HasAirCause, served_by, RefusesSession}
+use Rattle.server_node.specs.Stops.{HasAirCause, is_for_memory, served_by, RefusesSession}
 use Rattle.std.proofs.lemmas.Result.{err_from_is_err_and}
 use Rattle.file_store.specs.IsStore.{IsStore}
 use Rattle.file_store.specs.Journal.{IsAfterRecovery}
@@ -36,14 +36,6 @@ use Rattle.file_store.specs.StoreFault.{StoreFault}
 use Rattle.node.specs.declared.stop.NodeStop.TheVariants as stop
 use Rattle.file_store.specs.StoreFault.TheVariants as fault
 use Rattle.node.specs.declared.finished.Finished.TheVariants as finished
-
--- what a session does to its disk, by its writes and syncs
-pub node_runs : {D : Type 0} (g : Ghosts D) (failed : Type 0) (old now : D) → PutsAmongReads g failed old now → NodeRuns g failed old now
-node_runs g failed old now puts = grind (arith, common_steps)
-
--- and by a recovery that is all that it does
-pub runs_refused : {D : Type 0} (g : Ghosts D) (failed : Type 0) (old now : D) → Runs g failed old now → NodeRuns g failed old now
-runs_refused g failed old now runs = grind (arith, common_steps)
 
 -- what the clauses of serving say
 pub record Serves {A C D : Type 0} (seen : Seen D A C) (blocks : ℕ) (given : Option ℕ) (Ran : Result Served NodeStop → Store → Run → Type 0) (old new : Lent D A C) (result : Result Served NodeStop) : Type 0 where
@@ -88,7 +80,7 @@ module _ {A C D T : Type 0} (seen : Seen D A C) (blocks : ℕ) (given : Option �
       leaves = record { since_sync = told_weaker (seen.disk.content old.disk) _ _ (λ before told left. grind (arith, common_steps, there, left)) since_sync; since_start = since_start; not_a_store = untouched; damaged = damage };
     });
     counts = grind (arith, common_steps);
-    runs = runs_refused seen.disk _ old.disk disk_n refused_runs;
+    runs = grind (arith, common_steps, refused_runs);
   }
 
 module _ {A C D T : Type 0} (seen : Seen D A C) (blocks : ℕ) (given : Option ℕ) (Ran : Result Served NodeStop → Store → Run → Type 0) (old : Lent D A C) (disk_n : D) where
@@ -134,118 +126,116 @@ but_last (next ∷ turns) = by (but_last turns).0 (but_last turns).1
     by earlier (inl none) = ([], inr (next, cc none.0))
     by earlier (inr some) = (next ∷ earlier, inr (some.0, cc some.1))
 
--- the disk is why it stopped
-pub disk-stop : {D : Type 0} (g : Ghosts D) (why : NodeStop) (missed : ℕ) (old now : AtDisk StoreState D) (done cut : List Command) → CutsOffAmongReads g (why ≡ stop.Disk) missed old now done cut
-    → CutsOffAmongReads g (IsErrOf {T = Served} (Err why) stop.Disk) missed old now done cut
-disk-stop g why missed old now done cut cuts = cuts-among-same g _ _ missed missed old now done cut (ap Err) (error_of why stop.Disk) refl cuts
-
-pub puts-stop : {D : Type 0} (g : Ghosts D) (why : NodeStop) (old now : D) → PutsAmongReads g (why ≡ stop.Disk) old now → PutsAmongReads g (IsErrOf {T = Served} (Err why) stop.Disk) old now
-puts-stop g why old now puts = puts-among-same g (why ≡ stop.Disk) (IsErrOf {T = Served} (Err why) stop.Disk) old now (ap Err) (error_of why stop.Disk) puts
-
--- ---- by how the turns ended: all that they bring was taken, or it stopped at an event of the last one
-
-module _ {P D A E S F : Type 0} (Brings : List Turn → List ℕ → List E → Type 0) (course : Course P D E) (is_over : (p : P) → course.is_over p ≡ false) (air : AirGhosts A) (before now : A) (start then_is : AtDisk P D)
-    (all : Brought E) (text : List ℕ) (unsaid : Bool) (polls : ℕ) (steps : Steps S F) (from : S) (events : List F) (Did : Result Served NodeStop → Type 0) where
-  abbrev pub Causes : Result Served NodeStop → Type 0
-  Causes result = HasAirCause air.read_faults air.write_faults before now result
-
-  abbrev pub Taken : Type 0
-  Taken =
-      (result : Result Served NodeStop) → TurnsBy result polls all.turns → Causes result → ¬ IsErrOf result stop.Disk
-      → ((least : List F) (made : Made) → TakesAll steps from events made [] → EndsOver result least steps from events unsaid made [])
-      → TookAll course start all.events text then_is false → Did result
-
-  abbrev pub Stopped : Type 0
-  Stopped =
-      (why : NodeStop) → TurnsBy (Err why) polls all.turns → ((why ≡ stop.OutOfMemory → air.write_faults now ≡ air.write_faults before) → Causes (Err why))
-      → ((least : List F) (made : Made) (cut : List Command) → StopsBehind least steps from events why unsaid made cut → EndsOver (Err why) least steps from events unsaid made cut)
-      → StoppedInLast Brings course start all why text unsaid then_is → Did (Err why)
-
-  pub never-over : (ended : Result Finished NodeStop) → RanBy Brings course start all ended text unsaid then_is → ended ≢ Ok finished.Over
-  never-over ended ran is = let over = rw is at ran in absurd (cc (sym over.2 ∙ is_over then_is.it))
-
-  pub did-by : Taken → Stopped → (ended : Result Finished NodeStop) → NodeTurnsBy ended polls all.turns → NodeHasCause air before now ended → RanBy Brings course start all ended text unsaid then_is → Did (served_by ended)
-  did-by taken stopped (Ok finished.Over) ends counts ran = absurd (never-over (Ok finished.Over) ran refl)
-  did-by taken stopped (Ok (finished.Closed n)) ends counts ran = taken (Ok (record { turns = n })) ends counts (λ e. cc e) (λ l m h. h) ran
-  did-by taken stopped (Err stop.AirRead) ends counts ran = taken (Err stop.AirRead) ends counts (λ e. cc e) (λ l m h. h) ran
-  did-by taken stopped (Err stop.Spent) ends counts ran = taken (Err stop.Spent) ends counts (λ e. cc e) (λ l m h. h) ran
-  did-by taken stopped (Err stop.AirWrite) ends counts ran = stopped stop.AirWrite ends (λ kept. counts) (λ l m c h. h) ran
-  did-by taken stopped (Err stop.Disk) ends counts ran = stopped stop.Disk ends (λ kept. counts) (λ l m c h. h) ran
-  did-by taken stopped (Err (stop.NotAStore found)) ends counts ran = absurd ends
-  did-by taken stopped (Err (stop.Damaged at)) ends counts ran = absurd ends
-  did-by taken stopped (Err stop.OutOfMemory) ends counts ran = stopped stop.OutOfMemory ends (λ kept. (counts.0, kept refl)) (λ l m c h. h) ran
-
--- ---- what that says of the disk
-
 -- nothing but two empty lists
 pub append-none : {X : Type 0} (a b : List X) → a ++ b ≡ [] → (a ≡ []) × (b ≡ [])
 append-none [] b none = (refl, none)
 append-none (c ∷ a) b none = absurd (cc none)
 
--- It came to this run over the store that the recovery gave, and ended so.
-pub record Did {A C D : Type 0} (seen : Seen D A C) (given : Option ℕ) (Ran : Store → Run → Type 0) (old new : Lent D A C) (mid : D) (start store : StoreState) (polls : ℕ) (result : Result Served NodeStop) : Type 0 where
-  pub run : Run
-  pub turns_heard : HearsAll (seen.air.heard old.air) (seen.air.heard new.air) run.turns
-  pub moments_given : MomentsOf given (seen.given old.clock) (seen.given new.clock) run.moments
-  pub text_said : Gains (seen.air.said old.air) (seen.air.said new.air) run.all.text
-  pub is_unsaid : IsUnsaid run.unsaid (seen.air.write_faults old.air) (seen.air.write_faults new.air)
-  pub ran : Ran (store_on seen.disk start mid) run
-  pub ends : TurnsBy result polls run.turns
-  pub counts : HasAirCause seen.air.read_faults seen.air.write_faults old.air new.air result
-  pub puts : PutsAmongReads seen.disk (IsErrOf result stop.Disk) mid new.disk
-  pub cuts : IsKnown seen.disk mid → CutsOffAmongReads seen.disk (IsErrOf result stop.Disk) run.all.missed (at start mid) (at store new.disk) run.all.done run.cut
+-- ---- by how the turns ended: all that they bring was taken, or it stopped at an event of the last one
 
-module _ {A C D T : Type 0} (seen : Seen D A C) (on : (first second third : D) → seen.disk.lasts first second → seen.disk.lasts second third → seen.disk.lasts first third) (blocks : ℕ) (given : Option ℕ)
-    (Ran : Result Served NodeStop → Store → Run → Type 0) (old new : Lent D A C) (mid : D) (value : T) (start store : StoreState) (polls : ℕ) (result : Result Served NodeStop)
-    (h : Recovers {T = T} seen.disk blocks old.disk mid value start) (did : Did seen given (Ran result) old new mid start store polls result) where
-  abbrev g : Ghosts D
-  g = seen.disk
+module _ {P A C D E : Type 0} (seen : Seen D A C) (Brings : List Turn → List ℕ → List E → Type 0) (course : Course P D E) (old new : Driven P D A C) (terms : TurnTerms) (ended : Result Finished NodeStop)
+    (took : TookTurns Brings course seen.air seen.given old new terms ended) where
+  abbrev pub Causes : Result Served NodeStop → Type 0
+  Causes result = HasAirCause seen.air.read_faults seen.air.write_faults old.air new.air result
 
-  abbrev run : Run
-  run = did.run
+  module _ (is_over : (p : P) → course.is_over p ≡ false) where
+    pub never-over : ended ≢ Ok finished.Over
+    never-over is = let over = rw is at took.ran in absurd (cc (sym over.2 ∙ is_over new.party))
 
-  abbrev Failed : Type 0
-  Failed = IsErrOf result stop.Disk
+    module _ {S F : Type 0} (steps : Steps S F) (from : S) (events : List F) (Came : Result Served NodeStop → Type 0) where
+      abbrev pub Taken : Type 0
+      Taken =
+          (result : Result Served NodeStop) → TurnsBy result terms.polls took.all.turns → Causes result → ¬ IsErrOf result stop.Disk
+          → ((least : List F) (made : Made) → TakesAll steps from events made [] → EndsOver result least steps from events took.unsaid made [])
+          → TookAll course (party_at old) took.all.events took.text (party_at new) false → Came result
 
-  fine : ¬ IsErrOf {T = T} (Ok value) fault.Disk
-  fine is = cc is
+      abbrev pub Stopped : Type 0
+      Stopped =
+          (why : NodeStop) → TurnsBy (Err why) terms.polls took.all.turns → ((is_for_memory why ≡ true → took.unsaid ≡ false) → Causes (Err why))
+          → ((least : List F) (made : Made) (cut : List Command) → StopsBehind least steps from events why took.unsaid made cut → EndsOver (Err why) least steps from events took.unsaid made cut)
+          → StoppedInLast Brings course (party_at old) took.all why took.text took.unsaid (party_at new) → Came (Err why)
 
-  -- what is known at the start is known behind the recovery
-  cuts : IsKnown g old.disk → CutsOffAmongReads g Failed run.all.missed (at start mid) (at store new.disk) run.all.done run.cut
-  cuts known = did.cuts (known_on g old.disk mid h.runs.told known)
+      pub came-by : Taken → Stopped → Came (served_by ended)
+      came-by taken stopped = by ended refl took.ends took.counts took.ran
+        where
+          by : (e : Result Finished NodeStop) → ended ≡ e → NodeTurnsBy e terms.polls took.all.turns → NodeHasCause seen.air old.air new.air e
+              → RanBy Brings course (party_at old) took.all e took.text took.unsaid (party_at new) → Came (served_by e)
+          by (Ok finished.Over) is ends counts ran = absurd (never-over is)
+          by (Ok (finished.Closed n)) is ends counts ran = taken (Ok (record { turns = n })) ends counts (λ e. cc e) (λ l m h. h) ran
+          by (Err stop.AirRead) is ends counts ran = taken (Err stop.AirRead) ends counts (λ e. cc e) (λ l m h. h) ran
+          by (Err stop.Spent) is ends counts ran = taken (Err stop.Spent) ends counts (λ e. cc e) (λ l m h. h) ran
+          by (Err stop.AirWrite) is ends counts ran = stopped stop.AirWrite ends (λ kept. counts) (λ l m c h. h) ran
+          by (Err stop.Disk) is ends counts ran = stopped stop.Disk ends (λ kept. counts) (λ l m c h. h) ran
+          by (Err stop.OutOfMemory) is ends counts ran = stopped stop.OutOfMemory ends (λ kept. (counts.0, rw (kept refl) at took.is_unsaid)) (λ l m c h. h) ran
+          by (Err (stop.NotAStore found)) is ends counts ran = absurd ends
+          by (Err (stop.Damaged at)) is ends counts ran = absurd ends
 
-  standing : IsKnown g old.disk → (stands : StandsThrough g store_form Failed (store_on g start mid) run.all.done run.cut old.disk new.disk) × (stands.ready ≡ g.moment mid)
-  standing known = stands-through g on Failed blocks old.disk mid new.disk start store run.all.done run.cut run.all.missed h.runs.told h.recovered.content h.since_start
-      (told_weaker (g.content old.disk) _ _ (λ octets told left. grind (arith, common_steps, left, fine)) h.since_sync) (cuts known)
+  -- ---- what that says of the disk
 
-  puts : PutsAmongReads g Failed old.disk new.disk
-  puts = runs_among g on _ Failed old.disk mid new.disk fine h.runs did.puts
+  -- what it came to at these moments
+  abbrev pub run_of : {result : Result Served NodeStop} {before now : AtDisk StoreState D} → List ℕ → DidOnDisk seen.disk result before now → Run
+  run_of moments did = record { turns = took.all.turns; moments = moments; all = made took.text did.done did.missed; cut = did.cut; unsaid = took.unsaid }
 
-  -- all that it did
-  did-all : IsKnown g old.disk → DoesAmongReads g Failed run.all.missed start store mid new.disk (run.all.done ++ run.cut)
-  did-all known = cuts-among-all g on Failed run.all.missed (at start mid) (at store new.disk) run.all.done run.cut (cuts known)
+  -- It came to such a run over the store that the recovery gave, and ended so.
+  pub record Came (given : Option ℕ) (first : C) (Ran : Result Served NodeStop → Store → Run → Type 0) (start store : StoreState) (result : Result Served NodeStop) : Type 0 where
+    pub did : DidOnDisk seen.disk result (at start old.disk) (at store new.disk)
+    pub moments : List ℕ
+    pub moments_given : MomentsOf given (seen.given first) (seen.given new.clock) moments
+    pub ran : Ran result (store_on seen.disk start old.disk) (run_of moments did)
+    pub ends : TurnsBy result terms.polls took.all.turns
+    pub counts : Causes result
 
-  pub served : Serves seen blocks given Ran old new result
-  served = record {
-    refuses = λ no_disk no_memory. told_weaker (g.content old.disk) _ _ (λ octets told stood. grind (arith, common_steps, did.ends, stood)) h.recovered.content;
-    ends = inr (record {
-      start = store_on g start mid;
-      rules = h.rules;
-      stood = h.recovered.content;
-      recovered = mid;
-      octets = h.octets;
-      run = run;
-      turns_heard = did.turns_heard;
-      moments_given = did.moments_given;
-      text_said = did.text_said;
-      is_unsaid = did.is_unsaid;
-      ran = did.ran;
-      puts = puts;
-      reads = λ known. runs_missed g on _ Failed old.disk mid new.disk fine h.runs run.all.missed (did-all known).reads;
-      stands = λ known. (standing known).0;
-      ready = λ known. (standing known).1;
-      none = λ known none. (did-all known).none none;
-    });
-    counts = did.counts;
-    runs = node_runs g Failed old.disk new.disk puts;
-  }
+  module _ {T : Type 0} (on : (first second third : D) → seen.disk.lasts first second → seen.disk.lasts second third → seen.disk.lasts first third) (blocks : ℕ) (given : Option ℕ)
+      (Ran : Result Served NodeStop → Store → Run → Type 0) (disk : D) (clock : C) (value : T) (start store : StoreState) (result : Result Served NodeStop)
+      (h : Recovers {T = T} seen.disk blocks disk old.disk value start) (came : Came given clock Ran start store result) where
+    abbrev g : Ghosts D
+    g = seen.disk
+
+    abbrev did : DidOnDisk g result (at start old.disk) (at store new.disk)
+    did = came.did
+
+    abbrev Failed : Type 0
+    Failed = IsErrOf result stop.Disk
+
+    fine : ¬ IsErrOf {T = T} (Ok value) fault.Disk
+    fine is = cc is
+
+    -- what is known at the start is known behind the recovery
+    cuts : IsKnown g disk → CutsOffAmongReads g Failed did.missed (at start old.disk) (at store new.disk) did.done did.cut
+    cuts known = did.cuts (known_on g disk old.disk h.runs.told known)
+
+    standing : IsKnown g disk → (stands : StandsThrough g store_form Failed (store_on g start old.disk) did.done did.cut disk new.disk) × (stands.ready ≡ g.moment old.disk)
+    standing known = stands-through g on Failed blocks disk old.disk new.disk start store did.done did.cut did.missed h.runs.told h.recovered.content h.since_start
+        (told_weaker (g.content disk) _ _ (λ octets told left. grind (arith, common_steps, left, fine)) h.since_sync) (cuts known)
+
+    puts : PutsAmongReads g Failed disk new.disk
+    puts = runs_among g on _ Failed disk old.disk new.disk fine h.runs did.puts
+
+    -- all that it did
+    did-all : IsKnown g disk → DoesAmongReads g Failed did.missed start store old.disk new.disk (did.done ++ did.cut)
+    did-all known = cuts-among-all g on Failed did.missed (at start old.disk) (at store new.disk) did.done did.cut (cuts known)
+
+    pub served : Serves seen blocks given Ran (lent disk old.air clock) (lent new.disk new.air new.clock) result
+    served = record {
+      refuses = λ no_disk no_memory. told_weaker (g.content disk) _ _ (λ octets told stood. grind (arith, common_steps, came.ends, stood)) h.recovered.content;
+      ends = inr (record {
+        start = store_on g start old.disk;
+        rules = h.rules;
+        stood = h.recovered.content;
+        recovered = old.disk;
+        octets = h.octets;
+        run = run_of came.moments did;
+        turns_heard = took.turns_heard;
+        moments_given = came.moments_given;
+        text_said = took.text_said;
+        is_unsaid = took.is_unsaid;
+        ran = came.ran;
+        puts = puts;
+        reads = λ known. runs_missed g on _ Failed disk old.disk new.disk fine h.runs did.missed (did-all known).reads;
+        stands = λ known. (standing known).0;
+        ready = λ known. (standing known).1;
+        none = λ known none. (did-all known).none none;
+      });
+      counts = came.counts;
+      runs = grind (arith, common_steps, puts);
+    }

@@ -1,3 +1,2 @@
-mod AcknowledgedLemmas
 mod Ending
 mod StepsLemmas

@@ -1,4 +1,3 @@
-pub mod Acknowledged
 pub mod OnAir
 pub mod OnDisk
 pub mod Served

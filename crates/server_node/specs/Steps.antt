@@ -1,12 +1,13 @@
 -- Events, one after another, up to a stop: what is said to them, and which commands of the store are done.
-use Rattle.std.specs.Prelude.{◌≡◌, ℕ, ◌+◌, List, [], ◌∷◌, ◌++◌, Bool, false, Result, Ok, Err}
+use Rattle.std.specs.Prelude.{◌≡◌, ℕ, ◌+◌, List, [], ◌∷◌, ◌++◌, Bool, true, false, Result, Ok, Err}
 use Rattle.disk_model.specs.declared.disk.Disk.{Ghosts}
 use Rattle.file_store.specs.Command.{Command}
-use Rattle.file_store.specs.State.{StoreState}
+use Rattle.file_store.specs.State.{IsKnown, StoreState}
 use Rattle.file_store.specs.Working.{CutsOffAmongReads, DoesAmongReads, PutsAmongReads}
 use Rattle.node.specs.Course.{AtDisk, at}
 use Rattle.node.specs.declared.stop.NodeStop.{NodeStop}
 use Rattle.node.specs.declared.stop.NodeStop.TheVariants as stop
+use Rattle.server_node.specs.Stops.{FailsBy, is_for_memory}
 use Rattle.server_node.specs.declared.terms.Served.{Served}
 
 -- what was made of events: the text that was said, the commands that were done, and how many reads that failed are told
@@ -75,35 +76,49 @@ EndsOver (Err (stop.Damaged place)) least steps start events unsaid all cut = �
 
 -- ---- on the disk
 
--- What a stop leaves, whatever the disk tells: no write and no sync came behind one that failed, and one did where that
--- is the reason. After want of memory no put fails.
-pub record StopsAlways {D : Type 0} (g : Ghosts D) (why : NodeStop) (unsaid : Bool) (disk disk_now : D) : Type 0 where
-  pub puts : PutsAmongReads g (why ≡ stop.Disk) disk disk_now
-  pub kept : why ≡ stop.OutOfMemory → unsaid ≡ false
+-- How something serves events on a disk: by which steps, with which store, and what it stands for there.
+pub record Service (P S E D : Type 0) : Type 1 where
+  pub disk : Ghosts D
+  pub steps : Steps S E
+  pub store : P → StoreState
+  pub stands : AtDisk P D → S → Type 0
 
--- something with its store at a disk
-pub record WithStore (S D : Type 0) : Type 0 where
-  pub it : S
-  pub store : StoreState
-  pub disk : D
+-- its store, at its disk
+abbrev pub store_at : {P S E D : Type 0} → Service P S E D → AtDisk P D → AtDisk StoreState D
+store_at by now = at (by.store now.it) now.disk
 
-abbrev pub with_store : {S D : Type 0} → S → StoreState → D → WithStore S D
-with_store it store disk = record { it = it; store = store; disk = disk }
-
--- It came over these events and said this, and the commands are done on the disk. The disk's count of failed reads rose
--- by at least as many as are told of, and not where none is.
-pub record RunsOn {S E D : Type 0} (g : Ghosts D) (steps : Steps S E) (old new : WithStore S D) (events : List E)
+-- From this start it came over these events and said this, and the commands are done on the disk. The disk's count of
+-- failed reads rose by at least as many as are told of, and not where none is.
+pub record RunsTo {P S E D : Type 0} (by : Service P S E D) (start : S) (old new : AtDisk P D) (events : List E)
     (text : List ℕ) : Type 0 where
+  pub next : S
+  pub stands : by.stands new next
   pub done : List Command
   pub missed : ℕ
-  pub goes : steps.goes old.it events (made text done missed) new.it
-  pub does : DoesAmongReads g ⊥ missed old.store new.store old.disk new.disk done
+  pub goes : by.steps.goes start events (made text done missed) next
+  pub does : DoesAmongReads by.disk ⊥ missed (by.store old.it) (by.store new.it) old.disk new.disk done
 
 -- It stopped at one of these events, and its commands up to there are done on the disk.
-pub record StopsOn {S E D : Type 0} (g : Ghosts D) (steps : Steps S E) (old : WithStore S D) (new : AtDisk StoreState D)
-    (events : List E) (why : NodeStop) (unsaid : Bool) (text : List ℕ) : Type 0 where
+pub record StopsTo {P S E D : Type 0} (by : Service P S E D) (start : S) (old new : AtDisk P D) (events : List E)
+    (why : NodeStop) (unsaid : Bool) (text : List ℕ) : Type 0 where
   pub done : List Command
   pub cut : List Command
   pub missed : ℕ
-  pub stops : StopsOver steps old.it events why unsaid (made text done missed) cut
-  pub cuts : CutsOffAmongReads g (why ≡ stop.Disk) missed (at old.store old.disk) new done cut
+  pub stops : StopsOver by.steps start events why unsaid (made text done missed) cut
+  pub cuts : CutsOffAmongReads by.disk (FailsBy why) missed (store_at by old) (store_at by new) done cut
+
+-- Over these events no write and no sync failed. Where it is known what octets the files have it ran so, whatever it
+-- stood for.
+pub record RunsOn {P S E D : Type 0} (by : Service P S E D) (old new : AtDisk P D) (events : List E) (text : List ℕ)
+    : Type 0 where
+  pub puts : PutsAmongReads by.disk ⊥ old.disk new.disk
+  pub runs : IsKnown by.disk old.disk → (start : S) → by.stands old start → RunsTo by start old new events text
+
+-- It stopped at one of them: no write and no sync came behind one that failed, and one did where that is the reason.
+-- After want of memory no put fails. Where it is known what octets the files have it stopped so.
+pub record StopsOn {P S E D : Type 0} (by : Service P S E D) (old new : AtDisk P D) (events : List E) (why : NodeStop)
+    (unsaid : Bool) (text : List ℕ) : Type 0 where
+  pub puts : PutsAmongReads by.disk (FailsBy why) old.disk new.disk
+  pub kept : is_for_memory why ≡ true → unsaid ≡ false
+  pub stops :
+      IsKnown by.disk old.disk → (start : S) → by.stands old start → StopsTo by start old new events why unsaid text

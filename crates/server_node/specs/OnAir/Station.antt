@@ -1,6 +1,6 @@
 -- The course of a server as a node drives it: which events it takes, what it says to them, and what it does on its
 -- disk.
-use Rattle.std.specs.Prelude.{◌≡◌, ◌≢◌, ℕ, List, [], ◌++◌, Bool, true, false, Option, None, Some}
+use Rattle.std.specs.Prelude.{◌≡◌, ◌≢◌, ℕ, List, [], ◌++◌, true, false, Option, None, Some}
 use Rattle.px_base.specs.Octets.{IsFront}
 use Rattle.disk_model.specs.declared.disk.Disk.{Ghosts}
 use Rattle.ax25_frames.specs.FrameText.{FrameValue}
@@ -10,14 +10,13 @@ use Rattle.file_store.specs.Working.{PutsAmongReads}
 use Rattle.node.specs.Course.{AtDisk, Course, at, stop_at_put, stop_of}
 use Rattle.node.specs.Events.{NodeEvent}
 use Rattle.disk_model.specs.declared.halt.Halt.{Halt}
-use Rattle.disk_model.specs.declared.halt.Halt.TheVariants as halt
-use Rattle.node.specs.declared.stop.NodeStop.{NodeStop}
 use Rattle.node.specs.declared.stop.NodeStop.TheVariants as stop
 use Rattle.ftl0_server.specs.Calls.{AwaitsEvent}
 use Rattle.ftl0_server.specs.Server.{IsSilent, Server, settled}
 use Rattle.ftl0_server.specs.ServerState.{IsServer, SendsFor, ServerState, server_most}
 use Rattle.ftl0_server.specs.ServerStep.{Empties}
-use Rattle.server_node.specs.Steps.{RunsOn, StopsAlways, StopsOn, WithStore, with_store}
+use Rattle.server_node.specs.Steps.{RunsOn, RunsTo, Service, StopsOn, StopsTo}
+use Rattle.server_node.specs.Stops.{FailsBy, is_for_memory}
 use Rattle.server_node.specs.OnAir.Serving.{server_steps, text_of}
 use Rattle.server_node.specs.declared.on_air.station.ServerStation.{ServerStation}
 
@@ -39,37 +38,15 @@ pub record IsUp {D : Type 0} (g : Ghosts D) (a : AtDisk ServerStation D) : Type 
   pub awaits : AwaitsEvent g a.it.server a.disk
   pub memory : a.it.is_out_of_memory ≡ false
 
--- the server that it stands for, with its store at the disk
-abbrev pub serving_at : {D : Type 0} → Server → AtDisk ServerStation D → WithStore Server D
-serving_at server a = with_store server a.it.server.store a.disk
-
--- It came from one server to another over these events, and said this.
-pub record ComesOn {D : Type 0} (g : Ghosts D) (server : Server) (old : AtDisk ServerStation D)
-    (events : List NodeEvent) (text : List ℕ) (new : AtDisk ServerStation D) : Type 0 where
-  pub next : Server
-  pub serving : ServesAt g new next
-  pub runs : RunsOn g server_steps (serving_at server old) (serving_at next new) events text
-
--- It stopped at one of these events, and said this.
-abbrev pub HaltsOn :
-    {D : Type 0} → Ghosts D → Server → AtDisk ServerStation D → List NodeEvent → NodeStop → Bool → List ℕ
-    → AtDisk ServerStation D → Type 0
-HaltsOn g server old events why unsaid text new =
-    StopsOn g server_steps (serving_at server old) (at new.it.server.store new.disk) events why unsaid text
-
--- Over these events no write and no sync failed. Where it is known what octets the files have, it came on so, whichever
--- server it stood for.
-pub record GoesOver {D : Type 0} (g : Ghosts D) (old : AtDisk ServerStation D) (events : List NodeEvent)
-    (text : List ℕ) (new : AtDisk ServerStation D) : Type 0 where
-  pub puts : PutsAmongReads g ⊥ old.disk new.disk
-  pub comes : IsKnown g old.disk → (server : Server) → ServesAt g old server → ComesOn g server old events text new
-
--- So it stopped at one of them.
-pub record HaltsOver {D : Type 0} (g : Ghosts D) (old : AtDisk ServerStation D) (events : List NodeEvent)
-    (why : NodeStop) (unsaid : Bool) (text : List ℕ) (new : AtDisk ServerStation D) : Type 0 where
-  pub always : StopsAlways g why unsaid old.disk new.disk
-  pub halts :
-      IsKnown g old.disk → (server : Server) → ServesAt g old server → HaltsOn g server old events why unsaid text new
+-- how a server serves events on a disk
+abbrev pub server_service : {D : Type 0} → Ghosts D → Service ServerStation Server NodeEvent D
+server_service g =
+    record {
+      disk = g;
+      steps = server_steps;
+      store = λ it. it.server.store;
+      stands = λ a server. ServesAt g a server;
+    }
 
 -- ---- what it has still to say
 
@@ -87,8 +64,9 @@ abbrev pub WholeBy : {D : Type 0} → Ghosts D → Server → AtDisk ServerStati
     → List ℕ → AtDisk ServerStation D → Type 0
 WholeBy g server old events None last text new =
     IsServer (files_at g new) new.it.server last → IsServer (files_at g new) new.it.server (settled last)
-    → ComesOn g server old events text new
-WholeBy g server old events (Some why) last text new = HaltsOn g server old events (stop_of why) false text new
+    → RunsTo (server_service g) server old new events text
+WholeBy g server old events (Some why) last text new =
+    StopsTo (server_service g) server old new events (stop_of why) false text
 
 -- It took these events, and so far said this of what they give; what it has still to say are the frames that this
 -- server sends. And what comes of it where all of them are said, or where saying them fails behind a front of their
@@ -104,39 +82,31 @@ pub record OwesRest {D : Type 0} (g : Ghosts D) (server : Server) (old : AtDisk 
   pub front :
       (frames : List FrameValue) (last : Server) (self : ServerState) (text : List ℕ) → Empties made frames last
       → self.store ≡ now.it.server.store → frames ≢ [] → IsFront text (text_of frames)
-      → HaltsOn g server old events (stop_at_put why) true (said ++ text) (with_server now self)
+      → StopsTo (server_service g) server old (with_server now self) events (stop_at_put why) true (said ++ text)
 
--- the same, but that after want of memory nothing is said
-abbrev pub OwesBy : {D : Type 0} → Ghosts D → Server → AtDisk ServerStation D → List NodeEvent → Option Halt → List ℕ
-    → AtDisk ServerStation D → Type 0
-OwesBy g server old events None said now = OwesRest g server old events None said now
-OwesBy g server old events (Some halt.Disk) said now = OwesRest g server old events (Some halt.Disk) said now
-OwesBy g server old events (Some halt.OutOfMemory) said now =
-    HaltsOn g server old events stop.OutOfMemory false said now
-
--- what it is while it has something to say, whatever the disk tells: where it goes on its store is ready, and after
--- want of memory nothing more is said
-abbrev pub IsOwing : {D : Type 0} → Ghosts D → Option Halt → AtDisk ServerStation D → Type 0
-IsOwing g None now = IsReady g now.it.server.store now.disk × (now.it.is_out_of_memory ≡ false)
-IsOwing g (Some halt.Disk) now = now.it.is_out_of_memory ≡ false
-IsOwing g (Some halt.OutOfMemory) now = now.it.is_out_of_memory ≡ true
-
--- It took these events, and so far said this of what they give. Where it is known what octets the files have, it owes
--- the rest, whichever server it stood for.
+-- It took these events, and so far said this of what they give. Where it goes on its store is ready. Where it is known
+-- what octets the files have it owes the rest, whichever server it stood for; after want of memory nothing more is
+-- said.
 pub record OwesOver {D : Type 0} (g : Ghosts D) (old : AtDisk ServerStation D) (events : List NodeEvent)
     (why : Option Halt) (said : List ℕ) (now : AtDisk ServerStation D) : Type 0 where
-  pub puts : PutsAmongReads g (why ≡ Some halt.Disk) old.disk now.disk
-  pub owing : IsOwing g why now
-  pub rest : IsKnown g old.disk → (server : Server) → ServesAt g old server → OwesBy g server old events why said now
+  pub puts : PutsAmongReads g (FailsBy (stop_at_put why)) old.disk now.disk
+  pub memory : now.it.is_out_of_memory ≡ is_for_memory (stop_at_put why)
+  pub ready : why ≡ None → IsReady g now.it.server.store now.disk
+  pub rest :
+      now.it.is_out_of_memory ≡ false → IsKnown g old.disk → (server : Server) → ServesAt g old server
+      → OwesRest g server old events why said now
+  pub none :
+      now.it.is_out_of_memory ≡ true → IsKnown g old.disk → (server : Server) → ServesAt g old server
+      → StopsTo (server_service g) server old now events stop.OutOfMemory false said
 
 -- the course of a server, whichever one of the definitions it stands for
 abbrev pub server_course : {D : Type 0} → Ghosts D → Course ServerStation D NodeEvent
 server_course g =
     record {
       is_fit = λ a. IsUp g a;
-      goes = λ old events text new. GoesOver g old events text new;
+      goes = λ old events text new. RunsOn (server_service g) old new events text;
       owes = λ old events why said new. OwesOver g old events why said new;
-      halts = λ old events why unsaid text new. HaltsOver g old events why unsaid text new;
+      halts = λ old events why unsaid text new. StopsOn (server_service g) old new events why unsaid text;
       most = λ it. server_most it.server;
       is_over = λ it. false;
     }

@@ -1,6 +1,7 @@
 -- The course of a session's server: which packets it takes, and what it says and does by them.
 use Rattle.std.specs.Prelude.{◌≡◌, ◌≢◌, ◌⊎◌, ℕ, ◌+◌, List, [], ◌∷◌, ◌++◌, length, Bool, true, false}
 use Rattle.std.specs.Prelude.{Option, None, Some, IsTrue}
+use Rattle.px_base.specs.CallSign.{CallSign}
 use Rattle.px_base.specs.Octets.{IsFront, IsOctets}
 use Rattle.disk_model.specs.declared.disk.Disk.{Ghosts}
 use Rattle.ftl0_packets.specs.Items.{texts}
@@ -14,7 +15,7 @@ use Rattle.ftl0_session.specs.Run.{Event as MetEvent, Session, event_row}
 use Rattle.ftl0_session.specs.Answering.{IsAnswering, met_with, octets_left}
 use Rattle.ftl0_session.specs.Downloads.Sending.{is_due}
 use Rattle.ftl0_session.specs.Table.{Row, State, download_part, failed_reads_told, fault_reply, takes_memory}
-use Rattle.node.specs.Course.{AtDisk, Course, at}
+use Rattle.node.specs.Course.{AtDisk, Course, at, stop_of}
 use Rattle.node.specs.Inputs.{Input, octets_in}
 use Rattle.disk_model.specs.declared.halt.Halt.{Halt}
 use Rattle.disk_model.specs.declared.halt.Halt.TheVariants as halt
@@ -22,7 +23,8 @@ use Rattle.node.specs.declared.stop.NodeStop.{NodeStop}
 use Rattle.node.specs.declared.stop.NodeStop.TheVariants as stop
 use Rattle.server_node.specs.Sessions.Packets.{Hears, events_to}
 use Rattle.server_node.specs.Sessions.Running.{session_steps}
-use Rattle.server_node.specs.Steps.{RunsOn, StopsAlways, StopsOn, WithStore, with_store}
+use Rattle.server_node.specs.Steps.{RunsOn, Service, StopsOn}
+use Rattle.server_node.specs.Stops.{FailsBy}
 use Rattle.server_node.specs.Sessions.ServerState.{ServerState}
 
 -- the server, with how much it has still to say: of the replies, and of what is due behind them
@@ -45,9 +47,15 @@ abbrev pub session_in : {D : Type 0} → Ghosts D → AtDisk ServerState D → S
 session_in g now =
     record { store = store_on g now.it.store now.disk; lists = now.it.lists; state = now.it.state }
 
--- with that store
-abbrev pub session_at : {D : Type 0} → Ghosts D → AtDisk ServerState D → WithStore Session D
-session_at g now = with_store (session_in g now) now.it.store now.disk
+-- how a session's server of this caller serves packets on a disk
+abbrev pub session_service : {D : Type 0} → Ghosts D → CallSign → Service ServerState Session Event D
+session_service g caller =
+    record {
+      disk = g;
+      steps = session_steps caller;
+      store = λ it. it.store;
+      stands = λ now session. session ≡ session_in g now;
+    }
 
 -- It went over the packets that these inputs bring, behind what it had to say at the start, and all was said. Where it
 -- is known what octets the files have, what was said and done is what the table gives.
@@ -57,10 +65,7 @@ pub record GoesOver {D : Type 0} (g : Ghosts D) (old : AtDisk ServerState D) (in
   pub silent : new.it.replies ≡ []
   pub replies : List ℕ
   pub text_is : text ≡ old.it.replies ++ replies
-  pub puts : PutsAmongReads g ⊥ old.disk new.disk
-  pub runs :
-      IsKnown g old.disk
-      → RunsOn g (session_steps old.it.caller) (session_at g old) (session_at g new) (events_to old.it inputs) replies
+  pub runs : RunsOn (session_service g old.it.caller) old new (events_to old.it inputs) replies
 
 -- ---- what it has still to say
 
@@ -72,8 +77,7 @@ IsRowOf g old met row =
 -- No packet was taken, and nothing more is said than at the start; or one was, where nothing else was to be said.
 abbrev pub TakesAtMostOne : ServerState → ServerState → List Event → List ℕ → Type 0
 TakesAtMostOne old new [] replies = (replies ≡ []) × NoneDue new.state
-TakesAtMostOne old new (event ∷ []) replies = old.replies ≡ []
-TakesAtMostOne old new (event ∷ next ∷ events) replies = ⊥
+TakesAtMostOne old new (event ∷ others) replies = (others ≡ []) × (old.replies ≡ [])
 
 -- the same, and this is the answer to the packet so far
 abbrev pub IsAnswered :
@@ -81,9 +85,8 @@ abbrev pub IsAnswered :
     → List Command → Type 0
 IsAnswered g old lists state [] said commands =
     (said ≡ []) × (commands ≡ []) × (lists ≡ old.it.lists) × (state ≡ old.it.state)
-IsAnswered g old lists state (event ∷ []) said commands =
+IsAnswered g old lists state (event ∷ others) said commands =
     IsAnswering old.it.caller (session_in g old) event said commands lists state
-IsAnswered g old lists state (event ∷ next ∷ events) said commands = ⊥
 
 -- This is the text of the answer so far to the packet that was taken, if one was, and its commands are done.
 pub record Answers {D : Type 0} (g : Ghosts D) (old new : AtDisk ServerState D) (events : List Event)
@@ -127,7 +130,7 @@ pub record HaltsAt {D : Type 0} (g : Ghosts D) (old : AtDisk ServerState D) (eve
   pub cut : List Command
   pub last : IsLastCut why (met_with event parts) row cut
   pub cuts :
-      CutsOffAmongReads g (why ≡ halt.Disk) (failed_reads_told row.replies) (at old.it.store old.disk)
+      CutsOffAmongReads g (FailsBy (stop_of why)) (failed_reads_told row.replies) (at old.it.store old.disk)
       (at new.it.store new.disk) [] cut
 
 -- It halted at the packet that these inputs bring, of whose answer this is the text.
@@ -139,7 +142,7 @@ pub record IsHalting {D : Type 0} (g : Ghosts D) (old : AtDisk ServerState D) (i
   pub event : Event
   pub only : events_to old.it inputs ≡ event ∷ []
   pub text_is : IsLastText why old.it.state text
-  pub puts : PutsAmongReads g (why ≡ halt.Disk) old.disk new.disk
+  pub puts : PutsAmongReads g (FailsBy (stop_of why)) old.disk new.disk
   pub halts : IsKnown g old.disk → HaltsAt g old event why new
 
 -- the server at its disk, with nothing to say but what is due
@@ -165,6 +168,7 @@ pub record IsUnsaidFirst {D : Type 0} (g : Ghosts D) (old : AtDisk ServerState D
   pub some : old.it.replies ≢ []
   pub front : IsFront text old.it.replies
   pub why_is : why ≡ stop.AirWrite
+  pub puts : PutsAmongReads g ⊥ old.disk new.disk
   pub does : IsKnown g old.disk → DoesAmongReads g ⊥ 0 old.it.store new.it.store old.disk new.disk []
 
 -- It stopped at one of the packets that these inputs bring, behind what it had to say at the start; at its row of the
@@ -174,16 +178,12 @@ pub record IsStopped {D : Type 0} (g : Ghosts D) (old : AtDisk ServerState D) (i
   pub some : events_to old.it inputs ≢ []
   pub replies : List ℕ
   pub text_is : text ≡ old.it.replies ++ replies
-  pub stops :
-      IsKnown g old.disk
-      → StopsOn g (session_steps old.it.caller) (session_at g old) (at new.it.store new.disk)
-      (events_to old.it inputs) why unsaid replies
+  pub stops : StopsOn (session_service g old.it.caller) old new (events_to old.it inputs) why unsaid replies
 
--- Either of the two; and what any stop leaves.
+-- Either of the two.
 pub record HaltsOver {D : Type 0} (g : Ghosts D) (old : AtDisk ServerState D) (inputs : List Input) (why : NodeStop)
     (unsaid : Bool) (text : List ℕ) (new : AtDisk ServerState D) : Type 0 where
   pub are_octets : IsOctets (octets_in inputs)
-  pub always : StopsAlways g why unsaid old.disk new.disk
   pub stops : IsUnsaidFirst g old why text new ⊎ IsStopped g old inputs why unsaid text new
 
 -- the course of a session's server

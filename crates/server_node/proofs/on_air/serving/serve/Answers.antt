@@ -1,14 +1,15 @@
 -- The recovery is refused, or the server serves over what it gives.
 use Rattle.std.proofs.lemmas.Grind.{common_steps}
-use Rattle.std.proofs.Common.{None, arith}
+use Rattle.std.proofs.Common.{None, arith, refl}
 use Rattle.file_store.specs.State.{IsKnown}
-use Rattle.file_store.proofs.Offered.{known_on}
 use Rattle.ftl0_server.specs.ServerState.{ServerState}
 use Rattle.node.specs.Course.{at}
+use Rattle.node.specs.Events.{NodeEvents}
+use Rattle.server_node.specs.OnAir.Station.{server_course}
 use Rattle.node.specs.Lent.{lent as lent_so, seen}
 use Rattle.node.specs.Turns.{lent}
-use Rattle.server_node.proofs.Ending.{Recovers, refused, served}
-use Rattle.server_node.proofs.on_air.ServerLemmas.{owes-none, Ran, not-over, server-did, started}
+use Rattle.server_node.proofs.Ending.{Recovers, never-over, refused}
+use Rattle.server_node.proofs.on_air.ServerLemmas.{owes-none, Ran, server-serves, started}
 use Rattle.server_node.proofs.on_air.serving.serve.Goals as goal
 
 pub drive-station-requires-clause-owes : goal.drive-station-requires-clause-owes
@@ -19,23 +20,20 @@ drive-station-requires-clause-owes g c =
     (started g.D.Disk terms terms.limits.blocks c.args.disk.now c.start.new.disk c.new-station.result c.in_ok-server.server c.new-station.ensures.server c.new-station.ensures.memory h.recovered h.server h.silent).0
 
 pub answer_of-requires : goal.answer_of-requires
-answer_of-requires g c = grind (arith, common_steps, not-over)
+answer_of-requires g c =
+    never-over (seen g.D.Disk g.A.Air g.C.Clock.given) (NodeEvents c.args.terms.now.me) (server_course g.D.Disk) (lent c.new-station.result c.start.new.disk c.args.air.now c.args.clock.now) _ _ _ c.drive-station.ensures.turns (λ p. refl)
 
 pub returns : goal.returns
 returns g c =
     let h = c.in_ok-server.ensures in
     let new = c.drive-station.new in let mid = c.start.new.disk in
     let terms = c.args.terms.now in let blocks = terms.limits.blocks in
-    let all = seen g.D.Disk g.A.Air g.C.Clock.given in
     let station = c.new-station.result in let last = c.drive-station.result.0 in
-    let old = lent_so c.args.disk.now c.args.air.now c.args.clock.now in
-    let now = lent_so new.disk new.air new.clock in
     let up = started g.D.Disk terms blocks c.args.disk.now mid station c.in_ok-server.server c.new-station.ensures.server c.new-station.ensures.memory h.recovered h.server h.silent in
     let recovers : Recovers g.D.Disk blocks c.args.disk.now mid c.in_ok-server.server station.server.store = rw c.new-station.ensures.server (record { recovered = h.recovered; rules = h.rules_on; runs = h.runs; octets = h.octets; since_start = h.since_start; since_sync = h.since_sync }) in
-    let did = server-did all terms (lent station mid c.args.air.now c.args.clock.now) (lent last new.disk new.air new.clock) c.drive-station.result.1 c.drive-station.ensures.turns g.met.D.Disk.lasts_same g.met.D.Disk.lasts_on up.0 c.args.disk.now (λ known. known_on g.D.Disk c.args.disk.now mid h.runs.told known) up.1 in
-    let serves = served all g.met.D.Disk.lasts_on blocks None (Ran (IsKnown g.D.Disk c.args.disk.now) terms) old now mid c.in_ok-server.server station.server.store last.server.store terms.polls c.answer_of.result recovers
-    (rw c.answer_of.ensures did) in
-    record { refuses = serves.refuses; ends = serves.ends; counts = serves.counts; runs = serves.runs }
+    let serves = server-serves (seen g.D.Disk g.A.Air g.C.Clock.given) terms (lent station mid c.args.air.now c.args.clock.now) (lent last new.disk new.air new.clock) c.drive-station.result.1 c.drive-station.ensures.turns
+    g.met.D.Disk.lasts_same g.met.D.Disk.lasts_on up.0 c.args.disk.now c.in_ok-server.server recovers up.1 in
+    rw c.answer_of.ensures (record { refuses = serves.refuses; ends = serves.ends; counts = serves.counts; runs = serves.runs })
 
 pub returns-in_err-server : goal.returns-in_err-server
 returns-in_err-server g c =

@@ -1,18 +1,16 @@
 -- The recovery is refused, or the session is served over what it gives.
-use Rattle.std.proofs.lemmas.Grind.{common_steps}
-use Rattle.std.proofs.Common.{refl, sym, ◌∙◌, subst, Result, arith}
+use Rattle.std.proofs.Common.{refl, ◌∙◌, arith}
 use Rattle.file_store.specs.State.{IsKnown, StoreState}
-use Rattle.file_store.proofs.Offered.{known_on, on_rules_always}
+use Rattle.file_store.proofs.Offered.{on_rules_always}
 use Rattle.node.specs.Course.{at}
 use Rattle.node.specs.Lent.{lent as lent_so, seen}
-use Rattle.node.specs.Turns.{lent}
-use Rattle.node.specs.declared.stop.NodeStop.{NodeStop}
-use Rattle.server_node.specs.declared.terms.Served.{Served}
+use Rattle.node.specs.Turns.{AreHandedOver, lent}
+use Rattle.server_node.specs.Sessions.Course.{session_course}
 use Rattle.server_node.specs.Sessions.ServerState.{new_server}
 use Rattle.server_node.specs.Sessions.SessionRan.{login_text}
-use Rattle.server_node.proofs.Ending.{Did, refused, served, unlisted}
+use Rattle.server_node.proofs.Ending.{Recovers, never-over, refused, unlisted}
 use Rattle.server_node.proofs.sessions.CourseLemmas.{owes-first}
-use Rattle.server_node.proofs.sessions.Sessions.{Ran, not-over, session-did}
+use Rattle.server_node.proofs.sessions.Sessions.{Ran, session-serves}
 use Rattle.server_node.proofs.sessions.serving.session.Goals as goal
 
 pub returns-in_err-store : goal.returns-in_err-store
@@ -39,22 +37,16 @@ take_turns-ended-requires g c =
     rw c.new-server.ensures (owes-first g.D.Disk g.met.D.Disk.lasts_same g.met.D.Disk.lasts_on (at server c.recover.new.disk) c.in_ok-store.ensures.recovered.ready refl refl)
 
 pub answer_of-requires : goal.answer_of-requires
-answer_of-requires g c = grind (arith, common_steps, not-over)
+answer_of-requires g c =
+    never-over (seen g.D.Disk g.A.Air g.C.Clock.given) AreHandedOver (session_course g.D.Disk) (lent c.new-server.result c.recover.new.disk c.args.air.now c.moment_of-first.new.clock) _ _ _ c.take_turns-ended.ensures.turns (λ p. refl)
 
 pub returns : goal.returns
 returns g c =
     let h = c.in_ok-store.ensures in
-    let terms = c.args.terms.now in
-    let new = c.take_turns-ended.new in
-    let mid = c.recover.new.disk in
-    let store = c.in_ok-store.store in
-    let all = seen g.D.Disk g.A.Air g.C.Clock.given in
-    let old = lent_so c.args.disk.now c.args.air.now c.args.clock.now in
-    let now = lent_so new.disk new.air new.clock in
-    let did = session-did all terms c.moment_of-first.result store c.new-server.result c.new-server.ensures mid c.args.air.now c.moment_of-first.new.clock (lent new.party new.disk new.air new.clock)
-    c.take_turns-ended.result c.take_turns-ended.ensures.turns g.met.D.Disk.lasts_same g.met.D.Disk.lasts_on c.args.disk.now (λ known. known_on g.D.Disk c.args.disk.now mid h.runs.told known) c.args.clock.now
-    c.moment_of-first.ensures.moment in
-    let serves = served all g.met.D.Disk.lasts_on terms.limits.blocks terms.moment (Ran (IsKnown g.D.Disk c.args.disk.now) terms) old now mid store store new.party.store terms.polls c.answer_of.result
-    (record { recovered = h.recovered; rules = on_rules_always g.D.Disk store mid h.recovered.ready c.state_law.ensures.rules; runs = h.runs; octets = h.octets; since_start = h.since_start; since_sync = h.since_sync })
-    (subst (λ (r : Result Served NodeStop). Did all terms.moment (Ran (IsKnown g.D.Disk c.args.disk.now) terms r) old now mid store new.party.store terms.polls r) (sym c.answer_of.ensures) did) in
-    record { refuses = serves.refuses; ends = serves.ends; clock = λ given. c.take_turns-ended.ensures.clock given ∙ c.moment_of-first.ensures.clock given; counts = serves.counts; runs = serves.runs }
+    let new = c.take_turns-ended.new in let mid = c.recover.new.disk in let store = c.in_ok-store.store in
+    let recovers : Recovers g.D.Disk c.args.terms.now.limits.blocks c.args.disk.now mid store store =
+    record { recovered = h.recovered; rules = on_rules_always g.D.Disk store mid h.recovered.ready c.state_law.ensures.rules; runs = h.runs; octets = h.octets; since_start = h.since_start; since_sync = h.since_sync } in
+    let serves = session-serves (seen g.D.Disk g.A.Air g.C.Clock.given) c.args.terms.now c.moment_of-first.result store mid c.args.air.now c.moment_of-first.new.clock
+    (lent new.party new.disk new.air new.clock) c.take_turns-ended.result (rw c.new-server.ensures at c.take_turns-ended.ensures.turns) g.met.D.Disk.lasts_same g.met.D.Disk.lasts_on c.args.disk.now store recovers c.args.clock.now c.moment_of-first.ensures.moment in
+    rw c.answer_of.ensures
+    (record { refuses = serves.refuses; ends = serves.ends; clock = λ given. c.take_turns-ended.ensures.clock given ∙ c.moment_of-first.ensures.clock given; counts = serves.counts; runs = serves.runs })

@@ -23,20 +23,20 @@ pub returns-in_default-clause-takes : goal.returns-in_default-clause-takes
 returns-in_default-clause-takes g c =
     let piece = c.args.piece.now in
     let fed = c.feed-taken.ensures in
-    owes-more g.D.Disk g.met.D.Disk.lasts_same g.met.D.Disk.lasts_on c.args.moment c.self.inside _ c.self.view_is c.args.disk.now c.requires.fit c.self.invariant
+    rw (sym c.self.view_is) (owes-more g.D.Disk g.met.D.Disk.lasts_same g.met.D.Disk.lasts_on c.args.moment c.self.inside c.args.disk.now (rw c.self.view_is c.requires.fit) c.self.invariant
     piece (octets_from_fits piece c.type_inv.piece) c.feed-taken.result.0 c.feed-taken.new.self fed.octets (fed.partial.0 c.in_default.is)
-    (under-way-less c.feed-taken.new.self (λ whole. c.in_default.not-Whole (fed.readable.1 whole)))
+    (under-way-less c.feed-taken.new.self (λ whole. c.in_default.not-Whole (fed.readable.1 whole))))
 
 pub returns-in_default-answer-clause-takes : goal.returns-in_default-answer-clause-takes
 returns-in_default-answer-clause-takes g c =
     let piece = c.args.piece.now in
     let new = c.take-answer.new in
     let now = working new.self new.store new.lists in
-    owes-taken g.D.Disk g.met.D.Disk.lasts_same g.met.D.Disk.lasts_on c.args.moment c.self.inside _ c.self.view_is c.args.disk.now c.requires.fit c.self.invariant
+    rw (sym c.self.view_is) (owes-taken g.D.Disk g.met.D.Disk.lasts_same g.met.D.Disk.lasts_on c.args.moment c.self.inside c.args.disk.now (rw c.self.view_is c.requires.fit) c.self.invariant
     piece (octets_from_fits piece c.type_inv.piece) c.feed-taken.result.0 c.feed-taken.new.self c.feed-taken.ensures.octets (item_of c.packet.result) c.packet.ensures.text (c.feed-taken.ensures.readable.0 c.in-Whole.is)
     now new.disk new.replies.items (caller_of new.self) c.self.inside.halted c.take-answer.ensures.caller (ap (λ (s : ServerState). s.halted) c.self.view_is ∙ c.requires.fit.goes_on)
     (record { healthy = c.take-answer.ensures.healthy (λ e. let ok = sym c.in_default-answer.is ∙ e in cc ok); stands_on = c.take-answer.ensures.stands_on })
-    (rw c.in_default-answer.is at c.take-answer.ensures.takes)
+    (rw c.in_default-answer.is at c.take-answer.ensures.takes))
 
 pub returns-in-Err-clause-halts : goal.returns-in-Err-clause-halts
 returns-in-Err-clause-halts g c =
@@ -44,8 +44,8 @@ returns-in-Err-clause-halts g c =
     let taken = c.feed-taken.result.0 in
     let new = c.take-answer.new in
     let now = working new.self new.store new.lists in
-    let owes = owes-last g.D.Disk g.met.D.Disk.lasts_same g.met.D.Disk.lasts_on c.args.moment c.self.inside _ c.self.view_is c.args.disk.now c.requires.fit c.self.invariant
+    let owes = owes-last g.D.Disk g.met.D.Disk.lasts_same g.met.D.Disk.lasts_on c.args.moment c.self.inside c.args.disk.now (rw c.self.view_is c.requires.fit) c.self.invariant
     piece (octets_from_fits piece c.type_inv.piece) taken c.feed-taken.new.self c.feed-taken.ensures.octets (item_of c.packet.result) c.packet.ensures.text (c.feed-taken.ensures.readable.0 c.in-Whole.is)
     now new.disk new.replies.items (caller_of new.self) c.in-Err.why
     (rw c.in-Err.is at c.take-answer.ensures.takes) in
-    (taken, owes)
+    (taken, rw (sym c.self.view_is) owes)

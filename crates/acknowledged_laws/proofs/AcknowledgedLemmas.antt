@@ -46,7 +46,8 @@ use Rattle.server_node.specs.OnAir.Serving.{server_steps}
 use Rattle.ftl0_server.proofs.Offered.{serves}
 use Rattle.node.specs.Events.{NodeEvent}
 use Rattle.node.specs.Lent.{Seen}
-use Rattle.server_node.specs.Acknowledged.{AcknowledgedSince, FileEnd, IsServerServed, IsSessionServed, MeetsEvent, ServerAcknowledgesLaw, ServerTakes, SessionAcknowledgesLaw, TakesPacket, row_of_end, taken_first}
+use Rattle.acknowledged_laws.proofs.AckLemmas.{Acks, IsAllGood, acks, is_ack, row-acks}
+use Rattle.acknowledged_laws.specs.Acknowledged.{AcknowledgedSince, FileEnd, IsServerServed, IsSessionServed, MeetsEvent, ServerAcknowledgesLaw, ServerTakes, SessionAcknowledgesLaw, TakesPacket, row_of_end, taken_first}
 use Rattle.server_node.specs.OnAir.Served.{server_from}
 use Rattle.server_node.specs.Served.{IsUnrecovered, Run}
 use Rattle.server_node.specs.Sessions.Running.{IsSaid, RunsAs, StopsAs, first_session, session_steps}
@@ -59,15 +60,6 @@ use Rattle.server_node.specs.declared.terms.Served.{Served}
 
 -- ---- UL_ACK_RESP among packets
 
-abbrev pub is_ack : PacketValue → Bool
-is_ack ul_ack_resp = true
-is_ack packet = false
-
--- whether it is one of these
-abbrev pub acks : List PacketValue → Bool
-acks [] = false
-acks (packet ∷ packets) = is_ack packet || acks packets
-
 pub acks-at : (before later : List PacketValue) → acks (before ++ ul_ack_resp ∷ later) ≡ true
 acks-at [] later = refl
 acks-at (packet ∷ before) later = let each = acks-at before later in grind (arith, common_steps)
@@ -79,130 +71,8 @@ split [] ys before later x e = inr (before, refl, e)
 split (a ∷ xs) ys [] later x e = inl (xs, cc)
 split {X = X} (a ∷ xs) ys (b ∷ before) later x e = ⊎_elim (λ (one : (more : List X) × (xs ≡ before ++ x ∷ more)). inl (one.0, cc)) (λ other. inr (other.0, cc, other.2)) (split xs ys before later x cc)
 
--- ---- which row replies it
+-- ---- what is due doesn't
 
--- all octets of the file came, and it has no fault
-abbrev pub IsAllGood : Store → ℕ → List ℕ → Type 0
-IsAllGood store number rest = (is_all (entry_of store number) rest ≡ true) × (fault_code (octets_at (entry_of store number) ++ rest) ≡ None)
-
--- it is that of DATA_END in this state, of a file of which all octets came, at which no read failed, and replies nothing
--- else
-pub record Acks (store : Store) (state : State) (item : Item) (fails : Bool) (replies : List PacketValue) : Type 0 where
-  pub number : ℕ
-  pub rest : List ℕ
-  pub state_is : state ≡ receiving number rest
-  pub item_is : item ≡ Ok data_end
-  pub good : IsAllGood store number rest
-  pub read : fails ≡ false
-  pub only : replies ≡ ul_ack_resp ∷ []
-
-end-acks : (moment : ℕ) (store : Store) (number : ℕ) (rest : List ℕ) → acks (upload.end_row moment store number rest).replies ≡ true
-    → Acks store (receiving number rest) (Ok data_end) false (upload.end_row moment store number rest).replies
-end-acks moment store number rest h =
-    record { number = number; rest = rest; state_is = refl; item_is = refl; good = (grind (arith, common_steps), grind (arith, common_steps)); read = refl; only = grind (arith, common_steps) }
-
-upload-acks : (caller : CallSign) (moment : ℕ) (store : Store) (part : upload.State) (item : Item)
-    → IfSome (upload.session_row caller moment store part item) (λ row. acks row.replies ≡ true → Acks store (state_by part ready) item false row.replies)
-unfolding upload.session_row
-upload-acks caller moment store upload.command (Ok (upload_cmd number len)) = λ h. absurd (grind (arith, common_steps))
-upload-acks caller moment store (upload.receiving n rest) (Ok (data_part octets)) = λ h. absurd (grind (arith, common_steps))
-upload-acks caller moment store (upload.receiving n rest) (Ok data_end) = λ h. end-acks moment store n rest h
-upload-acks caller moment store upload.aborting (Ok (data_part octets)) = λ h. absurd cc
-upload-acks caller moment store upload.aborting (Ok data_end) = λ h. absurd cc
-upload-acks caller moment store state item = by (is_upload_kind (kind_of_item item))
-  where
-    by : (b : Bool) → IfSome (if b then Some (upload.refused_row state 1) else None) (λ (row : upload.Row). acks row.replies ≡ true → Acks store (state_by state ready) item false row.replies)
-    by true = λ h. absurd cc
-    by false = tt
-
--- where a read fails none does
-unread-acks : (caller : CallSign) (moment : ℕ) (store : Store) (part : upload.State) (item : Item) → IfSome (upload.row_by_read caller moment store part item true) (λ row. acks row.replies ≡ false)
-unfolding upload.session_row
-unread-acks caller moment store upload.command (Ok (upload_cmd number len)) = grind (arith, common_steps)
-unread-acks caller moment store (upload.receiving n rest) (Ok (data_part octets)) = grind (arith, common_steps)
-unread-acks caller moment store (upload.receiving n rest) (Ok data_end) = by (is_all (entry_of store n) rest)
-  where
-    few : upload.Row
-    few = record { state = upload.command; commands = []; replies = ul_nak_resp 16 ∷ [] }
-
-    by : (b : Bool)
-        → IfSome (option_or (if b then Some (upload.unread_row n rest) else None) (Some (if b then whole_row moment n rest (fault_code (octets_at (entry_of store n) ++ rest)) else few)))
-        (λ (row : upload.Row). acks row.replies ≡ false)
-    by true = refl
-    by false = refl
-unread-acks caller moment store upload.aborting (Ok (data_part octets)) = refl
-unread-acks caller moment store upload.aborting (Ok data_end) = refl
-unread-acks caller moment store state item = by (is_upload_kind (kind_of_item item))
-  where
-    by : (b : Bool) → IfSome (if b then Some (upload.refused_row state 1) else None) (λ (row : upload.Row). acks row.replies ≡ false)
-    by true = refl
-    by false = tt
-
--- whether a read fails or none does
-read-acks : (caller : CallSign) (moment : ℕ) (store : Store) (part : upload.State) (item : Item) (fails : Bool)
-    → IfSome (upload.row_by_read caller moment store part item fails) (λ row. acks row.replies ≡ true → Acks store (state_by part ready) item fails row.replies)
-read-acks caller moment store part item false = upload-acks caller moment store part item
-read-acks caller moment store part item true = by (upload.row_by_read caller moment store part item true) (unread-acks caller moment store part item)
-  where
-    by : (o : Option upload.Row) → IfSome o (λ row. acks row.replies ≡ false) → IfSome o (λ row. acks row.replies ≡ true → Acks store (state_by part ready) item true row.replies)
-    by None none = tt
-    by (Some row) none = λ h. absurd (true≢false (sym h ∙ none))
-
--- no row of downloading does
-files-acks : (caller : CallSign) (store : Store) (lists : List CallerList) (asked : ℕ) (due : Store → List ℕ → List Due) (fails : Bool) (numbers : List ℕ) → acks (download.files_row caller store lists asked due fails numbers).replies ≡ false
-files-acks caller store lists asked due fails numbers = grind (arith, common_steps)
-
-part-acks : (caller : CallSign) (store : Store) (lists : List CallerList) (part : DownloadState) (packet : PacketValue) (fails : Bool)
-    → IfSome (download.download_row caller store lists part packet fails) (λ row. acks row.replies ≡ false)
-unfolding download.download_row download.command_row
-part-acks caller store lists ready (download_cmd number offset lock) fails = asks
-  where
-    file : (o : Option (List ℕ)) (n : ℕ) → acks (download.file_row caller lists number offset n o).replies ≡ false
-    file o n = grind (arith, common_steps)
-
-    asks : acks (download.download_cmd_row caller store lists number offset lock).replies ≡ false
-    asks = grind (arith, common_steps, file)
-part-acks caller store lists ready (dir_short_cmd number) fails = files-acks caller store lists number download.short_due fails (download.listed_files lists caller number)
-part-acks caller store lists ready (dir_long_cmd number) fails = files-acks caller store lists number download.long_due fails (download.listed_files lists caller number)
-part-acks caller store lists ready (select_cmd tokens) fails = grind (arith, common_steps, tree)
-  where
-    tree : (r : _) → acks (download.tree_row caller store lists fails r).replies ≡ false
-    tree (Err fault) = refl
-    tree (Ok one) = grind (arith, common_steps)
-part-acks caller store lists ready packet fails = tt
-part-acks caller store lists (download.sending number place last) packet fails = grind (arith, common_steps)
-part-acks caller store lists download.waiting packet fails = grind (arith, common_steps)
-part-acks caller store lists (download.listing dues) packet fails = tt
-
-download-acks : (caller : CallSign) (store : Store) (lists : List CallerList) (state : State) (item : Item) (fails : Bool) → IfSome (download_row caller store lists state item fails) (λ row. acks row.replies ≡ false)
-download-acks caller store lists state item fails = grind (arith, common_steps, part-acks)
-
-module _ (E : List PacketValue → Type 0) (lists : List CallerList) (state : State) (item : Item) where
-  among-acks : (o : Option upload.Row) (d : Option DownloadRow) → IfSome o (λ row. acks row.replies ≡ true → E row.replies) → IfSome d (λ row. acks row.replies ≡ false) → acks (row_among lists state item o d).replies ≡ true
-      → E (row_among lists state item o d).replies
-  among-acks (Some row) d up down h = up h
-  among-acks None (Some row) up down h = absurd (true≢false (sym h ∙ down))
-  among-acks None None up down h = by (is_upload_kind (kind_of_item item)) h
-    where
-      by : (b : Bool) → acks (error_by b ∷ []) ≡ true → E (error_by b ∷ [])
-      by true e = absurd cc
-      by false e = absurd cc
-
-uploading-acks : (caller : CallSign) (moment : ℕ) (store : Store) (state : State) (item : Item) (fails : Bool)
-    → IfSome (upload_row caller moment store state item fails) (λ row. acks row.replies ≡ true → Acks store state item fails row.replies)
-uploading-acks caller moment store command item fails = read-acks caller moment store upload.command item fails
-uploading-acks caller moment store (receiving number rest) item fails = read-acks caller moment store (upload.receiving number rest) item fails
-uploading-acks caller moment store aborting item fails = read-acks caller moment store upload.aborting item fails
-uploading-acks caller moment store state item fails = tt
-
-pub row-acks : (caller : CallSign) (moment : ℕ) (store : Store) (lists : List CallerList) (state : State) (item : Item) (fails : Bool) → acks (session_row caller moment store lists state item fails).replies ≡ true
-    → Acks store state item fails (session_row caller moment store lists state item fails).replies
-unfolding session_row
-row-acks caller moment store lists state item fails =
-    among-acks (λ replies. Acks store state item fails replies) lists state item (upload_row caller moment store state item fails) (download_row caller store lists state item fails)
-    (uploading-acks caller moment store state item fails) (download-acks caller store lists state item fails)
-
--- nor does anything that is due
 due-acks : (store : Store) (state : State) (failures : List Failure) (part : ℕ) (packet : PacketValue) (next : State) → due_at store state failures part ≡ Some (record { packet = packet; state = next }) → is_ack packet ≡ false
 due-acks store state failures part packet next is = grind (arith, common_steps)
 

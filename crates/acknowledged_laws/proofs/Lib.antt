@@ -1,0 +1,2 @@
+mod AckLemmas
+mod AcknowledgedLemmas
