@@ -1,23 +1,28 @@
 //! Rows of a journal. A row has, parted by `|`, a disk's octets, the numbers of its calls that fail, and how many
-//! calls of `write_at` and `sync` pass, and behind that `blocks`, where the octets of blocks stand before the records.
-//! The journal of a store of 8 blocks, or of 1 with its octets, is recovered and read to its end; where there are
-//! blocks, `block` is written in block 0, and seven octets are read there from place 1 on; and a record of the kind 4
-//! with the content 01000000 is put.
+//! calls of `write_at` and `sync` pass, and behind that `blocks`, where the octets of blocks stand before the records,
+//! or `halves`, where the records have two halves behind these. The journal of a store of 8 blocks, or of 1 with its
+//! octets, is recovered and read to its end; where there are blocks, `block` is written in block 0, and where there are
+//! no halves, seven octets are read there from place 1 on; and a record of the kind 4 with the content 01000000 is put.
+//! Where a half has no room for it, two records are put in place of all before.
 //!
-//! Printed are how it ended: `Done`; `Refused` and why; `Failed`, why the octets or the record weren't put, and what a
-//! further put answers; or `Unread`. Behind ` | read ` stand the kind and the content of each record that was read, and
-//! the octets of the block, and behind ` | ` the disk's octets.
+//! Printed are how it ended: `Done`, with the room behind the record, which is 2^62 octets where there are no halves;
+//! `Refused` and why; `Failed`, why the octets or the records weren't put, and what a further put answers; or `Unread`.
+//! Behind ` | read ` stand the kind and the content of each record that was read, and the octets of the block, as far
+//! as they are 700 octets, and behind ` | ` the disk's octets, of which more than 32 alike are one in brackets, with
+//! how often it stands.
 
+mod anew;
 mod labelled;
 mod put;
 
 use crate::journal::labelled::Labelled;
 use crate::journal::put::{Seen, put_under_label};
+use crate::parts::runs_text;
 use anyhow::{Result, ensure};
 use disk_model::{CutDisk, FuseDisk, MemoryDisk};
 use file_journal::Layout;
 use px_base::FileBytes;
-use row_words::{Player, hex_text, read_numbers, read_octets, text_of, three_parts};
+use row_words::{Player, read_numbers, read_octets, text_of, three_parts};
 use std::alloc::Global;
 
 /// Plays rows of journals, each on its own.
@@ -30,17 +35,18 @@ impl Player for JournalRows {
         let mut labelled = disk_of(alloc, row)?;
         let mut seen = Seen::new();
         let ended = put_under_label(&mut labelled, layout, &mut seen);
-        let seen = hex_text(alloc, seen.as_slice())?;
+        let seen = runs_text(alloc, seen.as_slice())?;
         let octets = octets_of(alloc, &labelled)?;
         text_of(alloc, format_args!("{ended:?} | read {seen} | {octets}"))
     }
 }
 
-/// A row without its last word, where that is `blocks`, and the layout of its store.
+/// A row without its last word, where that is `blocks` or `halves`, and the layout of its store.
 fn layout_of(row: &str) -> (&str, Layout) {
-    match row.strip_suffix(" blocks") {
-        Some(row) => (row, Layout::Blocks),
-        None => (row, Layout::Growing),
+    match row.rsplit_once(' ') {
+        Some((row, "blocks")) => (row, Layout::Blocks),
+        Some((row, "halves")) => (row, Layout::Halves),
+        _ => (row, Layout::Growing),
     }
 }
 
@@ -61,5 +67,5 @@ fn octets_of(alloc: Global, labelled: &Labelled<FuseDisk>) -> Result<String> {
     let Labelled { disk, label } = labelled;
     ensure!(!disk.starved(), "a call found no memory");
     ensure!(label.as_slice() == b"label".as_slice(), "another label");
-    hex_text(alloc, disk.bytes())
+    runs_text(alloc, disk.bytes())
 }

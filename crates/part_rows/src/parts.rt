@@ -1,11 +1,11 @@
 //! What a row prints: its parts, and octets in them.
 
 use anyhow::{Result, bail};
-use row_words::{hex_text, text_of};
+use row_words::{hex_text, push_shown, text_of};
 use std::alloc::Global;
 use std::fmt::Display;
 
-/// How many alike octets are written out at the end of others.
+/// How many alike octets are written out, one after another.
 const MOST_ALIKE: usize = 32;
 
 /// The parts so far, parted by `; `.
@@ -89,4 +89,24 @@ fn alike_text(alloc: Global, front: &[u8], last: u8, alike: usize) -> Result<Str
     let front = hex_text(alloc, front)?;
     let blank = if front.is_empty() { "" } else { " " };
     text_of(alloc, format_args!("{front}{blank}{last:02x}*{alike}"))
+}
+
+/// Octets in hexadecimal. Of more than 32 alike, one stands in brackets, with how often it stands behind `*`. Takes
+/// memory.
+pub fn runs_text(alloc: Global, octets: &[u8]) -> Result<String> {
+    let mut text = String::new(alloc);
+    for run in octets.chunk_by(|one, next| one == next) {
+        push_run(alloc, &mut text, run)?;
+    }
+    Ok(text)
+}
+
+/// Puts alike octets behind the text.
+fn push_run(alloc: Global, text: &mut String, run: &[u8]) -> Result<()> {
+    match run {
+        [octet, ..] if run.len() > MOST_ALIKE => {
+            push_shown(alloc, text, format_args!("[{octet:02x}*{}]", run.len()))
+        }
+        _ => push_shown(alloc, text, hex_text(alloc, run)?),
+    }
 }

@@ -1,14 +1,15 @@
 //! A journal that is read to its end, and what is put there: a record, and before it octets in a block, where there
-//! are blocks.
+//! are blocks, and two records in place of all, where there is no room for it.
 
-ghost use Rattle.std.specs.Prelude.{◌≡◌, ◌≤◌, false, true, IfOk};
-ghost use Rattle.file_journal.specs.Position.{StandsOn};
+ghost use Rattle.std.specs.Prelude.{◌≡◌, ◌≤◌, false, true, None, IfOk, OnOk};
+ghost use Rattle.file_journal.specs.Position.{HasRoom, StandsOn};
 ghost use Rattle.file_journal.specs.declared.layout.Layout.TheVariants as Layout;
 
+use crate::journal::anew::Anew;
 use crate::journal::labelled::Labelled;
 use arrayvec::ArrayVec;
 use disk_model::{Disk, FuseDisk};
-use file_journal::{Journal, JournalFault, Layout, RecoverFault};
+use file_journal::{Journal, JournalFault, Layout, RecordContent, RecoverFault};
 
 /// The first octets of a store.
 const MAGIC: [u8; 8] = *b"PXSTORE0";
@@ -19,7 +20,7 @@ fn blocks_of(layout: Layout) -> u32
 {
     match layout {
         Layout::Growing => 8,
-        Layout::Blocks => 1,
+        Layout::Blocks | Layout::Halves => 1,
     }
 }
 
@@ -35,8 +36,8 @@ pub enum Ended {
     Failed(JournalFault, Result<(), JournalFault>),
     /// The octets stand in the block, and weren't read there.
     Unread,
-    /// The record stands.
-    Done,
+    /// The record stands, and there is room for so many octets behind it.
+    Done(u64),
 }
 
 /// Recovers the journal and reads it to its end, or up to its damage, and puts what it sees behind `seen`.
@@ -60,8 +61,8 @@ fn read_to_end<D: Disk>(
     Ok(journal)
 }
 
-/// Makes a store of this layout on the disk, or recovers it, and puts a record, and octets in block 0 before it, where
-/// there are blocks.
+/// Makes a store of this layout on the disk, or recovers it, and puts a record, and before it octets in block 0, where
+/// there are blocks, and other records in place of all, where there is no room for it.
 fn put_one<D: Disk>(disk: &mut D, layout: Layout, seen: &mut Seen) -> Ended
     ensures { D.lasts disk.old disk.new }
 {
@@ -69,22 +70,80 @@ fn put_one<D: Disk>(disk: &mut D, layout: Layout, seen: &mut Seen) -> Ended
         Ok(journal) => journal,
         Err(refusal) => return Ended::Refused(refusal),
     };
-    if let Layout::Blocks = layout {
-        if let Some(ended) = put_in_block(disk, &mut journal, seen) {
-            return ended;
-        }
+    if let Some(ended) = put_before(disk, &mut journal, layout, seen) {
+        return ended;
     }
     put_record(disk, &mut journal)
+}
+
+/// Puts what is put before a record, for which there is room then; how that ended, where it failed.
+fn put_before<D: Disk>(
+    disk: &mut D,
+    journal: &mut Journal,
+    layout: Layout,
+    seen: &mut Seen,
+) -> Option<Ended>
+    requires stands_on { StandsOn D.Disk journal.old disk.old }
+    requires ended { journal.old.ended ≡ true }
+    requires layout { journal.old.layout ≡ layout }
+    requires healthy { journal.old.failed ≡ false }
+    ensures stands_on { StandsOn D.Disk journal.new disk.new }
+    ensures ended { journal.new.ended ≡ true }
+    ensures room { result ≡ None → HasRoom journal.new 8 }
+    ensures lasts { D.lasts disk.old disk.new }
+{
+    match layout {
+        Layout::Growing => None,
+        Layout::Blocks => put_in_block(disk, journal, seen),
+        Layout::Halves => put_in_half(disk, journal),
+    }
+}
+
+/// Puts octets in block 0, and makes room for a record; how that ended, where it failed.
+fn put_in_half<D: Disk>(disk: &mut D, journal: &mut Journal) -> Option<Ended>
+    requires stands_on { StandsOn D.Disk journal.old disk.old }
+    requires ended { journal.old.ended ≡ true }
+    requires layout { journal.old.layout ≡ Layout.Halves }
+    ensures stands_on { StandsOn D.Disk journal.new disk.new }
+    ensures ended { journal.new.ended ≡ true }
+    ensures room { result ≡ None → HasRoom journal.new 8 }
+    ensures lasts { D.lasts disk.old disk.new }
+{
+    let Err(fault) = make_room(disk, journal) else {
+        return None;
+    };
+    let _one_at_least = journal.blocks();
+    Some(Ended::Failed(fault, journal.write_block(disk, 0, &[])))
+}
+
+/// Puts octets in block 0, and then two records in place of all, where there is no room for a record of 8 octets.
+fn make_room<D: Disk>(disk: &mut D, journal: &mut Journal) -> Result<(), JournalFault>
+    requires stands_on { StandsOn D.Disk journal.old disk.old }
+    requires ended { journal.old.ended ≡ true }
+    requires layout { journal.old.layout ≡ Layout.Halves }
+    ensures stands_on { StandsOn D.Disk journal.new disk.new }
+    ensures ended { journal.new.ended ≡ true }
+    ensures layout { journal.new.layout ≡ Layout.Halves }
+    ensures room { OnOk result (HasRoom journal.new 8) }
+    ensures lasts { D.lasts disk.old disk.new }
+{
+    let _one_at_least = journal.blocks();
+    journal.write_block(disk, 0, b"block")?;
+    if journal.room() >= 8 {
+        return Ok(());
+    }
+    journal.rewrite(disk, &mut Anew { done: 0 }, &mut RecordContent::new())
 }
 
 /// Puts a record.
 fn put_record<D: Disk>(disk: &mut D, journal: &mut Journal) -> Ended
     requires stands_on { StandsOn D.Disk journal.old disk.old }
     requires ended { journal.old.ended ≡ true }
+    requires room { HasRoom journal.old 8 }
     ensures { D.lasts disk.old disk.new }
 {
     match journal.append(disk, 4, &[1, 0, 0, 0]) {
-        Ok(()) => Ended::Done,
+        Ok(()) => Ended::Done(journal.room()),
         Err(fault) => Ended::Failed(fault, journal.append(disk, 4, &[])),
     }
 }
@@ -97,6 +156,7 @@ fn put_in_block<D: Disk>(disk: &mut D, journal: &mut Journal, seen: &mut Seen) -
     requires healthy { journal.old.failed ≡ false }
     ensures stands_on { StandsOn D.Disk journal.new disk.new }
     ensures ended { journal.new.ended ≡ true }
+    ensures room { HasRoom journal.new 8 }
     ensures lasts { D.lasts disk.old disk.new }
 {
     let _one_at_least = journal.blocks();
