@@ -1,5 +1,5 @@
 -- The notes as a state that is kept.
-use Rattle.std.proofs.Common.{◌≡◌, ◌↔◌, inl, inr, ⊎_elim, ℕ, zero, suc, ◌+◌, ◌<◌, ◌≤◌, List, [], ◌∷◌, Result, Ok, Err, IsErr, IsErrOf, OnErr, OnOk, refl, sym, ◌∙◌, ap, subst, arith}
+use Rattle.std.proofs.Common.{◌≡◌, ◌≢◌, ◌↔◌, inl, inr, ⊎_elim, ℕ, zero, suc, ◌+◌, ◌<◌, ◌≤◌, List, [], ◌∷◌, Result, Ok, Err, IsErr, IsErrOf, OnErr, OnOk, refl, sym, ◌∙◌, ap, subst, arith}
 use Rattle.disk_model.specs.declared.disk.Disk.{Ghosts}
 use Rattle.file_journal.specs.Commands.{MakesBetween, after_first}
 use Rattle.file_journal.specs.Kept as kept
@@ -10,7 +10,8 @@ use Rattle.file_journal.specs.declared.faults.StoreFault.{StoreFault}
 use Rattle.file_journal.specs.declared.faults.StoreFault.TheVariants as fault
 use Rattle.file_journal.specs.declared.faults.JournalFault.{JournalFault}
 use Rattle.file_journal.specs.declared.faults.JournalFault.TheVariants as journal_fault
-use Rattle.file_journal.proofs.Offered.{does_same, runs_same, told_weaker, weaker}
+use Rattle.file_journal.specs.declared.layout.Layout.TheVariants as layout
+use Rattle.file_journal.proofs.Offered.{does_same, paced_always, room_always, runs_same, told_weaker, weaker}
 use Rattle.client_notes.specs.Answers.{Noting}
 use Rattle.client_notes.specs.Command.{NotesCommand}
 use Rattle.client_notes.specs.Notes.{Lists}
@@ -23,7 +24,7 @@ use Rattle.client_notes.specs.declared.noted_lists.Coming.{Coming}
 use Rattle.client_notes.specs.declared.noted_lists.Coming.TheVariants as coming
 use Rattle.client_notes.specs.declared.noted_lists.NotedLists.{NotedLists}
 use Rattle.client_notes.specs.declared.refusals.NotesRefusal.TheVariants as refusal
-use Rattle.client_notes.proofs.PutLemmas.{IsPut, images-here, put-does, stands-notes}
+use Rattle.client_notes.proofs.PutLemmas.{IsPut, images-here, stands-notes}
 
 -- some number of one command
 before-or-after : (low high : ℕ) (lists : Lists) (command : NotesCommand) (image : List ℕ) → high ≤ 1 → MakesBetween notes_form low high lists (command ∷ []) image → IsBeforeOrAfter lists command image
@@ -31,12 +32,16 @@ before-or-after low high lists command image most (zero, least, few, stands) = i
 before-or-after low high lists command image most (suc zero, least, few, stands) = inr stands
 before-or-after low high lists command image most (suc (suc more), least, few, stands) = absurd (omega (arith, few, most))
 
+-- the journal of notes has but one half
+pub one-half : notes_form.layout ≢ layout.Halves
+one-half halves = absurd (cc halves)
+
 module _ {D : Type 0} (g : Ghosts D) where
   module _ (old new : NotesState) (disk disk_now : D) (command : NotesCommand) where
     -- one command, said as the notes say it
     pub does-of : (P : Type 0) → StandsOn g new disk_now → kept.Does g notes_form P (command ∷ []) (kept_on old.lists old.journal disk) (kept_on new.lists new.journal disk_now)
         → Does g P old new disk disk_now command
-    does-of P stands does = record {
+    does-of P stands does = let exact = paced_always notes_form old.journal (g.moment disk) (command ∷ []) does.time one-half does.paces 1 (omega arith) in record {
       stands_on = stands;
       healthy = does.healthy;
       allowed = (does.allowed (inl refl)).0;
@@ -49,7 +54,7 @@ module _ {D : Type 0} (g : Ghosts D) where
             healthy = all.1;
             images = subst (λ (l : Lists). EachImage g disk_now (λ image. StandsFor image l)) (all.0 (inl refl))
                 (images-here g new.journal disk_now new.lists all.1 stands);
-            calls = told_weaker (g.content disk) _ _ (λ before told is. omega (arith, is)) (does.calls fine);
+            calls = told_weaker (g.content disk) _ _ (λ before told is. omega (arith, is, exact)) (does.calls fine);
           };
       cut = λ failed.
           let some = does.cut failed in
@@ -58,9 +63,12 @@ module _ {D : Type 0} (g : Ghosts D) where
             failed = some.failed;
             images = told_weaker (g.content disk_now) _ _ (λ now told each image here. before-or-after some.count (some.count + 1) old.lists command image (omega (arith, some.fewer)) (each image here)) some.images;
           };
-      at_most = does.at_most;
+      at_most = omega (arith, does.at_most, exact);
       puts = does.puts;
       journal = does.journal;
+      moves = λ fine.
+          let moved = does.moves fine (room_always notes_form old.journal (command ∷ []) one-half) in
+          record { half = moved.half; place = omega (arith, moved.place) };
     }
       where
         none-done : (count : ℕ) → count < 1 → new.lists ≡ after_first notes_form count old.lists (command ∷ []) → new.lists ≡ old.lists
@@ -71,9 +79,9 @@ module _ {D : Type 0} (g : Ghosts D) where
     answers-of : {T U E : Type 0} (came : Result U E) (result : Result T JournalFault) → (IsErr came → IsErr result) → (IsErr result → IsErr came) → ¬ IsErrOf result journal_fault.Failed
         → IsPut g command (kept_on old.lists old.journal disk) (kept_on new.lists new.journal disk_now) came → Answers g old new disk disk_now command result
     answers-of came result there back fine put = record {
-      failed = (λ was. absurd (fine was), λ before. absurd (cc (sym put.does.does.healthy ∙ before)));
+      failed = (λ was. absurd (fine was), λ before. absurd (cc (sym put.does.healthy ∙ before)));
       untouched = λ was. absurd (fine was);
-      does = λ _. does-of (IsErr result) (stands-notes g new.journal new.lists disk_now put.stands_at) (does_same g notes_form _ _ (command ∷ []) _ _ there back (put-does g command _ _ came put));
+      does = λ _. does-of (IsErr result) (stands-notes g new.journal new.lists disk_now put.stands_at) (does_same g notes_form _ _ (command ∷ []) _ _ there back put.does);
       stands_on = stands-notes g new.journal new.lists disk_now put.stands_at;
     }
 
@@ -81,19 +89,19 @@ module _ {D : Type 0} (g : Ghosts D) where
         → Noting {T = U} g old new disk disk_now command (Ok y)
     noting-done x y put = record {
       refused = tt;
-      can = λ was. cc (sym put.does.does.healthy ∙ was);
+      can = λ was. cc (sym put.does.healthy ∙ was);
       untouched = inl refl;
-      does = λ reaches. does-of _ (stands-notes g new.journal new.lists disk_now put.stands_at) (does_same g notes_form _ _ (command ∷ []) _ _ (λ is. is) (λ is. is) (put-does g command _ _ _ put));
+      does = λ reaches. does-of _ (stands-notes g new.journal new.lists disk_now put.stands_at) (does_same g notes_form _ _ (command ∷ []) _ _ (λ is. is) (λ is. is) put.does);
       stands_on = stands-notes g new.journal new.lists disk_now put.stands_at;
     }
 
     pub noting-cut : {T U E : Type 0} (e : E) → IsPut {T = T} g command (kept_on old.lists old.journal disk) (kept_on new.lists new.journal disk_now) (Err e)
         → Noting {T = U} g old new disk disk_now command (Err refusal.Disk)
     noting-cut e put = record {
-      refused = λ was. cc (sym put.does.does.healthy ∙ was);
+      refused = λ was. cc (sym put.does.healthy ∙ was);
       can = tt;
       untouched = inl refl;
-      does = λ reaches. does-of _ (stands-notes g new.journal new.lists disk_now put.stands_at) (does_same g notes_form _ _ (command ∷ []) _ _ (λ is. refl) (λ is. refl) (put-does g command _ _ _ put));
+      does = λ reaches. does-of _ (stands-notes g new.journal new.lists disk_now put.stands_at) (does_same g notes_form _ _ (command ∷ []) _ _ (λ is. refl) (λ is. refl) put.does);
       stands_on = stands-notes g new.journal new.lists disk_now put.stands_at;
     }
 

@@ -1,13 +1,12 @@
 -- What notes hold of their disk, and what stands there for them.
-use Rattle.std.proofs.Common.{◌≡◌, ℕ, ◌+◌, false, List, [], ◌∷◌, length, Some, Result, IsErr, IfSome, IsTrue, refl, sym, ◌∙◌, ap, subst, arith}
+use Rattle.std.proofs.Common.{◌≡◌, ℕ, ◌+◌, false, List, [], ◌∷◌, length, Some, Result, IsErr, IfSome, IsTrue, refl, sym, ap, subst, arith}
 use Rattle.disk_model.specs.declared.disk.Disk.{Ghosts}
 use Rattle.file_journal.specs.Calls.{images_now}
-use Rattle.file_journal.specs.Kept.{Does, DoesPacing, IsKept, KeptOn, StandsAt, alone, kept_on}
+use Rattle.file_journal.specs.Kept.{Does, IsKept, KeptOn, StandsAt, kept_on}
 use Rattle.file_journal.specs.Position.{Position}
 use Rattle.file_journal.specs.Records.{Record}
 use Rattle.file_journal.specs.Steps.{WritesTurn}
-use Rattle.file_journal.specs.declared.layout.Layout.TheVariants as layout
-use Rattle.file_journal.proofs.Offered.{held_kept, images_here, paced, written_step}
+use Rattle.file_journal.proofs.Offered.{held_kept, images_here, written_step}
 use Rattle.client_notes.specs.Command.{NotesCommand, after, is_allowed}
 use Rattle.client_notes.specs.Notes.{Lists}
 use Rattle.client_notes.specs.NotesLaws.{notes_number, notes_seen}
@@ -28,17 +27,7 @@ stands-notes g journal lists disk at = held_kept g notes_steps (λ held now. now
 -- What was put: one command, or the disk failed in it.
 pub record IsPut {D T E : Type 0} (g : Ghosts D) (command : NotesCommand) (old new : KeptOn D Lists) (result : Result T E) : Type 0 where
   pub stands_at : StandsAt g notes_form notes_steps new.journal new.now new.disk
-  pub does : DoesPacing g notes_form (alone g (IsErr result)) (IsErr result) (command ∷ []) old new
-
--- It took exactly the calls of its record, since the journal of notes has but one half.
-pub put-does : {D T E : Type 0} (g : Ghosts D) (command : NotesCommand) (old new : KeptOn D Lists) (result : Result T E) → IsPut g command old new result
-    → Does g notes_form (IsErr result) (command ∷ []) old new
-put-does g command old new result put =
-    paced g notes_form (alone g (IsErr result)) (IsErr result) (command ∷ []) old new
-    (λ halves.
-    let growing : layout.Halves ≡ layout.Growing = sym halves ∙ sym (ap (λ (p : Position). p.layout) put.does.does.journal) ∙ put.stands_at.layout_is in
-    absurd (cc growing))
-    put.does
+  pub does : Does g notes_form (IsErr result) (command ∷ []) old new
 
 -- the record of a command that the notes allow makes its change of them
 pub writes-turn : (lists : Lists) (command : NotesCommand) (entry : Record) → entry ≡ record_of_command command → IsWritable command → IsTrue (is_allowed lists command)

@@ -4,7 +4,7 @@ use Rattle.std.specs.Prelude.{IsTrue}
 use Rattle.disk_model.specs.declared.disk.Disk.{Ghosts}
 use Rattle.file_journal.specs.Calls.{images_now}
 use Rattle.file_journal.specs.Commands.{StayDone, done_at}
-use Rattle.file_journal.proofs.Offered.{after_all_append, allowed_append, at_told, does_longer, does_none, does_same, does_then, first_then, if_told, makes_first, makes_within, told_before, told_weaker, weaker, allowed_first, allowed_split}
+use Rattle.file_journal.proofs.Offered.{after_all_append, allowed_append, at_told, does_longer, does_none, does_same, does_then, first_then, if_told, makes_first, makes_within, paces_exactly, told_before, told_weaker, weaker, allowed_first, allowed_split}
 use Rattle.client_notes.specs.Command.{NotesCommand, after, is_allowed}
 use Rattle.client_notes.specs.Laws.{AreAllowed, after_all}
 use Rattle.client_notes.specs.Notes.{Lists}
@@ -65,6 +65,8 @@ module _ {D : Type 0} (g : Ghosts D) where
   pub Several-one : (P : Type 0) (old new : NotesState) (disk disk_now : D) (command : NotesCommand) → Does g P old new disk disk_now command → DoesSeveral g P old new disk disk_now (command ∷ [])
   Several-one P old new disk disk_now command does = record {
     does = record {
+      time = done_at notes_form (g.moment disk) (command ∷ []);
+      paces = paces_exactly notes_form old.journal (g.moment disk) (command ∷ []);
       healthy = does.healthy;
       stands_on = does.stands_on;
       allowed = λ known. (does.allowed, tt);
@@ -94,6 +96,7 @@ module _ {D : Type 0} (g : Ghosts D) where
             at_most = if_told (g.content disk) _ (λ before told. omega (arith, does.at_most));
           };
       journal = does.journal;
+      moves = λ fine room. let moved = does.moves fine in record { half = moved.half; place = omega (arith, moved.place) };
     };
     same = λ is. absurd (cc is);
   }

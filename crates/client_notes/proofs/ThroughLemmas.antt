@@ -32,7 +32,7 @@ module _ {D : Type 0} (g : Ghosts D) (on : (first second third : D) → g.lasts 
       let same = r.runs.faults.same (λ never. never) in
       let puts = all.does.puts in
       let stands = kept.stands_through g notes_form notes_number 1 failed old (notes_on start mid) (notes_on cuts.notes_then cuts.disk_then) (notes_on new now) done cut r.runs.told r.recovered.content r.since_start
-      r.since_sync (alone g failed) (alone g ⊥) (alone g failed) all.does cuts.first.does cuts.second.does cuts.first.does.puts.told cuts.second.does.puts.told in
+      r.since_sync (alone g ⊥) (alone g failed) cuts.first.does cuts.second.does cuts.first.does.puts.told cuts.second.does.puts.told in
       record {
         stands = stands.0;
         ready = stands.1;

@@ -3,11 +3,12 @@ use Rattle.std.specs.Prelude.{◌≡◌, ◌⊎◌, ◌↔◌, ℕ, ◌+◌, ◌
 use Rattle.disk_model.specs.declared.disk.Disk.{Ghosts}
 use Rattle.file_journal.specs.Calls.{Leaves, Puts}
 pub use Rattle.file_journal.specs.Calls.{EachImage}
-use Rattle.file_journal.specs.Position.{IsSameJournal}
+use Rattle.file_journal.specs.Position.{IsSameJournal, MovesOn}
 use Rattle.file_journal.specs.declared.faults.JournalFault.{JournalFault}
 use Rattle.file_journal.specs.declared.faults.JournalFault.TheVariants as fault
 use Rattle.client_notes.specs.Command.{NotesCommand, after, is_allowed}
 use Rattle.client_notes.specs.Notes.{Lists}
+use Rattle.client_notes.specs.Records.{notes_form}
 use Rattle.client_notes.specs.State.{NotesState, StandsFor, StandsOn}
 
 -- the image stands for the notes before the command or after it
@@ -32,7 +33,7 @@ pub record IsCut {D : Type 0} (g : Ghosts D) (old new : NotesState) (disk_now : 
 
 -- A call of notes that haven't failed did this command, whose condition holds, in four calls of the disk, or the disk
 -- failed in it. A crash since the call began leaves the notes before it or after it. But for its half and its place
--- there, and whether it failed, the journal is as it was.
+-- there, and whether it failed, the journal is as it was. Where the command is done, it goes on behind its record.
 pub record Does {D : Type 0} (g : Ghosts D) (failed : Type 0) (old new : NotesState) (disk disk_now : D)
     (command : NotesCommand) : Type 0 where
   pub stands_on : StandsOn g new disk_now
@@ -44,6 +45,7 @@ pub record Does {D : Type 0} (g : Ghosts D) (failed : Type 0) (old new : NotesSt
   pub at_most : g.moment disk_now ≤ g.moment disk + 4
   pub puts : Puts g failed disk disk_now
   pub journal : IsSameJournal old.journal new.journal
+  pub moves : ¬ failed → MovesOn (notes_form.octets command) old.journal new.journal
 
 -- Neither the notes nor the disk is touched.
 pub record Untouched {D : Type 0} (old new : NotesState) (disk disk_now : D) : Type 0 where

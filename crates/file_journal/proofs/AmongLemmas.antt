@@ -9,7 +9,7 @@ use Rattle.file_journal.specs.Kept.{Does, IsKept, KeptOn, alone, kept_on}
 use Rattle.file_journal.specs.Position.{Position}
 use Rattle.file_journal.proofs.BoundLemmas.{halves_reads}
 use Rattle.file_journal.proofs.CallLemmas.{changes_none, changes_on, counts_none, counts_on, still, counts_same}
-use Rattle.file_journal.proofs.DoesLemmas.{turn_course, turn_then}
+use Rattle.file_journal.proofs.DoesLemmas.{turn_course, turn_none, turn_then}
 use Rattle.file_journal.proofs.MomentLemmas.{reads}
 use Rattle.file_journal.proofs.ToldLemmas.{alike_on, alike_same}
 
@@ -88,7 +88,9 @@ module _ {D : Type 0} (g : Ghosts D) where
     -- one run of reads, which failed or didn't
     pub reads_only : (failed : Bool) (now : S) (journal : Position) (old new : D) → Reads g (failed ≡ true) old new → journal.failed ≡ false → IsKept g form (kept_on now journal old)
         → DoesAmongReads g form ⊥ (one_if failed) [] (kept_on now journal old) (kept_on now journal new)
-    reads_only failed now journal old new run healthy stands = grind (arith, common_steps, halves_reads)
+    reads_only failed now journal old new run healthy stands =
+        turn_none g form (among_reads g ⊥ (one_if failed)) ⊥ now journal old new (λ never. never) (grind (arith, common_steps)) healthy (grind (arith, common_steps)) run.only.same_moment run.only
+        (grind (arith, common_steps)) (some_one _ _ failed run.faults) (halves_reads g form.layout journal.blocks old new run.only)
 
     -- commands alone
     pub among_does : (P : Type 0) (commands : List C) (old new : KeptOn D S) → Does g form P commands old new → DoesAmongReads g form P 0 commands old new

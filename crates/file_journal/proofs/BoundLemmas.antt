@@ -6,7 +6,7 @@ use Rattle.disk_model.specs.Moments.{TimePasses}
 use Rattle.disk_model.specs.declared.disk.Disk.{Ghosts}
 use Rattle.file_journal.specs.Appending.{IsTornFrom, LeavesAppending}
 use Rattle.file_journal.specs.Blocks.{HasBlock, LeavesWritingBlock}
-use Rattle.file_journal.specs.Bounds.{IsWithin, KeepsWithin, RecoversInHalves, StaysInHalves, StaysWithin, longest}
+use Rattle.file_journal.specs.Bounds.{IsWithin, RecoversInHalves, StaysInHalves, StaysWithin, longest}
 use Rattle.file_journal.specs.Calls.{ChangesReads, Leaves, TellsAlike, images_now}
 use Rattle.file_journal.specs.Layout.{block_place, first_gate, half_end, half_gate, half_size}
 use Rattle.file_journal.specs.Position.{HasRoom, Position}

@@ -1,6 +1,6 @@
 -- How a run of disk calls is put together of others.
 use Rattle.std.proofs.lemmas.Grind.{common_steps}
-use Rattle.std.proofs.Common.{◌≡◌, inl, inr, ℕ, ◌+◌, ◌≤◌, true≢false, List, Some, IfSome, Result, Ok, Err, IsErr, OnOk, refl, sym, ◌∙◌, subst, arith}
+use Rattle.std.proofs.Common.{◌≡◌, inl, inr, ℕ, ◌+◌, ◌≤◌, true≢false, List, Some, IfSome, Result, Ok, Err, IsErr, OnErr, OnOk, refl, sym, ◌∙◌, subst, arith}
 use Rattle.px_base.specs.Outside.{HasCause}
 use Rattle.disk_model.specs.Disk.{Only}
 use Rattle.disk_model.specs.Moments.{SinceNow, TimePasses}
@@ -13,6 +13,25 @@ use Rattle.file_journal.proofs.ToldLemmas.{alike_on, alike_same, at_told, told_w
 pub on_ok_both : {T E P Q R : Type 0} (result : Result T E) → (P → Q → R) → OnOk result P → OnOk result Q → OnOk result R
 on_ok_both (Ok x) step p q = step p q
 on_ok_both (Err e) step p q = tt
+
+-- from a fact of an `Err`
+pub on_err : {T E P Q : Type 0} (result : Result T E) → (P → Q) → OnErr result P → OnErr result Q
+on_err (Ok x) step p = tt
+on_err (Err e) step p = step p
+
+-- where it is known which one came
+pub ok_there : {T E P : Type 0} (result : Result T E) → ¬ IsErr result → OnOk result P → P
+ok_there (Ok x) fine done = done
+ok_there (Err e) fine done = absurd (fine refl)
+
+pub err_there : {T E P : Type 0} (result : Result T E) → IsErr result → OnErr result P → P
+err_there (Ok x) bad failed = absurd (true≢false (sym bad))
+err_there (Err e) bad failed = failed
+
+-- what both answers give
+pub either_way : {T E P : Type 0} (result : Result T E) → OnOk result P → OnErr result P → P
+either_way (Ok x) done failed = done
+either_way (Err e) done failed = failed
 
 -- One count.
 pub counts_none : (count : ℕ) (P : Type 0) → ¬ P → CountsFault count count P

@@ -6,13 +6,15 @@ use Rattle.file_journal.specs.Bounds.{StaysInHalves}
 use Rattle.file_journal.specs.Calls.{EachImage, Leaves, TellsAlike}
 use Rattle.file_journal.specs.Commands.{AreAllowed, MakesBetween, MakesFirst, StayDone, after_all, after_first, calls_of, done_at, done_within}
 use Rattle.file_journal.specs.Form.{Form}
-use Rattle.file_journal.specs.Kept.{Course, Does, DoesBy, DoesInTurn, IsCut, IsKept, KeptOn, alone, kept_on}
+use Rattle.file_journal.specs.Kept.{Course, Does, DoesInTurn, HasRoomFor, IsCut, IsKept, KeptOn, Paces, alone, kept_on}
+use Rattle.file_journal.specs.Layout.{rewriting_calls}
 use Rattle.file_journal.specs.Position.{IsSameJournal, Position}
 use Rattle.file_journal.specs.Steps.{Knows}
 use Rattle.file_journal.proofs.BoundLemmas.{halves_on, halves_same}
 use Rattle.file_journal.proofs.CallLemmas.{puts_none, puts_on, puts_same}
-use Rattle.file_journal.proofs.CommandLemmas.{after_all_append, allowed_append, at_all, at_first, at_later, at_some, at_then, first_append, first_then, makes_first, makes_later, makes_longer, makes_second, makes_within, nothing, stay_by_longer, stay_by_then, stay_none}
+use Rattle.file_journal.proofs.CommandLemmas.{after_all_append, allowed_append, at_first, first_append, first_then, makes_first, makes_later, makes_longer, makes_second, makes_within, nothing, stay_by_longer, stay_by_then, stay_none}
 use Rattle.file_journal.proofs.MomentLemmas.{joined, started, weaker}
+use Rattle.file_journal.proofs.TimeLemmas.{TakesNoMore, octets_append, paces_exactly, rises_all, rises_from, room_behind, room_first, room_some, then_early, then_late, then_paces, then_time}
 use Rattle.file_journal.proofs.ToldLemmas.{alike_on, at_told, if_told, knew, known_told, knows_on, told_before, told_weaker}
 
 -- the same state and the same journal, on the same disk
@@ -21,8 +23,10 @@ same_on {S = S} now other journal else_journal disk state same = ap₂ (λ (s : 
 
 -- a journal that is as it was, and then another time
 pub same_then : (first second third : Position) → IsSameJournal first second → IsSameJournal second third → IsSameJournal first third
-same_then first second third one other =
-    other ∙ ap (λ (j : Position). let moved : Position = record j { half = third.half; place = third.place; failed = third.failed } in moved) one
+same_then first second third one other = record {
+  same = other.same ∙ ap (λ (j : Position). let moved : Position = record j { half = third.half; place = third.place; failed = third.failed } in moved) one.same;
+  half = λ single. other.half (λ is. single (sym (ap (λ (j : Position). j.layout) one.same) ∙ is)) ∙ one.half single;
+}
 
 module _ {S C : Type 0} (form : Form S C) where
   -- calls carry out no more commands than there are
@@ -52,25 +56,30 @@ module _ {S C : Type 0} (form : Form S C) where
       by false is then = rw is (omega arith)
 
 module _ {D S C : Type 0} (g : Ghosts D) (form : Form S C) where
-  -- Where a call failed behind so many that passed, no fewer of the commands stand than those carry out; more commands may
-  -- come behind them.
-  pub cut_makes : (a b : List C) (old new : KeptOn D S) (calls : ℕ) → IsCut g form (done_at form (g.moment old.disk) a) a old new → g.moment old.disk + calls < g.moment new.disk
+  -- Where a call failed behind so many that passed, and there was room for the records of the commands, no fewer of them
+  -- stand than those calls carry out; more commands may come behind them.
+  pub cut_makes : (course : Course D) (P : Type 0) (a b : List C) (old new : KeptOn D S) (calls : ℕ) → P → HasRoomFor form old.journal a → DoesInTurn g form course P a old new
+      → g.moment old.disk + calls < g.moment new.disk
       → IfSome (g.content old.disk) (λ _. EachImage g new.disk (MakesBetween form (done_within form (a ++ b) calls) (length (a ++ b)) old.now (a ++ b)))
-  cut_makes a b old new calls some passed =
+  cut_makes course P a b old new calls failed room does passed =
       let sum : length (a ++ b) ≡ length a + length b = length-append a b in
+      let some = does.cut failed in
+      let next : some.count + 1 ≤ length a = omega (arith, some.fewer) in
       told_weaker (g.content old.disk) _ _ (λ before told soon.
       let done : done_within form (a ++ b) calls ≤ some.count =
       let one : calls_of form (take (some.count + 1) (a ++ b)) ≡ calls_of form (take (suc some.count) (a ++ b)) = ap (λ (n : ℕ). calls_of form (take n (a ++ b))) (let same : some.count + 1 ≡ suc some.count = omega arith in same) in
-      within_done form (a ++ b) some.count calls (omega (arith, one, soon, passed, at_first form (g.moment old.disk) (some.count + 1) a b (omega (arith, some.fewer)))) in
+      within_done form (a ++ b) some.count calls (omega (arith, one, soon, passed, does.paces.exact (some.count + 1) next (room_some form old.journal a (some.count + 1) room), at_first form (g.moment old.disk) (some.count + 1) a b next)) in
       told_weaker (g.content new.disk) _ _ (λ now here stands image left.
-      makes_within form some.count (some.count + 1) (done_within form (a ++ b) calls) (length (a ++ b)) old.now (a ++ b) image done (omega (arith, sum, some.fewer))
-      (makes_first form some.count (some.count + 1) old.now a b image (omega (arith, some.fewer)) (stands image left))) some.images) some.at_most
+      makes_within form some.count (some.count + 1) (done_within form (a ++ b) calls) (length (a ++ b)) old.now (a ++ b) image done (omega (arith, sum, next))
+      (makes_first form some.count (some.count + 1) old.now a b image next (stands image left))) some.images) some.at_most
 
   -- what comes to the same, by calls that are said otherwise
-  pub by_course : (one other : Course D) (P Q : Type 0) (time : ℕ → ℕ) (commands : List C) (old new : KeptOn D S) → (P → Q) → (Q → P) → (one.idle old.disk new.disk → other.idle old.disk new.disk)
-      → (one.puts old.disk new.disk → other.puts old.disk new.disk) → (one.reads old.disk new.disk → other.reads old.disk new.disk) → DoesBy g form one P time commands old new
-      → DoesBy g form other Q time commands old new
-  by_course one other P Q time commands old new there back idle puts reads does = record {
+  pub turn_course : (one other : Course D) (P Q : Type 0) (commands : List C) (old new : KeptOn D S) → (P → Q) → (Q → P) → (one.idle old.disk new.disk → other.idle old.disk new.disk)
+      → (one.puts old.disk new.disk → other.puts old.disk new.disk) → (one.reads old.disk new.disk → other.reads old.disk new.disk) → DoesInTurn g form one P commands old new
+      → DoesInTurn g form other Q commands old new
+  turn_course one other P Q commands old new there back idle puts reads does = record {
+    time = does.time;
+    paces = does.paces;
     healthy = does.healthy;
     stands_on = does.stands_on;
     allowed = does.allowed;
@@ -84,19 +93,17 @@ module _ {D S C : Type 0} (g : Ghosts D) (form : Form S C) where
     done = λ fine. does.done (λ p. fine (there p));
     cut = λ q. does.cut (back q);
     journal = does.journal;
+    moves = λ fine. does.moves (λ p. fine (there p));
     within = does.within;
   }
-
-  pub turn_course : (one other : Course D) (P Q : Type 0) (commands : List C) (old new : KeptOn D S) → (P → Q) → (Q → P) → (one.idle old.disk new.disk → other.idle old.disk new.disk)
-      → (one.puts old.disk new.disk → other.puts old.disk new.disk) → (one.reads old.disk new.disk → other.reads old.disk new.disk) → DoesInTurn g form one P commands old new
-      → DoesInTurn g form other Q commands old new
-  turn_course one other P Q commands old new = by_course one other P Q (done_at form (g.moment old.disk) commands) commands old new
 
   -- no command
   pub turn_none : (course : Course D) (P : Type 0) (now : S) (journal : Position) (old new : D) → ¬ P → IsKept g form (kept_on now journal new) → journal.failed ≡ false
       → Leaves g old new (λ _. MakesFirst form now []) → g.moment new ≡ g.moment old → course.idle old new → course.puts old new → course.reads old new
       → StaysInHalves g form.layout journal.blocks old new → DoesInTurn g form course P [] (kept_on now journal old) (kept_on now journal new)
   turn_none course P now journal old new fine stands healthy since same idle puts reads within = record {
+    time = done_at form (g.moment old) [];
+    paces = paces_exactly form journal (g.moment old) [];
     healthy = healthy;
     stands_on = stands;
     allowed = λ known. tt;
@@ -109,18 +116,29 @@ module _ {D S C : Type 0} (g : Ghosts D) (form : Form S C) where
     reads = reads;
     done = λ still. (λ known. refl, healthy);
     cut = λ failed. absurd (fine failed);
-    journal = refl;
+    journal = record { same = refl; half = λ one. refl };
+    moves = λ still room. record { half = refl; place = omega arith };
     within = within;
   }
 
   -- further commands behind those in one of which the disk failed
-  pub by_longer : (course : Course D) (P : Type 0) (time once : ℕ → ℕ) (a b : List C) (old new : KeptOn D S) → P → (Knows form (g.content old.disk) → AreAllowed form.allowed form.after old.now (a ++ b))
-      → ((count : ℕ) → count ≤ length a → time count ≡ once count) → once (length a) ≤ time (length (a ++ b)) → DoesBy g form course P once a old new → DoesBy g form course P time (a ++ b) old new
-  by_longer course P time once a b old new failed allowed early more does =
+  pub turn_longer : (course : Course D) (P : Type 0) (a b : List C) (old new : KeptOn D S) → P → (Knows form (g.content old.disk) → AreAllowed form.allowed form.after old.now (a ++ b)) → DoesInTurn g form course P a old new
+      → DoesInTurn g form course P (a ++ b) old new
+  turn_longer course P a b old new failed allowed does =
       let sum : length (a ++ b) ≡ length a + length b = length-append a b in
       let some = does.cut failed in
       let few = some.fewer in
+      let once = does.time in
+      let again = done_at form 0 b in
+      let time = then_time once again (length a) 0 in
+      let none : again 0 ≡ 0 = omega arith in
+      let early = then_early form a b once again 0 none in
+      let all : time (length (a ++ b)) ≡ time (length a + length b) = ap time sum in
       record {
+        time = time;
+        paces =
+            let exact = paces_exactly form old.journal 0 b in
+            then_paces form a b once again 0 none old.journal (g.moment old.disk) does.paces exact.rises exact.most (λ count few room. refl);
         healthy = does.healthy;
         stands_on = does.stands_on;
         allowed = allowed;
@@ -128,12 +146,12 @@ module _ {D S C : Type 0} (g : Ghosts D) (form : Form S C) where
             weaker g.moment g.images_since old.disk new.disk (MakesFirst form old.now a) (MakesFirst form old.now (a ++ b)) (λ image here. makes_longer form old.now a b image here) left) does.since;
         stay = λ fine. absurd (fine failed);
         calls = λ fine. absurd (fine failed);
-        at_most = omega (arith, does.at_most, more);
+        at_most = omega (arith, does.at_most, all, then_late form a b once again 0 none (length b));
         none = λ is. let empty : length (a ++ b) ≡ 0 = ap length is in absurd (omega (arith, sum, few, empty));
         puts = does.puts;
         reads = does.reads;
         done = λ fine. absurd (fine failed);
-        cut = λ again. record {
+        cut = λ still. record {
           count = some.count;
           fewer = omega (arith, sum, few);
           state = λ known. some.state known ∙ sym (first_append form some.count a b old.now (omega (arith, few)));
@@ -145,22 +163,45 @@ module _ {D S C : Type 0} (g : Ghosts D) (form : Form S C) where
           at_most = told_weaker (g.content old.disk) _ _ (λ before told soon. let at = early (some.count + 1) (omega (arith, few)) in omega (arith, soon, at)) some.at_most;
         };
         journal = does.journal;
+        moves = λ fine. absurd (fine failed);
         within = does.within;
       }
 
-  pub turn_longer : (course : Course D) (P : Type 0) (a b : List C) (old new : KeptOn D S) → P → (Knows form (g.content old.disk) → AreAllowed form.allowed form.after old.now (a ++ b)) → DoesInTurn g form course P a old new
-      → DoesInTurn g form course P (a ++ b) old new
-  turn_longer course P a b old new failed allowed =
-      by_longer course P (done_at form (g.moment old.disk) (a ++ b)) (done_at form (g.moment old.disk) a) a b old new failed allowed (λ count few. at_first form (g.moment old.disk) count a b few)
-      (omega (arith, at_then form (g.moment old.disk) a b))
-
   -- One list of commands, and then another, each in its time, and both in theirs.
   module _ (one other both : Course D) (P Q : Type 0) (a b : List C) (old mid new : KeptOn D S) (fine : ¬ P) (alike : TellsAlike (g.content old.disk) (g.content mid.disk)) (later : TellsAlike (g.content mid.disk) (g.content new.disk))
-      (time once again : ℕ → ℕ) (early : (count : ℕ) → count ≤ length a → time count ≡ once count)
-      (late : IfSome (g.content old.disk) (λ _. (count : ℕ) → count ≤ length b → time (length a + count) ≡ again count)) (rises : (count : ℕ) → count ≤ length a → once count ≤ once (length a))
-      (first : DoesBy g form one P once a old mid) (second : DoesBy g form other Q again b mid new) where
+      (first : DoesInTurn g form one P a old mid) (second : DoesInTurn g form other Q b mid new) where
+    abbrev once : ℕ → ℕ
+    once = first.time
+
+    abbrev again : ℕ → ℕ
+    again = second.time
+
+    abbrev time : ℕ → ℕ
+    time = then_time once again (length a) (g.moment mid.disk)
+
     sum : length (a ++ b) ≡ length a + length b
     sum = length-append a b
+
+    early : (count : ℕ) → count ≤ length a → time count ≡ once count
+    early = then_early form a b once again (g.moment mid.disk) second.paces.starts
+
+    late : (count : ℕ) → time (length a + count) ≡ once (length a) + (again count - g.moment mid.disk)
+    late = then_late form a b once again (g.moment mid.disk) second.paces.starts
+
+    rises : (count : ℕ) → count ≤ length a → once count ≤ once (length a)
+    rises count few = rises_all form a once first.paces.rises count (length a) few (omega arith)
+
+    room_a : HasRoomFor form old.journal (a ++ b) → HasRoomFor form old.journal a
+    room_a = room_first form old.journal a b
+
+    room_b : (later : List C) → HasRoomFor form old.journal (a ++ later) → HasRoomFor form mid.journal later
+    room_b later room = room_behind form old.journal mid.journal a later first.journal (first.moves fine (room_first form old.journal a later room)) room
+
+    both_pace : Paces form old.journal (g.moment old.disk) (a ++ b) time
+    both_pace =
+        let blocks : mid.journal.blocks ≡ old.journal.blocks = ap (λ (p : Position). p.blocks) first.journal.same in
+        then_paces form a b once again (g.moment mid.disk) second.paces.starts old.journal (g.moment old.disk) first.paces second.paces.rises
+        (subst (λ (n : ℕ). TakesNoMore form (rewriting_calls n) again b) blocks second.paces.most) (λ count few room. second.paces.exact count few (room_b (take count b) room))
 
     at : Knows form (g.content old.disk) → mid.now ≡ after_all form.after old.now a
     at known = (first.done fine).0 known
@@ -172,7 +213,9 @@ module _ {D S C : Type 0} (g : Ghosts D) (form : Form S C) where
     then before told = at_told (λ (_ : List ℕ). g.moment mid.disk ≡ once (length a)) before told (first.calls fine)
 
     behind : (before : List ℕ) → g.content old.disk ≡ Some before → (count : ℕ) → count ≤ length b → time (length a + count) ≡ again count
-    behind before told = at_told (λ (_ : List ℕ). (count : ℕ) → count ≤ length b → time (length a + count) ≡ again count) before told late
+    behind before told count few =
+        let rise = rises_all form b again second.paces.rises 0 count (omega arith) few in
+        omega (arith, late count, then before told, rise, second.paces.starts)
 
     since_both : Leaves g old.disk new.disk (λ _. MakesFirst form old.now (a ++ b))
     since_both = if_told (g.content old.disk) _ (λ before told.
@@ -189,78 +232,74 @@ module _ {D S C : Type 0} (g : Ghosts D) (form : Form S C) where
         (λ count few. let at = rises count few in omega (arith, at, then before told)) (at_told (λ (_ : List ℕ). _) before told (first.stay fine))
         (at_told (λ (_ : List ℕ). _) (middle before told).0 (middle before told).1 second.since) (at_told (λ (_ : List ℕ). _) (middle before told).0 (middle before told).1 stay))
 
-    by_cut : IsCut g form again b mid new → IsCut g form time (a ++ b) old new
-    by_cut some = record {
-      count = length a + some.count;
-      fewer = omega (arith, sum, some.fewer);
-      state = λ known. some.state (knows_on form _ _ alike known) ∙ ap (λ (s : S). after_first form some.count s b) (at known) ∙ sym (first_then form some.count a b old.now);
-      failed = some.failed;
-      images = told_weaker (g.content new.disk) _ _ (λ now told each image here.
-          makes_second form some.count (some.count + 1) (length a + some.count) (length a + some.count + 1) old.now mid.now a b image (at (knew form _ _ (alike_on _ _ _ alike later) (known_told form now told))) (omega arith) (omega arith) (each image here)) some.images;
-      stay = stay_both some.count (let few = some.fewer in omega (arith, few)) some.stay;
-      calls = if_told (g.content old.disk) _ (λ before told.
-          let begun : again some.count ≤ g.moment new.disk = at_told (λ (_ : List ℕ). _) (middle before told).0 (middle before told).1 some.calls in
-          let there = behind before told some.count (let few = some.fewer in omega (arith, few)) in
-          omega (arith, there, begun));
-      at_most = if_told (g.content old.disk) _ (λ before told.
-          let soon : g.moment new.disk ≤ again (some.count + 1) = at_told (λ (_ : List ℕ). _) (middle before told).0 (middle before told).1 some.at_most in
-          let same : time (length a + some.count + 1) ≡ time (length a + (some.count + 1)) = ap time (omega arith) in
-          let there = behind before told (some.count + 1) (let few = some.fewer in omega (arith, few)) in
-          omega (arith, same, there, soon));
-    }
+    cut_both : IsCut g form again b mid new → (all : IsCut g form time (a ++ b) old new) × (length a ≤ all.count)
+    cut_both some = (
+      record {
+        count = length a + some.count;
+        fewer = omega (arith, sum, some.fewer);
+        state = λ known. some.state (knows_on form _ _ alike known) ∙ ap (λ (s : S). after_first form some.count s b) (at known) ∙ sym (first_then form some.count a b old.now);
+        failed = some.failed;
+        images = told_weaker (g.content new.disk) _ _ (λ now told each image here.
+            makes_second form some.count (some.count + 1) (length a + some.count) (length a + some.count + 1) old.now mid.now a b image (at (knew form _ _ (alike_on _ _ _ alike later) (known_told form now told))) (omega arith) (omega arith) (each image here)) some.images;
+        stay = stay_both some.count (let few = some.fewer in omega (arith, few)) some.stay;
+        calls = if_told (g.content old.disk) _ (λ before told.
+            let begun : again some.count ≤ g.moment new.disk = at_told (λ (_ : List ℕ). _) (middle before told).0 (middle before told).1 some.calls in
+            let there = behind before told some.count (let few = some.fewer in omega (arith, few)) in
+            omega (arith, there, begun));
+        at_most = if_told (g.content old.disk) _ (λ before told.
+            let soon : g.moment new.disk ≤ again (some.count + 1) = at_told (λ (_ : List ℕ). _) (middle before told).0 (middle before told).1 some.at_most in
+            let same : time (length a + some.count + 1) ≡ time (length a + (some.count + 1)) = ap time (omega arith) in
+            let there = behind before told (some.count + 1) (let few = some.fewer in omega (arith, few)) in
+            omega (arith, same, there, soon));
+      },
+      omega arith,
+    )
 
-    pub by_then : g.moment new.disk ≤ time (length (a ++ b)) → (one.idle old.disk mid.disk → other.idle mid.disk new.disk → both.idle old.disk new.disk) → both.puts old.disk new.disk → both.reads old.disk new.disk
-        → DoesBy g form both Q time (a ++ b) old new
-    by_then most idle puts reads = record {
-      healthy = first.healthy;
-      stands_on = second.stands_on;
-      allowed = λ known. allowed_append form.after form.allowed a b old.now (first.allowed known)
-          (subst (λ (s : S). AreAllowed form.allowed form.after s b) (at known) (second.allowed (knows_on form _ _ alike known)));
-      since = since_both;
-      stay = λ still. subst (λ (n : ℕ). IfSome (g.content old.disk) (λ _. StayDone g form time n old.now (a ++ b) new.disk)) (sym sum) (stay_both (length b) (omega arith) (second.stay still));
-      calls = λ still. if_told (g.content old.disk) _ (λ before told.
-          let all : g.moment new.disk ≡ again (length b) = at_told (λ (_ : List ℕ). _) (middle before told).0 (middle before told).1 (second.calls still) in
-          all ∙ sym (behind before told (length b) (omega arith)) ∙ ap time (sym sum));
-      at_most = most;
-      none = λ is.
-          let empty : length (a ++ b) ≡ 0 = ap length is in
-          idle (first.none (nothing a (omega (arith, sum, empty)))) (second.none (nothing b (omega (arith, sum, empty))));
-      puts = puts;
-      reads = reads;
-      done = λ still.
-          let all = second.done still in
-          (λ known. all.0 (knows_on form _ _ alike known) ∙ ap (λ (s : S). after_all form.after s b) (at known) ∙ sym (after_all_append form.after a b old.now), all.1);
-      cut = λ failed. by_cut (second.cut failed);
-      journal = same_then old.journal mid.journal new.journal first.journal second.journal;
-      within = halves_on g form.layout form.layout old.journal.blocks mid.journal.blocks old.disk mid.disk new.disk refl (ap (λ (p : Position). p.blocks) first.journal) first.within second.within;
-    }
-
-  -- the same where each command takes exactly its calls
-  module _ (one other both : Course D) (P Q : Type 0) (a b : List C) (old mid new : KeptOn D S) (fine : ¬ P) (alike : TellsAlike (g.content old.disk) (g.content mid.disk)) (later : TellsAlike (g.content mid.disk) (g.content new.disk))
-      (first : DoesInTurn g form one P a old mid) (second : DoesInTurn g form other Q b mid new) where
-    abbrev in_turn : ℕ → ℕ
-    in_turn = done_at form (g.moment old.disk) (a ++ b)
-
-    turn_early : (count : ℕ) → count ≤ length a → in_turn count ≡ done_at form (g.moment old.disk) a count
-    turn_early count few = at_first form (g.moment old.disk) count a b few
-
-    turn_late : IfSome (g.content old.disk) (λ _. (count : ℕ) → count ≤ length b → in_turn (length a + count) ≡ done_at form (g.moment mid.disk) b count)
-    turn_late = told_weaker (g.content old.disk) _ _ (λ before told then count few. at_later form (g.moment old.disk) (g.moment mid.disk) count a b then) (first.calls fine)
-
-    turn_rises : (count : ℕ) → count ≤ length a → done_at form (g.moment old.disk) a count ≤ done_at form (g.moment old.disk) a (length a)
-    turn_rises count few = at_some form (g.moment old.disk) count (length a) a few
-
-    -- no fewer of both are done than the first were
-    pub cut_least : IsCut g form (done_at form (g.moment mid.disk) b) b mid new → (all : IsCut g form in_turn (a ++ b) old new) × (length a ≤ all.count)
-    unfolding by_cut
-    cut_least some =
-        (by_cut one other both P Q a b old mid new fine alike later in_turn (done_at form (g.moment old.disk) a) (done_at form (g.moment mid.disk) b) turn_early turn_late turn_rises first second some, omega arith)
+    -- No fewer of both are done than the first were.
+    pub turn_both : (one.idle old.disk mid.disk → other.idle mid.disk new.disk → both.idle old.disk new.disk) → both.puts old.disk new.disk → both.reads old.disk new.disk
+        → (all : DoesInTurn g form both Q (a ++ b) old new) × (Q → (some : IsCut g form all.time (a ++ b) old new) × (length a ≤ some.count))
+    turn_both idle puts reads = (
+      record {
+        time = time;
+        paces = both_pace;
+        healthy = first.healthy;
+        stands_on = second.stands_on;
+        allowed = λ known. allowed_append form.after form.allowed a b old.now (first.allowed known)
+            (subst (λ (s : S). AreAllowed form.allowed form.after s b) (at known) (second.allowed (knows_on form _ _ alike known)));
+        since = since_both;
+        stay = λ still. subst (λ (n : ℕ). IfSome (g.content old.disk) (λ _. StayDone g form time n old.now (a ++ b) new.disk)) (sym sum) (stay_both (length b) (omega arith) (second.stay still));
+        calls = λ still. if_told (g.content old.disk) _ (λ before told.
+            let all : g.moment new.disk ≡ again (length b) = at_told (λ (_ : List ℕ). _) (middle before told).0 (middle before told).1 (second.calls still) in
+            all ∙ sym (behind before told (length b) (omega arith)) ∙ ap time (sym sum));
+        at_most =
+            let all : time (length (a ++ b)) ≡ time (length a + length b) = ap time sum in
+            let rise = rises_from form b again second.paces.rises (length b) (omega arith) in
+            omega (arith, all, late (length b), first.at_most, second.at_most, rise, second.paces.starts);
+        none = λ is.
+            let empty : length (a ++ b) ≡ 0 = ap length is in
+            idle (first.none (nothing a (omega (arith, sum, empty)))) (second.none (nothing b (omega (arith, sum, empty))));
+        puts = puts;
+        reads = reads;
+        done = λ still.
+            let all = second.done still in
+            (λ known. all.0 (knows_on form _ _ alike known) ∙ ap (λ (s : S). after_all form.after s b) (at known) ∙ sym (after_all_append form.after a b old.now), all.1);
+        cut = λ failed. (cut_both (second.cut failed)).0;
+        journal = same_then old.journal mid.journal new.journal first.journal second.journal;
+        moves = λ still room.
+            let here = first.moves fine (room_a room) in
+            let there = second.moves still (room_b b room) in
+            record {
+              half = there.half ∙ here.half;
+              place = omega (arith, here.place, there.place, octets_append form a b);
+            };
+        within = halves_on g form.layout form.layout old.journal.blocks mid.journal.blocks old.disk mid.disk new.disk refl (ap (λ (p : Position). p.blocks) first.journal.same) first.within second.within;
+      },
+      λ failed. cut_both (second.cut failed),
+    )
 
     pub turn_then : (one.idle old.disk mid.disk → other.idle mid.disk new.disk → both.idle old.disk new.disk) → both.puts old.disk new.disk → both.reads old.disk new.disk
         → DoesInTurn g form both Q (a ++ b) old new
-    turn_then =
-        by_then one other both P Q a b old mid new fine alike later in_turn (done_at form (g.moment old.disk) a) (done_at form (g.moment mid.disk) b) turn_early turn_late turn_rises first second
-        (omega (arith, first.at_most, second.at_most, at_then form (g.moment old.disk) a b, at_all form (g.moment mid.disk) b))
+    turn_then idle puts reads = (turn_both idle puts reads).0
 
   -- ---- no other call of the disk
 

@@ -1,23 +1,23 @@
 -- What a journal holds of a state on its disk, and how it stays or turns into the next one.
 use Rattle.std.proofs.lemmas.Bool.{cases_lt}
 use Rattle.std.proofs.lemmas.List.{length-take}
-use Rattle.std.proofs.Common.{◌≡◌, ◌⊎◌, inl, inr, ⊎_elim, ℕ, ◌+◌, ◌<◌, ◌≤◌, true, false, List, [], length, take, Option, None, Some, IfSome, is_some, refl, sym, ◌∙◌, ap, subst, arith}
+use Rattle.std.proofs.Common.{◌≡◌, ◌≢◌, ◌⊎◌, inl, inr, ⊎_elim, ℕ, ◌+◌, ◌<◌, ◌≤◌, Bool, true, false, List, [], length, take, Option, None, Some, IfSome, is_some, Result, IsErr, refl, sym, ◌∙◌, ap, subst, arith}
 use Rattle.disk_model.specs.Disk.{IsTold, Only, Torn}
 use Rattle.disk_model.specs.Moments.{LeavesOnly}
 use Rattle.disk_model.specs.declared.disk.Disk.{Ghosts}
 use Rattle.file_journal.specs.Appending.{Appends, IsAppending, IsTornFrom, LeavesAppending}
 use Rattle.file_journal.specs.Blocks.{IsWritingBlock, WritesBlock}
-use Rattle.file_journal.specs.Calls.{IsQuietNow, Leaves, Reads, TakesStep, TellsAlike, images_now}
+use Rattle.file_journal.specs.Calls.{IsQuietNow, Leaves, Puts, Reads, TakesStep, TellsAlike, images_now}
 use Rattle.file_journal.specs.Form.{Form, StandsFor, standing_of}
 use Rattle.file_journal.specs.Journal as journal
 use Rattle.file_journal.specs.Journal.{Standing, store_of, with_last}
 use Rattle.file_journal.specs.Kept.{IsKept, StandsAt, kept_on}
-use Rattle.file_journal.specs.Layout.{Blocks, HasBlocks, HoldSame, block_in, block_place, blocks_on, half_gate, half_in, up_to}
+use Rattle.file_journal.specs.Layout.{Blocks, HasBlocks, HoldSame, block_in, block_place, blocks_on, half_gate, half_in, other_half, up_to}
 use Rattle.file_journal.specs.Ledger.{Takes}
 use Rattle.file_journal.specs.Position.{IsSameJournal, Position, StandsOn, end_of, gate_of, left_to_read, store_in}
-use Rattle.file_journal.specs.Putting.{StandsForEither, TurnsInto}
-use Rattle.file_journal.specs.Records.{Reading, Record, reading_at, whole}
-use Rattle.file_journal.specs.Rewriting.{IsRewriting, KeepsBlocks, LeavesRewriting, Rewrites}
+use Rattle.file_journal.specs.Putting.{StandsForEither, StaysKept, TurnsInto}
+use Rattle.file_journal.specs.Records.{Reading, Record, reading_at, records_text, whole}
+use Rattle.file_journal.specs.Rewriting.{IsRewriting, KeepsBlocks, LeavesRewriting, Rewrites, WritesAnew, other_gate, rewritten}
 use Rattle.file_journal.specs.Steps.{HasPut, Holds, IsSeenBy, Knows, MayPut, PutBlock, StandsAs, Steps, Turn, WritesTurn, growing_steps, walked}
 use Rattle.file_journal.specs.Walk.{number_or, stands_for, stands_of, state}
 use Rattle.file_journal.specs.declared.layout.Half.{Half}
@@ -25,7 +25,7 @@ use Rattle.file_journal.specs.declared.layout.Half.TheVariants as half
 use Rattle.file_journal.specs.declared.layout.Layout.{Layout}
 use Rattle.file_journal.specs.declared.layout.Layout.TheVariants as layout
 use Rattle.file_journal.proofs.BlockOctetLemmas.{torn_behind, torn_other}
-use Rattle.file_journal.proofs.CallLemmas.{reads_now}
+use Rattle.file_journal.proofs.CallLemmas.{either_way, err_there, ok_there, on_err, on_ok_both, puts_same, reads_now}
 use Rattle.file_journal.proofs.MomentLemmas.{weaker}
 use Rattle.file_journal.proofs.PositionLemmas.{among_records}
 use Rattle.file_journal.proofs.ReadingLemmas.{read_past}
@@ -73,15 +73,19 @@ read_stands g steps form old new position now run at stands = record {
   };
 }
 
--- a journal that goes on at another place is the same one
-pub same_journal : (before after : Position) → after ≡ record before { place = after.place; failed = after.failed } → IsSameJournal before after
-same_journal before after moved =
-    moved ∙ ap (λ (h : Half). let there : Position = record before { half = h; place = after.place; failed = after.failed } in there) (sym (ap (λ (p : Position). p.half) moved))
+-- a journal that goes on elsewhere is the same one
+pub same_journal : (before after : Position) (there : Half) (place : ℕ) (failed : Bool) → after ≡ record before { half = there; place = place; failed = failed }
+    → (before.layout ≢ layout.Halves → there ≡ before.half) → IsSameJournal before after
+same_journal before after there place failed is stays = subst (IsSameJournal before) (sym is) (record { same = refl; half = stays })
 
--- and so is one that has failed, or hasn't
-pub failed_journal : (before after : Position) → after ≡ record before { failed = after.failed } → IsSameJournal before after
-failed_journal before after moved =
-    same_journal before after (moved ∙ ap (λ (n : ℕ). let there : Position = record before { place = n; failed = after.failed } in there) (sym (ap (λ (p : Position). p.place) moved)))
+-- and so is one that goes on in its half
+pub moved_journal : (before after : Position) (place : ℕ) (failed : Bool) → after ≡ record before { place = place; failed = failed } → IsSameJournal before after
+moved_journal before after place failed is = same_journal before after before.half place failed is (λ one. refl)
+
+-- and one whose records are written anew
+same_rewritten : (before after : Position) (entries : List Record) → before.layout ≡ layout.Halves → after ≡ rewritten before entries → IsSameJournal before after
+same_rewritten before after entries in_halves is =
+    same_journal before after (other_half before.half) (other_gate before + length (records_text entries)) false is (λ one. absurd (one in_halves))
 
 -- where records end, the gate at the journal's place is among the octets
 gate_there : (position : Position) (octets : List ℕ) → left_to_read position octets ≡ whole [] → position.place < length octets
@@ -166,7 +170,7 @@ module _ {D S K V C : Type 0} (g : Ghosts D) (steps : Steps S K) (seen : Blocks 
 
   -- the same journal stands for the same
   pub stands_moved : (before after : Position) (octets : List ℕ) (now : K) → IsSameJournal before after → StandsAs steps before now octets → StandsAs steps after now octets
-  stands_moved before after octets now moved stands = (stands.0, ap (λ (p : Position). walked steps p.magic p.layout p.blocks octets) moved ∙ stands.1, stands.2)
+  stands_moved before after octets now moved stands = (stands.0, ap (λ (p : Position). walked steps p.magic p.layout p.blocks octets) moved.same ∙ stands.1, stands.2)
 
   -- What holds a state keeps what it is seen as.
   pub held_kept : (position : Position) (now : K) (disk : D) → StandsAt g form steps position now disk → IsKept g form (kept_on (seen (blocks_on (g.content disk)) now) position disk)
@@ -324,7 +328,7 @@ module _ {D S K V C : Type 0} (g : Ghosts D) (steps : Steps S K) (seen : Blocks 
               holds = quiet_holds after next new reached stands (ap (λ (p : Position). p.ended) moved ∙ ended_there)
                   (if_told (g.content new) _ (λ octets told_new.
                   let was = content_now _ _ (Appends position entry) octets alike ok told_new in
-                  stands_moved position after octets next (same_journal position after moved)
+                  stands_moved position after octets next (moved_journal position after after.place after.failed moved)
                   (image_there position was.0 octets next (next_there was.0 was.1 (store_in position octets) was.2.store)
                   (λ block uses. ⊎_elim (λ same. ap (λ (l : List ℕ). block_in l block) same) (λ is. record_same next reached number was.0 octets was.1 is.beside block uses)
                   (content_since _ since was.0 octets was.1 told_new)))))
@@ -334,10 +338,10 @@ module _ {D S K V C : Type 0} (g : Ghosts D) (steps : Steps S K) (seen : Blocks 
     -- or it failed, and holds whatever it held
     pub cut_holds : (after : Position) → StandsOn g after new → IsSameJournal position after → after.failed ≡ true → StandsAt g form steps after now new
     cut_holds after stands moved failed =
-        let blocks_is : after.blocks ≡ position.blocks = ap (λ (p : Position). p.blocks) moved in
-        let layout_is : after.layout ≡ position.layout = ap (λ (p : Position). p.layout) moved in
+        let blocks_is : after.blocks ≡ position.blocks = ap (λ (p : Position). p.blocks) moved.same in
+        let layout_is : after.layout ≡ position.layout = ap (λ (p : Position). p.layout) moved.same in
         record {
-          magic_is = ap (λ (p : Position). p.magic) moved ∙ at.magic_is;
+          magic_is = ap (λ (p : Position). p.magic) moved.same ∙ at.magic_is;
           layout_is = layout_is ∙ at.layout_is;
           holds = failed_holds after now new at.holds.reached failed stands (λ has. blocks_is ∙ at.holds.number (subst HasBlocks layout_is has));
         }
@@ -381,7 +385,7 @@ module _ {D S K V C : Type 0} (g : Ghosts D) (steps : Steps S K) (seen : Blocks 
             holds = quiet_holds after now new at.holds.reached stands (ap (λ (p : Position). p.ended) moved ∙ ended_there)
                 (if_told (g.content new) _ (λ octets told_new.
                 let was = content_now _ _ (WritesBlock position put.number put.octets) octets alike ok told_new in
-                stands_moved position after octets now (failed_journal position after moved)
+                stands_moved position after octets now (moved_journal position after position.place after.failed moved)
                 (image_there position was.0 octets now
                 (⊎_elim (λ same. subst (λ (l : List ℕ). ComesTo position (block_in was.0) (store_in position l) now) (sym same) (stood was.0 was.1))
                 (λ is. subst (λ (t : Standing). ComesTo position (block_in was.0) t now) (sym is.store) (stood was.0 was.1)) (content_since _ since was.0 octets was.1 told_new))
@@ -390,7 +394,7 @@ module _ {D S K V C : Type 0} (g : Ghosts D) (steps : Steps S K) (seen : Blocks 
           }
 
       pub block_cut_holds : StandsOn g after new → after.failed ≡ true → StandsAt g form steps after now new
-      block_cut_holds stands failed = cut_holds after stands (failed_journal position after moved) failed
+      block_cut_holds stands failed = cut_holds after stands (moved_journal position after position.place after.failed moved) failed
 
     -- ---- records that make what is kept anew, in place of all others
 
@@ -439,17 +443,40 @@ module _ {D S K V C : Type 0} (g : Ghosts D) (steps : Steps S K) (seen : Blocks 
 
       pub anew_holds : StandsOn g after new → IsSameJournal position after → TakesStep g old new (Rewrites position (steps.anew now)) → IsQuietNow g new → StandsAt g form steps after now new
       anew_holds stands moved ok quiet =
-          let blocks_is : after.blocks ≡ position.blocks = ap (λ (p : Position). p.blocks) moved in
-          let layout_is : after.layout ≡ position.layout = ap (λ (p : Position). p.layout) moved in
+          let blocks_is : after.blocks ≡ position.blocks = ap (λ (p : Position). p.blocks) moved.same in
+          let layout_is : after.layout ≡ position.layout = ap (λ (p : Position). p.layout) moved.same in
           record {
-            magic_is = ap (λ (p : Position). p.magic) moved ∙ at.magic_is;
+            magic_is = ap (λ (p : Position). p.magic) moved.same ∙ at.magic_is;
             layout_is = layout_is ∙ at.layout_is;
-            holds = quiet_holds after now new at.holds.reached stands (ap (λ (p : Position). p.ended) moved ∙ ended_there)
+            holds = quiet_holds after now new at.holds.reached stands (ap (λ (p : Position). p.ended) moved.same ∙ ended_there)
                 (if_told (g.content new) _ (λ octets told_new.
                 let was = content_now _ _ (Rewrites position (steps.anew now)) octets alike ok told_new in
                 stands_moved position after octets now moved
                 (image_there position was.0 octets now (anew_there was.0 was.1 (store_in position octets) was.2.store) (used_same was.0 octets was.2.blocks))))
                 quiet (λ has. blocks_is ∙ at.holds.number (subst HasBlocks layout_is has));
+          }
+
+      -- so what is kept stays, whatever was answered
+      pub anew_stays : {T E : Type 0} (result : Result T E) (P : Type 0) (same : K) → (P → IsErr result) → (IsErr result → P) → same ≡ now → WritesAnew g (steps.anew now) position after old new result
+          → Puts g (IsErr result) old new → StaysKept g form steps seen P (kept_on now position old) (kept_on same after new)
+      anew_stays result P same there back is anew puts =
+          let moved : IsSameJournal position after =
+          either_way result (on_ok_both result (λ (j : after ≡ rewritten position (steps.anew now)) rest. same_rewritten position after (steps.anew now) (at.layout_is ∙ in_halves) j) anew.goes_on anew.quiet)
+          (on_err result (λ (j : after ≡ record position { failed = true }). moved_journal position after position.place true j) anew.fails) in
+          record {
+            kept = is;
+            stands_at = subst (λ (k : K). StandsAt g form steps after k new) (sym is)
+                (either_way result (on_ok_both result (λ ok quiet. anew_holds anew.stands_on moved ok quiet) anew.ok anew.quiet)
+                (on_err result (λ (j : after ≡ record position { failed = true }). cut_holds after anew.stands_on moved (ap (λ (p : Position). p.failed) j)) anew.fails));
+            same = anew_same;
+            since = anew_since;
+            goes = record {
+              journal = moved;
+              fails = λ bad. ap (λ (p : Position). p.failed) (err_there result (there bad) anew.fails);
+              goes_on = λ good. ap (λ (p : Position). p.failed) (ok_there result (λ bad. good (back bad)) anew.goes_on);
+              puts = puts_same g old new (IsErr result) P back there puts;
+              within = λ halves. anew.within;
+            };
           }
 
 -- What keeps a state that is seen as it is holds it.

@@ -4,10 +4,10 @@ use Rattle.disk_model.specs.Disk.{Only}
 use Rattle.disk_model.specs.declared.disk.Disk.{Ghosts}
 use Rattle.file_journal.specs.Bounds.{StaysInHalves}
 use Rattle.file_journal.specs.Calls.{EachImage, Leaves, Puts, TellsAlike, images_now}
-use Rattle.file_journal.specs.Commands.{MakesBetween, MakesFirst, StayDone}
+use Rattle.file_journal.specs.Commands.{MakesBetween, MakesFirst, StayDone, octets_of}
 use Rattle.file_journal.specs.Form.{Form, StandsFor, TellsItsNumber}
-use Rattle.file_journal.specs.Kept.{DoesBy, IsCut, IsKept, KeptOn, alone, kept_on}
-use Rattle.file_journal.specs.Position.{IsSameJournal, Position}
+use Rattle.file_journal.specs.Kept.{Does, HasRoomFor, IsCut, IsKept, KeptOn, Paces, kept_on}
+use Rattle.file_journal.specs.Position.{IsSameJournal, MovesOn, Position}
 use Rattle.file_journal.specs.Steps.{Knows}
 use Rattle.file_journal.specs.Walk.{state}
 use Rattle.file_journal.proofs.CommandLemmas.{makes_one, stay_none}
@@ -27,7 +27,7 @@ module _ {S C : Type 0} (form : Form S C) where
     module _ (old new : D) (now next : S) (journal after : Position) (command : C) (healthy : journal.failed ≡ false) (allowed : Knows form (g.content old) → form.allowed now command)
         (next_is : Knows form (g.content old) → next ≡ form.after now command)
         (moved : IsSameJournal journal after) (told : TellsAlike (g.content old) (g.content new))
-        (since : Leaves g old new (λ _ image. StandsFor form now image ⊎ StandsFor form next image)) (time : ℕ → ℕ) (starts : time 0 ≡ g.moment old) (at_most : g.moment new ≤ time 1)
+        (since : Leaves g old new (λ _ image. StandsFor form now image ⊎ StandsFor form next image)) (time : ℕ → ℕ) (paces : Paces form journal (g.moment old) (command ∷ []) time) (at_most : g.moment new ≤ time 1)
         (within : StaysInHalves g form.layout journal.blocks old new) where
       one : Knows form (g.content old) → (image : List ℕ) → StandsFor form now image ⊎ StandsFor form next image → MakesBetween form 0 1 now (command ∷ []) image
       one known image (inl was) = makes_one form now command image (inl was)
@@ -37,13 +37,19 @@ module _ {S C : Type 0} (form : Form S C) where
       leaves = told_weaker (g.content old) _ _ (λ before told_old left. weaker g.moment g.images_since old new _ (MakesFirst form now (command ∷ [])) (one (known_told form before told_old)) left) since
 
       abbrev OneDone : Type 0 → S → Type 0
-      OneDone P state_now = DoesBy g form (alone g P) P time (command ∷ []) (kept_on now journal old) (kept_on state_now after new)
+      OneDone P state_now = Does g form P (command ∷ []) (kept_on now journal old) (kept_on state_now after new)
+
+      -- the journal goes on behind its record, where it has room for that
+      abbrev OneMoves : Type 0
+      OneMoves = HasRoomFor form journal (command ∷ []) → MovesOn (octets_of form (command ∷ [])) journal after
 
       -- what is done, by what comes of it where the disk failed and where it didn't
       does_put : (P : Type 0) (state_now : S) → IsKept g form (kept_on state_now after new) → Puts g P old new
           → (¬ P → IfSome (g.content old) (λ _. g.moment new ≡ time 1) × IfSome (g.content old) (λ _. StayDone g form time 1 now (command ∷ []) new) × (state_now ≡ next) × (after.failed ≡ false))
-          → (P → IsCut g form time (command ∷ []) (kept_on now journal old) (kept_on state_now after new)) → OneDone P state_now
-      does_put P state_now keeps puts done cut = record {
+          → (P → IsCut g form time (command ∷ []) (kept_on now journal old) (kept_on state_now after new)) → (¬ P → OneMoves) → OneDone P state_now
+      does_put P state_now keeps puts done cut moves = record {
+        time = time;
+        paces = paces;
         healthy = healthy;
         stands_on = keeps;
         allowed = λ known. (allowed known, tt);
@@ -57,13 +63,14 @@ module _ {S C : Type 0} (form : Form S C) where
         done = λ still. (λ known. (done still).2 ∙ next_is known, (done still).3);
         cut = cut;
         journal = moved;
+        moves = moves;
         within = within;
       }
 
       -- it is done
       pub put_done : (P : Type 0) → ¬ P → Puts g P old new → IfSome (g.content old) (λ _. g.moment new ≡ time 1) → after.failed ≡ false
-          → IsKept g form (kept_on next after new) → EachImage g new (StandsFor form next) → OneDone P next
-      put_done P good puts calls fine keeps here = does_put P next keeps puts
+          → IsKept g form (kept_on next after new) → EachImage g new (StandsFor form next) → OneMoves → OneDone P next
+      put_done P good puts calls fine keeps here moves = does_put P next keeps puts
           (λ still. (
             calls,
             if_told (g.content old) _ (λ before told_old count some most image left.
@@ -77,6 +84,7 @@ module _ {S C : Type 0} (form : Form S C) where
             fine,
           ))
           (λ bad. absurd (good bad))
+          (λ still. moves)
 
       -- or the disk failed in it
       pub put_cut : (P : Type 0) → P → Puts g P old new → after.failed ≡ true → IsKept g form (kept_on now after new) → EachImage g new (λ image. StandsFor form now image ⊎ StandsFor form next image)
@@ -88,6 +96,6 @@ module _ {S C : Type 0} (form : Form S C) where
         failed = failed;
         images = told_weaker (g.content new) _ _ (λ octets told_new each image left. one (knew form _ _ told (known_told form octets told_new)) image (each image left)) here;
         stay = if_told (g.content old) _ (λ before told_old. stay_none form g time now (command ∷ []) new);
-        calls = told_weaker (g.content old) _ _ (λ before told_old left. omega (arith, starts, left.later)) since;
+        calls = told_weaker (g.content old) _ _ (λ before told_old left. omega (arith, paces.starts, left.later)) since;
         at_most = if_told (g.content old) _ (λ before told_old. at_most);
-      })
+      }) (λ still. absurd (still bad))

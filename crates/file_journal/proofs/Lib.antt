@@ -19,7 +19,7 @@ mod MomentLemmas
 mod NextLemmas
 mod OctetLemmas
 pub mod Offered
-mod PacingLemmas
+mod PlaceLemmas
 mod PositionLemmas
 mod PutLemmas
 mod PuttingLemmas
@@ -32,6 +32,7 @@ mod RoomLemmas
 mod StepsLemmas
 mod StandingLemmas
 mod ThroughLemmas
+mod TimeLemmas
 mod ToldLemmas
 mod WalkLawLemmas
 mod WalkLemmas

@@ -7,12 +7,14 @@ pub use Rattle.file_journal.proofs.ContentLemmas.{eight, four, if_some, le32_bel
 pub use Rattle.file_journal.proofs.DoesLemmas.{cut_makes, does_longer, does_none, does_same, does_then, same_on, within_most}
 pub use Rattle.file_journal.proofs.KeptLemmas.{images_here}
 pub use Rattle.file_journal.proofs.MomentLemmas.{joined, reads, started, weaker}
-pub use Rattle.file_journal.proofs.PacingLemmas.{paced, paced_in_room, pacing_among, pacing_among_same, pacing_among_then, pacing_course, pacing_exact, pacing_longer, pacing_none, pacing_on, pacing_same, pacing_then, room_always}
+pub use Rattle.file_journal.proofs.PlaceLemmas.{AreMade, are_made, room_within}
+pub use Rattle.file_journal.proofs.ReadingLemmas.{all_whole}
 pub use Rattle.file_journal.proofs.RestoringLemmas.{runs_same}
-pub use Rattle.file_journal.proofs.StandingLemmas.{IsAfter, Written, after_stands, stands_after, stepped, steps, written_step}
+pub use Rattle.file_journal.proofs.StandingLemmas.{IsAfter, Written, after_stands, journal_records, stands_after, stepped, steps, written_step}
 pub use Rattle.file_journal.proofs.HoldLemmas.{held_kept, kept_stands, read_stands}
-pub use Rattle.file_journal.proofs.StepsLemmas.{growing_seen, own_always, own_told, see_same, seen_own_number}
-pub use Rattle.file_journal.proofs.ThroughLemmas.{runs_among, runs_missed, stands_through}
+pub use Rattle.file_journal.proofs.StepsLemmas.{growing_seen, made_there, own_always, own_told, see_same, seen_own_number}
+pub use Rattle.file_journal.proofs.ThroughLemmas.{done_stay, front_done, runs_among, runs_missed, stands_through, through_exactly}
+pub use Rattle.file_journal.proofs.TimeLemmas.{cut_timed, exact_rises, paced_always, paces_exactly, rises_all, rises_calls, rises_from, room_always, room_behind, room_first, room_of, room_some, stay_timed}
 pub use Rattle.file_journal.proofs.ToldLemmas.{alike_on, alike_same, at_told, if_told, knew, known_told, knows_on, told_before, told_weaker}
 pub use Rattle.file_journal.proofs.WalkLawLemmas.{own_number}
 pub use Rattle.file_journal.proofs.WalkLemmas.{one_step}

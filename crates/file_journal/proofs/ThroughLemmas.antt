@@ -1,20 +1,23 @@
 -- What stands on the disk from the recovery of a state on, through commands.
-use Rattle.std.proofs.Common.{◌≡◌, ⊎_elim, ℕ, ◌+◌, List, ◌++◌, Some, IfSome, refl, ◌∙◌, subst, arith}
+use Rattle.std.proofs.Common.{◌≡◌, ◌≢◌, ◌⊎◌, inl, inr, ⊎_elim, ℕ, ◌+◌, ◌≤◌, List, ◌++◌, length, Some, IfSome, refl, ◌∙◌, ap, subst, arith, length-append}
+use Rattle.std.specs.Prelude.{⊤}
 use Rattle.disk_model.specs.declared.disk.Disk.{Ghosts}
 use Rattle.file_journal.specs.AmongReads.{CountsSome, PutsAmongReads}
 use Rattle.file_journal.specs.Calls.{Leaves, Runs, TellsAlike}
-use Rattle.file_journal.specs.Commands.{MakesFirst}
+use Rattle.file_journal.specs.Commands.{MakesFirst, StayDone, calls_of, done_at}
 use Rattle.file_journal.specs.Form.{Form, StandsFor, TellsItsNumber, standing_of}
-use Rattle.file_journal.specs.Kept.{Course, DoesInTurn, KeptOn}
+use Rattle.file_journal.specs.Kept.{Course, DoesInTurn, IsCut, KeptOn}
 use Rattle.file_journal.specs.Recovery.{IsSyncedFirst}
 use Rattle.file_journal.specs.Restoring.{StandsAlike}
-use Rattle.file_journal.specs.Through.{StandsThrough}
+use Rattle.file_journal.specs.Through.{HadRoom, StandsThrough}
 use Rattle.file_journal.specs.Walk.{state}
+use Rattle.file_journal.specs.declared.layout.Layout.TheVariants as layout
 use Rattle.file_journal.proofs.AmongLemmas.{among_on}
-use Rattle.file_journal.proofs.CommandLemmas.{makes_none}
-use Rattle.file_journal.proofs.DoesLemmas.{cut_least}
+use Rattle.file_journal.proofs.CommandLemmas.{at_all, at_first, makes_none}
+use Rattle.file_journal.proofs.DoesLemmas.{turn_both}
 use Rattle.file_journal.proofs.KeptLemmas.{images_here}
 use Rattle.file_journal.proofs.MomentLemmas.{joined, weaker}
+use Rattle.file_journal.proofs.TimeLemmas.{paced_always, rises_all, rises_calls, room_some}
 use Rattle.file_journal.proofs.ToldLemmas.{alike_on, at_told, if_told, knew, known_told, knows_on, told_before, told_weaker}
 
 -- A recovery that gave a state, and then commands, of which the disk may have cut off the last: all of them together, and
@@ -22,7 +25,7 @@ use Rattle.file_journal.proofs.ToldLemmas.{alike_on, at_told, if_told, knew, kno
 module _ {D S C : Type 0} (g : Ghosts D) (form : Form S C) (own : TellsItsNumber form) (blocks : ℕ) (failed : Type 0) (disk : D) (start between new : KeptOn D S) (done cut : List C)
     (alike : TellsAlike (g.content disk) (g.content start.disk)) (stood : IfSome (g.content disk) (λ before. standing_of form blocks before ≡ state start.now))
     (since_start : Leaves g disk start.disk (StandsAlike form blocks)) (since_sync : IfSome (g.content disk) (λ before. IsSyncedFirst g disk start.disk (StandsAlike form blocks before)))
-    (course first_course second_course : Course D) (all : DoesInTurn g form course failed (done ++ cut) start new)
+    (first_course second_course : Course D)
     (first : DoesInTurn g form first_course ⊥ done start between) (second : DoesInTurn g form second_course failed cut between new)
     (between_alike : TellsAlike (g.content start.disk) (g.content between.disk)) (later_alike : TellsAlike (g.content between.disk) (g.content new.disk)) where
   -- what stands for the same as the content stands for the state before the first command
@@ -37,8 +40,18 @@ module _ {D S C : Type 0} (g : Ghosts D) (form : Form S C) (own : TellsItsNumber
   since_told : (P : Type 0) → IfSome (g.content start.disk) (λ _. P) → IfSome (g.content disk) (λ _. P)
   since_told P is = if_told (g.content disk) _ (λ before told. let there = later_told before told in at_told (λ (_ : List ℕ). P) there.0 there.1 is)
 
+  -- the calls of the disk are said elsewhere
+  abbrev any_course : Course D
+  any_course = record { idle = λ old new. ⊤; puts = λ old new. ⊤; reads = λ old new. ⊤ }
+
+  abbrev Both : Type 0
+  Both = (all : DoesInTurn g form any_course failed (done ++ cut) start new) × (failed → (some : IsCut g form all.time (done ++ cut) start new) × (length done ≤ some.count))
+
+  both : Both
+  both = turn_both g form first_course second_course any_course ⊥ failed done cut start between new (λ never. never) between_alike later_alike first second (λ one other. tt) tt tt
+
   pub stands_through : (stands : StandsThrough g form failed start.now done cut disk new.disk) × (stands.ready ≡ g.moment start.disk)
-  stands_through = (
+  stands_through = let all = both.0 in (
     record {
       allowed = λ known. all.allowed (knows_on form _ _ alike known);
       since_sync = if_told (g.content disk) _ (λ before told.
@@ -60,6 +73,9 @@ module _ {D S C : Type 0} (g : Ghosts D) (form : Form S C) (own : TellsItsNumber
           (at_told (λ (_ : List ℕ). _) there.0 there.1 all.since));
       ready = g.moment start.disk;
       after_sync = told_weaker (g.content disk) _ _ (λ before told synced. synced.later) since_sync;
+      journal = start.journal;
+      time = all.time;
+      paces = all.paces;
       stay = λ fine. since_told _ (all.stay fine);
       calls = λ fine. since_told _ (all.calls fine);
       all_done = λ fine.
@@ -68,19 +84,54 @@ module _ {D S C : Type 0} (g : Ghosts D) (form : Form S C) (own : TellsItsNumber
           subst (λ (s : S). StandsFor form s image) (made.0 (knew form _ _ (alike_on _ _ _ between_alike later_alike) (known_told form octets told))) (each image left))
           (images_here form g own new all.stands_on made.1);
       interrupted = λ stopped.
-          let both = cut_least g form first_course second_course course ⊥ failed done cut start between new (λ never. never) between_alike later_alike first second (second.cut stopped) in
+          let some = both.1 stopped in
           record {
-            count = both.0.count;
-            no_less = both.1;
-            fewer = both.0.fewer;
-            images = both.0.images;
-            stay = since_told _ both.0.stay;
-            calls = since_told _ both.0.calls;
-            at_most = since_told _ both.0.at_most;
+            count = some.0.count;
+            no_less = some.1;
+            fewer = some.0.fewer;
+            images = some.0.images;
+            stay = since_told _ some.0.stay;
+            calls = since_told _ some.0.calls;
+            at_most = since_told _ some.0.at_most;
           };
     },
     refl,
   )
+
+-- Each of the commands took exactly its calls of the disk, where the form's layout has no two halves.
+pub through_exactly : {D S C : Type 0} (g : Ghosts D) (form : Form S C) (failed : Type 0) (start : S) (done cut : List C) (disk disk_now : D) → form.layout ≢ layout.Halves
+    → (stands : StandsThrough g form failed start done cut disk disk_now) → (count : ℕ) → count ≤ length (done ++ cut) → stands.time count ≡ done_at form stands.ready (done ++ cut) count
+through_exactly g form failed start done cut disk disk_now one stands =
+    paced_always form stands.journal stands.ready (done ++ cut) stands.time one stands.paces
+
+module _ {D S C : Type 0} (g : Ghosts D) (form : Form S C) (failed : Type 0) (start : S) (done cut : List C) (disk disk_now : D) (stands : StandsThrough g form failed start done cut disk disk_now) where
+  -- the commands of the calls before the last one stay done, and were done by the end
+  pub done_stay : failed ⊎ ¬ failed → IfSome (g.content disk) (λ _. StayDone g form stands.time (length done) start (done ++ cut) disk_now × (stands.time (length done) ≤ g.moment disk_now))
+  done_stay (inl stopped) = if_told (g.content disk) _ (λ before told.
+      let end = stands.interrupted stopped in
+      let least = end.no_less in
+      let fewer = end.fewer in
+      let stay : StayDone g form stands.time end.count start (done ++ cut) disk_now = at_told (λ (_ : List ℕ). _) before told end.stay in
+      let calls : stands.time end.count ≤ g.moment disk_now = at_told (λ (_ : List ℕ). _) before told end.calls in
+      (λ count some most. stay count some (omega (arith, most, least)), omega (arith, calls, rises_all form (done ++ cut) stands.time stands.paces.rises (length done) end.count least (omega (arith, fewer)))))
+  done_stay (inr fine) = if_told (g.content disk) _ (λ before told.
+      let both = length-append done cut in
+      let stay : StayDone g form stands.time (length (done ++ cut)) start (done ++ cut) disk_now = at_told (λ (_ : List ℕ). _) before told (stands.stay fine) in
+      let calls : g.moment disk_now ≡ stands.time (length (done ++ cut)) = at_told (λ (_ : List ℕ). _) before told (stands.calls fine) in
+      (λ count some most. stay count some (omega (arith, most, both)), omega (arith, calls, rises_all form (done ++ cut) stands.time stands.paces.rises (length done) (length (done ++ cut)) (omega (arith, both)) (omega arith))))
+
+  -- The first of them took their calls of the disk since the recovery was done, and no more where there was room.
+  pub front_done : (before others : List C) → done ++ cut ≡ before ++ others
+      → (stands.time 0 + calls_of form before ≤ stands.time (length before)) × (HadRoom stands → stands.time (length before) ≡ stands.time 0 + calls_of form before)
+  front_done before others all =
+      let sum : length (done ++ cut) ≡ length before + length others = ap length all ∙ length-append before others in
+      let within : length before ≤ length (done ++ cut) = omega (arith, sum) in
+      let begins = stands.paces.starts in
+      let moment : (first : ℕ) → done_at form first (done ++ cut) (length before) ≡ first + calls_of form before = λ first.
+      ap (λ (cs : List C). done_at form first cs (length before)) all ∙ at_first form first (length before) before others (omega arith) ∙ at_all form first before in (
+        omega (arith, moment (stands.time 0), rises_calls form (done ++ cut) stands.time stands.paces.rises (length before) within),
+        λ room. let exact = stands.paces.exact (length before) within (room_some form stands.journal (done ++ cut) (length before) room) in omega (arith, exact, begins, moment stands.ready),
+      )
 
 -- ---- all calls of the disk of both
 

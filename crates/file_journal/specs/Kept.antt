@@ -1,5 +1,5 @@
 -- What a call does to a state that is kept in a journal, and to its disk, at every moment of it.
-use Rattle.std.specs.Prelude.{◌≡◌, ℕ, ◌+◌, ◌<◌, ◌≤◌, List, [], length, slice_get, false, true, Some, IfSome}
+use Rattle.std.specs.Prelude.{◌≡◌, ℕ, ◌+◌, ◌<◌, ◌≤◌, List, [], length, take, slice_get, false, true, Some, IfSome}
 use Rattle.std.specs.Prelude.{⊤}
 use Rattle.disk_model.specs.declared.disk.Disk.{Ghosts}
 use Rattle.file_journal.specs.Bounds.{StaysInHalves}
@@ -7,7 +7,7 @@ use Rattle.file_journal.specs.Calls.{EachImage, Leaves, Puts}
 use Rattle.file_journal.specs.Commands.{AreAllowed, MakesBetween, MakesFirst, StayDone, after_all, after_first}
 use Rattle.file_journal.specs.Commands.{done_at, octets_of}
 use Rattle.file_journal.specs.Form.{Form}
-use Rattle.file_journal.specs.Layout.{Blocks, blocks_on}
+use Rattle.file_journal.specs.Layout.{Blocks, blocks_on, rewriting_calls}
 use Rattle.file_journal.specs.Position.{HasRoom, IsSameJournal, MovesOn, Position}
 use Rattle.file_journal.specs.Steps.{Holds, Knows, Steps}
 use Rattle.file_journal.specs.Walk.{KeepsStanding, state}
@@ -69,13 +69,36 @@ pub record Course (D : Type 0) : Type 1 where
   pub puts : D → D → Type 0
   pub reads : D → D → Type 0
 
+-- the journal, whose layout is the one of the form, has room for the records of these commands
+abbrev pub HasRoomFor : {S C : Type 0} → Form S C → Position → List C → Type 0
+HasRoomFor form journal commands = HasRoom (record journal { layout = form.layout }) (octets_of form commands)
+
+-- When commands are done that come one behind another from this moment on: each takes the calls of the disk that its
+-- form says, and those of a rewriting at most beside them; and the first so many take no others where the journal has
+-- room for their records.
+pub record Paces {S C : Type 0} (form : Form S C) (journal : Position) (start : ℕ) (commands : List C) (time : ℕ → ℕ)
+    : Type 0 where
+  pub starts : time 0 ≡ start
+  pub rises :
+      (count : ℕ) (command : C) → slice_get commands count ≡ Some command
+      → time count + form.calls command ≤ time (count + 1)
+  pub most :
+      (count : ℕ) (command : C) → slice_get commands count ≡ Some command
+      → time (count + 1) ≤ time count + form.calls command + rewriting_calls journal.blocks
+  pub exact :
+      (count : ℕ) → count ≤ length commands → HasRoomFor form journal (take count commands)
+      → time count ≡ done_at form start commands count
+
 -- A state whose journal hadn't failed did these commands, or the disk failed in one of them; what the state is is known
--- where it stands in no block, or where the disk tells. A crash since the start
--- leaves the state after the first of them, for some number of them, and no fewer than were done when it came: the
--- first so many are done at the moment that `time` has of that number. The journal keeps the state; but for its
--- place, its half, and whether it failed, it is as it was. In two halves the disk gets no longer than the store.
-pub record DoesBy {D S C : Type 0} (g : Ghosts D) (form : Form S C) (course : Course D) (failed : Type 0)
-    (time : ℕ → ℕ) (commands : List C) (old new : KeptOn D S) : Type 0 where
+-- where it stands in no block, or where the disk tells. A crash since the start leaves the state after the first of
+-- them, for some number of them, and no fewer than were done when it came: the first so many are done at the moment
+-- that `time` has of that number. The commands come one behind another, and each takes its calls of the disk. The
+-- journal keeps the state; but for its place, its half, and whether it failed, it is as it was. Where there was room
+-- for all of their records, it goes on behind them in its half. In two halves the disk gets no longer than the store.
+pub record DoesInTurn {D S C : Type 0} (g : Ghosts D) (form : Form S C) (course : Course D) (failed : Type 0)
+    (commands : List C) (old new : KeptOn D S) : Type 0 where
+  pub time : ℕ → ℕ
+  pub paces : Paces form old.journal (g.moment old.disk) commands time
   pub healthy : old.journal.failed ≡ false
   pub stands_on : IsKept g form new
   pub allowed : Knows form (g.content old.disk) → AreAllowed form.allowed form.after old.now commands
@@ -94,36 +117,10 @@ pub record DoesBy {D S C : Type 0} (g : Ghosts D) (form : Form S C) (course : Co
       × (new.journal.failed ≡ false)
   pub cut : failed → IsCut g form time commands old new
   pub journal : IsSameJournal old.journal new.journal
-  pub within : StaysInHalves g form.layout old.journal.blocks old.disk new.disk
-
--- When commands are done that come one behind another from this moment on: each takes the calls of the disk that its
--- form says, and more only where the journal has no room for all of their records.
-pub record Paces {S C : Type 0} (form : Form S C) (journal : Position) (start : ℕ) (commands : List C) (time : ℕ → ℕ)
-    : Type 0 where
-  pub starts : time 0 ≡ start
-  pub rises :
-      (count : ℕ) (command : C) → slice_get commands count ≡ Some command
-      → time count + form.calls command ≤ time (count + 1)
-  pub exact :
-      HasRoom journal (octets_of form commands)
-      → (count : ℕ) → count ≤ length commands → time count ≡ done_at form start commands count
-
--- The commands come one behind another, and each takes its calls of the disk. Where there was room for all of their
--- records, the journal goes on behind them in its half.
-pub record DoesPacing {D S C : Type 0} (g : Ghosts D) (form : Form S C) (course : Course D) (failed : Type 0)
-    (commands : List C) (old new : KeptOn D S) : Type 0 where
-  pub time : ℕ → ℕ
-  pub paces : Paces form old.journal (g.moment old.disk) commands time
-  pub does : DoesBy g form course failed time commands old new
   pub moves :
-      ¬ failed → HasRoom old.journal (octets_of form commands)
+      ¬ failed → HasRoomFor form old.journal commands
       → MovesOn (octets_of form commands) old.journal new.journal
-
--- the commands come one behind another, and each takes the calls of the disk that its form says
-abbrev pub DoesInTurn :
-    {D S C : Type 0} → Ghosts D → Form S C → Course D → Type 0 → List C → KeptOn D S → KeptOn D S → Type 0
-DoesInTurn g form course failed commands old new =
-    DoesBy g form course failed (done_at form (g.moment old.disk) commands) commands old new
+  pub within : StaysInHalves g form.layout old.journal.blocks old.disk new.disk
 
 -- writes and syncs alone, which failed or didn't
 abbrev pub alone : {D : Type 0} → Ghosts D → Type 0 → Course D

@@ -1,5 +1,5 @@
 -- Where the parts of a store stand on its disk.
-use Rattle.std.specs.Prelude.{◌≡◌, ℕ, ◌+◌, ◌*◌, ◌%◌, ◌==◌, List, replicate, take, drop, slice_index, if◌then◌else◌}
+use Rattle.std.specs.Prelude.{◌≡◌, ℕ, ◌+◌, ◌*◌, ◌/◌, ◌%◌, ◌==◌, List, replicate, take, drop, slice_index, if◌then◌else◌}
 use Rattle.std.specs.Prelude.{Option, None, Some, ⊤}
 use Rattle.file_journal.specs.declared.layout.Half.{Half}
 use Rattle.file_journal.specs.declared.layout.Half.TheVariants as half
@@ -42,6 +42,11 @@ HasBlocks layout.Halves = ⊤
 -- how many octets each half of the records has in a store of so many blocks
 abbrev pub half_size : ℕ → ℕ
 half_size blocks = 65536 + 28 * blocks
+
+-- how many calls of the disk a rewriting makes at most there: one for each record, which has four octets at least, and
+-- four more
+abbrev pub rewriting_calls : ℕ → ℕ
+rewriting_calls blocks = half_size blocks / 4 + 4
 
 -- the half that a selector says: the first one where it is even, and where there is no other
 abbrev pub half_by : Layout → ℕ → Half

@@ -1,5 +1,5 @@
 -- What a journal holds: where it is among the records of its disk, and whether it may go on.
-use Rattle.std.specs.Prelude.{◌≡◌, ◌⊎◌, ℕ, ◌+◌, ◌-◌, ◌^◌, ◌≤◌, List, [], length, Bool, false, true, nat_le}
+use Rattle.std.specs.Prelude.{◌≡◌, ◌≢◌, ◌⊎◌, ℕ, ◌+◌, ◌-◌, ◌^◌, ◌≤◌, List, [], length, Bool, false, true, nat_le}
 use Rattle.std.specs.Prelude.{if◌then◌else◌, Option, None, Some, IfSome}
 use Rattle.px_base.specs.Octets.{IsOctets}
 use Rattle.disk_model.specs.declared.disk.Disk.{Ghosts}
@@ -9,6 +9,7 @@ use Rattle.file_journal.specs.Layout.{first_gate, half_end, half_gate, half_in, 
 use Rattle.file_journal.specs.declared.layout.Half.{Half}
 use Rattle.file_journal.specs.Records.{Record, Reading, whole, records_text, with_records, reading_at}
 use Rattle.file_journal.specs.declared.layout.Layout.{Layout}
+use Rattle.file_journal.specs.declared.layout.Layout.TheVariants as layout
 
 -- A journal: the magic, the layout and the block number of its store, in which half its records are, the place of the
 -- next gate, whether it was read as one that isn't open, and whether a write or a sync of the journal failed.
@@ -43,9 +44,11 @@ abbrev pub readable : Option ℕ → ℕ → ℕ
 readable None len = len
 readable (Some end) len = if nat_le len end then len else end
 
--- But for its half and its place there, and whether it failed, a journal is as it was.
-abbrev pub IsSameJournal : Position → Position → Type 0
-IsSameJournal old new = new ≡ record old { half = new.half; place = new.place; failed = new.failed }
+-- But for its half and its place there, and whether it failed, a journal is as it was; and where there are no two
+-- halves, it stays in its half.
+pub record IsSameJournal (old new : Position) : Type 0 where
+  pub same : new ≡ record old { half = new.half; place = new.place; failed = new.failed }
+  pub half : old.layout ≢ layout.Halves → new.half ≡ old.half
 
 -- It goes on in its half, so many octets behind its place.
 pub record MovesOn (count : ℕ) (old new : Position) : Type 0 where

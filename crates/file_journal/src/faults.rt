@@ -162,13 +162,14 @@ impl From<ReadFault> for StoreFault {
     }
 }
 
-/// Why a record wasn't appended, or a block wasn't written.
+/// Why a record wasn't appended, a block wasn't written, or the records weren't written anew.
 #[derive(Clone, Copy, Debug, PartialEq, Eq, Error)]
 pub enum JournalFault {
-    /// The disk failed, and its count of faults rose. The record, or the octets of the block, may stand or not.
+    /// The disk failed, and its count of faults rose. The record, the octets of the block, or the new records may stand
+    /// or not.
     #[error("the disk failed")]
     Disk,
-    /// An earlier append, or a write of a block, failed; a new recovery is needed.
+    /// An earlier append, a write of a block, or a rewriting failed; a new recovery is needed.
     #[error("the journal failed before")]
     Failed,
 }

@@ -154,7 +154,8 @@ impl Journal {
     }
 
     /// Reads the next record: its kind, with its content in `room`; `None` exactly at the first gate that isn't open.
-    /// Only a record replaces what is in `room`. No append failed before. Takes no memory.
+    /// Only a record replaces what is in `room`. No append, no write of a block and no rewriting failed before. Takes no
+    /// memory.
     ///
     /// `Damaged`: the gate isn't there, or it is open, and no whole record with a gate behind it follows, in the half
     /// of the journal's records. It and `Disk` leave the journal as it was. `NotAStore` is not answered.
@@ -368,8 +369,8 @@ impl Journal {
         }
     }
 
-    /// Reads the octets of a block of the store, from octet `at` of it on, into the room. No append and no write of a
-    /// block failed before. It reads once, and changes no octet. Takes no memory.
+    /// Reads the octets of a block of the store, from octet `at` of it on, into the room. No append, no write of a block
+    /// and no rewriting failed before. It reads once, and changes no octet. Takes no memory.
     pub fn read_block<D: Disk>(
         &self,
         disk: &mut D,
@@ -497,7 +498,7 @@ impl Journal {
         self.blocks
     }
 
-    /// Whether an append, or a write of a block, answered `Disk`. Takes no memory.
+    /// Whether an append, a write of a block, or a rewriting answered `Disk`. Takes no memory.
     pub fn failed(&self) -> bool
         ensures { result ≡ self.now.failed }
     {

@@ -3,18 +3,17 @@
 ghost use Rattle.std.specs.Prelude.{◌≡◌, ◌+◌, ◌<◌, ◌≤◌, ◌∷◌, [], length, false, true, IfOk, IfSome, IsErr, OnErr, OnOk};
 ghost use Rattle.file_journal.specs.Appending.{TakesCalls};
 ghost use Rattle.disk_model.specs.Disk.{FillsRoom};
-ghost use Rattle.file_journal.specs.Bounds.{StaysWithin, longest};
-ghost use Rattle.file_journal.specs.Calls.{IsQuietNow, Puts, Reads, TakesStep};
+ghost use Rattle.file_journal.specs.Calls.{IsQuietNow, Puts, Reads};
 ghost use Rattle.file_journal.specs.Form.{record_calls};
 ghost use Rattle.file_journal.specs.Header.{AreBlocks};
-ghost use Rattle.file_journal.specs.Kept.{DoesPacing, MayTurn, StandsAt, alone, kept_at, kept_on};
+ghost use Rattle.file_journal.specs.Kept.{Does, MayTurn, StandsAt, kept_at, kept_on};
 ghost use Rattle.file_journal.specs.declared.layout.Layout.TheVariants as Layout;
 ghost use Rattle.file_journal.specs.Layout.{HasBlocks, HoldSame, block_in, blocks_on};
 ghost use Rattle.file_journal.specs.Position.{HasRoom, MovesOn, StandsOn};
-ghost use Rattle.file_journal.specs.Putting.{GoesOn, StaysKept, TurnsInto};
+ghost use Rattle.file_journal.specs.Putting.{GoesOn, MakesRoom, StaysKept, TurnsInto};
 ghost use Rattle.file_journal.specs.Records.{record_of};
 ghost use Rattle.file_journal.specs.Restoring.{AnswersRecovery, IsRestored};
-ghost use Rattle.file_journal.specs.Rewriting.{LeavesRewriting, MayRewrite, Rewrites, rewritten};
+ghost use Rattle.file_journal.specs.Rewriting.{MayRewrite, WritesAnew};
 ghost use Rattle.file_journal.specs.Steps.{HasPut, Knows, WritesTurn, block_calls, kept_by};
 
 use crate::{Change, Journal, Ledger, RecordContent, RecordPlace, Records, StoreFault};
@@ -74,9 +73,14 @@ impl<L: Ledger> Kept<L> {
         requires lets { Knows C.form (D.content disk.old)
             → (C.turn change.now self.old.ledger).lets (blocks_on (D.content disk.old)) }
         ensures stands_at { StandsAt D.Disk C.form C.steps self.new.journal (C.state self.new.ledger) disk.new }
-        ensures does { DoesPacing D.Disk C.form (alone D.Disk (IsErr result)) (IsErr result)
+        ensures does { Does D.Disk C.form (IsErr result)
             ((C.turn change.now self.old.ledger).command ∷ [])
             (kept_at D.Disk C.seen C.state self.old disk.old) (kept_at D.Disk C.seen C.state self.new disk.new) }
+
+        // Where its record has no room, room is made first, and all that it does by itself comes behind that.
+        ensures room { MakesRoom D.Disk C.form C.steps C.seen (IsErr result) (C.turn change.now self.old.ledger).command
+            (kept_on (C.state self.old.ledger) self.old.journal disk.old)
+            (kept_on (C.state self.new.ledger) self.new.journal disk.new) }
         ensures goes { GoesOn D.Disk (IsErr result) self.old.journal self.new.journal disk.old disk.new }
         ensures state { OnOk result (C.state self.new.ledger ≡ (C.turn change.now self.old.ledger).next) }
         ensures makes { OnOk result (C.makes change.now self.old.ledger self.new.ledger) }
@@ -84,6 +88,33 @@ impl<L: Ledger> Kept<L> {
     {
         let kind = change.write(&self.ledger, &mut self.content);
         let kind = self.make_room(disk, change, kind)?;
+        self.put_there(disk, change, kind)
+    }
+
+    /// Makes a change as [`put`](Kept::put) does, where the journal has room for its record, which is of this kind and
+    /// whose content was written.
+    fn put_there<D: Disk, C: Change<L>>(
+        &mut self,
+        disk: &mut D,
+        change: &C,
+        kind: u8,
+    ) -> Result<(), DiskFault>
+        requires may { MayTurn D.Disk C.form C.steps self.old.journal (C.state self.old.ledger) disk.old
+            (C.may change.now self.old.ledger) }
+        requires lets { Knows C.form (D.content disk.old)
+            → (C.turn change.now self.old.ledger).lets (blocks_on (D.content disk.old)) }
+        requires writes { WritesTurn C.form C.steps C.seen (C.state self.old.ledger) (C.turn change.now self.old.ledger)
+            (record_of kind self.old.content) }
+        requires room { HasRoom self.old.journal (4 + length self.old.content) }
+        ensures stands_at { StandsAt D.Disk C.form C.steps self.new.journal (C.state self.new.ledger) disk.new }
+        ensures does { Does D.Disk C.form (IsErr result)
+            ((C.turn change.now self.old.ledger).command ∷ [])
+            (kept_at D.Disk C.seen C.state self.old disk.old) (kept_at D.Disk C.seen C.state self.new disk.new) }
+        ensures goes { GoesOn D.Disk (IsErr result) self.old.journal self.new.journal disk.old disk.new }
+        ensures state { OnOk result (C.state self.new.ledger ≡ (C.turn change.now self.old.ledger).next) }
+        ensures makes { OnOk result (C.makes change.now self.old.ledger self.new.ledger) }
+        ensures err { OnErr result (self.new.ledger ≡ self.old.ledger) }
+    {
         self.put_block(disk, change)?;
         match self.put_record(disk, change, kind) {
             Ok(()) => Ok(()),
@@ -114,6 +145,9 @@ impl<L: Ledger> Kept<L> {
         ensures room { OnOk result (HasRoom self.new.journal (4 + length self.new.content)) }
         ensures untouched { HasRoom self.old.journal (4 + length self.old.content)
             → (self.new ≡ self.old) × (disk.new ≡ disk.old) }
+        ensures anew { ¬ HasRoom self.old.journal (4 + length self.old.content)
+            → WritesAnew D.Disk (C.steps.anew (C.state self.old.ledger)) self.old.journal self.new.journal
+            disk.old disk.new result }
     {
         if self.journal.room() >= 4 + self.content.len() as u64 {
             return Ok(kind);
@@ -132,19 +166,9 @@ impl<L: Ledger> Kept<L> {
         requires in_halves { L.form.layout ≡ Layout.Halves }
         requires may { MayRewrite self.old.journal (L.steps.anew (kept_by L.steps L.state self.old.ledger)) }
         ensures ledger { self.new.ledger ≡ self.old.ledger }
-        ensures stands_on { StandsOn D.Disk self.new.journal disk.new }
-        ensures ok { OnOk result (TakesStep D.Disk disk.old disk.new
-            (Rewrites self.old.journal (L.steps.anew (kept_by L.steps L.state self.old.ledger)))) }
-        ensures quiet { OnOk result (IsQuietNow D.Disk disk.new) }
-        ensures goes_on { OnOk result (self.new.journal
-            ≡ rewritten self.old.journal (L.steps.anew (kept_by L.steps L.state self.old.ledger))) }
-        ensures fails { OnErr result (self.new.journal ≡ record self.old.journal { failed = true }) }
+        ensures anew { WritesAnew D.Disk (L.steps.anew (kept_by L.steps L.state self.old.ledger))
+            self.old.journal self.new.journal disk.old disk.new result }
         ensures puts { Puts D.Disk (IsErr result) disk.old disk.new }
-        ensures since { LeavesRewriting D.Disk self.old.journal (L.steps.anew (kept_by L.steps L.state self.old.ledger))
-            disk.old disk.new }
-        ensures calls { TakesCalls D.Disk (length (L.steps.anew (kept_by L.steps L.state self.old.ledger)) + 4)
-            disk.old disk.new result }
-        ensures within { StaysWithin D.Disk (longest self.old.journal.blocks) disk.old disk.new }
     {
         let mut records = LedgerRecords {
             ledger: &self.ledger,

@@ -1,16 +1,13 @@
 //! Rewriting: the records of a journal are written anew, into its other half.
 
-ghost use Rattle.std.specs.Prelude.{List, ◌≡◌, ◌↔◌, ◌+◌, ◌^◌, ◌≤◌, [], ◌∷◌, ◌++◌, length, false, true, None, IfOk};
-ghost use Rattle.std.specs.Prelude.{IfSome};
-ghost use Rattle.std.specs.Prelude.{IsErr, IsErrOf, OnErr, OnOk};
-ghost use Rattle.file_journal.specs.Appending.{TakesCalls};
-ghost use Rattle.file_journal.specs.Bounds.{StaysWithin, longest};
-ghost use Rattle.file_journal.specs.Calls.{IsQuietNow, Makes, Puts, TakesStep};
+ghost use Rattle.std.specs.Prelude.{List, ◌≡◌, ◌↔◌, ◌+◌, ◌^◌, ◌≤◌, [], ◌∷◌, length, false, true, None, IfOk};
+ghost use Rattle.std.specs.Prelude.{IfSome, IsErr, IsErrOf};
+ghost use Rattle.file_journal.specs.Appending.{IsTornFrom, TakesCalls};
+ghost use Rattle.file_journal.specs.Calls.{IsQuietNow, Makes, Puts};
 ghost use Rattle.file_journal.specs.Layout.{selector_of};
 ghost use Rattle.file_journal.specs.Position.{StandsOn};
 ghost use Rattle.file_journal.specs.Records.{Record, record_of, records_text};
-ghost use Rattle.file_journal.specs.Rewriting.{Chooses, Covers, IsChoosing, LeavesRewriting, MayRewrite, Rewrites};
-ghost use Rattle.file_journal.specs.Rewriting.{rewritten};
+ghost use Rattle.file_journal.specs.Rewriting.{Chooses, Covers, IsChoosing, Lays, MayRewrite, WritesAnew, anew_text};
 
 use crate::content::{CLOSED, close_text};
 use crate::format::SELECTOR;
@@ -33,9 +30,9 @@ pub trait Records {
 impl Journal {
     /// Puts these records in place of all that the journal has: writes them into its other half, syncs them, and then
     /// chooses that half. The layout is `Halves`, `next` has to have answered `None`, and the records have room in a
-    /// half, with a closed gate. After `Ok` a crash leaves these records, until then these or the ones from before. It
-    /// makes a write for each record and one more, a sync, a write and a sync, and reads nothing. What `content` holds
-    /// is lost. Takes no memory.
+    /// half, with a closed gate. After `Ok` a crash leaves these records, until then these or the ones from before; the
+    /// blocks hold what they held. It makes a write for each record and one more, a sync, a write and a sync, and reads
+    /// nothing. What `content` holds is lost. Takes no memory.
     ///
     /// `Disk`: the old records may stand or the new ones, and the journal answers `Failed` from then on, where nothing
     /// is touched; a new recovery is needed. No write and no sync follows a call of the disk that failed.
@@ -46,24 +43,14 @@ impl Journal {
         content: &mut RecordContent,
     ) -> Result<(), JournalFault>
         requires stands_on { StandsOn D.Disk self.old disk.old }
-        requires quiet { IsQuietNow D.Disk disk.old }
+        requires quiet { self.old.failed ≡ false → IsQuietNow D.Disk disk.old }
         requires may { MayRewrite self.old (R.left records.old) }
-        ensures stands_on { StandsOn D.Disk self.new disk.new }
-        ensures ok { OnOk result (TakesStep D.Disk disk.old disk.new (Rewrites self.old (R.left records.old))) }
-        ensures quiet { OnOk result (IsQuietNow D.Disk disk.new) }
-        ensures goes_on { OnOk result (self.new ≡ rewritten self.old (R.left records.old)) }
+        ensures anew { WritesAnew D.Disk (R.left records.old) self.old self.new disk.old disk.new result }
 
         // `Failed` comes exactly after an earlier `Disk`, and touches nothing.
         ensures failed { IsErrOf result JournalFault.Failed ↔ (self.old.failed ≡ true) }
-        ensures fails { OnErr result (self.new ≡ record self.old { failed = true }) }
         ensures untouched { IsErrOf result JournalFault.Failed → (self.new ≡ self.old) × (disk.new ≡ disk.old) }
         ensures puts { Puts D.Disk (IsErrOf result JournalFault.Disk) disk.old disk.new }
-
-        // A crash at any moment since the start leaves the records from before, or the new ones; and what the blocks
-        // held.
-        ensures since { LeavesRewriting D.Disk self.old (R.left records.old) disk.old disk.new }
-        ensures calls { TakesCalls D.Disk (length (R.left records.old) + 4) disk.old disk.new result }
-        ensures within { StaysWithin D.Disk (longest self.old.blocks) disk.old disk.new }
     {
         if self.failed() {
             return Err(JournalFault::Failed);
@@ -84,15 +71,8 @@ impl Journal {
         requires quiet { IsQuietNow D.Disk disk.old }
         requires healthy { self.old.failed ≡ false }
         requires may { MayRewrite self.old (R.left records.old) }
-        ensures stands_on { StandsOn D.Disk self.new disk.new }
-        ensures ok { OnOk result (TakesStep D.Disk disk.old disk.new (Rewrites self.old (R.left records.old))) }
-        ensures quiet { OnOk result (IsQuietNow D.Disk disk.new) }
-        ensures goes_on { OnOk result (self.new ≡ rewritten self.old (R.left records.old)) }
-        ensures fails { OnErr result (self.new ≡ record self.old { failed = true }) }
+        ensures anew { WritesAnew D.Disk (R.left records.old) self.old self.new disk.old disk.new result }
         ensures puts { Puts D.Disk (IsErr result) disk.old disk.new }
-        ensures since { LeavesRewriting D.Disk self.old (R.left records.old) disk.old disk.new }
-        ensures calls { TakesCalls D.Disk (length (R.left records.old) + 4) disk.old disk.new result }
-        ensures within { StaysWithin D.Disk (longest self.old.blocks) disk.old disk.new }
     {
         let (half, gate) = self.other_half();
         match write_half(disk, gate, half, records, content) {
@@ -108,8 +88,8 @@ impl Journal {
     }
 }
 
-/// Writes these records and a closed gate into a half whose first gate is at this place, and chooses that half: the
-/// place of the closed gate.
+/// Stages these records in a half whose first gate is at this place, and chooses that half: the place of the gate
+/// behind them.
 fn write_half<D: Disk, R: Records>(
     disk: &mut D,
     gate: u64,
@@ -121,17 +101,34 @@ fn write_half<D: Disk, R: Records>(
     requires fits { gate + length (records_text (R.left records.old)) + 1 ≤ 2 ^ 63 }
     ensures end { IfOk result (λ end. end ≡ gate + length (records_text (R.left records.old))) }
     ensures makes { Makes D.Disk result disk.old disk.new
-        (Chooses gate (records_text (R.left records.old) ++ 0 ∷ []) (selector_of half))
-        (IsChoosing gate (records_text (R.left records.old) ++ 0 ∷ [])) }
+        (Chooses gate (anew_text (R.left records.old)) (selector_of half))
+        (IsChoosing gate (anew_text (R.left records.old))) }
     ensures calls { TakesCalls D.Disk (length (R.left records.old) + 4) disk.old disk.new result }
+{
+    let end = stage_records(disk, gate, records, content)?;
+    // Both halves are whole by now. A crash before the selector is synced leaves any octet in its place: the records
+    // from before are read, or these.
+    write_synced(disk, SELECTOR, &[half.selector()])?;
+    Ok(end)
+}
+
+/// Writes these records and a closed gate from this place on, and syncs them: the place of that gate.
+fn stage_records<D: Disk, R: Records>(
+    disk: &mut D,
+    gate: u64,
+    records: &mut R,
+    content: &mut RecordContent,
+) -> Result<u64, DiskFault>
+    requires fits { gate + length (records_text (R.left records.old)) + 1 ≤ 2 ^ 63 }
+    ensures end { IfOk result (λ end. end ≡ gate + length (records_text (R.left records.old))) }
+    ensures makes { Makes D.Disk result disk.old disk.new (Lays gate (anew_text (R.left records.old)))
+        (λ _. IsTornFrom (D.images disk.old) gate (length (anew_text (R.left records.old)))) }
+    ensures calls { TakesCalls D.Disk (length (R.left records.old) + 2) disk.old disk.new result }
 {
     let end = write_records(disk, gate, records, content)?;
     disk.write_at(end, &[CLOSED])?;
     // A crash before this sync leaves any octets in the half that isn't read. Where it fails, it isn't tried again.
     disk.sync()?;
-    // Both halves are whole by now. A crash before the selector is synced leaves any octet in its place: the records
-    // from before are read, or these.
-    write_synced(disk, SELECTOR, &[half.selector()])?;
     Ok(end)
 }
 

@@ -1,117 +1,42 @@
-use Rattle.std.proofs.Common.{rules, ◌+◌, [], ◌∷◌, ◌++◌, length, ℕ, Ok, refl, subst, arith, length-append}
+use Rattle.std.proofs.Common.{rules, [], ◌∷◌, ℕ, Ok, subst}
 use Rattle.std.specs.Prelude.{Result}
 use Rattle.disk_model.specs.Disk.{Writes}
 use Rattle.disk_model.specs.declared.disk.DiskFault.{DiskFault}
 use Rattle.file_journal.specs.Appending.{IsTornFrom}
 use Rattle.file_journal.specs.Calls.{Makes}
 use Rattle.file_journal.specs.Layout.{selector_of}
-use Rattle.file_journal.specs.Records.{records_text}
-use Rattle.file_journal.specs.Rewriting.{Chooses, IsChoosing, Lays}
-use Rattle.file_journal.proofs.CallLemmas.{makes_failed, puts_once}
-use Rattle.file_journal.proofs.CoverLemmas.{chooses_failed, chooses_on, covers_failed, covers_makes, covers_next, covers_synced, makes_ok}
-use Rattle.file_journal.proofs.ToldLemmas.{alike_same}
+use Rattle.file_journal.specs.Rewriting.{Chooses, IsChoosing, Lays, anew_text}
+use Rattle.file_journal.proofs.CallLemmas.{makes_failed}
+use Rattle.file_journal.proofs.CoverLemmas.{chooses_failed, chooses_on, makes_ok}
 use Rattle.file_journal.proofs.rewriting.write_half.Goals as goal
 
 pub returns-in_err-end-clause-makes : goal.returns-in_err-end-clause-makes
 returns-in_err-end-clause-makes g c =
-    let D = g.D.Disk in
-    let text = records_text (g.R.Records.left c.args.records.now) in
-    let count = length (g.R.Records.left c.args.records.now) in
-    let old = c.args.disk.now in
-    let new = c.write_records.new.disk in
-    chooses_failed D old g.met.D.Disk.counts_now c.requires.quiet c.args.gate (text ++ 0 ∷ []) (selector_of c.args.half) c.from_residual.result c.from_residual.result new (Lays c.args.gate (text ++ 0 ∷ []))
-    (search rules) (search rules)
-    (covers_makes D c.from_residual.result c.from_residual.result count c.args.gate (text ++ 0 ∷ []) old new (Lays c.args.gate (text ++ 0 ∷ [])) (search rules) (search rules)
-    (covers_failed D c.write_records.result c.from_residual.result count count c.args.gate text (text ++ 0 ∷ []) old new (omega arith) (omega (arith, length-append text (0 ∷ []))) (search rules) (search rules)
-    c.write_records.ensures.covers))
-
-pub returns-in_err-write_at-clause-makes : goal.returns-in_err-write_at-clause-makes
-returns-in_err-write_at-clause-makes g c =
-    let D = g.D.Disk in
-    let text = records_text (g.R.Records.left c.args.records.now) in
-    let count = length (g.R.Records.left c.args.records.now) in
-    let old = c.args.disk.now in
-    let mid = c.write_records.new.disk in
-    let new = c.write_at.new.self in
-    let written = c.write_at.ensures in
-    chooses_failed D old g.met.D.Disk.counts_now c.requires.quiet c.args.gate (text ++ 0 ∷ []) (selector_of c.args.half) c.write_at.result c.from_residual-in_err-write_at.result new (Lays c.args.gate (text ++ 0 ∷ []))
-    (search rules) (search rules)
-    (covers_makes D c.write_at.result c.write_at.result (count + 1) c.args.gate (text ++ 0 ∷ []) old new (Lays c.args.gate (text ++ 0 ∷ [])) (search rules) (search rules)
-    (covers_next D g.met.D.Disk.lasts_on c.in_ok-end.end c.write_at.result count c.args.gate text (0 ∷ []) old mid new c.in_ok-end.end (count + 1) (text ++ 0 ∷ []) c.in_ok-end.ensures.end refl refl
-    c.in_ok-end.ensures.covers written.written written.torn written.moment written.past
-    (puts_once D c.write_at.result mid new (g.met.D.Disk.lasts_same mid) (written.untold, written.told) written.read_faults written.write_faults written.moment.at_most written.past written.lasts)))
-
-pub returns-in_err-sync-clause-makes : goal.returns-in_err-sync-clause-makes
-returns-in_err-sync-clause-makes g c =
-    let D = g.D.Disk in
-    let put_there : Result (Unit {0}) DiskFault = Ok c.in_ok-write_at.field-0 in
-    let text = records_text (g.R.Records.left c.args.records.now) in
-    let count = length (g.R.Records.left c.args.records.now) in
-    let old = c.args.disk.now in
-    let mid = c.write_records.new.disk in
-    let staged = c.write_at.new.self in
-    let new = c.sync.new.self in
-    let written = c.in_ok-write_at.ensures in
-    let synced = c.sync.ensures in
-    let same = g.met.D.Disk.lasts_same in
-    chooses_failed D old g.met.D.Disk.counts_now c.requires.quiet c.args.gate (text ++ 0 ∷ []) (selector_of c.args.half) c.sync.result c.from_residual-in_err-sync.result new (Lays c.args.gate (text ++ 0 ∷ []))
-    (search rules) (search rules)
-    (covers_synced D g.met.D.Disk.lasts_on c.in_ok-write_at.field-0 c.sync.result (count + 1) c.args.gate (text ++ 0 ∷ []) old staged new
-    (covers_next D g.met.D.Disk.lasts_on c.in_ok-end.end put_there count c.args.gate text (0 ∷ []) old mid staged c.in_ok-end.end (count + 1) (text ++ 0 ∷ []) c.in_ok-end.ensures.end refl refl
-    c.in_ok-end.ensures.covers written.written written.torn written.moment written.past
-    (puts_once D put_there mid staged (same mid) (written.untold, written.told) written.read_faults written.write_faults written.moment.at_most written.past written.lasts))
-    synced.content synced.durable synced.images synced.moment synced.past synced.since_now
-    (puts_once D c.sync.result staged new (same staged) (alike_same _ _ synced.content) synced.read_faults synced.write_faults synced.moment.at_most synced.past synced.lasts)).0
+    let text = anew_text (g.R.Records.left c.args.records.now) in
+    chooses_failed g.D.Disk c.args.disk.now g.met.D.Disk.counts_now c.requires.quiet c.args.gate text (selector_of c.args.half) c.stage_records.result c.from_residual.result c.stage_records.new.disk (Lays c.args.gate text)
+    (search rules) (search rules) c.stage_records.ensures.makes
 
 pub returns-in_err-write_synced-clause-makes : goal.returns-in_err-write_synced-clause-makes
 returns-in_err-write_synced-clause-makes g c =
     let D = g.D.Disk in
-    let put_there : Result (Unit {0}) DiskFault = Ok c.in_ok-write_at.field-0 in
-    let synced_there : Result (Unit {0}) DiskFault = Ok c.in_ok-sync.field-0 in
-    let text = records_text (g.R.Records.left c.args.records.now) in
-    let count = length (g.R.Records.left c.args.records.now) in
+    let text = anew_text (g.R.Records.left c.args.records.now) in
     let old = c.args.disk.now in
-    let mid = c.write_records.new.disk in
-    let staged = c.write_at.new.self in
-    let synced_disk = c.sync.new.self in
+    let mid = c.stage_records.new.disk in
     let new = c.write_synced.new.disk in
-    let written = c.in_ok-write_at.ensures in
-    let synced = c.in_ok-sync.ensures in
-    let same = g.met.D.Disk.lasts_same in
-    makes_failed D c.write_synced.result c.from_residual-in_err-write_synced.result old new (Chooses c.args.gate (text ++ 0 ∷ []) (selector_of c.args.half)) (IsChoosing c.args.gate (text ++ 0 ∷ [])) _ _
+    makes_failed D c.write_synced.result c.from_residual-in_err-write_synced.result old new (Chooses c.args.gate text (selector_of c.args.half)) (IsChoosing c.args.gate text) _ _
     (search rules) (λ before image told choosing. choosing)
-    (chooses_on D old g.met.D.Disk.counts_now c.requires.quiet c.args.gate (text ++ 0 ∷ []) (selector_of c.args.half) g.met.D.Disk.lasts_on c.in_ok-sync.field-0 c.write_synced.result synced_disk new
-    (covers_synced D g.met.D.Disk.lasts_on c.in_ok-write_at.field-0 synced_there (count + 1) c.args.gate (text ++ 0 ∷ []) old staged synced_disk
-    (covers_next D g.met.D.Disk.lasts_on c.in_ok-end.end put_there count c.args.gate text (0 ∷ []) old mid staged c.in_ok-end.end (count + 1) (text ++ 0 ∷ []) c.in_ok-end.ensures.end refl refl
-    c.in_ok-end.ensures.covers written.written written.torn written.moment written.past
-    (puts_once D put_there mid staged (same mid) (written.untold, written.told) written.read_faults written.write_faults written.moment.at_most written.past written.lasts))
-    synced.content synced.durable synced.images synced.moment synced.past synced.since_now
-    (puts_once D synced_there staged synced_disk (same staged) (alike_same _ _ synced.content) synced.read_faults synced.write_faults synced.moment.at_most synced.past synced.lasts)).0
-    (subst (λ (n : ℕ). Makes D c.write_synced.result synced_disk new (Writes 15 (n ∷ [])) (λ _. IsTornFrom (D.images synced_disk) 15 1)) c.selector.ensures c.write_synced.ensures.makes))
+    (chooses_on D old g.met.D.Disk.counts_now c.requires.quiet c.args.gate text (selector_of c.args.half) g.met.D.Disk.lasts_on c.in_ok-end.end c.write_synced.result mid new c.in_ok-end.ensures.makes
+    (subst (λ (n : ℕ). Makes D c.write_synced.result mid new (Writes 15 (n ∷ [])) (λ _. IsTornFrom (D.images mid) 15 1)) c.selector.ensures c.write_synced.ensures.makes))
     (search rules)
 
 pub returns-clause-makes : goal.returns-clause-makes
 returns-clause-makes g c =
     let D = g.D.Disk in
-    let put_there : Result (Unit {0}) DiskFault = Ok c.in_ok-write_at.field-0 in
-    let synced_there : Result (Unit {0}) DiskFault = Ok c.in_ok-sync.field-0 in
     let chosen_there : Result (Unit {0}) DiskFault = Ok c.in_ok-write_synced.field-0 in
-    let text = records_text (g.R.Records.left c.args.records.now) in
-    let count = length (g.R.Records.left c.args.records.now) in
+    let text = anew_text (g.R.Records.left c.args.records.now) in
     let old = c.args.disk.now in
-    let mid = c.write_records.new.disk in
-    let staged = c.write_at.new.self in
-    let synced_disk = c.sync.new.self in
+    let mid = c.stage_records.new.disk in
     let new = c.write_synced.new.disk in
-    let written = c.in_ok-write_at.ensures in
-    let synced = c.in_ok-sync.ensures in
-    let same = g.met.D.Disk.lasts_same in
-    makes_ok D c.in_ok-write_synced.field-0 c.in_ok-end.end old new (Chooses c.args.gate (text ++ 0 ∷ []) (selector_of c.args.half)) (IsChoosing c.args.gate (text ++ 0 ∷ []))
-    (chooses_on D old g.met.D.Disk.counts_now c.requires.quiet c.args.gate (text ++ 0 ∷ []) (selector_of c.args.half) g.met.D.Disk.lasts_on c.in_ok-sync.field-0 chosen_there synced_disk new
-    (covers_synced D g.met.D.Disk.lasts_on c.in_ok-write_at.field-0 synced_there (count + 1) c.args.gate (text ++ 0 ∷ []) old staged synced_disk
-    (covers_next D g.met.D.Disk.lasts_on c.in_ok-end.end put_there count c.args.gate text (0 ∷ []) old mid staged c.in_ok-end.end (count + 1) (text ++ 0 ∷ []) c.in_ok-end.ensures.end refl refl
-    c.in_ok-end.ensures.covers written.written written.torn written.moment written.past
-    (puts_once D put_there mid staged (same mid) (written.untold, written.told) written.read_faults written.write_faults written.moment.at_most written.past written.lasts))
-    synced.content synced.durable synced.images synced.moment synced.past synced.since_now
-    (puts_once D synced_there staged synced_disk (same staged) (alike_same _ _ synced.content) synced.read_faults synced.write_faults synced.moment.at_most synced.past synced.lasts)).0
-    (subst (λ (n : ℕ). Makes D chosen_there synced_disk new (Writes 15 (n ∷ [])) (λ _. IsTornFrom (D.images synced_disk) 15 1)) c.selector.ensures c.in_ok-write_synced.ensures.makes))
+    makes_ok D c.in_ok-write_synced.field-0 c.in_ok-end.end old new (Chooses c.args.gate text (selector_of c.args.half)) (IsChoosing c.args.gate text)
+    (chooses_on D old g.met.D.Disk.counts_now c.requires.quiet c.args.gate text (selector_of c.args.half) g.met.D.Disk.lasts_on c.in_ok-end.end chosen_there mid new c.in_ok-end.ensures.makes
+    (subst (λ (n : ℕ). Makes D chosen_there mid new (Writes 15 (n ∷ [])) (λ _. IsTornFrom (D.images mid) 15 1)) c.selector.ensures c.in_ok-write_synced.ensures.makes))

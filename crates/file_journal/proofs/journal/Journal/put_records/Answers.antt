@@ -1,10 +1,7 @@
-use Rattle.std.proofs.Common.{◌≡◌, ◌+◌, ◌<◌, ◌≤◌, ℕ, [], ◌∷◌, ◌++◌, length, length-append, Ok, Result, subst, arith}
+use Rattle.std.proofs.Common.{ℕ, Err, Ok, Result, arith}
 use Rattle.disk_model.specs.declared.disk.DiskFault.{DiskFault}
-use Rattle.file_journal.specs.Layout.{half_size}
-use Rattle.file_journal.specs.Records.{records_text}
-use Rattle.file_journal.proofs.RewriteLemmas.{makes_anew, rewritten_is, stands_anew}
+use Rattle.file_journal.proofs.RewriteLemmas.{anew_other, rewritten_is, writes_anew}
 use Rattle.file_journal.proofs.ToldLemmas.{told_weaker}
-use Rattle.file_journal.proofs.BoundLemmas.{rewrite_stays}
 use Rattle.file_journal.proofs.journal.Journal.put_records.Goals as goal
 
 pub write_half-requires-clause-fits : goal.write_half-requires-clause-fits
@@ -13,43 +10,29 @@ write_half-requires-clause-fits g c = omega (arith, c.requires.may.fits, c.other
 pub choose-requires-clause-far : goal.choose-requires-clause-far
 choose-requires-clause-far g c = omega (arith, c.requires.may.fits, c.other_half-half.ensures.fits, c.in-Ok.ensures.end)
 
-pub returns-in-Ok-clause-ok : goal.returns-in-Ok-clause-ok
-returns-in-Ok-clause-ok g c =
-    let there : Result ℕ DiskFault = Ok c.in-Ok.end in
-    (makes_anew g.D.Disk c.args.self.now (g.R.Records.left c.args.records.now) c.args.disk.now c.requires.healthy c.requires.may c.requires.stands_on there c.write_half.new.disk
-    c.other_half-half.result.1 c.other_half-half.result.0 c.other_half-half.ensures.gate c.other_half-half.ensures.half c.in-Ok.ensures.makes).ok
-
-pub returns-in-Ok-clause-since : goal.returns-in-Ok-clause-since
-returns-in-Ok-clause-since g c healthy =
-    (makes_anew g.D.Disk c.args.self.now (g.R.Records.left c.args.records.now) c.args.disk.now c.requires.healthy c.requires.may c.requires.stands_on c.write_half.result c.write_half.new.disk
-    c.other_half-half.result.1 c.other_half-half.result.0 c.other_half-half.ensures.gate c.other_half-half.ensures.half c.write_half.ensures.makes).since
-
-pub returns-in-Err-clause-since : goal.returns-in-Err-clause-since
-returns-in-Err-clause-since g c healthy =
-    (makes_anew g.D.Disk c.args.self.now (g.R.Records.left c.args.records.now) c.args.disk.now c.requires.healthy c.requires.may c.requires.stands_on c.write_half.result c.write_half.new.disk
-    c.other_half-half.result.1 c.other_half-half.result.0 c.other_half-half.ensures.gate c.other_half-half.ensures.half c.write_half.ensures.makes).since
-
-pub returns-in-Ok-clause-stands_on : goal.returns-in-Ok-clause-stands_on
-returns-in-Ok-clause-stands_on g c =
+pub returns-in-Ok-clause-anew : goal.returns-in-Ok-clause-anew
+returns-in-Ok-clause-anew g c =
+    let disk = g.met.D.Disk in
     let there : Result ℕ DiskFault = Ok c.in-Ok.end in
     let journal = c.args.self.now in
     let entries = g.R.Records.left c.args.records.now in
     let half = c.other_half-half.ensures in
-    stands_anew g.D.Disk journal entries c.args.disk.now c.requires.healthy c.requires.may c.requires.stands_on there c.write_half.new.disk c.other_half-half.result.1 c.other_half-half.result.0 half.gate half.half
-    c.in-Ok.ensures.makes c.choose.new.self
-    (rewritten_is journal c.choose.new.self entries c.other_half-half.result.1 c.in-Ok.end c.other_half-half.result.0 c.choose.ensures half.half half.gate c.in-Ok.ensures.end c.requires.healthy)
-    (told_weaker (g.D.Disk.content c.write_half.new.disk) _ _ (λ now told image. (g.met.D.Disk.images_fit _ now image).0) (g.met.D.Disk.content_is_image _))
+    let new = c.write_half.new.disk in
+    anew_other g.D.Disk entries journal c.choose.new.self c.args.disk.now new there _ (λ bad. bad) (λ bad. bad)
+    (writes_anew g.D.Disk journal entries c.args.disk.now c.requires.healthy c.requires.may c.requires.stands_on there new c.other_half-half.result.1 c.other_half-half.result.0 half.gate half.half
+    c.in-Ok.ensures.makes disk.counts_now disk.earlier disk.content_is_image c.choose.new.self
+    (rewritten_is journal c.choose.new.self entries c.other_half-half.result.1 c.in-Ok.end c.other_half-half.result.0 c.choose.ensures half.half half.gate c.in-Ok.ensures.end c.requires.healthy) tt
+    (told_weaker (g.D.Disk.content new) _ _ (λ now told image. (disk.images_fit _ now image).0) (disk.content_is_image new)) c.in-Ok.ensures.calls)
 
-pub returns-in-Ok-clause-within : goal.returns-in-Ok-clause-within
-returns-in-Ok-clause-within g c =
-    let text = records_text (g.R.Records.left c.args.records.now) ++ 0 ∷ [] in
-    rewrite_stays g.D.Disk g.met.D.Disk.counts_now g.met.D.Disk.earlier g.met.D.Disk.content_is_image c.args.disk.now c.write_half.new.disk c.write_half.ensures.makes.puts.told c.args.self.now text
-    c.other_half-half.result.1 _ c.requires.may.in_halves c.other_half-half.ensures.gate
-    (omega (arith, c.requires.may.fits, length-append (records_text (g.R.Records.left c.args.records.now)) (0 ∷ []))) c.write_half.ensures.makes.since
-
-pub returns-in-Err-clause-within : goal.returns-in-Err-clause-within
-returns-in-Err-clause-within g c =
-    let text = records_text (g.R.Records.left c.args.records.now) ++ 0 ∷ [] in
-    rewrite_stays g.D.Disk g.met.D.Disk.counts_now g.met.D.Disk.earlier g.met.D.Disk.content_is_image c.args.disk.now c.write_half.new.disk c.write_half.ensures.makes.puts.told c.args.self.now text
-    c.other_half-half.result.1 _ c.requires.may.in_halves c.other_half-half.ensures.gate
-    (omega (arith, c.requires.may.fits, length-append (records_text (g.R.Records.left c.args.records.now)) (0 ∷ []))) c.write_half.ensures.makes.since
+pub returns-in-Err-clause-anew : goal.returns-in-Err-clause-anew
+returns-in-Err-clause-anew g c =
+    let disk = g.met.D.Disk in
+    let there : Result ℕ DiskFault = Err c.in-Err.fault in
+    let journal = c.args.self.now in
+    let entries = g.R.Records.left c.args.records.now in
+    let half = c.other_half-half.ensures in
+    let new = c.write_half.new.disk in
+    anew_other g.D.Disk entries journal c.fail.new.self c.args.disk.now new there _ (λ bad. bad) (λ bad. bad)
+    (writes_anew g.D.Disk journal entries c.args.disk.now c.requires.healthy c.requires.may c.requires.stands_on there new c.other_half-half.result.1 c.other_half-half.result.0 half.gate half.half
+    c.in-Err.ensures.makes disk.counts_now disk.earlier disk.content_is_image c.fail.new.self tt c.fail.ensures
+    (told_weaker (g.D.Disk.content new) _ _ (λ now told image. (disk.images_fit _ now image).0) (disk.content_is_image new)) c.in-Err.ensures.calls)

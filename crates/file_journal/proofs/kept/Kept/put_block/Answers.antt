@@ -1,6 +1,6 @@
 use Rattle.std.proofs.Common.{IfSome, refl, ap, subst, sym}
 use Rattle.file_journal.specs.Steps.{MayPut, put_of}
-use Rattle.file_journal.proofs.HoldLemmas.{block_cut_holds, block_put_holds, block_put_same, block_put_since, failed_journal}
+use Rattle.file_journal.proofs.HoldLemmas.{block_cut_holds, block_put_holds, block_put_same, block_put_since, moved_journal}
 use Rattle.file_journal.proofs.kept.Kept.put_block.Goals as goal
 
 pub returns-in-Ok-clause-stays : goal.returns-in-Ok-clause-stays
@@ -20,7 +20,7 @@ returns-in-Ok-clause-stays g c =
       since = block_put_since g.D.Disk change.steps change.seen change.form g.met.C.Change.is_seen disk.counts_now disk.earlier disk.content_is_image _ _ _ _ asked.may.stands_at asked.may.healthy made.puts.0.told
           c.put_block.new.self put may made.journal made.since;
       goes = record {
-        journal = failed_journal c.args.self.now.journal c.put_block.new.self made.journal;
+        journal = moved_journal c.args.self.now.journal c.put_block.new.self c.args.self.now.journal.place c.put_block.new.self.failed made.journal;
         fails = λ bad. cc bad;
         goes_on = λ good. made.ends.goes_on;
         puts = made.puts.0;
@@ -46,7 +46,7 @@ returns-in-Err-clause-stays g c =
       since = block_put_since g.D.Disk change.steps change.seen change.form g.met.C.Change.is_seen disk.counts_now disk.earlier disk.content_is_image _ _ _ _ asked.may.stands_at asked.may.healthy made.puts.0.told
           c.put_block.new.self put may made.journal made.since;
       goes = record {
-        journal = failed_journal c.args.self.now.journal c.put_block.new.self made.journal;
+        journal = moved_journal c.args.self.now.journal c.put_block.new.self c.args.self.now.journal.place c.put_block.new.self.failed made.journal;
         fails = λ bad. failed;
         goes_on = λ good. absurd (good refl);
         puts = made.puts.0;
