@@ -1,12 +1,15 @@
 -- What one more file does to all.
-use Rattle.std.proofs.Common.{◌≡◌, ℕ, ◌+◌, ◌≤◌, ◌<◌, List, [], ◌∷◌, ◌++◌, length, refl, ap, sym, ◌∙◌, subst, arith, None, Some, length-append}
+use Rattle.std.proofs.Common.{◌≡◌, ℕ, max, ◌+◌, ◌≤◌, ◌<◌, List, [], ◌∷◌, ◌++◌, length, refl, ap, sym, ◌∙◌, subst, arith, None, Some, length-append}
 use Rattle.std.specs.Option.{option_and_then}
+use Rattle.std.proofs.Math.Nat.{le-max_right}
 use Rattle.std.proofs.lemmas.List.{length-map}
 use Rattle.block_entries.specs.IsPlaced.{IsPlaced}
 use Rattle.block_entries.specs.KeptLaws.{begin_placed, blocks_seen}
-use Rattle.block_entries.specs.Placed.{Placed, new_placed, placed_from, run_of, runs_of}
+use Rattle.block_entries.specs.Placed.{Placed, PlacedStore, new_placed, placed_from, run_of, runs_of, with_next}
 use Rattle.block_entries.specs.PlacedCommand.{with_new}
 use Rattle.block_entries.specs.PlacedFiles.{AreKept, Becomes, PlacedFile, PlacedFiles, entries_of, file_of, files_from, in_runs, store_of, with_run}
+use Rattle.block_entries.specs.ReadLaws.{next_placed}
+use Rattle.block_entries.specs.ReadStore.{with_later}
 use Rattle.block_entries.specs.Seen.{seen, seen_entry}
 use Rattle.block_entries.proofs.ChangeLemmas.{rest_of_file}
 use Rattle.block_entries.proofs.PlacesLemmas.{entries_push, file_next, push_here, push_other}
@@ -19,30 +22,39 @@ use Rattle.file_journal.specs.Layout.{Blocks}
 use Rattle.px_base.specs.CallSign.{CallSign, IsCall}
 
 module _ (runs : List Run) (items : List PlacedFile) (next blocks : ℕ) (kept : AreKept runs items next blocks) (now : PlacedFiles) (view : files_from (in_runs runs items) next blocks ≡ now)
-    (caller : CallSign) (file_length moment : ℕ) (call : IsCall caller) (may : (held : Blocks) × MayBegin (seen held (store_of now)) file_length) where
+    (number : ℕ) (under : IsPlaced (with_next number (store_of now)))
+    (caller : CallSign) (file_length moment : ℕ) (call : IsCall caller) (may : (held : Blocks) × MayBegin (seen held (with_next number (store_of now))) file_length) where
   abbrev zs : List PlacedFile
   zs = in_runs runs items
 
   abbrev inside : PlacedFiles
   inside = files_from zs next blocks
 
-  may_inside : MayBegin (seen may.0 (store_of inside)) file_length
-  may_inside = subst (λ (n : PlacedFiles). MayBegin (seen may.0 (store_of n)) file_length) (sym view) may.1
+  -- the store as a Begin of this number finds it
+  abbrev low : PlacedStore
+  low = with_next number (store_of inside)
+
+  low_rules : IsPlaced low
+  low_rules = subst (λ (n : PlacedFiles). IsPlaced (with_next number (store_of n))) (sym view) under
+
+  may_inside : MayBegin (seen may.0 low) file_length
+  may_inside = subst (λ (n : PlacedFiles). MayBegin (seen may.0 (with_next number (store_of n))) file_length) (sym view) may.1
 
   room_left : rooms_of (runs_of (entries_of zs)) + blocks_for file_length ≤ blocks
-  room_left = omega (arith, may_inside.room, blocks_seen may.0 (store_of inside), kept.rules.rooms)
+  room_left = omega (arith, may_inside.room, blocks_seen may.0 low, kept.rules.rooms)
 
   few : length (entries_of zs) < most_entries
   few = subst (λ (n : ℕ). n < most_entries) (length-map (entries_of zs) (seen_entry may.0)) may_inside.few
 
-  begun : IsPlaced (with_new (store_of inside) (new_placed next caller file_length moment))
+  begun : IsPlaced (with_later (store_of inside) (new_placed number caller file_length moment))
   begun =
-      begin_placed (store_of inside) caller file_length moment kept.rules call
-      (record { number_is = refl; short = may_inside.short; few = few; left = may_inside.left; room = room_left })
+      next_placed (number + 1) (max next (number + 1)) (with_new low (new_placed number caller file_length moment)) (le-max_right next (number + 1))
+      (begin_placed low caller file_length moment low_rules call
+      (record { number_is = refl; short = may_inside.short; few = few; left = may_inside.left; room = room_left }))
 
   -- the new file
   abbrev new : PlacedFile
-  new = record { entry = new_placed next caller file_length moment; rest = None }
+  new = record { entry = new_placed number caller file_length moment; rest = None }
 
   module _ (runs_after : List Run) (room limit : ℕ) (y : PlacedFile) (runs_are : runs_after ≡ runs ++ new_run room ∷ []) (room_is : room ≡ blocks_for file_length) (limit_is : limit ≡ blocks) (new_is : y ≡ new) where
     abbrev others : List PlacedFile
@@ -57,12 +69,15 @@ module _ (runs : List Run) (items : List PlacedFile) (next blocks : ℕ) (kept :
     entries_are : entries_of others ≡ entries_of zs ++ new.entry ∷ []
     entries_are = ap entries_of others_are ∙ entries_push zs new
 
-    store_is : store_of (files_from others (next + 1) limit) ≡ with_new (store_of inside) (new_placed next caller file_length moment)
-    store_is =
-        ap (λ (es : List Placed). placed_from es (next + 1) limit) entries_are
-        ∙ ap (λ (n : ℕ). placed_from (entries_of zs ++ new.entry ∷ []) (next + 1) n) limit_is
+    abbrev later : ℕ
+    later = max next (number + 1)
 
-    pub begin_kept : AreKept runs_after (items ++ y ∷ []) (next + 1) limit
+    store_is : store_of (files_from others later limit) ≡ with_later (store_of inside) (new_placed number caller file_length moment)
+    store_is =
+        ap (λ (es : List Placed). placed_from es later limit) entries_are
+        ∙ ap (λ (n : ℕ). placed_from (entries_of zs ++ new.entry ∷ []) later n) limit_is
+
+    pub begin_kept : AreKept runs_after (items ++ y ∷ []) later limit
     begin_kept = record {
       rules = subst IsPlaced (sym store_is) begun;
       runs_are =
@@ -76,19 +91,19 @@ module _ (runs : List Run) (items : List PlacedFile) (next blocks : ℕ) (kept :
       most = subst (λ (n : ℕ). n ≤ 65536) (sym limit_is) kept.most;
     }
 
-    no_file : file_of zs next ≡ None
-    no_file = file_next next 1 next zs kept.rules.numbers (omega arith)
+    no_file : file_of zs number ≡ None
+    no_file = file_next number 1 number zs low_rules.numbers (omega arith)
 
-    becomes_inside : Becomes inside (files_from others (next + 1) limit) (with_new (store_of inside) (new_placed next caller file_length moment)) next None
+    becomes_inside : Becomes inside (files_from others later limit) (with_later (store_of inside) (new_placed number caller file_length moment)) number None
     becomes_inside = record {
       store_is = store_is;
-      here = rest_of_file (files_from others (next + 1) limit) next new
-          (subst (λ (fs : List PlacedFile). file_of fs next ≡ Some new) (sym others_are) (push_here zs next new no_file refl));
+      here = rest_of_file (files_from others later limit) number new
+          (subst (λ (fs : List PlacedFile). file_of fs number ≡ Some new) (sym others_are) (push_here zs number new no_file refl));
       others = λ other ne.
           ap (option_and_then (λ (f : PlacedFile). f.rest))
-          (ap (λ (fs : List PlacedFile). file_of fs other) others_are ∙ push_other zs next other new refl ne);
+          (ap (λ (fs : List PlacedFile). file_of fs other) others_are ∙ push_other zs number other new refl ne);
     }
 
-    pub begin_becomes : Becomes now (files_from others (next + 1) limit) (with_new (store_of now) (new_placed now.next caller file_length moment)) now.next None
+    pub begin_becomes : Becomes now (files_from others later limit) (with_later (store_of now) (new_placed number caller file_length moment)) number None
     begin_becomes =
-        subst (λ (n : PlacedFiles). Becomes n (files_from others (next + 1) limit) (with_new (store_of n) (new_placed n.next caller file_length moment)) n.next None) view becomes_inside
+        subst (λ (n : PlacedFiles). Becomes n (files_from others later limit) (with_later (store_of n) (new_placed number caller file_length moment)) number None) view becomes_inside

@@ -6,7 +6,7 @@ use Rattle.disk_model.specs.declared.disk.Disk.{Ghosts}
 use Rattle.block_entries.specs.FilesLaws.{found_holds}
 use Rattle.block_entries.specs.IsPlaced.{IsPlaced, IsPlacedFile, KeepsSeals}
 use Rattle.block_entries.specs.Placed.{Placed, PlacedStore, placed_of}
-use Rattle.block_entries.specs.PlacedRecords.{placed_form, placed_steps}
+use Rattle.block_entries.specs.PlacedForm.{placed_form, placed_steps}
 use Rattle.block_entries.specs.Sealed.{Sealed, octets_given}
 use Rattle.block_entries.specs.Seen.{octets_in, stamp_at}
 use Rattle.block_entries.proofs.RulesLemmas.{sealed_keeps}

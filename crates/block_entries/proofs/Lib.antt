@@ -1,3 +1,4 @@
+mod AnewLemmas
 mod AppliedLemmas
 mod BeginLemmas
 mod BlankedLemmas
@@ -11,11 +12,13 @@ pub mod Offered
 mod OutlinedLemmas
 mod PlacesLemmas
 mod ReadLemmas
-mod RecordLemmas
+mod RoomLemmas
 mod RulesLemmas
 mod RunsLemmas
 mod SealedLemmas
 mod SeenLemmas
+mod SizeLemmas
+mod SpentLemmas
 mod StampedHeaderLemmas
 mod StampedPartLemmas
 mod StandingLemmas

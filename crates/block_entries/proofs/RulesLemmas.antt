@@ -1,19 +1,19 @@
 -- What a store of placed files is seen as keeps the rules of a store.
-use Rattle.std.proofs.Common.{◌≡◌, ℕ, ◌+◌, ◌≤◌, List, [], ◌∷◌, length, map, Option, None, Some, refl, ap, sym, ◌∙◌, subst, arith, not}
-use Rattle.std.specs.Prelude.{IfSome, IsSome, IsTrue, if◌then◌else◌, is_some, sum_by}
+use Rattle.std.proofs.Common.{◌≡◌, ℕ, ◌+◌, ◌≤◌, List, [], ◌∷◌, length, map, Option, None, Some, refl, ap, sym, ◌∙◌, subst, arith}
+use Rattle.std.specs.Prelude.{IfSome, IsSome, if◌then◌else◌, is_some, sum_by}
 use Rattle.std.specs.List.{AllByRecursion}
 use Rattle.std.proofs.lemmas.List.{length-map}
 use Rattle.std.proofs.lemmas.List.Sums.{sum_by-cons}
-use Rattle.block_entries.specs.FilesLaws.{all_changed, all_filter, all_push, found_holds}
+use Rattle.block_entries.specs.FilesLaws.{found_holds}
 use Rattle.block_entries.specs.Checking.{IsSealable}
 use Rattle.block_entries.specs.IsPlaced.{ArePlaced, IsPlaced, IsPlacedFile, KeepsSeal, KeepsSeals, Rise}
-use Rattle.block_entries.specs.KeptLaws.{blocks_seen, header_found, none_keeps, times_at}
-use Rattle.block_entries.specs.Placed.{Decides, Placed, PlacedStore, Seal, has_number, new_placed, times_sealed}
-use Rattle.block_entries.specs.PlacedCommand.{PlacedCommand, after, begin, can_seal, drop_entry, grow, grown, header_at, is_allowed, seal, seal_with, sealed}
+use Rattle.block_entries.specs.KeptLaws.{blocks_seen, times_at}
+use Rattle.block_entries.specs.Placed.{Decides, Placed, PlacedStore, Seal, times_sealed}
+use Rattle.block_entries.specs.PlacedCommand.{sealed}
 use Rattle.block_entries.specs.SameLaws.{octets_same}
 use Rattle.block_entries.specs.Sealed.{Sealed}
 use Rattle.block_entries.specs.Seen.{holding_with, octets_in, seen, seen_entry, stamp_at, sum_with}
-use Rattle.block_entries.specs.TestLaws.{may_grow, may_seal, may_take, passed}
+use Rattle.block_entries.specs.SealLaws.{SaysIn}
 use Rattle.block_entries.proofs.SeenLemmas.{length_octets}
 use Rattle.file_entries.specs.Headers.{header_octets}
 use Rattle.file_entries.specs.IsStore.{AreEntries, FitsLength, HaveCallers, IsStore}
@@ -23,28 +23,6 @@ use Rattle.pfh_items.specs.Faults.{fault_code}
 use Rattle.pfh_writer.proofs.StampedLemmas.{length-stamped}
 
 -- ---- seals
-
--- what a seal says of octets of a file
-abbrev SaysIn : Placed → List ℕ → Seal → Type 0
-SaysIn f octets s = (fault_code octets ≡ None) × (s.sum ≡ sum_with s.moment f octets) × (s.header ≡ length (header_octets octets))
-
-pub after_seals : (held : Blocks) (store : PlacedStore) (command : PlacedCommand) → IsPlaced store → IsTrue (is_allowed held store command)
-    → KeepsSeals held store → KeepsSeals held (after held store command)
-after_seals held store (begin number caller file_length moment) is ok keeps =
-    all_push (KeepsSeal held) store.entries (new_placed number caller file_length moment) keeps tt
-after_seals held store (grow number block used) is ok keeps =
-    let grows = may_take held store number block used ok in
-    let one = grows.passes.file in
-    let none = (may_grow one used grows.passes.test_is).partial in
-    all_changed (KeepsSeal held) number (grown block used) one
-    (none_keeps one.seal (SaysIn (grown block used one) (octets_in held (grown block used one))) none)
-    1 store.next store.entries is.numbers grows.passes.found keeps
-after_seals held store (seal number moment sum) is ok keeps =
-    let passes = passed store number (λ f. can_seal held f moment sum) ok in
-    let may = may_seal held passes.file moment sum passes.test_is in
-    all_changed (KeepsSeal held) number (sealed (seal_with moment sum (header_at held store number))) passes.file
-    (may.faultless, may.sum_is, header_found held store number passes.file passes.found) 1 store.next store.entries is.numbers passes.found keeps
-after_seals held store (drop_entry number) is ok keeps = all_filter (KeepsSeal held) (λ f. not (has_number number f)) store.entries keeps
 
 -- what the seal of a sealed file says
 pub sealed_keeps : (held : Blocks) (store : PlacedStore) (number : ℕ) → KeepsSeals held store → (sealed : Sealed store number)

@@ -194,6 +194,10 @@ seen_allowed held store (grow number block used) is ok =
     let before : length (octets_in held one) ≡ one.held = length_octets held store.blocks one rules in
     grow-is_allowed (seen held store) number octets (seen_entry held one) (octets_in held one) (entry_seen held store number one grows.passes.found)
     (partial_seen held one may.partial) (omega (arith, more, grows.takes.some)) (omega (arith, more, grows.takes.most)) (omega (arith, more, before, may.room))
+    (elim may.fills [
+      | inl block_is ↦ inl (more ∙ block_is)
+      | inr all ↦ inr (omega (arith, more, before, all))
+    ])
 seen_allowed held store (seal number moment sum) is ok =
     let passes = passed store number (λ f. can_seal held f moment sum) ok in
     let one = passes.file in

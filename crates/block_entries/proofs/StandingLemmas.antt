@@ -6,15 +6,16 @@ use Rattle.disk_model.specs.declared.disk.Disk.{Ghosts}
 use Rattle.file_entries.specs.Store.{Store}
 use Rattle.px_base.specs.Octets.{IsOctets}
 use Rattle.block_entries.specs.IsPlaced.{IsPlaced, KeepsSeals}
-use Rattle.block_entries.specs.KeptLaws.{none_is_placed}
-use Rattle.block_entries.specs.Placed.{PlacedStore, no_entries}
 use Rattle.block_entries.specs.Laws.{AreAllowed, IsPlacedAfter, after_all}
-use Rattle.block_entries.specs.PlacedCommand.{PlacedCommand, after, is_allowed}
-use Rattle.block_entries.specs.PlacedLaws.{after_blocks, step_state}
-use Rattle.block_entries.specs.PlacedRecords.{IsWritable, placed_form, placed_in, placed_magic, placed_step, placed_steps, record_of_placed}
+use Rattle.block_entries.specs.MadeLaws.{recorded_seals}
+use Rattle.block_entries.specs.Placed.{PlacedStore}
+use Rattle.block_entries.specs.PlacedForm.{placed_form, placed_steps}
+use Rattle.block_entries.specs.PlacedLaws.{nothing_is, step_state}
+use Rattle.block_entries.specs.PlacedRecords.{CanRecord, placed_magic, read_step, record_of_recorded, recorded_in}
+use Rattle.block_entries.specs.ReadLaws.{read_placed, recorded_blocks}
+use Rattle.block_entries.specs.ReadStore.{IsReadStore, ReadStore, Recorded, after_recorded, is_recordable, nothing_read}
+use Rattle.block_entries.specs.RecordLaws.{recorded_says, recorded_written}
 use Rattle.block_entries.specs.Seen.{seen}
-use Rattle.block_entries.proofs.RecordLemmas.{placed_records, read_written}
-use Rattle.block_entries.proofs.RulesLemmas.{after_seals}
 use Rattle.file_journal.specs.Journal as journal
 use Rattle.file_journal.specs.Journal.{Standing, journal_of}
 use Rattle.file_journal.specs.Form.{Form, StandsFor}
@@ -50,25 +51,27 @@ module _ {S : Type 0} (step : S → Record → Option S) (P : S → Type 0) (kee
       over_keeps step P keeps (λ s. damaged_at at) now (λ s holds same. absurd (cc same)) before place entries has is
 
 -- the rules and the seals
-abbrev Keeps : Blocks → PlacedStore → Type 0
-Keeps held store = IsPlaced store × KeepsSeals held store
+abbrev Keeps : Blocks → ReadStore → Type 0
+Keeps held read = IsReadStore read × KeepsSeals held read.store
 
-step_keeps : (held : Blocks) (before now : PlacedStore) (entry : Record) → Keeps held before → placed_step held before entry ≡ Some now → Keeps held now
+step_keeps : (held : Blocks) (before now : ReadStore) (entry : Record) → Keeps held before → read_step held before entry ≡ Some now → Keeps held now
 step_keeps held before now entry keeps is =
-    let step = stepped (is_allowed held) (after held) before now (placed_in entry) is in
-    (step_state held before now entry is keeps.0, subst (KeepsSeals held) (sym step.3) (after_seals held before step.0 keeps.0 step.2 keeps.1))
+    let step = stepped (is_recordable held) (after_recorded held) before now (recorded_in entry) is in
+    (step_state held before now entry is keeps.0, subst (λ (r : ReadStore). KeepsSeals held r.store) (sym step.3) (recorded_seals held before keeps.0 step.0 step.2 keeps.1))
 
-pub standing_keeps : (blocks : ℕ) (octets : List ℕ) (now : PlacedStore) → walked placed_steps placed_magic layout.Blocks blocks octets ≡ state now
-    → IsPlaced now × KeepsSeals (block_in octets) now
-standing_keeps blocks octets now is = by (journal_of placed_magic layout.Blocks octets) is
+pub standing_keeps : (blocks : ℕ) (octets : List ℕ) (now : ReadStore) → walked placed_steps placed_magic layout.Halves blocks octets ≡ state now
+    → IsPlaced now.store × KeepsSeals (block_in octets) now.store
+standing_keeps blocks octets now is = by (journal_of placed_magic layout.Halves octets) is
   where
-    by : (store : Standing) → stands_of no_entries (placed_step (block_in octets)) layout.Blocks (half_in layout.Blocks octets) blocks store ≡ state now → Keeps (block_in octets) now
+    by : (store : Standing) → stands_of nothing_read (read_step (block_in octets)) layout.Halves (half_in layout.Halves octets) blocks store ≡ state now
+        → IsPlaced now.store × KeepsSeals (block_in octets) now.store
     by (journal.no_store found) is = absurd (cc is)
     by journal.bad_number is = absurd (cc is)
     by (journal.store number reading) is =
-        let first = no_entries (number_or blocks number) in
-        walk_keeps (placed_step (block_in octets)) (Keeps (block_in octets)) (step_keeps (block_in octets)) now first _ reading
-        (none_is_placed (number_or blocks number), tt) is
+        let first = nothing_read (number_or blocks number) in
+        let all = walk_keeps (read_step (block_in octets)) (Keeps (block_in octets)) (step_keeps (block_in octets)) now first _ reading
+        (nothing_is (number_or blocks number), tt) is in
+        (read_placed now all.0, all.1)
 
 -- the same of the state that stands on a disk that tells
 pub kept_seals : {D : Type 0} (g : Ghosts D) (position : Position) (now : PlacedStore) (disk : D) → StandsAt g placed_form placed_steps position now disk → position.failed ≡ false
@@ -78,46 +81,46 @@ kept_seals g position now disk at healthy told = by (g.content disk) told (at.ho
     by : (o : Option (List ℕ)) → IsTold o → IfSome o (StandsAs placed_steps position now) → KeepsSeals (blocks_on o) now
     by None told stands = absurd (cc told)
     by (Some octets) told stands =
-        let same : walked placed_steps placed_magic layout.Blocks position.blocks octets ≡ state now =
-        ap (λ (m : List ℕ). walked placed_steps m layout.Blocks position.blocks octets) (sym at.magic_is)
+        let same : walked placed_steps placed_magic layout.Halves position.blocks octets ≡ state stands.0 =
+        ap (λ (m : List ℕ). walked placed_steps m layout.Halves position.blocks octets) (sym at.magic_is)
         ∙ ap (λ (l : Layout). walked placed_steps position.magic l position.blocks octets) (sym at.layout_is)
-        ∙ stands.1 ∙ ap (λ (s : PlacedStore). state s) stands.2 in
-        (standing_keeps position.blocks octets now same).1
+        ∙ stands.1 in
+        subst (KeepsSeals (block_in octets)) stands.2 (standing_keeps position.blocks octets stands.0 same).1
 
 -- ---- octets stand for the store after the commands that their records are
 
 -- the stores that records make, with what the blocks hold
-abbrev held_form : Blocks → Form PlacedStore PlacedCommand
+abbrev held_form : Blocks → Form ReadStore Recorded
 held_form held = record {
   magic = placed_magic;
-  layout = layout.Blocks;
-  number = λ store. store.blocks;
-  standing = λ blocks octets. stands_for no_entries (placed_step held) placed_magic layout.Blocks blocks octets;
-  allowed = λ store command. IsTrue (is_allowed held store command);
-  after = after held;
-  calls = λ command. 0;
-  octets = λ command. 0;
+  layout = layout.Halves;
+  number = λ read. read.store.blocks;
+  standing = λ blocks octets. stands_for nothing_read (read_step held) placed_magic layout.Halves blocks octets;
+  allowed = λ read recorded. IsTrue (is_recordable held read recorded);
+  after = after_recorded held;
+  calls = λ recorded. 0;
+  octets = λ recorded. 0;
 }
 
--- the commands as records
+-- what they say as records
 abbrev placed_written : (held : Blocks) → Written (held_form held)
 placed_written held = record {
-  fresh = no_entries;
-  step = placed_step held;
+  fresh = nothing_read;
+  step = read_step held;
   standing = λ blocks octets. refl;
-  IsWritable = IsWritable;
-  record_of = record_of_placed;
-  command_of = placed_in;
-  reads = read_written;
-  writes = λ entry command rules is. (placed_records entry command rules).0 is;
-  steps = λ before command entry. steps (is_allowed held) (after held) before command (placed_in entry);
-  stepped = λ before now entry. stepped (is_allowed held) (after held) before now (placed_in entry);
+  IsWritable = CanRecord;
+  record_of = record_of_recorded;
+  command_of = recorded_in;
+  reads = recorded_written;
+  writes = λ entry recorded rules is. recorded_says entry recorded rules is;
+  steps = λ before recorded entry. steps (is_recordable held) (after_recorded held) before recorded (recorded_in entry);
+  stepped = λ before now entry. stepped (is_recordable held) (after_recorded held) before now (recorded_in entry);
 }
 
--- commands leave the number of blocks
-all_blocks : (held : Blocks) (commands : List PlacedCommand) (store : PlacedStore) → (after_all held store commands).blocks ≡ store.blocks
-all_blocks held [] store = refl
-all_blocks held (command ∷ commands) store = all_blocks held commands (after held store command) ∙ after_blocks held store command
+-- records leave the number of blocks
+all_blocks : (held : Blocks) (records : List Recorded) (read : ReadStore) → (after_all held read records).store.blocks ≡ read.store.blocks
+all_blocks held [] read = refl
+all_blocks held (recorded ∷ records) read = all_blocks held records (after_recorded held read recorded) ∙ recorded_blocks held read recorded
 
 -- the block number of the octets, or none yet
 number_is : (number : Option ℕ) (blocks : ℕ) → (number ≡ None) ⊎ (number ≡ Some blocks) → number_or blocks number ≡ blocks
@@ -132,55 +135,59 @@ module _ (octets : List ℕ) where
   abbrev held : Blocks
   held = block_in octets
 
-  -- what octets stand for, as placed files
-  abbrev walks : ℕ → Stands PlacedStore
-  walks blocks = walked placed_steps placed_magic layout.Blocks blocks octets
+  -- what octets stand for, as a store that is read
+  abbrev walks : ℕ → Stands ReadStore
+  walks blocks = walked placed_steps placed_magic layout.Halves blocks octets
 
-  placed_stand : (now : PlacedStore) (commands : List PlacedCommand) → IsPlacedAfter octets now commands → walks now.blocks ≡ state now
-  placed_stand now commands is =
-      let same : now.blocks ≡ number_or now.blocks is.number = sym (number_is is.number now.blocks is.is_number) in
-      after_stands (held_form held) (placed_written held) octets now commands
+  placed_stand : (now : ReadStore) (records : List Recorded) → IsPlacedAfter octets now records → walks now.store.blocks ≡ state now
+  placed_stand now records is =
+      let same : now.store.blocks ≡ number_or now.store.blocks is.number = sym (number_is is.number now.store.blocks is.is_number) in
+      after_stands (held_form held) (placed_written held) octets now records
       (record {
         number = is.number;
-        records = is.records;
+        records = is.records_are;
         writable = is.writable;
-        allowed = subst (λ (n : ℕ). AreAllowed held (no_entries n) commands) same is.allowed;
-        after = is.after_is ∙ ap (λ (n : ℕ). after_all held (no_entries n) commands) same;
+        allowed = subst (λ (n : ℕ). AreAllowed held (nothing_read n) records) same is.allowed;
+        after = is.after_is ∙ ap (λ (n : ℕ). after_all held (nothing_read n) records) same;
       })
 
-  stand_placed : (now : PlacedStore) → IsOctets octets → walks now.blocks ≡ state now → (commands : List PlacedCommand) × IsPlacedAfter octets now commands
+  stand_placed : (now : ReadStore) → IsOctets octets → walks now.store.blocks ≡ state now → (records : List Recorded) × IsPlacedAfter octets now records
   stand_placed now are stands =
       let made = stands_after (held_form held) (placed_written held) octets now are stands in
-      let start : ℕ = number_or now.blocks made.1.number in
-      let same : start ≡ now.blocks = sym (ap (λ (s : PlacedStore). s.blocks) made.1.after ∙ all_blocks held made.0 (no_entries start)) in (
+      let start : ℕ = number_or now.store.blocks made.1.number in
+      let same : start ≡ now.store.blocks = sym (ap (λ (r : ReadStore). r.store.blocks) made.1.after ∙ all_blocks held made.0 (nothing_read start)) in (
         made.0,
         record {
           number = made.1.number;
-          is_number = is_number made.1.number now.blocks same;
-          records = made.1.records;
+          is_number = is_number made.1.number now.store.blocks same;
+          records_are = made.1.records;
           writable = made.1.writable;
-          allowed = subst (λ (n : ℕ). AreAllowed held (no_entries n) made.0) same made.1.allowed;
-          after_is = made.1.after ∙ ap (λ (n : ℕ). after_all held (no_entries n) made.0) same;
+          allowed = subst (λ (n : ℕ). AreAllowed held (nothing_read n) made.0) same made.1.allowed;
+          after_is = made.1.after ∙ ap (λ (n : ℕ). after_all held (nothing_read n) made.0) same;
         },
       )
 
-  -- octets stand for what the store of placed files is seen as
-  pub placed_stands : (files : Store) (now : PlacedStore) (commands : List PlacedCommand) → IsPlacedAfter octets now commands → files ≡ seen held now → StandsFor placed_form files octets
-  placed_stands files now commands is seen_is =
-      ap (λ (f : Store). see (seen held) (walks f.blocks)) seen_is
-      ∙ ap (see (seen held)) (placed_stand now commands is) ∙ ap state (sym seen_is)
+  -- what a store that is read is seen as
+  abbrev sees : ReadStore → Store
+  sees read = seen held read.store
+
+  -- octets stand for what the store that is read is seen as
+  pub placed_stands : (files : Store) (now : ReadStore) (records : List Recorded) → IsPlacedAfter octets now records → files ≡ seen held now.store → StandsFor placed_form files octets
+  placed_stands files now records is seen_is =
+      ap (λ (f : Store). see sees (walks f.blocks)) seen_is
+      ∙ ap (see sees) (placed_stand now records is) ∙ ap state (sym seen_is)
 
   -- and what they stand for is what one is seen as
   pub stands_placed : (files : Store) → IsOctets octets → StandsFor placed_form files octets
-      → (now : PlacedStore) × (commands : List PlacedCommand) × IsPlacedAfter octets now commands × (files ≡ seen held now)
+      → (now : ReadStore) × (records : List Recorded) × IsPlacedAfter octets now records × (files ≡ seen held now.store)
   stands_placed files are stands = by (walks files.blocks) refl stands
     where
-      by : (made : Stands PlacedStore) → walks files.blocks ≡ made → see (seen held) made ≡ state files
-          → (now : PlacedStore) × (commands : List PlacedCommand) × IsPlacedAfter octets now commands × (files ≡ seen held now)
+      by : (made : Stands ReadStore) → walks files.blocks ≡ made → see sees made ≡ state files
+          → (now : ReadStore) × (records : List Recorded) × IsPlacedAfter octets now records × (files ≡ seen held now.store)
       by (no_store found) same is = absurd (cc is)
       by (damaged_at at) same is = absurd (cc is)
       by (state now) same is =
-          let seen_is : seen held now ≡ files = cc is in
-          let number : files.blocks ≡ now.blocks = ap (λ (f : Store). f.blocks) (sym seen_is) in
-          let commands = stand_placed now are (ap walks (sym number) ∙ same) in
-          (now, commands.0, commands.1, sym seen_is)
+          let seen_is : seen held now.store ≡ files = cc is in
+          let number : files.blocks ≡ now.store.blocks = ap (λ (f : Store). f.blocks) (sym seen_is) in
+          let records = stand_placed now are (ap walks (sym number) ∙ same) in
+          (now, records.0, records.1, sym seen_is)

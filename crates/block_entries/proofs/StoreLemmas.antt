@@ -1,6 +1,6 @@
 -- What changes of the entries are of the store of files that they are seen as.
-use Rattle.std.proofs.Common.{◌≡◌, ℕ, List, ◌++◌, length, take, drop, replicate, nat_le, nat_lt, Some, refl, ap, sym, ◌∙◌, arith}
-use Rattle.std.specs.Prelude.{IsTrue, ◌&&◌}
+use Rattle.std.proofs.Common.{◌≡◌, ℕ, List, ◌++◌, length, take, drop, replicate, nat_le, nat_lt, Bool, true, false, None, Some, refl, ap, sym, ◌∙◌, arith, inl, inr, ◌+◌}
+use Rattle.std.specs.Prelude.{IsTrue, ◌&&◌, if◌then◌else◌}
 use Rattle.std.proofs.lemmas.Bool.{eq-eqb}
 use Rattle.std.proofs.lemmas.Bool.Decides.{nat_tests}
 use Rattle.std.proofs.lemmas.List.{append_assoc, take-append-drop, take-take, take_at}
@@ -9,8 +9,11 @@ use Rattle.block_entries.specs.FilesLaws.{found_holds}
 use Rattle.block_entries.specs.KeptLaws.{header_found}
 use Rattle.block_entries.specs.IsPlaced.{IsPlaced, IsPlacedFile}
 use Rattle.block_entries.specs.Placed.{PlacedStore}
-use Rattle.block_entries.specs.PlacedCommand.{can_grow, grow, header_at, is_allowed, is_free, is_whole, seal, seal_with, with_grown, with_sealed}
-use Rattle.block_entries.specs.PlacedRecords.{placed_after}
+use Rattle.block_entries.specs.PlacedCommand.{PlacedCommand, after, begin, can_grow, drop_entry, grow, header_at, is_allowed, is_free, is_whole, seal, seal_with, seen_command, with_grown, with_sealed}
+use Rattle.block_entries.specs.PlacedRecords.{IsWritable, octets_for, placed_after, read_step, record_of_placed, recorded_in}
+use Rattle.block_entries.specs.ReadLaws.{kept_after, kept_allowed}
+use Rattle.block_entries.specs.ReadStore.{IsReadStore, ReadStore, after_recorded, change, is_recordable}
+use Rattle.block_entries.specs.RecordLaws.{begin_len, recorded_written}
 use Rattle.block_entries.specs.Seen.{octets_in, seen, seen_entry, stamp_at, whole_block}
 use Rattle.block_entries.specs.TestLaws.{Grows, Passes, may_grow, passes_found}
 use Rattle.block_entries.proofs.AppliedLemmas.{sum_decides}
@@ -18,7 +21,9 @@ use Rattle.block_entries.proofs.SeenLemmas.{entry_seen, length_octets, partial_s
 use Rattle.file_entries.specs.Command as file
 use Rattle.file_entries.proofs.Offered.{both-true, grow-is_allowed}
 use Rattle.file_journal.specs.Layout.{Blocks}
+use Rattle.file_journal.specs.Records.{Record}
 use Rattle.file_journal.specs.Steps.{HasPut}
+use Rattle.file_journal.proofs.Offered.{steps}
 
 -- ---- further octets of a file
 
@@ -44,6 +49,10 @@ module _ (held : Blocks) (store : PlacedStore) (number block : ℕ) where
         let before : length (octets_in held one) ≡ one.held = length_octets held store.blocks one rules in
         grow-is_allowed (seen held store) number octets (seen_entry held one) (octets_in held one) (entry_seen held store number one grows.passes.found)
         (partial_seen held one may.partial) grows.takes.some grows.takes.most (omega (arith, before, may.room))
+        (elim may.fills [
+          | inl block_is ↦ inl block_is
+          | inr all ↦ inr (omega (arith, before, all))
+        ])
 
     -- octets that were put in the block stand at its front
     pub put_there : HasPut (Some (record { number = block; octets = octets })) held → take (length octets) (whole_block held block) ≡ octets
@@ -75,3 +84,33 @@ seal_step held store number moment sum header passes is =
     sym (sum_decides held store number moment sum passes sum header is) ∙ eq-eqb sum sum refl in
     let same : header_at held store number ≡ header = header_found held store number passes.file passes.found ∙ sym is.len_is in
     rw ok (ap (λ (n : ℕ). Some (with_sealed store number (seal_with moment sum n))) same)
+
+-- ---- the record of a command of what is kept
+
+-- the condition of a command that makes a store holds, and that is the one after it
+made_after : (ok : Bool) (made now : PlacedStore) → (if ok then Some made else None) ≡ Some now → IsTrue ok × (made ≡ now)
+made_after true made now is = (refl, cc is)
+made_after false made now is = absurd (cc is)
+
+-- the record of a command has as many octets as the command's records have
+pub octets_written : (held : Blocks) (entry : Record) (command : PlacedCommand) → IsWritable command → entry ≡ record_of_placed command
+    → octets_for (seen_command held command) ≡ 4 + length entry.content
+octets_written held entry command writable is = by command writable ∙ ap (λ (e : Record). 4 + length e.content) (sym is)
+  where
+    by : (c : PlacedCommand) → IsWritable c → octets_for (seen_command held c) ≡ 4 + length (record_of_placed c).content
+    by (begin number caller file_length moment) w = omega (arith, begin_len number caller file_length moment w.1)
+    by (grow number block used) w = refl
+    by (seal number moment sum) w = refl
+    by (drop_entry number) w = refl
+
+-- The record of a command makes the same of each store that is read of which that is kept.
+pub kept_step : (held : Blocks) (store next : PlacedStore) (command : PlacedCommand) (entry : Record) → IsWritable command → entry ≡ record_of_placed command
+    → placed_after held store command ≡ Some next → (before : ReadStore) → IsReadStore before → before.store ≡ store
+    → (now : ReadStore) × (read_step held before entry ≡ Some now) × (now.store ≡ next)
+kept_step held store next command entry writable is step before rules kept =
+    let both = made_after (is_allowed held before.store command) (after held before.store command) next (ap (λ (s : PlacedStore). placed_after held s command) kept ∙ step) in
+    let read : recorded_in entry ≡ Some (change command) = ap recorded_in is ∙ recorded_written (change command) writable in (
+      after_recorded held before (change command),
+      steps (is_recordable held) (after_recorded held) before (change command) (recorded_in entry) read (kept_allowed held before rules command both.0),
+      kept_after held before rules command both.0 ∙ both.1,
+    )

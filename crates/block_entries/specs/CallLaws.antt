@@ -3,7 +3,9 @@ use Rattle.std.proofs.Common.{◌≡◌, ℕ, ◌==◌, List, length, take, drop
 use Rattle.std.specs.Prelude.{if◌then◌else◌}
 use Rattle.std.proofs.lemmas.Bool.Decides.{eqb_tells}
 use Rattle.block_entries.specs.PlacedCommand.{PlacedCommand, begin, drop_entry, grow, seal, seen_command}
-use Rattle.block_entries.specs.PlacedRecords.{begin_by, begin_in, placed_in}
+use Rattle.block_entries.specs.PlacedRecords.{begin_by, begin_in, placed_in, recorded_in}
+use Rattle.block_entries.specs.ReadLaws.{NamesCall}
+use Rattle.block_entries.specs.ReadStore.{Recorded, change, next_is}
 use Rattle.file_entries.specs.Command.{HasCall}
 use Rattle.file_journal.specs.Layout.{Blocks}
 use Rattle.file_journal.specs.Records.{Record}
@@ -65,4 +67,21 @@ read_call held entry command is =
                       ]
                 ]
           ]
+    ]
+
+-- and what a record says names one
+pub recorded_call :
+    (held : Blocks) (entry : Record) (recorded : Recorded) → recorded_in entry ≡ Some recorded
+    → NamesCall held recorded
+unfolding recorded_in
+recorded_call held entry recorded is =
+    elim (eqb_tells entry.kind 5) [
+      | inl w ↦
+          let number = next_is (le32 entry.content 0) in
+          let some = if_some (length entry.content == 4) (Some number) recorded (rw w.0 at is) in
+          let same : number ≡ recorded = let e = some.1 in cc in
+          subst (NamesCall held) same tt
+      | inr w ↦
+          let made = map_some change (placed_in entry) recorded (rw w.0 at is) in
+          subst (NamesCall held) (sym made.2) (read_call held entry made.0 made.1)
     ]

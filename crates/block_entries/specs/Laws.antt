@@ -4,8 +4,10 @@ use Rattle.std.specs.List.{AllByRecursion}
 use Rattle.block_entries.specs.IsPlaced.{IsPlaced, KeepsSeals}
 use Rattle.block_entries.specs.Placed.{Decides, PlacedStore, no_entries}
 use Rattle.block_entries.specs.PlacedCommand.{PlacedCommand, after, is_allowed, seen_command}
-use Rattle.block_entries.specs.PlacedRecords.{IsWritable, Writes, placed_form, placed_in, placed_magic, placed_steps}
-use Rattle.block_entries.specs.PlacedRecords.{record_of_placed}
+use Rattle.block_entries.specs.PlacedForm.{placed_form, placed_steps}
+use Rattle.block_entries.specs.PlacedRecords.{CanRecord, IsWritable, Says, Writes, placed_in, placed_magic}
+use Rattle.block_entries.specs.PlacedRecords.{record_of_placed, record_of_recorded, recorded_in}
+use Rattle.block_entries.specs.ReadStore.{ReadStore, Recorded, after_recorded, is_recordable, nothing_read}
 use Rattle.block_entries.specs.Seen.{seen}
 use Rattle.file_entries.specs.Command as file
 use Rattle.file_entries.specs.Command.{HasCall}
@@ -57,46 +59,49 @@ StoreLaw =
     → store.blocks ≤ 65536 → IsStore (seen held store)
 
 -- A record of at most 600 octets is read as a command exactly where it is that command's record; and each command that
--- can be written has such a record.
+-- can be written has such a record. The same of all that a record says.
 abbrev pub RecordsLaw : Type 0
 RecordsLaw =
     ((entry : Record) (command : PlacedCommand) → IsRecord entry
     → (placed_in entry ≡ Some command) ↔ Writes entry command)
     × ((command : PlacedCommand) → IsWritable command → IsRecord (record_of_placed command))
+    × ((entry : Record) (recorded : Recorded) → IsRecord entry
+    → (recorded_in entry ≡ Some recorded) ↔ Says entry recorded)
+    × ((recorded : Recorded) → CanRecord recorded → IsRecord (record_of_recorded recorded))
 
--- the condition of each command holds in its turn, with what the blocks hold
-abbrev pub AreAllowed : Blocks → PlacedStore → List PlacedCommand → Type 0
-AreAllowed held store commands =
-    kept.AreAllowed (λ before command. IsTrue (is_allowed held before command)) (after held) store commands
+-- each record is allowed in its turn, with what the blocks hold
+abbrev pub AreAllowed : Blocks → ReadStore → List Recorded → Type 0
+AreAllowed held read records =
+    kept.AreAllowed (λ before recorded. IsTrue (is_recordable held before recorded)) (after_recorded held) read records
 
--- the store after these commands, one after another, with what the blocks hold
-abbrev pub after_all : Blocks → PlacedStore → List PlacedCommand → PlacedStore
-after_all held store commands = kept.after_all (after held) store commands
+-- the store after these records, one after another, with what the blocks hold
+abbrev pub after_all : Blocks → ReadStore → List Recorded → ReadStore
+after_all held read records = kept.after_all (after_recorded held) read records
 
--- The octets are a journal behind so many blocks, or have no block number yet, and its records are these commands, each
--- of which the store before it allows with what the blocks hold, from no entries on; and this is the store after them.
-pub record IsPlacedAfter (octets : List ℕ) (now : PlacedStore) (commands : List PlacedCommand) : Type 0 where
+-- The octets are a journal behind so many blocks, or have no block number yet, and its records say this, each of which
+-- the store before it allows with what the blocks hold, from nothing on; and this is the store after them.
+pub record IsPlacedAfter (octets : List ℕ) (now : ReadStore) (records : List Recorded) : Type 0 where
   pub number : Option ℕ
-  pub is_number : (number ≡ None) ⊎ (number ≡ Some now.blocks)
-  pub records :
-      journal_of placed_magic layout.Blocks octets ≡ journal.store number (whole (map record_of_placed commands))
-  pub writable : AllByRecursion IsWritable commands
-  pub allowed : AreAllowed (block_in octets) (no_entries now.blocks) commands
-  pub after_is : now ≡ after_all (block_in octets) (no_entries now.blocks) commands
+  pub is_number : (number ≡ None) ⊎ (number ≡ Some now.store.blocks)
+  pub records_are :
+      journal_of placed_magic layout.Halves octets ≡ journal.store number (whole (map record_of_recorded records))
+  pub writable : AllByRecursion CanRecord records
+  pub allowed : AreAllowed (block_in octets) (nothing_read now.store.blocks) records
+  pub after_is : now ≡ after_all (block_in octets) (nothing_read now.store.blocks) records
 
--- Octets stand for a store of files exactly where they are the records of commands that make a store of placed files
--- which, with what their blocks hold, is seen as that one.
+-- Octets stand for a store of files exactly where they are the records that make a store of placed files which, with
+-- what its blocks hold, is seen as that one.
 abbrev pub IsOneStanding : Type 0
 IsOneStanding =
     (octets : List ℕ) (files : Store) → IsOctets octets
     → StandsFor placed_form files octets
-    ↔ ((now : PlacedStore) × (commands : List PlacedCommand) × IsPlacedAfter octets now commands
-    × (files ≡ seen (block_in octets) now))
+    ↔ ((now : ReadStore) × (records : List Recorded) × IsPlacedAfter octets now records
+    × (files ≡ seen (block_in octets) now.store))
 
 -- The same; and a store of placed files for which octets stand keeps its rules and its seals.
 abbrev pub StandingLaw : Type 0
 StandingLaw =
     IsOneStanding
-    × ((blocks : ℕ) (octets : List ℕ) (now : PlacedStore)
-    → walked placed_steps placed_magic layout.Blocks blocks octets ≡ state now
-    → IsPlaced now × KeepsSeals (block_in octets) now)
+    × ((blocks : ℕ) (octets : List ℕ) (now : ReadStore)
+    → walked placed_steps placed_magic layout.Halves blocks octets ≡ state now
+    → IsPlaced now.store × KeepsSeals (block_in octets) now.store)

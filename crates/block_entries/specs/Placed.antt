@@ -49,6 +49,10 @@ placed_from entries next blocks = record { entries = entries; next = next; block
 abbrev pub no_entries : ℕ → PlacedStore
 no_entries blocks = placed_from [] 1 blocks
 
+-- the store with this number for the next file
+abbrev pub with_next : ℕ → PlacedStore → PlacedStore
+with_next number store = record store { next = number }
+
 -- whether the file has this number
 abbrev pub has_number : ℕ → Placed → Bool
 has_number number file = file.number == number

@@ -1,7 +1,10 @@
--- The code's command as a command of a store of placed files.
+-- The code's commands, and what its records say, as those of a store of placed files.
 use Rattle.block_entries.specs.PlacedCommand as spec
+use Rattle.block_entries.specs.ReadStore as read
 use Rattle.block_entries.specs.declared.command.PlacedCommand.{PlacedCommand}
 use Rattle.block_entries.specs.declared.command.PlacedCommand.TheVariants as code
+use Rattle.block_entries.specs.declared.recorded.Recorded.{Recorded}
+use Rattle.block_entries.specs.declared.recorded.Recorded.TheVariants as recorded
 
 -- what it is
 abbrev pub placed_value : PlacedCommand → spec.PlacedCommand
@@ -9,3 +12,8 @@ placed_value (code.Begin number caller length moment) = spec.begin number caller
 placed_value (code.Grow number block used) = spec.grow number block used
 placed_value (code.Seal number moment sum) = spec.seal number moment sum
 placed_value (code.Drop number) = spec.drop_entry number
+
+-- what it says
+abbrev pub recorded_value : Recorded → read.Recorded
+recorded_value (recorded.Next number) = read.next_is number
+recorded_value (recorded.Change command) = read.change (placed_value command)

@@ -7,6 +7,7 @@ use Rattle.std.specs.Option.{option_and_then, option_map}
 use Rattle.block_entries.specs.IsPlaced.{IsPlaced}
 use Rattle.block_entries.specs.Placed.{Placed, PlacedStore, Seal, Uses, is_sealed, placed_from, placed_of, runs_of}
 use Rattle.block_entries.specs.PlacedCommand.{is_free}
+use Rattle.block_entries.specs.ReadStore.{ReadStore}
 use Rattle.block_entries.specs.declared.stored_file.SealMark.{SealMark}
 use Rattle.block_table.specs.Table.{Run}
 use Rattle.file_entries.specs.declared.info.Info.{Info}
@@ -22,10 +23,13 @@ pub record PlacedFiles : Type 0 where
   pub next : ℕ
   pub blocks : ℕ
 
--- the same, and for how many further entries there is memory
+-- the same, and for how many further entries there is memory; and by the records that were read, the least number
+-- that a further file may have, and whether none was read yet
 pub record EntriesState : Type 0 where
   pub files : PlacedFiles
   pub spare : ℕ
+  pub least : ℕ
+  pub first : Bool
 
 -- these files, by their parts
 abbrev pub files_from : List PlacedFile → ℕ → ℕ → PlacedFiles
@@ -42,6 +46,15 @@ entries_of files = map (λ f. f.entry) files
 -- the store that they are
 abbrev pub store_of : PlacedFiles → PlacedStore
 store_of files = placed_from (entries_of files.files) files.next files.blocks
+
+-- the store that is read
+abbrev pub read_of : EntriesState → ReadStore
+read_of entries = record { store = store_of entries.files; least = entries.least; first = entries.first }
+
+-- what the reading of further records asks for is as it was
+pub record KeepsReading (before now : EntriesState) : Type 0 where
+  pub least : now.least ≡ before.least
+  pub first : now.first ≡ before.first
 
 -- the file of this number
 abbrev pub file_of : List PlacedFile → ℕ → Option PlacedFile

@@ -2,19 +2,15 @@
 use Rattle.std.specs.Prelude.{◌≡◌, ℕ, ◌+◌, ◌^◌, ◌<◌, ◌==◌, List, [], ◌∷◌, ◌++◌, length, take, drop, if◌then◌else◌}
 use Rattle.std.specs.Prelude.{Option, None, Some}
 use Rattle.std.specs.Option.{option_and_then, option_map}
-use Rattle.block_entries.specs.IsPlaced.{IsPlaced}
-use Rattle.block_entries.specs.Placed.{Decides, PlacedStore, Uses, no_entries}
+use Rattle.block_entries.specs.Placed.{PlacedStore}
 use Rattle.block_entries.specs.PlacedCommand.{PlacedCommand, after, begin, drop_entry, grow, is_allowed, seal}
-use Rattle.block_entries.specs.Seen.{seen}
+use Rattle.block_entries.specs.ReadStore.{ReadStore, Recorded, after_recorded, change, is_recordable, next_is}
 use Rattle.file_entries.specs.Command as file
 use Rattle.file_entries.specs.Command.{Command, IsAllowed}
-use Rattle.file_entries.specs.Store.{Store}
-use Rattle.file_journal.specs.Form.{Form, record_calls}
-use Rattle.file_journal.specs.Layout.{Blocks, block_in}
+use Rattle.file_journal.specs.Form.{record_calls}
+use Rattle.file_journal.specs.Layout.{Blocks}
 use Rattle.file_journal.specs.Records.{Record, record_of}
-use Rattle.file_journal.specs.Steps.{PutBlock, Steps, block_calls, walked}
-use Rattle.file_journal.specs.Walk.{see}
-use Rattle.file_journal.specs.declared.layout.Layout.TheVariants as layout
+use Rattle.file_journal.specs.Steps.{PutBlock, block_calls}
 use Rattle.px_base.specs.CallOctets.{call_in, call_octets}
 use Rattle.px_base.specs.CallSign.{CallSign, IsCall}
 use Rattle.px_base.specs.Numbers.{le16, le16_octets, le32, le32_octets}
@@ -35,6 +31,11 @@ record_of_placed (seal number moment sum) =
     record_of 3 (le32_octets number ++ le32_octets moment ++ le16_octets sum)
 record_of_placed (drop_entry number) = record_of 4 (le32_octets number)
 
+-- The record that says it. Next, kind 5: the number, of four octets.
+abbrev pub record_of_recorded : Recorded → Record
+record_of_recorded (next_is number) = record_of 5 (le32_octets number)
+record_of_recorded (change command) = record_of_placed command
+
 -- the number fits four octets
 abbrev pub IsNumber : ℕ → Type 0
 IsNumber number = number < 2 ^ 32
@@ -51,9 +52,18 @@ IsWritable (grow number block used) = IsNumber number × IsNumber block × IsSho
 IsWritable (seal number moment sum) = IsNumber number × IsNumber moment × IsShort sum
 IsWritable (drop_entry number) = IsNumber number
 
+-- the same of what a record says
+abbrev pub CanRecord : Recorded → Type 0
+CanRecord (next_is number) = IsNumber number
+CanRecord (change command) = IsWritable command
+
 -- the record is this command's
 abbrev pub Writes : Record → PlacedCommand → Type 0
 Writes entry command = IsWritable command × (entry ≡ record_of_placed command)
+
+-- the record says this
+abbrev pub Says : Record → Recorded → Type 0
+Says entry recorded = CanRecord recorded × (entry ≡ record_of_recorded recorded)
 
 -- The same, computed from the record.
 
@@ -92,28 +102,26 @@ placed_in entry =
 abbrev pub placed_after : Blocks → PlacedStore → PlacedCommand → Option PlacedStore
 placed_after held store command = if is_allowed held store command then Some (after held store command) else None
 
--- the store after the command that the record is, where it is one whose condition holds
-abbrev pub placed_step : Blocks → PlacedStore → Record → Option PlacedStore
-placed_step held store entry = option_and_then (placed_after held store) (placed_in entry)
+-- which number is next by a record of kind 5, where it has four octets
+abbrev pub next_in : List ℕ → Option Recorded
+next_in content = if length content == 4 then Some (next_is (le32 content 0)) else None
 
--- the magic of a store of files in blocks: `PXSTORE9`
+-- what the record says, if it is a store's
+unfoldable pub recorded_in : Record → Option Recorded
+recorded_in entry = if entry.kind == 5 then next_in entry.content else option_map change (placed_in entry)
+
+-- the store after what a record says, where it allows that with what the blocks hold
+abbrev pub read_after : Blocks → ReadStore → Recorded → Option ReadStore
+read_after held read recorded =
+    if is_recordable held read recorded then Some (after_recorded held read recorded) else None
+
+-- the store after the record, where it is a store's, and is allowed
+abbrev pub read_step : Blocks → ReadStore → Record → Option ReadStore
+read_step held read entry = option_and_then (read_after held read) (recorded_in entry)
+
+-- the magic of a store of files in blocks, with two halves of records: `PXSTORE1`
 abbrev pub placed_magic : List ℕ
-placed_magic = 80 ∷ 88 ∷ 83 ∷ 84 ∷ 79 ∷ 82 ∷ 69 ∷ 57 ∷ []
-
--- what the records make of a store, which is kept whole
-abbrev pub placed_steps : Steps PlacedStore PlacedStore
-placed_steps =
-    record {
-      fresh = no_entries;
-      step = placed_step;
-      is_state = IsPlaced;
-      kept = λ store. store;
-      is_kept = IsPlaced;
-      number = λ store. store.blocks;
-      uses = Uses;
-      decides = Decides;
-      anew = λ store. [];
-    }
+placed_magic = 80 ∷ 88 ∷ 83 ∷ 84 ∷ 79 ∷ 82 ∷ 69 ∷ 49 ∷ []
 
 -- these octets put in a block, whichever it is
 abbrev pub put_somewhere : List ℕ → Option PutBlock
@@ -127,26 +135,9 @@ calls_for (file.grow number octets) = block_calls (put_somewhere octets) + recor
 calls_for (file.seal number moment) = record_calls
 calls_for (file.drop_entry number) = record_calls
 
--- how many octets the record of a command has, with its gate, whichever block or sum it says
+-- how many octets the record of a command has, with its gate
 abbrev pub octets_for : Command → ℕ
-octets_for (file.begin number caller file_length moment) =
-    4 + length (record_of_placed (begin number caller file_length moment)).content
-octets_for (file.grow number octets) = 4 + length (record_of_placed (grow number 0 (length octets))).content
-octets_for (file.seal number moment) = 4 + length (record_of_placed (seal number moment 0)).content
-octets_for (file.drop_entry number) = 4 + length (record_of_placed (drop_entry number)).content
-
--- The stores that a journal of these commands keeps: octets stand for the store of files that the records and the
--- blocks make together.
-abbrev pub placed_form : Form Store Command
-placed_form =
-    record {
-      magic = placed_magic;
-      layout = layout.Blocks;
-      number = λ store. store.blocks;
-      standing = λ blocks octets.
-          see (seen (block_in octets)) (walked placed_steps placed_magic layout.Blocks blocks octets);
-      allowed = IsAllowed;
-      after = file.after;
-      calls = calls_for;
-      octets = octets_for;
-    }
+octets_for (file.begin number caller file_length moment) = 23
+octets_for (file.grow number octets) = 14
+octets_for (file.seal number moment) = 14
+octets_for (file.drop_entry number) = 8

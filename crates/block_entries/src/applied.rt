@@ -1,15 +1,20 @@
-//! Commands that were read from a journal's records, applied to the entries.
+//! What was read from a journal's records, applied to the entries.
 
 ghost use Rattle.std.specs.Prelude.{◌≡◌, ◌==◌, List, ℕ, Option, is_some, IfOk, IfSome, IsErr, IsErrOf, OnErr};
-ghost use Rattle.block_entries.specs.Applied.{Applied, TellsSeal};
+ghost use Rattle.block_entries.specs.Applied.{Applied, AppliesRecord, TellsSeal};
 ghost use Rattle.block_entries.specs.Placed.{Placed};
-ghost use Rattle.block_entries.specs.PlacedCommand.{begin, can_grow, drop_entry, grow, is_partial, is_whole};
+ghost use Rattle.block_entries.specs.PlacedCommand.{begin, can_grow, drop_entry, grow, is_allowed, is_partial};
+ghost use Rattle.block_entries.specs.PlacedCommand.{is_whole};
 ghost use Rattle.block_entries.specs.PlacedCommand.{passes_at, seal};
-ghost use Rattle.block_entries.specs.PlacedCommands.{placed_value};
-ghost use Rattle.block_entries.specs.PlacedFiles.{NothingOut, placed_info, store_of};
+ghost use Rattle.block_entries.specs.PlacedCommands.{placed_value, recorded_value};
+ghost use Rattle.block_entries.specs.PlacedFiles.{NothingOut, placed_info, read_of, store_of};
+ghost use Rattle.block_entries.specs.PlacedRecords.{CanRecord};
+ghost use Rattle.block_entries.specs.ReadStore.{IsReadStore};
 ghost use Rattle.block_entries.specs.TestLaws.{TakesSeal};
 ghost use Rattle.file_journal.specs.Calls.{Reads};
+ghost use Rattle.file_journal.specs.Layout.{Blocks};
 
+use crate::recorded::Recorded;
 use crate::{BlockReader, CheckFault, CheckedHeader, Entries, PlacedCommand};
 use disk_model::{Disk, DiskFault};
 use file_entries::Info;
@@ -17,9 +22,38 @@ use file_journal::ApplyFault;
 use px_base::{Call, OutOfMemory};
 
 impl Entries {
+    /// Applies what a record says: whether the entries allow it, with what the blocks hold. What they don't allow
+    /// changes nothing, and so does a read that failed. No upload is out. Takes memory.
+    pub(crate) fn apply_recorded<D: Disk, R: BlockReader<D>>(
+        &mut self,
+        reader: &R,
+        disk: &mut D,
+        recorded: Recorded,
+    ) -> Result<bool, ApplyFault>
+        requires may_read { R.may_read reader.now disk.old }
+        requires blocks { R.block_count reader.now ≡ self.old.files.blocks }
+        requires out { NothingOut self.old.files }
+        requires rules { IsReadStore (read_of self.old) }
+        requires writable { CanRecord (recorded_value recorded) }
+        ensures applied { IfOk result
+            (λ done. AppliesRecord (D.content disk.old) done self.old self.new (recorded_value recorded)) }
+        ensures untouched { IsErrOf result ApplyFault.Disk → self.new ≡ self.old }
+        ensures out { NothingOut self.new.files }
+        ensures reads { Reads D.Disk (IsErrOf result ApplyFault.Disk) disk.old disk.new }
+    {
+        let done = match recorded {
+            Recorded::Next { number } => self.take_next(number),
+            Recorded::Change(command) => self.apply_command(reader, disk, command)?,
+        };
+        if done {
+            self.pass_first();
+        }
+        Ok(done)
+    }
+
     /// Applies a command that was read from a record: whether its condition holds, with what the blocks hold. One whose
     /// condition doesn't hold changes nothing, and so does a read that failed. No upload is out. Takes memory.
-    pub(crate) fn apply_command<D: Disk, R: BlockReader<D>>(
+    fn apply_command<D: Disk, R: BlockReader<D>>(
         &mut self,
         reader: &R,
         disk: &mut D,
@@ -28,6 +62,7 @@ impl Entries {
         requires may_read { R.may_read reader.now disk.old }
         requires blocks { R.block_count reader.now ≡ self.old.files.blocks }
         requires out { NothingOut self.old.files }
+        requires rules { IsReadStore (read_of self.old) }
         ensures applied { IfOk result
             (λ done. Applied (D.content disk.old) done self.old self.new (placed_value command)) }
         ensures untouched { IsErrOf result ApplyFault.Disk → self.new ≡ self.old }
@@ -62,27 +97,31 @@ impl Entries {
         length: u32,
         moment: u32,
     ) -> Result<bool, OutOfMemory>
-        requires { NothingOut self.old.files }
+        requires out { NothingOut self.old.files }
+        requires rules { IsReadStore (read_of self.old) }
         ensures applied { IfOk result (λ done. (content : Option (List ℕ))
             → Applied content done self.old self.new (begin number caller length moment)) }
         ensures out { NothingOut self.new.files }
     {
-        if number != self.next() || self.begin_bar(length).is_some() {
+        if !self.may_have(number) {
+            return Ok(false);
+        }
+        if self.begin_bar_as(number, length).is_some() {
             return Ok(false);
         }
         self.reserve()?;
-        self.begin(caller, length, moment);
+        self.begin_as(number, caller, length, moment);
         Ok(true)
     }
 
     fn apply_grow(&mut self, number: u32, block: u32, used: u16) -> bool
-        requires { NothingOut self.old.files }
+        requires out { NothingOut self.old.files }
+        requires rules { IsReadStore (read_of self.old) }
         ensures applied { (content : Option (List ℕ))
             → Applied content result self.old self.new (grow number block used) }
         ensures out { NothingOut self.new.files }
     {
-        let lies = 1 <= used && used <= 512 && self.is_free(block);
-        if !lies || !self.has_room(number, used) {
+        if !self.may_grow(number, block, used) {
             return false;
         }
         self.grow(number, block, used);
@@ -100,6 +139,7 @@ impl Entries {
         requires may_read { R.may_read reader.now disk.old }
         requires blocks { R.block_count reader.now ≡ self.old.files.blocks }
         requires out { NothingOut self.old.files }
+        requires rules { IsReadStore (read_of self.old) }
         ensures applied { IfOk result
             (λ done. Applied (D.content disk.old) done self.old self.new (seal number moment sum)) }
         ensures untouched { OnErr result (self.new ≡ self.old) }
@@ -114,7 +154,8 @@ impl Entries {
     }
 
     fn apply_drop(&mut self, number: u32) -> bool
-        requires { NothingOut self.old.files }
+        requires out { NothingOut self.old.files }
+        requires rules { IsReadStore (read_of self.old) }
         ensures applied { (content : Option (List ℕ))
             → Applied content result self.old self.new (drop_entry number) }
         ensures out { NothingOut self.new.files }
@@ -149,6 +190,13 @@ impl Entries {
             Err(CheckFault::Header { .. }) => Ok(None),
             Err(CheckFault::Disk) => Err(DiskFault),
         }
+    }
+
+    /// Whether the condition of a Grow holds.
+    fn may_grow(&self, number: u32, block: u32, used: u16) -> bool
+        ensures { (held : Blocks) → result ≡ is_allowed held (store_of self.now.files) (grow number block used) }
+    {
+        1 <= used && used <= 512 && self.is_free(block) && self.has_room(number, used)
     }
 
     /// Whether the file of this number is under way, and has room for so many further octets in one block.

@@ -1,17 +1,22 @@
 //! The entries of a store whose octets stand in blocks, and what the commands do to them.
 
-ghost use Rattle.std.specs.Prelude.{◌≡◌, ◌↔◌, ℕ, ◌≤◌, [], find, None, Some, IsSome, IsTrue, IfSome, IfNone};
+ghost use Rattle.std.specs.Prelude.{◌≡◌, ◌↔◌, ℕ, ◌≤◌, [], find, slice_get, false, None, Some, IsSome, IsTrue, IfSome};
+ghost use Rattle.std.specs.Prelude.{IfNone};
 ghost use Rattle.std.specs.Prelude.{◌+◌, ◌<◌, length, vec_capacity, IfOk, IsErr, IsErrOf, OnErr, OnOk};
 ghost use Rattle.std.specs.Option.{option_copied, option_map};
 ghost use Rattle.block_entries.specs.Checking.{ChecksFile, HasFault, IsFaultCode};
 ghost use Rattle.block_entries.specs.IsPlaced.{IsPlaced, KeepsSeals};
-ghost use Rattle.block_entries.specs.Placed.{new_placed, no_entries, placed_of};
+ghost use Rattle.block_entries.specs.Placed.{new_placed, no_entries, placed_of, with_next};
 ghost use Rattle.block_entries.specs.PlacedCommand.{is_free, is_partial, seal_with, with_grown, with_new};
 ghost use Rattle.block_entries.specs.PlacedCommand.{with_sealed, without_file};
 ghost use Rattle.block_entries.specs.PlacedFiles.{Becomes, ChangesRest, IsLowest, IsNextSealed, IsOut, IsPlace};
+ghost use Rattle.block_entries.specs.PlacedFiles.{KeepsReading, read_of, seal_of};
+ghost use Rattle.block_entries.specs.Anew.{IsAt};
 ghost use Rattle.block_entries.specs.PlacedFiles.{NothingOut, Waits, file_of, is_sealed_file, lacks_octets};
 ghost use Rattle.block_entries.specs.PlacedFiles.{octets_or_none, placed_info, rest_of, rest_with, rest_without};
 ghost use Rattle.block_entries.specs.PlacedFiles.{store_of};
+ghost use Rattle.block_entries.specs.ReadStore.{IsReadStore, may_have, nothing_read, with_later};
+ghost use Rattle.block_entries.specs.Applied.{TakesNext};
 ghost use Rattle.block_entries.specs.Sealed.{HasRuns, IsSealedHeader, ReadsSealed, Sealed, octets_given};
 ghost use Rattle.block_entries.specs.Seen.{seen};
 ghost use Rattle.block_entries.specs.TestLaws.{Grows, Passes, TakesSeal};
@@ -23,7 +28,7 @@ ghost use Rattle.file_journal.specs.Calls.{Reads};
 ghost use Rattle.file_journal.specs.Layout.{Blocks, blocks_on};
 
 use crate::limits::blocks_of_length;
-use crate::stored_file::StoredFile;
+use crate::stored_file::{SealMark, StoredFile};
 use crate::{
     BlockReader, CheckFault, CheckedHeader, FileBlocks, ReadHeaderFault, SealedFile, Stamp,
     check_file, read_header, read_stamped,
@@ -44,6 +49,10 @@ pub struct Entries {
     table: BlockTable,
     /// The number that the next file gets.
     next: u32,
+    /// The least number that a further file may have by the records that were read.
+    least: u32,
+    /// Whether no record was read yet. Changes that aren't read leave it.
+    first: bool,
 }
 
 impl Model for Entries {
@@ -55,6 +64,8 @@ impl Model for Entries {
     ghost view = { λ a. record {
       files = files_from (in_runs a.table.runs a.files.items) a.next a.table.limit;
       spare = min (spare_of a.files) a.table.spare;
+      least = a.least;
+      first = a.first;
     } };
 
     ghost invariant = { λ a. AreKept a.table.runs a.files.items a.next a.table.limit };
@@ -67,6 +78,7 @@ impl Entries {
         requires most { blocks ≤ 65536 }
         ensures store { IfOk result (λ entries. store_of entries.files ≡ no_entries blocks) }
         ensures out { IfOk result (λ entries. NothingOut entries.files) }
+        ensures read { IfOk result (λ entries. read_of entries ≡ nothing_read blocks) }
     {
         let table = BlockTable::new(alloc, blocks)?;
         Ok(Entries {
@@ -74,6 +86,8 @@ impl Entries {
             files: Vec::new(alloc),
             table,
             next: 1,
+            least: 1,
+            first: true,
         })
     }
 
@@ -92,6 +106,16 @@ impl Entries {
         ensures some { (held : Blocks) → IfSome result (λ bar. Bars bar (seen held (store_of self.now.files)) length) }
         ensures none { (held : Blocks) → IfNone result (MayBegin (seen held (store_of self.now.files)) length) }
     {
+        self.begin_bar_as(self.next, length)
+    }
+
+    /// Why a file of this length can't be begun where this were the next number.
+    pub(crate) fn begin_bar_as(&self, number: u32, length: u32) -> Option<BeginBar>
+        ensures some { (held : Blocks)
+            → IfSome result (λ bar. Bars bar (seen held (with_next number (store_of self.now.files))) length) }
+        ensures none { (held : Blocks)
+            → IfNone result (MayBegin (seen held (with_next number (store_of self.now.files))) length) }
+    {
         let count = self.files.len();
         if length > LONGEST_FILE {
             return Some(BeginBar::TooLong);
@@ -99,7 +123,7 @@ impl Entries {
         if count >= MOST_ENTRIES {
             return Some(BeginBar::TooMany);
         }
-        if self.next == LAST_NEXT {
+        if number == LAST_NEXT {
             return Some(BeginBar::NumbersGone);
         }
         let blocks = blocks_of_length(length);
@@ -116,6 +140,7 @@ impl Entries {
         ensures files { self.new.files ≡ self.old.files }
         ensures ok { OnOk result (1 ≤ self.new.spare) }
         ensures spare { self.old.spare ≤ self.new.spare }
+        ensures reading { KeepsReading self.old self.new }
     {
         self.files.reserve(1)?;
         self.table.reserve(1)?;
@@ -131,10 +156,53 @@ impl Entries {
             (with_new (store_of self.old.files) (new_placed number caller length moment)) number None }
         ensures spare { self.old.spare ≤ self.new.spare + 1 }
     {
-        let file = StoredFile::new(self.alloc, self.next, caller, length, moment);
+        self.begin_as(self.next, caller, length, moment);
+    }
+
+    /// Begins a file of this number, which no entry has reached, and of which no upload is out. There is room for it in
+    /// memory.
+    pub(crate) fn begin_as(&mut self, number: u32, caller: Call, length: u32, moment: u32)
+        requires rules { IsPlaced (with_next number (store_of self.old.files)) }
+        requires may { (held : Blocks) × MayBegin (seen held (with_next number (store_of self.old.files))) length }
+        requires room { 1 ≤ self.old.spare }
+        ensures becomes { Becomes self.old.files self.new.files
+            (with_later (store_of self.old.files) (new_placed number caller length moment)) number None }
+        ensures spare { self.old.spare ≤ self.new.spare + 1 }
+        ensures least { self.new.least ≡ number + 1 }
+        ensures first { self.new.first ≡ self.old.first }
+    {
+        let file = StoredFile::new(self.alloc, number, caller, length, moment);
         self.table.begin(blocks_of_length(length));
         self.files.push(file).unwrap();
-        self.next += 1;
+        self.least = number + 1;
+        self.next = self.next.max(self.least);
+    }
+
+    /// Whether a file may be begun with this number, by the records that were read.
+    pub(crate) fn may_have(&self, number: u32) -> bool
+        ensures { result ≡ may_have (read_of self.now) number }
+    {
+        self.least <= number && number <= self.next
+    }
+
+    /// The next number becomes this one, where no record was read yet and a file may have it: whether it did.
+    pub(crate) fn take_next(&mut self, number: u32) -> bool
+        requires rules { IsReadStore (read_of self.old) }
+        ensures next { TakesNext result self.old self.new number }
+        ensures rests { (other : ℕ) → rest_of self.new.files other ≡ rest_of self.old.files other }
+    {
+        if !self.first || number < self.least {
+            return false;
+        }
+        self.next = number;
+        true
+    }
+
+    /// A record was read.
+    pub(crate) fn pass_first(&mut self)
+        ensures { self.new ≡ record self.old { first = false } }
+    {
+        self.first = false;
     }
 
     /// An upload of this entry goes out, of which no octet waits. None was out. Takes no memory.
@@ -209,8 +277,9 @@ impl Entries {
     pub(crate) fn grow(&mut self, number: u32, block: u32, used: u16)
         requires in_ { rest_of self.old.files number ≡ None }
         requires allowed { Grows (store_of self.old.files) number block used }
-        ensures { Becomes self.old.files self.new.files
+        ensures becomes { Becomes self.old.files self.new.files
             (with_grown (store_of self.old.files) number block used) number None }
+        ensures reading { KeepsReading self.old self.new }
     {
         let place = self.place_of(number).unwrap();
         self.files[place].grow(used);
@@ -222,8 +291,9 @@ impl Entries {
     pub fn seal(&mut self, number: u32, moment: u32, sum: u16, header_len: u32)
         requires takes { TakesSeal (store_of self.old.files) number header_len }
         requires in_ { rest_of self.old.files number ≡ None }
-        ensures { Becomes self.old.files self.new.files
+        ensures becomes { Becomes self.old.files self.new.files
             (with_sealed (store_of self.old.files) number (seal_with moment sum header_len)) number None }
+        ensures reading { KeepsReading self.old self.new }
     {
         let place = self.place_of(number).unwrap();
         self.files[place].seal(moment, sum, header_len);
@@ -332,6 +402,7 @@ impl Entries {
         ensures becomes { Becomes self.old.files self.new.files
             (without_file (store_of self.old.files) number) number None }
         ensures spare { self.old.spare ≤ self.new.spare }
+        ensures reading { KeepsReading self.old self.new }
     {
         let place = self.place_of(number).unwrap();
         drop(self.files.remove(place));
@@ -375,6 +446,44 @@ impl Entries {
     {
         let place = self.files.partition_point(|file| file.number() <= above);
         first_complete(&self.files[place..])
+    }
+
+    /// What the store tells of the entry at this place, if there is one.
+    pub(crate) fn info_at(&self, at: usize) -> Option<Info>
+        ensures rules { IsPlaced (store_of self.now.files) }
+        ensures info { result ≡ option_map placed_info (slice_get (store_of self.now.files).entries at) }
+    {
+        if at >= self.files.len() {
+            return None;
+        }
+        Some(self.files[at].info())
+    }
+
+    /// How many blocks the file at this place has.
+    pub(crate) fn block_count(&self, at: usize) -> usize
+        requires { at < length (store_of self.now.files).entries }
+        ensures count { IsAt (store_of self.now.files) at (λ f. result ≡ length f.blocks) }
+        ensures rules { IsPlaced (store_of self.now.files) }
+        ensures most { self.now.files.blocks ≤ 65536 }
+    {
+        self.table.count(at)
+    }
+
+    /// The block at this place of the file at this place.
+    pub(crate) fn block_at(&self, at: usize, place: usize) -> u32
+        requires there { at < length (store_of self.now.files).entries }
+        requires within { IsAt (store_of self.now.files) at (λ f. place < length f.blocks) }
+        ensures { IsAt (store_of self.now.files) at (λ f. slice_get f.blocks place ≡ Some result) }
+    {
+        self.table.block(at, place)
+    }
+
+    /// The seal of the file at this place, if there is one.
+    pub(crate) fn mark_at(&self, at: usize) -> Option<SealMark>
+        requires { at < length (store_of self.now.files).entries }
+        ensures { IsAt (store_of self.now.files) at (λ f. seal_of result ≡ f.seal) }
+    {
+        self.files[at].mark()
     }
 
     /// The sealed file of this number, as it is read of a table of the runs in which the files stand.

@@ -1,7 +1,7 @@
 //! Laws of stores of placed files.
 
 ghost use Rattle.block_entries.specs.Laws.{PlacedLaw, RecordsLaw, SealsLaw, SeenLaw, StandingLaw, StoreLaw};
-ghost use Rattle.block_entries.specs.PlacedRecords.{placed_form, placed_steps};
+ghost use Rattle.block_entries.specs.PlacedForm.{placed_form, placed_steps};
 ghost use Rattle.block_entries.specs.Seen.{seen};
 ghost use Rattle.file_journal.specs.Steps.{IsSeenBy};
 

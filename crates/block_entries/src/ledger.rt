@@ -1,23 +1,25 @@
 //! The entries of a store as the state that the records of its journal make.
 
-use crate::{Entries, PlacedCommand};
+use crate::Entries;
+use crate::recorded::Recorded;
 use disk_model::Disk;
 use file_journal::{ApplyFault, Journal, Layout, Ledger, RecordContent, RecordPlace};
 use px_base::OutOfMemory;
 use std::alloc::Global;
 
 impl Ledger for Entries {
-    ghost use Rattle.block_entries.specs.IsPlaced.{IsPlaced};
+    ghost use Rattle.block_entries.specs.Anew.{left_at};
     ghost use Rattle.block_entries.specs.Placed.{PlacedStore};
-    ghost use Rattle.block_entries.specs.PlacedFiles.{NothingOut, store_of};
+    ghost use Rattle.block_entries.specs.PlacedFiles.{NothingOut, read_of, store_of};
+    ghost use Rattle.block_entries.specs.PlacedForm.{placed_form, placed_steps};
     ghost use Rattle.block_entries.specs.PlacedLaws.{placed_seen};
-    ghost use Rattle.block_entries.specs.PlacedRecords.{placed_form, placed_steps};
+    ghost use Rattle.block_entries.specs.ReadStore.{IsReadStore, ReadStore};
     ghost use Rattle.block_entries.specs.Seen.{seen};
     ghost use Rattle.file_entries.specs.Command.{Command as StoreCommand};
     ghost use Rattle.file_entries.specs.Store.{Store};
-    ghost use Rattle.std.specs.Prelude.{[], refl};
+    ghost use Rattle.std.specs.Prelude.{refl};
 
-    ghost State = { PlacedStore };
+    ghost State = { ReadStore };
 
     ghost Kept = { PlacedStore };
 
@@ -31,25 +33,22 @@ impl Ledger for Entries {
 
     ghost seen = { seen };
 
-    ghost state = { λ entries. store_of entries.files };
+    ghost state = { read_of };
 
-    ghost left = { λ entries place. [] };
+    ghost left = { λ entries place. left_at (store_of entries.files) place };
 
-    ghost by_records = { λ entries. NothingOut entries.files × IsPlaced (store_of entries.files) };
+    ghost by_records = { λ entries. NothingOut entries.files × IsReadStore (read_of entries) };
 
     fn magic() -> [u8; 8] {
-        *b"PXSTORE9"
+        *b"PXSTORE1"
     }
 
     fn layout() -> Layout {
-        Layout::Blocks
+        Layout::Halves
     }
 
     fn fresh(alloc: Global, blocks: u32) -> Result<Entries, OutOfMemory> {
-        let entries = Entries::new(alloc, blocks)?;
-        // It tells contracts that the entries keep their rules.
-        entries.next();
-        Ok(entries)
+        Entries::new(alloc, blocks)
     }
 
     fn apply<D: Disk>(
@@ -59,17 +58,14 @@ impl Ledger for Entries {
         kind: u8,
         content: &[u8],
     ) -> Result<bool, ApplyFault> {
-        let Some(command) = PlacedCommand::read(kind, content) else {
+        let Some(recorded) = Recorded::read(kind, content) else {
             return Ok(false);
         };
-        let done = self.apply_command(journal, disk, command)?;
-        // The same here.
-        self.next();
-        Ok(done)
+        self.apply_recorded(journal, disk, recorded)
     }
 
-    fn next_record(&self, _place: &mut RecordPlace, _content: &mut RecordContent) -> Option<u8> {
-        None
+    fn next_record(&self, place: &mut RecordPlace, content: &mut RecordContent) -> Option<u8> {
+        self.next_anew(place, content)
     }
 
     ghost is_seen = { placed_seen };

@@ -4,6 +4,7 @@
 //! the journal says of which file it is and in which block further octets stand, and the blocks hold the octets.
 #![tactic(auto)]
 
+mod anew;
 mod applied;
 mod check_fault;
 mod command;
@@ -19,6 +20,7 @@ mod piece_taker;
 mod read_header_fault;
 mod reader;
 mod reading;
+mod recorded;
 mod sealed_file;
 mod stamp;
 mod stored_file;

@@ -2,10 +2,12 @@
 
 ghost use Rattle.std.specs.Prelude.{◌≡◌, IfSome};
 ghost use Rattle.std.specs.Option.{option_map};
-ghost use Rattle.block_entries.specs.PlacedCommands.{placed_value};
-ghost use Rattle.block_entries.specs.PlacedRecords.{IsWritable, begin_in, drop_in, grow_in, seal_in};
+ghost use Rattle.block_entries.specs.PlacedCommands.{placed_value, recorded_value};
+ghost use Rattle.block_entries.specs.PlacedRecords.{CanRecord, IsWritable, begin_in, drop_in, grow_in, next_in};
+ghost use Rattle.block_entries.specs.PlacedRecords.{seal_in};
 
 use crate::command::PlacedCommand;
+use crate::recorded::Recorded;
 use px_base::{le16, le32, read_call};
 
 /// The Begin that a content is.
@@ -64,6 +66,19 @@ pub(crate) fn read_drop(content: &[u8]) -> Option<PlacedCommand>
         return None;
     }
     Some(PlacedCommand::Drop {
+        number: le32(content, 0),
+    })
+}
+
+/// The next number that a content says.
+pub(crate) fn read_next(content: &[u8]) -> Option<Recorded>
+    ensures recorded { option_map recorded_value result ≡ next_in content.now }
+    ensures writable { IfSome result (λ recorded. CanRecord (recorded_value recorded)) }
+{
+    if content.len() != 4 {
+        return None;
+    }
+    Some(Recorded::Next {
         number: le32(content, 0),
     })
 }

@@ -3,7 +3,8 @@
 ghost use Rattle.std.specs.Prelude.{◌≡◌, ◌+◌, ◌≤◌, ◌++◌, length};
 ghost use Rattle.file_journal.specs.Records.{record_of};
 ghost use Rattle.block_entries.specs.PlacedCommand.{begin, drop_entry, grow, seal};
-ghost use Rattle.block_entries.specs.PlacedRecords.{record_of_placed};
+ghost use Rattle.block_entries.specs.PlacedRecords.{record_of_placed, record_of_recorded};
+ghost use Rattle.block_entries.specs.ReadStore.{next_is};
 ghost use Rattle.px_base.specs.Numbers.{le16_octets, le32_octets};
 
 use byteorder::{ByteOrder, LittleEndian};
@@ -51,6 +52,15 @@ pub(crate) fn put_drop(content: &mut RecordContent, number: u32) -> u8
     content.clear();
     put_number(content, number);
     4
+}
+
+/// The content of a Next.
+pub(crate) fn put_next(content: &mut RecordContent, number: u32) -> u8
+    ensures { record_of result content.new ≡ record_of_recorded (next_is number) }
+{
+    content.clear();
+    put_number(content, number);
+    5
 }
 
 /// Two numbers of four octets and one of two, in place of what the content holds.

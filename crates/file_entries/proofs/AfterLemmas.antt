@@ -10,7 +10,7 @@ use Rattle.std.proofs.lemmas.List.Filters.{length-filter_both, sum_by-filter_bot
 use Rattle.std.proofs.lemmas.List.Folds.{find-append}
 use Rattle.std.proofs.lemmas.List.Sums.{sum_by_push}
 use Rattle.px_base.specs.CallSign.{CallSign, IsCall}
-use Rattle.file_entries.specs.Command.{Command, begin, grow, seal, drop_entry, has_room, is_good, is_partial, passes, is_allowed, grown, kept_with, sealed, stamp_of, with_more, changed, with_holding, after, after_all, AreAllowed, HasCall, HaveCalls}
+use Rattle.file_entries.specs.Command.{Command, begin, grow, seal, drop_entry, can_take, has_room, is_good, is_partial, passes, is_allowed, grown, kept_with, sealed, stamp_of, with_more, changed, with_holding, after, after_all, AreAllowed, HasCall, HaveCalls}
 use Rattle.file_entries.specs.Info.{is_complete}
 use Rattle.file_entries.specs.IsStore.{IsStore, FitsLength}
 use Rattle.file_entries.specs.Kept.{KeepsComplete}
@@ -63,9 +63,19 @@ pub begin-allowed : (store : Store) (number : ℕ) (caller : CallSign) (file_len
 begin-allowed store number caller file_length moment ok = grind (arith, nat_tests)
 
 -- what the condition of a grow says
+pub grow-takes : (store : Store) (number : ℕ) (octets : List ℕ) → IsTrue (is_allowed store (grow number octets))
+    → IsTrue (passes (λ e. can_take e.holding e.length (length octets)) (entry_of store number))
+grow-takes store number octets ok = (and-parts (nat_le 1 (length octets) && nat_le (length octets) 512) (passes (λ e. can_take e.holding e.length (length octets)) (entry_of store number)) ok).1
+
+-- so there is room
 pub grow-allowed : (store : Store) (number : ℕ) (octets : List ℕ) → IsTrue (is_allowed store (grow number octets))
     → IsTrue (passes (λ e. has_room e.holding e.length (length octets)) (entry_of store number))
-grow-allowed store number octets ok = (and-parts (nat_le 1 (length octets) && nat_le (length octets) 512) (passes (λ e. has_room e.holding e.length (length octets)) (entry_of store number)) ok).1
+grow-allowed store number octets ok = by (entry_of store number) (grow-takes store number octets ok)
+  where
+    by : (o : Option Entry) → IsTrue (passes (λ e. can_take e.holding e.length (length octets)) o)
+        → IsTrue (passes (λ e. has_room e.holding e.length (length octets)) o)
+    by None takes = absurd (cc takes)
+    by (Some e) takes = (and-parts (has_room e.holding e.length (length octets)) _ takes).0
 
 pub new_entry-IsStore : (store : Store) (caller : CallSign) (file_length moment : ℕ) → IsStore store → IsCall caller → file_length ≤ longest_file → length store.entries < most_entries
     → blocks_of store + blocks_for file_length ≤ store.blocks → IsStore (after store (begin store.next caller file_length moment))

@@ -1,11 +1,12 @@
 -- Octets that become held, one block after another.
-use Rattle.std.proofs.Common.{◌≡◌, ℕ, suc, zero, ◌+◌, ◌≤◌, ◌<◌, Bool, ◌&&◌, List, [], ◌∷◌, ◌++◌, length, map, take, drop, refl, ap, sym, ◌∙◌, subst, arith, Option, Some, ◌*◌, nat_le, length-append, length-drop, append_assoc}
+use Rattle.std.proofs.Common.{◌≡◌, ℕ, suc, zero, ◌⊎◌, inl, inr, ◌+◌, ◌≤◌, ◌<◌, ◌==◌, Bool, true, false, ◌&&◌, ◌||◌, List, [], ◌∷◌, ◌++◌, length, map, take, drop, refl, ap, sym, ◌∙◌, subst, arith, Option, Some, ◌*◌, nat_le, length-append, length-drop, append_assoc}
 use Rattle.std.specs.Prelude.{IsTrue}
+use Rattle.std.proofs.lemmas.Bool.{eq-eqb, le-leb}
 use Rattle.std.proofs.lemmas.Bool.Decides.{nat_tests}
 use Rattle.std.proofs.lemmas.List.{length-take-le, append-nil}
 use Rattle.std.proofs.Math.Seq.{take-add}
 use Rattle.file_journal.proofs.Offered.{after_all_append, allowed_append, allowed_first, allowed_split}
-use Rattle.file_entries.specs.Command.{Command, IsAllowed, grow, has_room, passes, is_allowed, grown, changed, with_holding, with_more, after, after_all, AreAllowed, grows, last_grow}
+use Rattle.file_entries.specs.Command.{Command, IsAllowed, grow, can_take, passes, is_allowed, grown, changed, with_holding, with_more, after, after_all, AreAllowed, grows, last_grow}
 use Rattle.file_entries.specs.Store.{Entry, Holding, partial, complete, Store, entry_of}
 use Rattle.file_entries.proofs.EntriesLemmas.{find-map-changed}
 
@@ -77,22 +78,32 @@ AreAllowed-first = allowed_first after IsAllowed
 pub both-true : (a b : Bool) → IsTrue a → IsTrue b → IsTrue (a && b)
 both-true a b p q = rw (p, q) refl
 
-pub partial-room : (held : List ℕ) (l n : ℕ) → length held + n ≤ l → IsTrue (has_room (partial held) l n)
-partial-room held l n le = grind (arith, nat_tests)
+-- so many further octets fit, and fill a block or are all that is lacking
+pub partial-takes : (held : List ℕ) (l n : ℕ) → length held + n ≤ l → (n ≡ 512) ⊎ (length held + n ≡ l) → IsTrue (can_take (partial held) l n)
+partial-takes held l n le fills = both-true (nat_le (length held + n) l) ((n == 512) || (length held + n == l)) (le-leb _ _ le) (either fills)
+  where
+    or_true : (a : Bool) → (a || true) ≡ true
+    or_true true = refl
+    or_true false = refl
 
-pub entry-has_room : (store : Store) (number : ℕ) (e : Entry) (held : List ℕ) (n : ℕ) → entry_of store number ≡ Some e → e.holding ≡ partial held → length held + n ≤ e.length
-    → IsTrue (passes (λ e. has_room e.holding e.length n) (entry_of store number))
-entry-has_room store number e held n found is le =
-    subst (λ (o : Option Entry). IsTrue (passes (λ e. has_room e.holding e.length n) o)) (sym found)
-    (subst (λ (h : Holding). IsTrue (has_room h e.length n)) (sym is) (partial-room held e.length n le))
+    either : (n ≡ 512) ⊎ (length held + n ≡ l) → IsTrue ((n == 512) || (length held + n == l))
+    either (inl block) = rw (eq-eqb n 512 block) refl
+    either (inr all) = rw (eq-eqb (length held + n) l all) (or_true (n == 512))
+
+pub entry-takes : (store : Store) (number : ℕ) (e : Entry) (held : List ℕ) (n : ℕ) → entry_of store number ≡ Some e → e.holding ≡ partial held → length held + n ≤ e.length
+    → (n ≡ 512) ⊎ (length held + n ≡ e.length) → IsTrue (passes (λ e. can_take e.holding e.length n) (entry_of store number))
+entry-takes store number e held n found is le fills =
+    subst (λ (o : Option Entry). IsTrue (passes (λ e. can_take e.holding e.length n) o)) (sym found)
+    (subst (λ (h : Holding). IsTrue (can_take h e.length n)) (sym is) (partial-takes held e.length n le fills))
 
 pub grow-is_allowed : (store : Store) (number : ℕ) (octets : List ℕ) (e : Entry) (held : List ℕ) → entry_of store number ≡ Some e → e.holding ≡ partial held
-    → 1 ≤ length octets → length octets ≤ 512 → length held + length octets ≤ e.length → IsTrue (is_allowed store (grow number octets))
-grow-is_allowed store number octets e held found is some most le =
+    → 1 ≤ length octets → length octets ≤ 512 → length held + length octets ≤ e.length → (length octets ≡ 512) ⊎ (length held + length octets ≡ e.length)
+    → IsTrue (is_allowed store (grow number octets))
+grow-is_allowed store number octets e held found is some most le fills =
     let first : IsTrue (nat_le 1 (length octets)) = grind (arith, nat_tests) in
     let second : IsTrue (nat_le (length octets) 512) = grind (arith, nat_tests) in
     both-true (nat_le 1 (length octets) && nat_le (length octets) 512) _ (both-true (nat_le 1 (length octets)) (nat_le (length octets) 512) first second)
-    (entry-has_room store number e held (length octets) found is le)
+    (entry-takes store number e held (length octets) found is le fills)
 
 pub grows-allowed : (number n : ℕ) (octets : List ℕ) (store : Store) (e : Entry) (held : List ℕ) → entry_of store number ≡ Some e → e.holding ≡ partial held
     → length held + 512 * n ≤ e.length → 512 * n ≤ length octets → AreAllowed store (grows number n octets)
@@ -100,13 +111,13 @@ grows-allowed number zero octets store e held found is fits some = tt
 grows-allowed number (suc n) octets store e held found is fits some =
     let step : 512 + 512 * n ≡ 512 * suc n = omega arith in
     let block : length (take 512 octets) ≡ 512 = length-take-le 512 octets (omega arith) in (
-      grow-is_allowed store number (take 512 octets) e held found is (omega arith) (omega arith) (omega arith),
+      grow-is_allowed store number (take 512 octets) e held found is (omega arith) (omega arith) (omega arith) (inl block),
       grows-allowed number n (drop 512 octets) (with_holding store number (grown (take 512 octets))) (record e { holding = grown (take 512 octets) e }) (held ++ take 512 octets)
           (find-map-changed number (grown (take 512 octets)) store.entries e found) (ap (with_more (take 512 octets)) is) (simp length-append (omega arith)) (simp length-drop (omega arith)),
     )
 
 pub last_grow-allowed : (number : ℕ) (rest : List ℕ) (store : Store) (e : Entry) (held : List ℕ) → entry_of store number ≡ Some e → e.holding ≡ partial held
-    → length rest < 512 → length held + length rest ≤ e.length → AreAllowed store (last_grow number rest)
-last_grow-allowed number [] store e held found is few fits = tt
-last_grow-allowed number (octet ∷ octets) store e held found is few fits =
-    (grow-is_allowed store number (octet ∷ octets) e held found is (omega arith) (omega arith) fits, tt)
+    → length rest < 512 → length held + length rest ≡ e.length → AreAllowed store (last_grow number rest)
+last_grow-allowed number [] store e held found is few all = tt
+last_grow-allowed number (octet ∷ octets) store e held found is few all =
+    (grow-is_allowed store number (octet ∷ octets) e held found is (omega arith) (omega arith) (omega (arith, all)) (inr all), tt)

@@ -1,4 +1,5 @@
 mod AfterLemmas
+mod DropLemmas
 mod EntriesLemmas
 mod FollowLemmas
 mod GrowLemmas

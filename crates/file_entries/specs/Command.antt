@@ -1,12 +1,15 @@
 -- The commands that change a store, with the condition of each and what it does.
-use Rattle.std.specs.Prelude.{◌≡◌, ℕ, zero, suc, ◌+◌, ◌*◌, ◌/◌, ◌≤◌, ◌<◌, ◌==◌, List, [], ◌∷◌, ◌++◌, length, take, drop, map, filter, Bool, not, true, false, ◌&&◌, nat_le, nat_lt, if◌then◌else◌, Option, None, Some, is_none, IsTrue, ⊤}
+use Rattle.std.specs.Prelude.{◌≡◌, ℕ, zero, suc, ◌+◌, ◌*◌, ◌/◌, ◌≤◌, ◌<◌, ◌==◌, List, [], ◌∷◌, ◌++◌, length, take, drop}
+use Rattle.std.specs.Prelude.{map, filter, Bool, not, true, false, ◌&&◌, ◌||◌, nat_le, nat_lt, if◌then◌else◌}
+use Rattle.std.specs.Prelude.{Option, None, Some, is_none, IsTrue, ⊤}
 use Rattle.std.specs.List.{AllByRecursion}
 use Rattle.px_base.specs.CallSign.{CallSign, IsCall}
 use Rattle.file_journal.specs.Commands as kept
 use Rattle.file_entries.specs.Limits.{last_next, longest_file, most_entries}
 use Rattle.pfh_items.specs.Faults.{fault_code}
 use Rattle.pfh_items.specs.Stamp.{StampValue, stamped}
-use Rattle.file_entries.specs.Store.{Entry, Holding, partial, complete, Store, blocks_for, blocks_of, entry_count, entry_of, free_blocks, new_entry}
+use Rattle.file_entries.specs.Store.{Entry, Holding, partial, complete, Store, blocks_for, blocks_of, entry_count}
+use Rattle.file_entries.specs.Store.{entry_of, free_blocks, new_entry, octets_of}
 
 pub data Command : Type 0 where
   -- a file of this number, caller, length and moment is begun
@@ -29,6 +32,17 @@ HasCall (drop_entry number) = ⊤
 abbrev pub HaveCalls : List Command → Type 0
 HaveCalls commands = AllByRecursion HasCall commands
 
+-- the command gives up no file
+abbrev pub KeepsFile : Command → Type 0
+KeepsFile (begin number caller file_length moment) = ⊤
+KeepsFile (grow number octets) = ⊤
+KeepsFile (seal number moment) = ⊤
+KeepsFile (drop_entry number) = ⊥
+
+-- the same of each command
+abbrev pub DropsNothing : List Command → Type 0
+DropsNothing commands = AllByRecursion KeepsFile commands
+
 -- whether a file of this length may be begun
 abbrev pub can_begin : Store → ℕ → Bool
 can_begin store file_length =
@@ -46,6 +60,11 @@ pub record MayBegin (store : Store) (file_length : ℕ) : Type 0 where
 abbrev pub has_room : Holding → ℕ → ℕ → Bool
 has_room (partial held) file_length more = nat_le (length held + more) file_length
 has_room (complete octets moment) file_length more = false
+
+-- the same, and whether they fill a block or are all that the file lacks
+abbrev pub can_take : Holding → ℕ → ℕ → Bool
+can_take holding file_length more =
+    has_room holding file_length more && ((more == 512) || (length (octets_of holding) + more == file_length))
 
 -- whether all octets of a file of this length are held, and the file breaks no rule
 abbrev pub is_good : Holding → ℕ → Bool
@@ -67,7 +86,7 @@ abbrev pub is_allowed : Store → Command → Bool
 is_allowed store (begin number caller file_length moment) = (number == store.next) && can_begin store file_length
 is_allowed store (grow number octets) =
     nat_le 1 (length octets) && nat_le (length octets) 512
-    && passes (λ e. has_room e.holding e.length (length octets)) (entry_of store number)
+    && passes (λ e. can_take e.holding e.length (length octets)) (entry_of store number)
 is_allowed store (seal number moment) = passes (λ e. is_good e.holding e.length) (entry_of store number)
 is_allowed store (drop_entry number) = passes (λ e. is_partial e.holding) (entry_of store number)
 

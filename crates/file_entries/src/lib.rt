@@ -1,5 +1,5 @@
-//! What a store of files is: its entries, what it tells of each, the commands that change it, and what they keep. A whole
-//! file is checked by its header before it is sealed, and kept with the server's stamp (PFH 1990).
+//! What a store of files is: its entries, what it tells of each, the commands that change it, and what they keep. A
+//! whole file is checked by its header before it is sealed, and kept with the server's stamp (PFH 1990).
 //!
 //! The store is a list of entries (`specs/Store.antt`), and each change of it one of the commands of
 //! `specs/Command.antt`. How it stands in memory and on a disk is crate `block_entries`'.

@@ -1,5 +1,5 @@
-use Rattle.block_entries.proofs.RecordLemmas.{placed_records, written_record}
+use Rattle.block_entries.specs.RecordLaws.{placed_records, recorded_record, says_recorded, written_record}
 use Rattle.block_entries.proofs.laws.records_law.Goals as goal
 
 pub returns : goal.returns
-returns c = (placed_records, written_record)
+returns c = (placed_records, written_record, says_recorded, recorded_record)

@@ -47,8 +47,8 @@ invariant_of-self c =
     c.args.block c.args.used c.requires.allowed c.take.new.self.runs c.take.new.self.limit c.grow.new.self c.index_mut.result.now.rest
     (ap (λ (t : Table). t.runs) c.take.ensures) (ap (λ (t : Table). t.limit) c.take.ensures) c.grow.ensures
 
-pub returns : goal.returns
-returns c =
+pub returns-clause-becomes : goal.returns-clause-becomes
+returns-clause-becomes c =
     let view = ap (λ (s : EntriesState). s.files) c.self.view_is in
     let rest = rest_now c.self.inside.table.runs c.self.inside.files.items c.self.inside.next c.self.inside.table.limit c.self.invariant _ view c.args.number _ c.place_of.result c.unwrap-place.ensures c.place_of.ensures.some c.index_mut.result.now c.index_mut.ensures.value in
     let becomes = hold_becomes c.self.inside.table.runs c.self.inside.files.items c.self.inside.next c.self.inside.table.limit c.self.invariant _ view c.args.number _ c.place_of.result c.unwrap-place.ensures c.place_of.ensures.some c.index_mut.result.now c.index_mut.ensures.value
