@@ -1,20 +1,18 @@
 -- What a store's commands do to its disk: what file_journal proves of a state that is kept, at the store's form.
-use Rattle.std.proofs.Common.{◌≡◌, ℕ, ◌+◌, ◌≤◌, Bool, true, false, List, [], ◌++◌, length, Option, refl, sym, ◌∙◌, ap, subst}
+use Rattle.std.proofs.Common.{◌≡◌, ℕ, ◌+◌, ◌≤◌, Bool, true, false, List, [], ◌++◌, length, Option, refl, sym, ap, subst}
 use Rattle.std.proofs.Math.Nat.{add-zero}
 use Rattle.disk_model.specs.AtDisk.{AtDisk}
 use Rattle.disk_model.specs.declared.disk.Disk.{Ghosts}
 use Rattle.file_journal.specs.AmongReads as among
 use Rattle.file_journal.specs.Calls.{Reads}
 use Rattle.file_journal.specs.Kept as kept
-use Rattle.file_journal.specs.Kept.{DoesPacing, IsKept, KeptOn, alone, kept_on}
+use Rattle.file_journal.specs.Kept.{IsKept, KeptOn, kept_on}
 use Rattle.file_journal.specs.Layout.{blocks_on}
-use Rattle.file_journal.specs.Position.{Position}
-use Rattle.file_journal.specs.declared.layout.Layout.TheVariants as layout
-use Rattle.file_journal.proofs.Offered.{among_does, among_same, among_then, does_longer, does_none, does_same, does_then, first_all, first_then, held_kept, makes_first, makes_within, paced, puts_among_then, reads_only, same_on}
+use Rattle.file_journal.proofs.Offered.{among_does, among_same, among_then, does_longer, does_none, does_same, does_then, first_all, first_then, held_kept, makes_first, makes_within, puts_among_then, reads_only, same_on}
 use Rattle.file_entries.specs.Command.{AreAllowed, Command, after_all}
 use Rattle.block_entries.specs.PlacedFiles.{store_of}
 use Rattle.block_entries.specs.PlacedLaws.{placed_seen}
-use Rattle.block_entries.specs.PlacedRecords.{placed_steps}
+use Rattle.block_entries.specs.PlacedForm.{placed_steps}
 use Rattle.block_entries.specs.Seen.{seen}
 use Rattle.file_entries.specs.Store.{Store}
 use Rattle.file_store.specs.OnDisk.{Does, MakesBetween, after_first, kept_at}
@@ -46,16 +44,6 @@ module _ {D : Type 0} (g : Ghosts D) where
   at-same self other disk store journal = same_on (store_on g self disk) (store_on g other disk) self.journal other.journal disk (ap (seen (blocks_on (g.content disk))) (sym store)) (sym journal)
 
   -- ---- commands alone
-
-  -- commands behind each other take exactly their calls of the disk, since the journal of a store has but one half
-  pub Does-paced : (P : Type 0) (old new : StoreState) (disk disk_now : D) (commands : List Command) → StandsOn g new disk_now
-      → DoesPacing g store_form (alone g P) P commands (kept_at g old disk) (kept_at g new disk_now) → Does g P old new disk disk_now commands
-  Does-paced P old new disk disk_now commands stands does =
-      paced g store_form (alone g P) P commands (kept_at g old disk) (kept_at g new disk_now)
-      (λ halves.
-      let blocks : layout.Halves ≡ layout.Blocks = sym halves ∙ sym (ap (λ (p : Position). p.layout) does.does.journal) ∙ stands.layout_is in
-      absurd (cc blocks))
-      does
 
   pub Does-none : (P : Type 0) (self : StoreState) (disk : D) → ¬ P → IsReady g self disk → g.lasts disk disk → Does g P self self disk disk []
   Does-none P self disk fine ready = does_none g store_form P (store_on g self disk) self.journal disk fine (kept-on self disk ready.stands_on) ready.healthy

@@ -11,6 +11,7 @@ mod PutLemmas
 mod ReadLemmas
 mod ReceiptLemmas
 mod RecoveryLemmas
+mod RoomLemmas
 mod SealLemmas
 mod SealedLemmas
 mod StandingLemmas

@@ -7,7 +7,7 @@ use Rattle.block_entries.specs.Outlined.{outlined}
 use Rattle.file_entries.specs.Like.{AreLike, IsAsFar, IsStoreLike}
 use Rattle.block_entries.specs.Placed.{PlacedStore}
 use Rattle.block_entries.specs.PlacedFiles.{store_of}
-use Rattle.block_entries.specs.PlacedRecords.{placed_steps}
+use Rattle.block_entries.specs.PlacedForm.{placed_steps}
 use Rattle.block_entries.specs.Seen.{seen}
 use Rattle.block_entries.proofs.Offered.{kept_seals, seen_like, seen_store}
 use Rattle.file_journal.specs.Calls.{TellsAlike}

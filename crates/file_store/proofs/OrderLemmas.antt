@@ -1,17 +1,20 @@
 -- How the end of a file goes is how the call goes that seals it.
-use Rattle.std.proofs.Common.{◌≡◌, inl, inr, ℕ, Bool, false, true, List, [], ◌∷◌, Ok, Err, refl}
+use Rattle.std.proofs.Common.{◌≡◌, inl, inr, ℕ, Bool, false, true, List, [], ◌∷◌, Option, Result, Ok, Err, IsErrOf, refl, ap}
 use Rattle.block_entries.specs.PlacedFiles.{store_of}
 use Rattle.disk_model.specs.AtDisk.{AtDisk, at}
 use Rattle.disk_model.specs.declared.disk.Disk.{Ghosts}
 use Rattle.disk_model.specs.declared.disk.DiskFault.{DiskFault}
 use Rattle.file_entries.specs.Command.{Command, last_grow}
+use Rattle.file_store.specs.Answers.{seal_commands, seal_missed}
 use Rattle.file_store.specs.Ending.{EndsFile, EndsInOrder}
-use Rattle.file_store.specs.Sealing.{SealsFile}
-use Rattle.file_store.specs.State.{StoreState}
+use Rattle.file_store.specs.Sealing.{SealsFile, commands_with}
+use Rattle.file_store.specs.State.{IsKnown, StoreState, store_on}
 use Rattle.file_store.specs.Upload.{Upload, ending, waiting}
+use Rattle.file_store.specs.Working.{DoesAmongReads}
 use Rattle.file_store.specs.declared.end.End.TheVariants as end
+use Rattle.file_store.specs.declared.refusals.SealRefusal.{SealRefusal}
 use Rattle.file_store.specs.declared.refusals.SealRefusal.TheVariants as seal_refusal
-use Rattle.file_store.proofs.DoesLemmas.{among-parked, among-same, Does-moved, Does-same}
+use Rattle.file_store.proofs.DoesLemmas.{among-at, among-parked, among-same, Does-moved, Does-same}
 
 module _ {D : Type 0} (g : Ghosts D) where
   order-same : (P Q : Type 0) (missed : Bool) (before now : AtDisk StoreState D) (first last : List Command) → (P → Q) → (Q → P)
@@ -92,3 +95,10 @@ module _ {D T : Type 0} (g : Ghosts D) (old new : StoreState) (disk disk_now : D
             order-same g _ _ false (at old disk) (at after disk_now) (first_of old up) last (λ p. refl) (λ q. refl)
             (order-parked g _ old new after disk disk_now (first_of old up) last same journal ends.order);
       }
+
+-- which commands they are is known where the octets of the file are
+pub seals-known : {D T : Type 0} (g : Ghosts D) (result : Result T SealRefusal) (old new : StoreState) (disk disk_now : D) (up : Upload) (moment : ℕ) → SealsFile g result old new disk disk_now up moment
+    → IsKnown g disk → DoesAmongReads g (IsErrOf result seal_refusal.Disk) (seal_missed result) old new disk disk_now (seal_commands result (store_on g old disk) old up moment)
+seals-known g result old new disk disk_now up moment seals known =
+    among-at g (IsErrOf result seal_refusal.Disk) (seal_missed result) old new disk disk_now (commands_with result old up moment seals.code) (seal_commands result (store_on g old disk) old up moment)
+    (ap (λ (code : Option ℕ). commands_with result old up moment code) (seals.tells known)) seals.does

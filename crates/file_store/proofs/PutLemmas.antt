@@ -1,5 +1,5 @@
 -- What a change of the entries makes of what memory tells.
-use Rattle.std.proofs.Common.{◌≡◌, ℕ, ◌+◌, ◌≤◌, ◌<◌, not, [], ◌∷◌, length, replicate, nat_le, nat_lt, Option, None, Some, Result, Ok, Err, IsErr, OnOk, OnErr, inl, inr, refl, sym, ◌∙◌, ap, subst, arith}
+use Rattle.std.proofs.Common.{◌≡◌, ℕ, ◌+◌, ◌≤◌, ◌<◌, Bool, not, [], ◌∷◌, length, replicate, nat_le, nat_lt, Option, None, Some, Result, Ok, Err, IsErr, OnOk, OnErr, inl, inr, refl, sym, ◌∙◌, ap, subst, arith}
 use Rattle.std.specs.Prelude.{IfErr, IfNone, IsErrAnd, IsTrue, is_some, ◌&&◌}
 use Rattle.std.proofs.lemmas.Bool.{and_parts, eqb-true, ltb-true}
 use Rattle.std.proofs.lemmas.Bool.Decides.{nat_tests}
@@ -125,8 +125,9 @@ module _ (self : StoreState) (number count : ℕ) (fills : FillsBlock self numbe
         passes = record { file = under.file; found = under.found; test_is = can-fill };
       }
 
-  pub fills-may : (block spare : ℕ) → IsPlaced (placed_in self) → IsLowest (placed_in self) block → MayMake (change.Hold number block count) (record { files = self.files; spare = spare })
-  fills-may block spare is lowest = record {
+  pub fills-may : (block spare least : ℕ) (first : Bool) → IsPlaced (placed_in self) → IsLowest (placed_in self) block
+      → MayMake (change.Hold number block count) (record { files = self.files; spare = spare; least = least; first = first })
+  fills-may block spare least first is lowest = record {
     rules = is;
     has = ((fills.waits.rest, fills.waits.out, fills.there), fills-grows block lowest, lowest);
   }

@@ -33,7 +33,7 @@ use Rattle.file_store.specs.Upload.{Holds, IsWholeWaiting, Upload, come_of, endi
 use Rattle.file_store.specs.Working.{DoesAmongReads}
 use Rattle.file_store.specs.declared.end.End.{End}
 use Rattle.file_store.specs.declared.end.End.TheVariants as end
-use Rattle.file_store.proofs.DoesLemmas.{among-at, among-same, among-then, does-among, Does-longer, Does-same, reads-only}
+use Rattle.file_store.proofs.DoesLemmas.{among-at, among-same, among-then, does-among, Does-longer, Does-none, Does-same, reads-only}
 use Rattle.file_store.proofs.EndLemmas.{mid-come, mid-is, mid-partial, mid-under, mid-whole, sealing-allowed}
 use Rattle.file_store.proofs.GrowsLemmas.{AreGrows}
 use Rattle.file_store.proofs.OnLemmas.{in_parked, known_on, known_told}
@@ -362,6 +362,18 @@ module _ {D : Type 0} (g : Ghosts D) (old : StoreState) (disk : D) (number momen
 pub rest-grow : (number count : ℕ) (waits : List ℕ) → count ≡ length waits → ¬ (count ≡ 0) → grow number (take count waits) ∷ [] ≡ last_grow number waits
 rest-grow number count [] all some = absurd (some all)
 rest-grow number count (x ∷ xs) all some = ap (λ (octets : List ℕ). grow number octets ∷ []) (take_all count (x ∷ xs) (omega (arith, all)))
+
+-- nothing waits, and so nothing is done
+pub rest-none : {D : Type 0} (g : Ghosts D) (P : Type 0) (self : StoreState) (disk : D) (number : ℕ) (waits : List ℕ) → length waits ≡ 0 → ¬ P → IsReady g self disk → g.lasts disk disk
+    → DoesTo g P self self disk disk (last_grow number waits) number
+rest-none g P self disk number [] none fine ready lasts = record {
+  does = Does-none g P self disk fine ready lasts;
+  stands_on = ready.stands_on;
+  part = (0, refl);
+  whole = λ held. refl;
+  rests = λ other ne. refl;
+}
+rest-none g P self disk number (x ∷ xs) none fine ready lasts = absurd (omega (arith, none))
 
 -- what was answered is that the disk failed
 pub ends-err : {D : Type 0} (g : Ghosts D) (result : Result End DiskFault) (old new : StoreState) (disk disk_now : D) (number moment : ℕ) → IsErr result

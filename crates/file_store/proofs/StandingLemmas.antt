@@ -15,9 +15,8 @@ use Rattle.file_store.specs.OnDisk.{kept_at}
 use Rattle.file_store.specs.Recovery.{StandsAlike}
 use Rattle.file_store.specs.State.{StoreState, standing_of, store_form, store_on}
 use Rattle.file_store.specs.Working.{CutsOffAmongReads}
-use Rattle.file_store.proofs.DoesLemmas.{cuts-among-all}
 
-module _ {D : Type 0} (g : Ghosts D) (on : (first second third : D) → g.lasts first second → g.lasts second third → g.lasts first third) (failed : Type 0) (blocks : ℕ) (old mid now : D)
+module _ {D : Type 0} (g : Ghosts D) (failed : Type 0) (blocks : ℕ) (old mid now : D)
     (start new : StoreState) (done cut : List Command) (missed : ℕ) (alike : TellsAlike (g.content old) (g.content mid))
     (stood : IfSome (g.content old) (λ before. standing_of blocks before ≡ state (store_on g start mid)))
     (since_start : Leaves g old mid (StandsAlike blocks)) (since_sync : IfSome (g.content old) (λ before. IsSyncedFirst g old mid (StandsAlike blocks before)))
@@ -25,4 +24,4 @@ module _ {D : Type 0} (g : Ghosts D) (on : (first second third : D) → g.lasts 
   pub stands-through : (stands : StandsThrough g store_form failed (store_on g start mid) done cut old now) × (stands.ready ≡ g.moment mid)
   stands-through =
       stands_through g store_form placed_seen.own_number blocks failed old (kept_at g start mid) (kept_at g cuts.then_is.it cuts.then_is.disk) (kept_at g new now) done cut alike stood since_start since_sync
-      (among_reads g failed missed) (among_reads g ⊥ missed) (among_reads g failed 0) (cuts-among-all g on failed missed (at start mid) (at new now) done cut cuts) cuts.first cuts.second cuts.first.puts.told cuts.second.puts.told
+      (among_reads g ⊥ missed) (among_reads g failed 0) cuts.first cuts.second cuts.first.puts.told cuts.second.puts.told

@@ -1,7 +1,6 @@
 -- A change of the entries as a turn of the kept state: its record, and what that makes.
 use Rattle.std.proofs.Common.{◌≡◌, ◌+◌, ℕ, ◌≤◌, ◌==◌, Bool, true, false, List, [], length, take, nat_le, nat_lt, Option, None, Some, refl, sym, ◌∙◌, ap, subst, arith}
 use Rattle.std.specs.Prelude.{IfSome, IsTrue, ◌&&◌, if◌then◌else◌}
-use Rattle.std.specs.Option.{option_and_then}
 use Rattle.std.proofs.lemmas.Bool.{eq-eqb}
 use Rattle.std.proofs.lemmas.Bool.Decides.{nat_tests}
 use Rattle.std.proofs.lemmas.List.{length-take-le}
@@ -10,14 +9,15 @@ use Rattle.block_entries.specs.IsPlaced.{IsPlaced}
 use Rattle.block_entries.specs.KeptLaws.{after_placed, blocks_seen, drop_placed, grow_placed, seal_placed}
 use Rattle.block_entries.specs.Placed.{PlacedStore, placed_of}
 use Rattle.block_entries.specs.PlacedCommand as placed
-use Rattle.block_entries.specs.PlacedCommand.{PlacedCommand, after, can_seal, is_partial, is_whole, seal_with, with_grown, with_new, with_sealed, without_file}
+use Rattle.block_entries.specs.PlacedCommand.{PlacedCommand, after, is_partial, seal_with, with_grown, with_sealed}
 use Rattle.block_entries.specs.PlacedFiles.{EntriesState, PlacedFiles, octets_or_none, rest_of, store_of}
-use Rattle.block_entries.specs.PlacedRecords.{IsWritable, placed_after, placed_form, placed_in, placed_step, placed_steps, record_of_placed}
+use Rattle.block_entries.specs.PlacedForm.{placed_form, placed_steps}
+use Rattle.block_entries.specs.PlacedRecords.{IsWritable, placed_after, record_of_placed}
 use Rattle.block_entries.specs.Seen.{octets_in, seen, stamp_at}
 use Rattle.block_entries.specs.TestLaws.{Grows, Passes, passes_found}
-use Rattle.block_entries.proofs.Offered.{grows_allowed, placed_records, seal_step, seen_after, seen_allowed, seen_may_grow, seen_put, seen_sealed, written_record}
+use Rattle.block_entries.proofs.Offered.{grows_allowed, kept_step, octets_written, seal_step, seen_after, seen_allowed, seen_may_grow, seen_put, seen_sealed}
 use Rattle.file_entries.specs.Command as file
-use Rattle.file_entries.specs.Command.{IsAllowed, MayBegin, can_begin}
+use Rattle.file_entries.specs.Command.{MayBegin, can_begin}
 use Rattle.file_entries.specs.Limits.{last_next, longest_file, most_entries}
 use Rattle.file_entries.specs.Store.{Store, blocks_for, blocks_of}
 use Rattle.file_entries.proofs.Offered.{both-true}
@@ -51,19 +51,6 @@ drop-allowed held store number passes = passes_found store number is_partial pas
 
 -- ---- the step of a record
 
-stepped-by : (held : Blocks) (store next : PlacedStore) (command : PlacedCommand) (entry : Record) → IsWritable command → entry ≡ record_of_placed command
-    → placed_after held store command ≡ Some next → placed_step held store entry ≡ Some next
-stepped-by held store next command entry writable is step =
-    let read : placed_in (record_of_placed command) ≡ Some command = (placed_records (record_of_placed command) command (written_record command writable)).1 (writable, refl) in
-    ap (λ (o : Option PlacedCommand). option_and_then (placed_after held store) o) (ap placed_in is ∙ read) ∙ step
-
--- so does each store of which this one is kept
-stepped-from : (held : Blocks) (store next : PlacedStore) (command : PlacedCommand) (entry : Record) → IsWritable command → entry ≡ record_of_placed command
-    → placed_after held store command ≡ Some next → (before : PlacedStore) → IsPlaced before → before ≡ store
-    → (now : PlacedStore) × (placed_step held before entry ≡ Some now) × (now ≡ next)
-stepped-from held store next command entry writable is step before rules kept =
-    (next, ap (λ (s : PlacedStore). placed_step held s entry) kept ∙ stepped-by held store next command entry writable is step, refl)
-
 -- where its condition holds
 allowed-after : (held : Blocks) (store : PlacedStore) (command : PlacedCommand) → IsTrue (placed.is_allowed held store command) → placed_after held store command ≡ Some (after held store command)
 allowed-after held store command ok = rw ok refl
@@ -72,11 +59,6 @@ allowed-after held store command ok = rw ok refl
 is-allowed-made : (ok : Bool) (made now : PlacedStore) → (if ok then Some made else None) ≡ Some now → IsTrue ok
 is-allowed-made true made now is = refl
 is-allowed-made false made now is = absurd (cc is)
-
--- ---- the octets of a record
-
-written-octets : (entry : Record) (command : PlacedCommand) → entry ≡ record_of_placed command → 4 + length (record_of_placed command).content ≡ 4 + length entry.content
-written-octets entry command is = ap (λ (e : Record). 4 + length e.content) (sym is)
 
 -- ---- each change
 
@@ -108,12 +90,12 @@ turn-written (change.Begin caller file_length moment) entries entry may writable
     let ok : (held : Blocks) → IsTrue (placed.is_allowed held store command) = λ held. begin-allowed held store caller file_length moment may.rules (may.has.0 held) in
     record {
       allowed = λ held lets. seen_allowed held store command may.rules (ok held);
-      step = λ held lets put. stepped-from held store (after held store command) command entry writable is (allowed-after held store command (ok held));
+      step = λ held lets put. kept_step held store (after held store command) command entry writable is (allowed-after held store command (ok held));
       sees = λ held lets put. seen_after held store command may.rules (ok held);
       reaches = after_placed (λ b. []) store command may.rules writable.1 (ok (λ b. []));
       number = refl;
       calls = refl;
-      octets = written-octets entry command is;
+      octets = octets_written (λ b. []) entry command writable is;
     }
 turn-written (change.Hold number block count) entries entry may writable is =
     let store = store_of entries.files in
@@ -124,12 +106,12 @@ turn-written (change.Hold number block count) entries entry may writable is =
     record {
       allowed = λ held lets. seen_may_grow held store number block (waiting_front entries.files number count) (grows-front entries.files number block count front grows) may.rules;
       step = λ held lets put.
-          stepped-from held store (after held store command) command entry writable is (allowed-after held store command (grows_allowed held store number block count grows));
+          kept_step held store (after held store command) command entry writable is (allowed-after held store command (grows_allowed held store number block count grows));
       sees = λ held lets put. hold-sees entries.files number block count front grows held may.rules put;
       reaches = grow_placed store number block count may.rules grows;
       number = refl;
       calls = refl;
-      octets = written-octets entry command is;
+      octets = octets_written (λ b. []) entry command writable is;
     }
 turn-written (change.Seal number moment header) entries entry may writable is =
     let store = store_of entries.files in
@@ -142,12 +124,12 @@ turn-written (change.Seal number moment header) entries entry may writable is =
     λ held lets. seal_step held store number moment header.sum header.len passes (sealable held lets) in
     record {
       allowed = λ held lets. seen_allowed held store command may.rules (is-allowed-made (placed.is_allowed held store command) (after held store command) (with_sealed store number mark) (made held lets));
-      step = λ held lets put. stepped-from held store (with_sealed store number mark) command entry writable is (made held lets);
+      step = λ held lets put. kept_step held store (with_sealed store number mark) command entry writable is (made held lets);
       sees = λ held lets put. seen_sealed held store number mark may.rules passes;
       reaches = seal_placed store number mark may.rules may.has.0;
       number = refl;
       calls = refl;
-      octets = written-octets entry command is;
+      octets = octets_written (λ b. []) entry command writable is;
     }
 turn-written (change.Drop number) entries entry may writable is =
     let store = store_of entries.files in
@@ -155,10 +137,10 @@ turn-written (change.Drop number) entries entry may writable is =
     let ok : (held : Blocks) → IsTrue (placed.is_allowed held store command) = λ held. drop-allowed held store number may.has in
     record {
       allowed = λ held lets. seen_allowed held store command may.rules (ok held);
-      step = λ held lets put. stepped-from held store (after held store command) command entry writable is (allowed-after held store command (ok held));
+      step = λ held lets put. kept_step held store (after held store command) command entry writable is (allowed-after held store command (ok held));
       sees = λ held lets put. seen_after held store command may.rules (ok held);
       reaches = drop_placed store number may.rules may.has;
       number = refl;
       calls = refl;
-      octets = written-octets entry command is;
+      octets = octets_written (λ b. []) entry command writable is;
     }

@@ -11,24 +11,23 @@ use Rattle.file_entries.specs.IsStore.{IsStore}
 use Rattle.file_entries.specs.Store.{Entry, Store, complete, entry_of, holding_of_number, partial}
 use Rattle.block_entries.specs.Laws.{IsPlacedAfter}
 use Rattle.file_entries.specs.Like.{IsStoreLike}
-use Rattle.block_entries.specs.Placed.{PlacedStore}
-use Rattle.block_entries.specs.PlacedCommand.{PlacedCommand}
+use Rattle.block_entries.specs.ReadStore.{ReadStore, Recorded}
 use Rattle.block_entries.specs.Seen.{seen}
 use Rattle.file_store.specs.OnDisk.{MakesBetween}
 use Rattle.file_store.specs.State.{IsKnown, IsReady, StandsFor, StandsOn, StoreState, store_in, store_on}
 use Rattle.file_store.specs.Upload.{Upload, entry_for, kept_file}
 
--- The records of the octets are these commands, each of which the entries before it allow with what the blocks hold;
--- these are the entries after them, and with the octets that the blocks hold they are this store.
-abbrev pub IsStoreAfter : List ℕ → Store → PlacedStore → List PlacedCommand → Type 0
-IsStoreAfter octets files now commands = IsPlacedAfter octets now commands × (files ≡ seen (block_in octets) now)
+-- The records of the octets say this, each of which the entries before it allow with what the blocks hold; these are
+-- the entries after them, and with the octets that the blocks hold they are this store.
+abbrev pub IsStoreAfter : List ℕ → Store → ReadStore → List Recorded → Type 0
+IsStoreAfter octets files now records = IsPlacedAfter octets now records × (files ≡ seen (block_in octets) now.store)
 
--- octets stand for a store exactly where they are the records of commands that make it
+-- octets stand for a store exactly where their records make it
 abbrev pub StandingLaw : Type 0
 StandingLaw =
     (octets : List ℕ) (files : Store) → IsOctets octets
     → StandsFor octets files
-    ↔ ((now : PlacedStore) × (commands : List PlacedCommand) × IsStoreAfter octets files now commands)
+    ↔ ((now : ReadStore) × (records : List Recorded) × IsStoreAfter octets files now records)
 
 -- in the store that the image stands for, the upload's entry is under way and holds at least as many octets as it says
 abbrev pub HoldsIn : Upload → List ℕ → Type 0

@@ -26,6 +26,7 @@ pub use Rattle.file_entries.specs.Store
 pub use Rattle.file_entries.specs.declared.begin_bar.BeginBar
 pub use Rattle.file_entries.specs.declared.info.Info as EntriesInfo
 pub use Rattle.file_entries.specs.Limits
+pub use Rattle.file_journal.specs.Bounds
 pub use Rattle.file_journal.specs.Calls
 pub use Rattle.file_journal.specs.Journal
 pub use Rattle.file_journal.specs.Position

@@ -2,7 +2,6 @@
 use Rattle.std.specs.Prelude.{◌≡◌, ℕ, List, length, map, replicate}
 use Rattle.disk_model.specs.declared.disk.Disk.{Ghosts}
 use Rattle.file_journal.specs.Commands as kept_commands
-use Rattle.file_journal.specs.Commands.{done_at}
 use Rattle.file_journal.specs.Kept as kept
 use Rattle.file_journal.specs.Kept.{KeptOn, kept_on}
 use Rattle.file_entries.specs.Command.{Command, after_all, begin, drop_entry, grow, seal}
@@ -22,20 +21,21 @@ MakesBetween low high store commands image = kept_commands.MakesBetween store_fo
 abbrev pub MakesFirst : Store → List Command → List ℕ → Type 0
 MakesFirst store commands image = kept_commands.MakesFirst store_form store commands image
 
--- Each command takes the calls of the disk that the form of a store says. Since the first so many commands are done,
--- one at least, no crash leaves fewer of them. The first of them began at the moment `start`.
-abbrev pub StayDone : {D : Type 0} → Ghosts D → ℕ → ℕ → Store → List Command → D → Type 0
-StayDone g start done store commands disk_now =
-    kept_commands.StayDone g store_form (done_at store_form start commands) done store commands disk_now
+-- Since the first so many commands are done, one at least, no crash leaves fewer of them: since the moment that `time`
+-- has of that number.
+abbrev pub StayDone : {D : Type 0} → Ghosts D → (ℕ → ℕ) → ℕ → Store → List Command → D → Type 0
+StayDone g time done store commands disk_now = kept_commands.StayDone g store_form time done store commands disk_now
 
 -- the store on its disk, and the journal of its commands
 abbrev pub kept_at : {D : Type 0} → Ghosts D → StoreState → D → KeptOn D Store
 kept_at g self disk = kept_on (store_on g self disk) self.journal disk
 
--- A call of a store that hasn't failed did these commands, each in the calls of the disk that the form of a store says,
--- or the disk failed in one of them. A crash since the call began leaves the store after the first of them, for some
--- number of them, and no fewer than were done when it came. Without commands the disk is untouched. Where it is known
--- what the store's files hold, each command was allowed, and the store is the one after them.
+-- A call of a store that hasn't failed did these commands, or the disk failed in one of them. Each took the calls of
+-- the disk that the form of a store says; where the journal had no room for its record behind those before it, at most
+-- those more by which the records are written anew. A crash since the call began leaves the store after the first of
+-- them, for some number of them, and no fewer than were done when it came. Without commands the disk is untouched.
+-- Where it is known what the store's files hold, each command was allowed, and the store is the one after them. The
+-- disk gets no longer than a store of so many blocks may be, or than it was.
 abbrev pub Does :
     {D : Type 0} → Ghosts D → Type 0 → StoreState → StoreState → D → D → List Command → Type 0
 Does g failed old new disk disk_now commands =

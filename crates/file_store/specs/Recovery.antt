@@ -3,15 +3,17 @@ use Rattle.std.specs.Prelude.{◌≡◌, ℕ, List, Option, IfSome, Result}
 use Rattle.disk_model.specs.declared.disk.Disk.{Ghosts}
 use Rattle.block_entries.specs.PlacedFiles.{NothingOut}
 use Rattle.file_journal.specs.Calls.{IsQuietNow}
+use Rattle.file_journal.specs.Recovery.{number_in}
 use Rattle.file_journal.specs.Restoring as restoring
 use Rattle.file_journal.specs.Walk.{state}
 use Rattle.file_store.specs.State.{IsReady, StoreState, standing_of, store_form, store_on}
 use Rattle.file_journal.specs.declared.faults.StoreFault.{StoreFault}
 
--- The store that a recovery gives is the one that the content stood for. No upload is out, and the store is ready on
--- the disk, which is quiet.
+-- The store that a recovery gives is the one that the content stood for, and has the block number that the content had,
+-- or this one where it had none. No upload is out, and the store is ready on the disk, which is quiet.
 pub record IsRecovered {D : Type 0} (g : Ghosts D) (blocks : ℕ) (disk disk_now : D) (self : StoreState) : Type 0 where
   pub content : IfSome (g.content disk) (λ before. standing_of blocks before ≡ state (store_on g self disk_now))
+  pub number : IfSome (g.content disk) (λ before. self.journal.blocks ≡ number_in blocks before)
   pub nothing_out : NothingOut self.files
   pub ready : IsReady g self disk_now
   pub quiet : IsQuietNow g disk_now

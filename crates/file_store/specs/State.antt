@@ -4,7 +4,8 @@ use Rattle.disk_model.specs.declared.disk.Disk.{Ghosts}
 use Rattle.block_entries.specs.Outlined.{outlined}
 use Rattle.block_entries.specs.Placed.{PlacedStore}
 use Rattle.block_entries.specs.PlacedFiles.{PlacedFiles, rest_of, store_of}
-use Rattle.block_entries.specs.PlacedRecords.{placed_form, placed_magic, placed_steps}
+use Rattle.block_entries.specs.PlacedForm.{placed_form, placed_steps}
+use Rattle.block_entries.specs.PlacedRecords.{placed_magic}
 use Rattle.block_entries.specs.Seen.{seen}
 use Rattle.file_entries.specs.Command.{Command}
 use Rattle.file_entries.specs.Store.{Store}
@@ -26,7 +27,7 @@ abbrev pub store_magic : List ℕ
 store_magic = placed_magic
 
 abbrev pub store_layout : Layout
-store_layout = layout.Blocks
+store_layout = layout.Halves
 
 -- what the code has in memory: of each entry in which blocks its octets stand, and what waits of an upload that is out;
 -- and the journal of the commands
@@ -65,8 +66,8 @@ abbrev pub HasFailed : StoreState → Type 0
 HasFailed self = self.journal.failed ≡ true
 
 -- What octets stand for as a store of files: for none, since they begin with other octets; for damage at this place; or
--- for the store after the commands that their records are, each of which the store before it allows, with the octets
--- that the blocks hold. Octets that have no block number yet stand for the empty store of this one.
+-- for the store that their records make, each of which is allowed in its turn, with the octets that the blocks hold.
+-- Octets that have no block number yet stand for the empty store of this one.
 abbrev pub standing_of : ℕ → List ℕ → Stands Store
 standing_of blocks octets = form.standing_of store_form blocks octets
 

@@ -8,10 +8,12 @@ use Rattle.file_store.specs.OnDisk.{kept_at}
 use Rattle.file_store.specs.State.{StoreState, store_form}
 pub use Rattle.file_journal.specs.AmongReads.{CountsSome, PutsAmongReads, StopsAtFailedWrite, one_if}
 
--- A store that hadn't failed did these commands, each in the calls of the disk that the form of a store says, or the
--- disk failed in one of them; and reads came before, between and behind them, of which so many failed at least, or none
--- did. A crash since it began leaves the store after the first of the commands, for some number of them, and no fewer
--- than were done when it came. Without commands the disk is as reads leave it.
+-- A store that hadn't failed did these commands, or the disk failed in one of them; and reads came before, between and
+-- behind them, of which so many failed at least, or none did. Each command took the calls of the disk that the form of
+-- a store says; where the journal had no room for its record behind those before it, at most those more by which the
+-- records are written anew. A crash since it began leaves the store after the first of the commands, for some number of
+-- them, and no fewer than were done when it came. Without commands the disk is as reads leave it. The disk gets no
+-- longer than a store of so many blocks may be, or than it was.
 abbrev pub DoesAmongReads :
     {D : Type 0} → Ghosts D → Type 0 → ℕ → StoreState → StoreState → D → D → List Command → Type 0
 DoesAmongReads g failed missed old new disk disk_now commands =

@@ -5,7 +5,9 @@ ghost use Rattle.block_entries.specs.Placed.{PlacedStore};
 ghost use Rattle.block_entries.specs.PlacedCommands.{placed_value};
 ghost use Rattle.block_entries.specs.PlacedFiles.{store_of};
 ghost use Rattle.block_entries.specs.PlacedLaws.{placed_seen};
-ghost use Rattle.block_entries.specs.PlacedRecords.{IsWritable, placed_form, placed_steps};
+ghost use Rattle.block_entries.specs.PlacedForm.{placed_form, placed_steps};
+ghost use Rattle.block_entries.specs.PlacedRecords.{IsWritable};
+ghost use Rattle.block_entries.specs.ReadStore.{ReadStore};
 ghost use Rattle.block_entries.specs.Seen.{seen};
 ghost use Rattle.file_entries.specs.Command.{Command as StoreCommand};
 ghost use Rattle.file_entries.specs.Store.{Store};
@@ -87,7 +89,7 @@ impl EntriesChange {
 }
 
 impl Change<Entries> for EntriesChange {
-    ghost State = { PlacedStore };
+    ghost State = { ReadStore };
 
     ghost Kept = { PlacedStore };
 

@@ -6,6 +6,7 @@ ghost use Rattle.std.specs.Borrow.{sem};
 ghost use Rattle.std.specs.Io.BufRead.{Rests};
 ghost use Rattle.std.specs.Option.{option_map};
 ghost use Rattle.disk_model.specs.Disk.{FillsRoom};
+ghost use Rattle.file_journal.specs.Bounds.{RecoversInHalves};
 ghost use Rattle.file_journal.specs.Calls.{Leaves, Reads, Runs, TakesStep};
 ghost use Rattle.file_journal.specs.Journal.{IsAfterRecovery};
 ghost use Rattle.file_entries.specs.Command.{after, after_all, begin, drop_entry, grow, grows, last_grow, seal};
@@ -113,6 +114,9 @@ impl FileStore {
         // formatted to its end as it is; since the end of the first sync the latter, but where that sync failed.
         ensures since_start { Leaves D.Disk disk.old disk.new (StandsAlike limits.blocks) }
         ensures since_sync { LeavesAlikeSinceSync D.Disk limits.blocks result disk.old disk.new }
+
+        // The disk gets no longer than the store whose block number it has, or gets.
+        ensures within { RecoversInHalves D.Disk store_layout limits.blocks disk.old disk.new }
     {
         let kept = Kept::recover(alloc, disk, limits.blocks)?;
         // Behind the recovery, so that a crash finds the disk synced where there is no memory for it too.
@@ -218,7 +222,8 @@ impl FileStore {
     ///
     /// `TooMuch`, where more octets would come than the file has, is looked at first, then `Failed`. Takes memory,
     /// before it touches the disk. The work is that of finding the entry and of the octets that come, however many are
-    /// held; the disk takes three writes and three syncs for each 512.
+    /// held; the disk takes three writes and three syncs for each 512. Where its records fill their half, they are
+    /// written anew into the other one first.
     pub fn append<D: Disk>(
         &mut self,
         disk: &mut D,

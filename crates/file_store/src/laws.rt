@@ -11,8 +11,8 @@ ghost use Rattle.file_store.specs.Upload.{Holds};
 use crate::{FileStore, OpenUpload};
 use disk_model::Disk;
 
-/// What octets stand for: what the commands that their records are make of no entries, with the octets that the blocks
-/// hold, and no other store.
+/// What octets stand for: what their records make of no entries, with the octets that the blocks hold, and no other
+/// store.
 pub fn standing_law()
     ensures { StandingLaw }
 {}

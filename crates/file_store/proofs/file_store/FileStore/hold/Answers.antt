@@ -21,8 +21,9 @@ put_change-requires-clause-may g c =
     let inside : StoreState = state_from c.self.inside.kept.ledger.files c.self.inside.kept.journal in
     let fills = subst (λ (s : StoreState). FillsBlock s c.args.number c.args.count) (sym c.self.view_is) c.requires.fills in
     let ready = subst (λ (s : StoreState). IsReady D s c.args.disk.now) (sym c.self.view_is) c.requires.ready in
+    let ledger : EntriesState = c.self.inside.kept.ledger in
     subst (λ (l : EntriesState). MayMake (change.Hold c.args.number c.lowest_free-block.result c.args.count) l) (sym c.lowest_free-block.ensures.same)
-    (fills-may inside c.args.number c.args.count fills c.lowest_free-block.result c.self.inside.kept.ledger.spare ready.stands_on.holds.reached c.lowest_free-block.ensures.lowest)
+    (fills-may inside c.args.number c.args.count fills c.lowest_free-block.result ledger.spare ledger.least ledger.first ready.stands_on.holds.reached c.lowest_free-block.ensures.lowest)
 
 pub returns-clause-does : goal.returns-clause-does
 returns-clause-does g c =

@@ -1,11 +1,24 @@
-use Rattle.std.proofs.Common.{◌≡◌, ℕ, true, false, [], ◌∷◌, length, take, IsErr, refl, sym, ◌∙◌, ap, subst, rules}
+use Rattle.std.proofs.Common.{◌≡◌, ℕ, ◌*◌, true, false, [], ◌∷◌, drop, length, take, IsErr, refl, sym, ◌∙◌, ap, subst, rules}
+use Rattle.std.specs.Option.{option_map}
 use Rattle.file_entries.specs.Command.{after_all, grow, grows}
 use Rattle.block_entries.specs.PlacedFiles.{octets_or_none}
 use Rattle.file_store.specs.OnDisk.{Does, outlined_all}
 use Rattle.file_store.specs.State.{rest_in, store_in}
-use Rattle.file_store.proofs.DoesLemmas.{Does-same, after_first-all}
+use Rattle.file_store.proofs.DoesLemmas.{Does-none, Does-same, after_first-all}
 use Rattle.file_store.proofs.HoldLemmas.{block-there, fills-whole, fits-held, hold-cut, hold-more, part-more, rest-later, whole-more}
 use Rattle.file_store.proofs.file_store.FileStore.hold_blocks.Goals as goal
+
+pub loop-block-init : goal.loop-block-init
+loop-block-init g c =
+    let out = c.requires.fits.out in
+    record {
+      does = Does-none g.D.Disk ⊥ c.args.self.now c.args.disk.now (λ never. never) c.requires.ready (g.met.D.Disk.lasts_same c.args.disk.now);
+      stands = c.requires.ready.stands_on;
+      whole = refl;
+      fits = c.requires.fits;
+      rest = out ∙ sym (ap (option_map (drop (512 * 0))) out);
+      rests = λ other ne. refl;
+    }
 
 pub returns-in_err-hold-clause-does : goal.returns-in_err-hold-clause-does
 returns-in_err-hold-clause-does g c =

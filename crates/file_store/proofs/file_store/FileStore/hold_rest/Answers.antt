@@ -1,9 +1,9 @@
-use Rattle.std.proofs.Common.{◌≡◌, List, length, IsErr, ◌∙◌, ap, subst, arith}
+use Rattle.std.proofs.Common.{◌≡◌, true, false, List, length, IsErr, sym, ◌∙◌, ap, subst, arith}
 use Rattle.file_entries.specs.Command.{Command}
 use Rattle.block_entries.specs.PlacedFiles.{octets_or_none}
 use Rattle.file_store.specs.OnDisk.{DoesTo}
 use Rattle.file_store.specs.State.{StoreState, rest_in}
-use Rattle.file_store.proofs.SealLemmas.{rest-grow}
+use Rattle.file_store.proofs.SealLemmas.{rest-grow, rest-none}
 use Rattle.file_store.proofs.UploadLemmas.{whole-fills}
 use Rattle.file_store.proofs.file_store.FileStore.hold_rest.Goals as goal
 
@@ -13,6 +13,13 @@ hold-requires-clause-fills g c =
     let some : ¬ (length c.waiting-waiting.result.now ≡ 0) = c.if-waiting-eq0.false in
     let all = ap length c.waiting-waiting.ensures ∙ ap (λ (s : StoreState). length (octets_or_none (rest_in s number))) c.self.view_is in
     whole-fills c.args.self.now number (length c.waiting-waiting.result.now) c.requires.whole (omega (arith, some)) all
+
+pub returns-then-waiting-eq0-clause-does : goal.returns-then-waiting-eq0-clause-does
+returns-then-waiting-eq0-clause-does g c =
+    let number = c.args.number in
+    let self = c.args.self.now in
+    let all = ap length c.waiting-waiting.ensures ∙ ap (λ (s : StoreState). length (octets_or_none (rest_in s number))) c.self.view_is in
+    rest-none g.D.Disk (false ≡ true) self c.args.disk.now number (octets_or_none (rest_in self number)) (sym all ∙ c.if-waiting-eq0.true) (λ is. cc is) c.requires.ready (g.met.D.Disk.lasts_same c.args.disk.now)
 
 pub returns-clause-does : goal.returns-clause-does
 returns-clause-does g c =

@@ -7,7 +7,7 @@ use Rattle.file_store.specs.State.{StoreState, placed_in, state_from}
 use Rattle.file_store.specs.Upload.{Holds, Upload, held_whole}
 use Rattle.file_store.specs.declared.end.End.TheVariants as end
 use Rattle.file_store.proofs.OnLemmas.{stands_parked}
-use Rattle.file_store.proofs.OrderLemmas.{seals-bad, seals-cut, seals-good, seals-unread}
+use Rattle.file_store.proofs.OrderLemmas.{seals-bad, seals-cut, seals-good, seals-known, seals-unread}
 use Rattle.file_store.proofs.SealLemmas.{leaves-keeps, leaves-then, parked-leaves}
 use Rattle.file_store.proofs.SealedLemmas.{ended-each, ended-kept, ended-unread}
 use Rattle.file_store.proofs.TokenLemmas.{holds-each}
@@ -64,6 +64,19 @@ returns-in-Err-clause-ends g c reaches =
     let ends : EndsFile D (Err c.in-Err.field-0) self c.end_file.new.self c.args.disk.now disk_now up.number c.args.moment = search rules in
     let store = c.park-in-Err.ensures.store_is ∙ ap (λ (s : StoreState). store_of s.files) c.self-2.view_is in
     seals-cut D self c.end_file.new.self c.args.disk.now disk_now up c.args.moment _ new store (ap (λ (s : StoreState). s.journal) c.self-2.view_is) ends
+
+pub returns-in-Ok-Sealed-clause-does : goal.returns-in-Ok-Sealed-clause-does
+returns-in-Ok-Sealed-clause-does g c reaches known =
+    seals-known g.D.Disk _ c.args.self.now c.end_file.new.self c.args.disk.now c.end_file.new.disk c.args.up c.args.moment (returns-in-Ok-Sealed-clause-ends g c reaches) known
+
+pub returns-in-Ok-Dropped-clause-does : goal.returns-in-Ok-Dropped-clause-does
+returns-in-Ok-Dropped-clause-does g c reaches known =
+    seals-known g.D.Disk _ c.args.self.now c.end_file.new.self c.args.disk.now c.end_file.new.disk c.args.up c.args.moment (returns-in-Ok-Dropped-clause-ends g c reaches) known
+
+pub returns-in-Err-clause-does : goal.returns-in-Err-clause-does
+returns-in-Err-clause-does g c reaches known =
+    let new : StoreState = state_from c.park-in-Err.new.self.files c.self-2.inside.kept.journal in
+    seals-known g.D.Disk _ c.args.self.now new c.args.disk.now c.end_file.new.disk c.args.up c.args.moment (returns-in-Err-clause-ends g c reaches) known
 
 pub returns-in-Ok-Sealed-clause-complete : goal.returns-in-Ok-Sealed-clause-complete
 returns-in-Ok-Sealed-clause-complete g c =
