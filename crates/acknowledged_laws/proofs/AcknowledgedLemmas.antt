@@ -9,14 +9,13 @@ use Rattle.disk_model.specs.declared.disk.Disk.{Ghosts}
 use Rattle.ftl0_packets.specs.Items.{kind_of_item, texts}
 use Rattle.ftl0_packets.specs.Layout.{Item, PacketValue, data_end, data_part, dir_long_cmd, dir_short_cmd, download_cmd, select_cmd, ul_ack_resp, ul_nak_resp, upload_cmd}
 use Rattle.pfh_items.specs.Faults.{fault_code}
-use Rattle.file_journal.specs.Commands.{calls_of, done_at}
-use Rattle.file_journal.specs.Through.{StandsThrough}
-use Rattle.file_journal.proofs.Offered.{at_all, at_first, at_some}
+use Rattle.file_journal.specs.Through.{HadRoom, StandsThrough}
+use Rattle.file_journal.proofs.Offered.{done_stay, front_done, rises_all, told_weaker}
 use Rattle.file_store.specs.Command.{AreAllowed, Command, after_all, last_grow, seal}
-use Rattle.file_store.specs.OnDisk.{MakesBetween, StayDone}
+use Rattle.file_store.specs.OnDisk.{MakesBetween}
 use Rattle.file_store.specs.State.{IsKnown, store_form}
 use Rattle.file_store.specs.Store.{Entry, Holding, Store, complete, entry_of, octets_at, partial}
-use Rattle.file_store.proofs.Offered.{AreAllowed-split, after_all-append, at_told, if_told}
+use Rattle.file_store.proofs.Offered.{AreAllowed-split, after_all-append}
 use Rattle.ftl0_session.specs.Answering.{SendsSome}
 use Rattle.ftl0_session.specs.Downloads.Table as download
 use Rattle.ftl0_session.specs.Downloads.Table.{DownloadRow, DownloadState, Due, ready}
@@ -120,22 +119,8 @@ whole store number moment rest others (Some entry) is good allowed =
 
 module _ {D : Type 0} (g : Ghosts D) (law : AcknowledgedStandsLaw) (failed : Type 0) (whether : failed ⊎ ¬ failed) (start : Store) (done cut : List Command) (disk disk_n : D)
     (known : IsKnown g disk) (stands : StandsThrough g store_form failed start done cut disk disk_n) where
-  -- the commands that were done stay so, and were done by the end
-  stay_done : (octets : List ℕ) → g.content disk ≡ Some octets → failed ⊎ ¬ failed
-      → StayDone g stands.ready (length done) start (done ++ cut) disk_n × (done_at store_form stands.ready (done ++ cut) (length done) ≤ g.moment disk_n)
-  stay_done octets told (inl stopped) =
-      let end = stands.interrupted stopped in
-      let stay = at_told _ octets told end.stay in
-      let calls = at_told _ octets told end.calls in
-      let least = end.no_less in (λ count some most. stay count some (omega arith), omega (arith, calls, at_some store_form stands.ready (length done) end.count (done ++ cut) least))
-  stay_done octets told (inr fine) =
-      let stay = at_told _ octets told (stands.stay fine) in
-      let calls = at_told _ octets told (stands.calls fine) in
-      let both = length-append done cut in
-      (λ count some most. stay count some (omega arith), omega (arith, calls, at_some store_form stands.ready (length done) (length (done ++ cut)) (done ++ cut) (omega (arith, both))))
-
   pub acknowledged : (file : FileEnd) → file.store ≡ after_all start file.before → IsAllGood file.store file.number file.rest → (others : List Command)
-      → done ≡ file.before ++ ((row_of_end file).commands ++ others) → AcknowledgedSince g file start stands.ready disk disk_n
+      → done ≡ file.before ++ ((row_of_end file).commands ++ others) → AcknowledgedSince g file start stands.time (HadRoom stands) disk disk_n
   acknowledged file behind good others parts =
       let before : List Command = file.before in
       let commands : List Command = (row_of_end file).commands in
@@ -151,22 +136,25 @@ module _ {D : Type 0} (g : Ghosts D) (law : AcknowledgedStandsLaw) (failed : Typ
       let count : ℕ = length before + length commands in
       let some : 1 ≤ count = omega (arith, ack.some) in
       let most : count ≤ length done = omega (arith, ap length parts, length-append before (commands ++ others), length-append commands others) in
-      let moment : done_at store_form stands.ready (done ++ cut) count ≡ stands.ready + calls_of store_form (before ++ commands) =
-      ap (λ (cs : List Command). done_at store_form stands.ready cs count) (all ∙ sym (append_assoc before commands (others ++ cut)))
-      ∙ ap (done_at store_form stands.ready ((before ++ commands) ++ (others ++ cut))) (sym (length-append before commands))
-      ∙ at_first store_form stands.ready (length (before ++ commands)) (before ++ commands) (others ++ cut) (omega arith)
-      ∙ at_all store_form stands.ready (before ++ commands) in
+      let here : List Command = before ++ commands in
+      let number : length here ≡ count = length-append before commands in
+      let moment : stands.time (length here) ≡ stands.time count = ap stands.time number in
+      let front = front_done g store_form failed start done cut disk disk_n stands here (others ++ cut) (all ∙ sym (append_assoc before commands (others ++ cut))) in
+      let stay = done_stay g store_form failed start done cut disk disk_n stands whether in
       record {
         behind = behind;
         entry = is.0;
         held = is.1;
         whole = is.2;
         replies = ack.replies;
-        since = stands.ready + calls_of store_form (before ++ commands);
+        since = stands.time (length here);
         since_is = refl;
-        in_run = if_told (g.content disk) _ (λ octets told. omega (arith, moment, (stay_done octets told whether).1, at_some store_form stands.ready count (length done) (done ++ cut) most));
-        stands = if_told (g.content disk) _ (λ octets told image left. ack.stands (others ++ cut) count (length (done ++ cut)) image allowed (omega arith)
-            (subst (λ (cs : List Command). MakesBetween count (length (done ++ cut)) start cs image) all ((stay_done octets told whether).0 count some most image (subst (λ (t : ℕ). g.images_since disk_n t image) (sym moment) left))));
+        no_sooner = front.0;
+        exactly = front.1;
+        in_run = told_weaker (g.content disk) _ _ (λ octets told by.
+            omega (arith, moment, by.1, rises_all store_form (done ++ cut) stands.time stands.paces.rises count (length done) most (omega (arith, length-append done cut)))) stay;
+        stands = told_weaker (g.content disk) _ _ (λ octets told by image left. ack.stands (others ++ cut) count (length (done ++ cut)) image allowed (omega arith)
+            (subst (λ (cs : List Command). MakesBetween count (length (done ++ cut)) start cs image) all (by.0 count some most image (subst (λ (t : ℕ). g.images_since disk_n t image) moment left)))) stay;
       }
 
 -- ---- a session

@@ -12,6 +12,7 @@ use Rattle.ftl0_packets.specs.Items.{texts}
 use Rattle.ftl0_packets.specs.Layout.{Item, PacketValue, data_end, ul_ack_resp}
 use Rattle.ftl0_packets.specs.Reading.{packets_of}
 use Rattle.file_journal.specs.Commands.{calls_of}
+use Rattle.file_journal.specs.Through.{HadRoom, StandsThrough}
 use Rattle.file_store.specs.Command.{Command, after_all}
 use Rattle.file_store.specs.State.{IsKnown, store_form}
 use Rattle.file_store.specs.Store.{Entry, Store}
@@ -56,21 +57,31 @@ row_of_end file =
 
 -- All octets of the file came, over the store to which the commands before lead, and its row replies UL_ACK_RESP. Since
 -- the last call of the disk for the row's commands, which is in this run, the file's entry is complete with the octets
--- that came, stamped, in each image that a crash leaves. Each command takes the calls of the disk that the form of a
--- store says, since the recovery was done.
-pub record AcknowledgedSince {D : Type 0} (g : Ghosts D) (file : FileEnd) (start : Store) (ready : ℕ)
-    (disk disk_now : D) : Type 0 where
+-- that came, stamped, in each image that a crash leaves. That is the moment at which so many commands are done: each
+-- takes the calls of the disk that the form of a store says, since the recovery was done, and no more where there was
+-- room for the records of all.
+pub record AcknowledgedSince {D : Type 0} (g : Ghosts D) (file : FileEnd) (start : Store) (time : ℕ → ℕ)
+    (room : Type 0) (disk disk_now : D) : Type 0 where
   pub behind : file.store ≡ after_all start file.before
   pub entry : Entry
   pub held : List ℕ
   pub whole : IsWhole file.store file.number entry held file.rest
   pub replies : (row_of_end file).replies ≡ ul_ack_resp ∷ []
   pub since : ℕ
-  pub since_is : since ≡ ready + calls_of store_form (file.before ++ (row_of_end file).commands)
+  pub since_is : since ≡ time (length (file.before ++ (row_of_end file).commands))
+  pub no_sooner : time 0 + calls_of store_form (file.before ++ (row_of_end file).commands) ≤ since
+  pub exactly : room → since ≡ time 0 + calls_of store_form (file.before ++ (row_of_end file).commands)
   pub in_run : IfSome (g.content disk) (λ _. since ≤ g.moment disk_now)
   pub stands :
       IfSome (g.content disk) (λ _. LeavesSince since (g.images_since disk_now)
       (HasEntry file.number (kept entry (held ++ file.rest) file.moment)))
+
+-- so in a run whose commands stand on the disk
+abbrev pub AcknowledgedIn :
+    {D A C : Type 0} (seen : Seen D A C) (old new : Lent D A C) (start : Store) → FileEnd → {failed : Type 0}
+    {done cut : List Command} → StandsThrough seen.disk store_form failed start done cut old.disk new.disk → Type 0
+AcknowledgedIn seen old new start file stands =
+    AcknowledgedSince seen.disk file start stands.time (HadRoom stands) old.disk new.disk
 
 -- ---- a session
 
@@ -99,7 +110,7 @@ pub record SessionSays {D A C : Type 0} (seen : Seen D A C) (old new : Lent D A 
   pub each :
       (before later : List PacketValue) → said ≡ before ++ ul_ack_resp ∷ later
       → (file : FileEnd) × IsReceived terms.caller served.start before file
-      × AcknowledgedSince seen.disk file served.start (served.stands known).ready old.disk new.disk
+      × AcknowledgedIn seen old new served.start file (served.stands known)
 
 -- A session of these terms was served. Where it is known what octets the store's files have, a file stands on the disk
 -- for each UL_ACK_RESP that it said.
@@ -194,7 +205,7 @@ pub record ServerTakes {D A C : Type 0} (seen : Seen D A C) (old new : Lent D A 
       (taken : TakesPacket meets.now meets.event meets.failures) (before later : List PacketValue)
       → taken.row.replies ≡ before ++ ul_ack_resp ∷ later
       → (file : FileEnd) × IsEndOf meets.now meets.event meets.failures meets.before taken file
-      × AcknowledgedSince seen.disk file served.start (served.stands known).ready old.disk new.disk
+      × AcknowledgedIn seen old new served.start file (served.stands known)
 
 -- A server of these terms was served. Where it is known what octets the store's files have, a file stands on the disk
 -- for each packet to which it replied UL_ACK_RESP.

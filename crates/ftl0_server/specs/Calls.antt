@@ -31,7 +31,8 @@ use Rattle.ftl0_server.specs.ServerStep.{LooksAtNoFile, happening}
 -- all was taken none failed, and its commands are done. Where the disk failed, at a write or a sync of some packet and
 -- nowhere else, the commands before it are done, and it failed in one of that packet's; the frames that are pending
 -- then are those of that step. Where there was no memory none is done, as for a new session, or, at some packet, those
--- before it. The count of failed reads rose exactly where a part told of one.
+-- before it. The count of failed reads rose exactly where a part told of one. The disk gets no longer than a store of
+-- so many blocks may be, or than it was.
 abbrev pub HearsBy :
     {D : Type 0} → Ghosts D → (List Failure → ServerHappened) → ServerState → ServerState → D → D → Result ⊤ Stop
     → Type 0

@@ -5,6 +5,7 @@ ghost use Rattle.std.specs.List.{position};
 ghost use Rattle.ax25_frames.specs.Values.{value_of};
 ghost use Rattle.ax25_link.specs.Window.{IsGoodK, window_of};
 ghost use Rattle.file_store.specs.IsStore.{IsStore};
+ghost use Rattle.file_store.specs.Bounds.{RecoversInHalves};
 ghost use Rattle.file_store.specs.Calls.{Leaves, Runs, TakesStep};
 ghost use Rattle.file_store.specs.Journal.{IsAfterRecovery};
 ghost use Rattle.file_store.specs.Recovery.{IsRecovered, LeavesAlikeSinceSync, RefusesRecovery, StandsAlike};
@@ -102,6 +103,7 @@ impl Server {
         ensures since_sync { LeavesAlikeSinceSync D.Disk limits.blocks result disk.old disk.new }
         ensures octets { OnOk result
             (TakesStep D.Disk disk.old disk.new (IsAfterRecovery store_magic store_layout limits.blocks)) }
+        ensures within { RecoversInHalves D.Disk store_layout limits.blocks disk.old disk.new }
     {
         let store = FileStore::recover(alloc, disk, limits)?;
         state_law(&store);

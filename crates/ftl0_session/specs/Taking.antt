@@ -68,7 +68,8 @@ Answers g item before row now replies (Err stop.Disk) = ⊤
 
 -- What a packet with this row does to the disk. Where it is answered, the row's commands are done, among reads of which
 -- one failed or none; or a write or a sync failed in one of them, and no read. A crash since the packet came leaves the
--- store after the first so many of them.
+-- store after the first so many of them, and the disk gets no longer than a store of so many blocks may be, or than it
+-- was.
 abbrev pub PutsRow :
     {D : Type 0} → Ghosts D → Bool → Row → AtDisk Working D → AtDisk Working D → Result ⊤ Halt → Type 0
 PutsRow g fails row before now (Ok done) =

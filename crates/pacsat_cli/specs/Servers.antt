@@ -21,7 +21,7 @@ serve_terms asked =
     record { me = asked.me; k = asked.k; limits = record { blocks = asked.blocks }; polls = asked.polls }
 
 -- A server of these terms served over this disk, or the recovery of its store was refused: what was said to what was
--- heard, what stands on the disk at each moment, and why it ended, as the status says.
+-- heard, what stands on the disk at each moment, how long it may have become, and why it ended, as the status says.
 pub record IsServedOver {A C D : Type 0} (seen : Seen D A C) (old new : Lent D A C) (terms : ServerTerms)
     (status : Status) : Type 0 where
   pub ended : Result Served NodeStop

@@ -65,7 +65,7 @@ run_terms asked =
     record { caller = asked.caller; moment = asked.moment; limits = record { blocks = asked.blocks }; polls = asked.polls }
 
 -- A session of these terms was served over this disk, or the recovery of its store was refused: what was said to what was
--- heard, what stands on the disk at each moment, and why it ended, as the status says.
+-- heard, what stands on the disk at each moment, how long it may have become, and why it ended, as the status says.
 pub record OverDisk {A C D : Type 0} (seen : Seen D A C) (old new : Lent D A C) (terms : SessionTerms) (status : Status) :
     Type 0 where
   pub ended : Result Served NodeStop

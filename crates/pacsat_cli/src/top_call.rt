@@ -69,8 +69,8 @@ pub fn run<D: Disk, A: Air, S: Shelf, O: Out, C: Clock, B: CutDisk>(
     // A session says LOGIN_RESP, and for each packet of the octets heard the replies of its table and all that is due right
     // behind them, from the store for which its disk's content stands, and ends with a status that has its cause. A read of
     // the disk that failed is told by code 3. At every moment since the first sync of the recovery each image stands for
-    // that store after the first of the session's commands, none skipped. Or there was no memory to read the words. With a
-    // moment given the clock isn't asked.
+    // that store after the first of the session's commands, none skipped. The disk gets no longer than its store may be,
+    // or than it was. Or there was no memory to read the words. With a moment given the clock isn't asked.
     ensures session { RunsSession words.now (seen D.Disk A.Air C.given) (lent disk.old air.old clock.old)
         (lent disk.new air.new clock.new) result }
     ensures session_alone { AsksSession words.now → shelf.new ≡ shelf.old }
@@ -79,7 +79,7 @@ pub fn run<D: Disk, A: Air, S: Shelf, O: Out, C: Clock, B: CutDisk>(
     // A server says the KISS text of the frames that its definition gives for the frames and ticks of the turns of the air,
     // from the store for which its disk's content stands, and ends with a status that has its cause. At every moment since
     // the first sync of the recovery each image stands for that store after the first of the server's commands, none skipped.
-    // Or there was no memory to read the words.
+    // The disk gets no longer than its store may be, or than it was. Or there was no memory to read the words.
     ensures serve { RunsServe words.now (seen D.Disk A.Air C.given) (lent disk.old air.old clock.old)
         (lent disk.new air.new clock.new) result }
     ensures serve_alone { AsksServe words.now → shelf.new ≡ shelf.old }

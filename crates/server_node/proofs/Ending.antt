@@ -4,26 +4,28 @@ use Rattle.std.proofs.lemmas.Grind.{common_steps}
 use Rattle.std.proofs.Common.{◌≡◌, inl, inr, ℕ, List, ◌++◌, refl, ◌∙◌, ap, arith, [], ◌∷◌, true, false, sym, ◌≢◌, Result, Ok, Err, IsErrAnd, IsErrOf, Option}
 use Rattle.disk_model.specs.AtDisk.{AtDisk, at}
 use Rattle.disk_model.specs.declared.disk.Disk.{Ghosts}
+use Rattle.file_journal.specs.Bounds.{RecoversInHalves}
+use Rattle.file_journal.specs.Restoring.{AnswersRecovery}
 use Rattle.file_journal.specs.Through.{StandsThrough}
-use Rattle.file_store.specs.Calls.{Runs, Leaves, TakesStep}
+use Rattle.file_store.specs.Calls.{Runs, TakesStep}
 use Rattle.file_store.specs.Command.{Command}
 use Rattle.file_store.specs.Store.{Store}
 use Rattle.file_store.specs.Working.{CutsOffAmongReads, DoesAmongReads, PutsAmongReads}
-use Rattle.file_store.proofs.Offered.{told_weaker, cuts-among-all, known_on, stands-through}
+use Rattle.file_store.proofs.Offered.{at_told, cuts-among-all, if_told, known_on, stands-through, told_weaker}
 use Rattle.server_node.specs.OnDisk.{NodeRuns}
 use Rattle.node.specs.declared.stop.NodeStop.{NodeStop}
 use Rattle.server_node.specs.declared.terms.Served.{Served}
 use Rattle.px_base.specs.Moments.{MomentsOf}
 use Rattle.px_base.specs.Polling.{IsButLast}
 use Rattle.px_base.specs.declared.air.Turn.{Turn}
-use Rattle.file_store.specs.Recovery.{StandsAlike, IsRecovered, LeavesAlikeSinceSync, RefusesRecovery}
+use Rattle.file_store.specs.Recovery.{IsRecovered}
 use Rattle.file_store.specs.State.{IsKnown, StoreState, store_form, store_layout, store_magic, store_on}
 use Rattle.node.specs.Course.{AtDisk, Course}
 use Rattle.node.specs.Lent.{Lent, Seen, lent}
 use Rattle.node.specs.Turns.{HasAirCause as NodeHasCause, Lent as Driven, RanBy, StoppedInLast, TookAll, TookTurns, TurnsBy as NodeTurnsBy, party_at}
 use Rattle.node.specs.declared.terms.TurnTerms.{TurnTerms}
 use Rattle.node.specs.declared.finished.Finished.{Finished}
-use Rattle.file_journal.proofs.Offered.{runs_among, runs_missed, runs_same}
+use Rattle.file_journal.proofs.Offered.{known_told, recovers_on, runs_among, runs_missed, runs_same}
 use Rattle.server_node.specs.Served.{Run, TurnsBy, Ends}
 use Rattle.server_node.specs.Steps.{EndsOver, Made, Steps, StopsBehind, TakesAll, made}
 use Rattle.server_node.proofs.StepsLemmas.{DidOnDisk}
@@ -57,8 +59,7 @@ error_of a b is = cc is
 -- The answer of the recovery fails by the disk exactly where this fault is the disk's: it is that fault, or there was no
 -- memory behind it.
 module _ {A C D T : Type 0} (seen : Seen D A C) (blocks : ℕ) (given : Option ℕ) (Ran : Result Served NodeStop → Store → Run → Type 0) (old : Lent D A C) (disk_n : D) (answer : Result T StoreFault)
-    (why : StoreFault) (there : IsErrOf answer fault.Disk → why ≡ fault.Disk) (back : why ≡ fault.Disk → IsErrOf answer fault.Disk)
-    (runs : Runs seen.disk (IsErrOf answer fault.Disk) old.disk disk_n) (since_start : Leaves seen.disk old.disk disk_n (StandsAlike blocks)) (since_sync : LeavesAlikeSinceSync seen.disk blocks answer old.disk disk_n)
+    (answers : AnswersRecovery seen.disk store_form blocks answer old.disk disk_n) (why : StoreFault) (there : IsErrOf answer fault.Disk → why ≡ fault.Disk) (back : why ≡ fault.Disk → IsErrOf answer fault.Disk)
     (untouched : (found : List ℕ) → why ≡ fault.NotAStore found → seen.disk.content disk_n ≡ seen.disk.content old.disk)
     (damage : (at : ℕ) → why ≡ fault.Damaged at → seen.disk.content disk_n ≡ seen.disk.content old.disk)
     (refuses : RefusesSession {T = Served} blocks (seen.disk.content old.disk) (Err (stop_of_fault why))) where
@@ -66,7 +67,7 @@ module _ {A C D T : Type 0} (seen : Seen D A C) (blocks : ℕ) (given : Option �
   Refused = Err (stop_of_fault why)
 
   refused_runs : Runs seen.disk (IsErrOf Refused stop.Disk) old.disk disk_n
-  refused_runs = runs_same seen.disk _ _ old.disk disk_n (λ is. rw (there is) refl) (λ is. back (same_fault why fault.Disk (error_of (stop_of_fault why) stop.Disk is))) runs
+  refused_runs = runs_same seen.disk _ _ old.disk disk_n (λ is. rw (there is) refl) (λ is. back (same_fault why fault.Disk (error_of (stop_of_fault why) stop.Disk is))) answers.runs
 
   pub unserved : Serves seen blocks given Ran old (lent disk_n old.air old.clock) Refused
   unserved = record {
@@ -77,7 +78,8 @@ module _ {A C D T : Type 0} (seen : Seen D A C) (blocks : ℕ) (given : Option �
       air = refl;
       clock = refl;
       runs = refused_runs;
-      leaves = record { since_sync = told_weaker (seen.disk.content old.disk) _ _ (λ before told left. grind (arith, common_steps, there, left)) since_sync; since_start = since_start; not_a_store = untouched; damaged = damage };
+      leaves = record { since_sync = told_weaker (seen.disk.content old.disk) _ _ (λ before told left. grind (arith, common_steps, there, left)) answers.since_sync; since_start = answers.since_start; not_a_store = untouched; damaged = damage };
+      within = answers.within;
     });
     counts = grind (arith, common_steps);
     runs = grind (arith, common_steps, refused_runs);
@@ -85,26 +87,22 @@ module _ {A C D T : Type 0} (seen : Seen D A C) (blocks : ℕ) (given : Option �
 
 module _ {A C D T : Type 0} (seen : Seen D A C) (blocks : ℕ) (given : Option ℕ) (Ran : Result Served NodeStop → Store → Run → Type 0) (old : Lent D A C) (disk_n : D) where
   -- the recovery was refused
-  pub refused : (why : StoreFault) (result : Result Served NodeStop) → IsErrAnd result (λ e. e ≡ stop_of_fault why) → RefusesRecovery {T = T} blocks (seen.disk.content old.disk) (Err why)
-      → Runs seen.disk (IsErrOf {T = T} (Err why) fault.Disk) old.disk disk_n → Leaves seen.disk old.disk disk_n (StandsAlike blocks) → LeavesAlikeSinceSync {T = T} seen.disk blocks (Err why) old.disk disk_n
-      → ((found : List ℕ) → IsErrOf {T = T} (Err why) (fault.NotAStore found) → seen.disk.content disk_n ≡ seen.disk.content old.disk)
-      → ((at : ℕ) → IsErrOf {T = T} (Err why) (fault.Damaged at) → seen.disk.content disk_n ≡ seen.disk.content old.disk)
+  pub refused : (why : StoreFault) (result : Result Served NodeStop) → IsErrAnd result (λ e. e ≡ stop_of_fault why) → AnswersRecovery {T = T} seen.disk store_form blocks (Err why) old.disk disk_n
       → Serves seen blocks given Ran old (lent disk_n old.air old.clock) result
-  refused why result is refuses runs since_start since_sync untouched damage =
-      let error = err_from_is_err_and result is in rw (error.1, error.2) (unserved seen blocks given Ran old disk_n (Err why) why (λ e. error_of why fault.Disk e) (λ e. ap Err e) runs since_start since_sync
-      (λ found e. untouched found (ap Err e)) (λ at e. damage at (ap Err e)) refuses_so)
+  refused why result is answers =
+      let error = err_from_is_err_and result is in rw (error.1, error.2) (unserved seen blocks given Ran old disk_n (Err why) answers why (λ e. error_of why fault.Disk e) (λ e. ap Err e)
+      (λ found e. answers.untouched found (ap Err e)) (λ at e. answers.untouched_damage at (ap Err e)) refuses_so)
     where
       refuses_so : RefusesSession {T = Served} blocks (seen.disk.content old.disk) (Err (stop_of_fault why))
       refuses_so no_disk no_memory =
           told_weaker (seen.disk.content old.disk) _ _ (λ before told exact. record {
             not_a_store = λ found. grind (arith, common_steps, exact.not_a_store found, same_fault why (fault.NotAStore found));
             damaged = λ at. grind (arith, common_steps, exact.damaged at, same_fault why (fault.Damaged at));
-          }) (refuses (λ e. no_disk (rw (error_of why fault.Disk e) refl)) (λ e. no_memory (rw (error_of why fault.OutOfMemory e) refl)))
+          }) (answers.refuses (λ e. no_disk (rw (error_of why fault.Disk e) refl)) (λ e. no_memory (rw (error_of why fault.OutOfMemory e) refl)))
 
   -- it gave this, and there was no memory behind it
-  pub unlisted : (value : T) → Runs seen.disk (IsErrOf {T = T} (Ok value) fault.Disk) old.disk disk_n → Leaves seen.disk old.disk disk_n (StandsAlike blocks)
-      → LeavesAlikeSinceSync {T = T} seen.disk blocks (Ok value) old.disk disk_n → Serves seen blocks given Ran old (lent disk_n old.air old.clock) (Err stop.OutOfMemory)
-  unlisted value runs since_start since_sync = grind (arith, common_steps, runs, since_start, since_sync, unserved)
+  pub unlisted : (value : T) → AnswersRecovery {T = T} seen.disk store_form blocks (Ok value) old.disk disk_n → Serves seen blocks given Ran old (lent disk_n old.air old.clock) (Err stop.OutOfMemory)
+  unlisted value answers = unserved seen blocks given Ran old disk_n (Ok value) answers fault.OutOfMemory (λ e. cc e) (λ e. cc e) (λ found e. cc e) (λ at e. cc e) (λ no_disk no_memory. absurd (no_memory refl))
 
 -- ---- a recovery that gave a store
 
@@ -112,10 +110,8 @@ module _ {A C D T : Type 0} (seen : Seen D A C) (blocks : ℕ) (given : Option �
 pub record Recovers {D T : Type 0} (g : Ghosts D) (blocks : ℕ) (old mid : D) (value : T) (start : StoreState) : Type 0 where
   pub recovered : IsRecovered g blocks old mid start
   pub rules : IsStore (store_on g start mid)
-  pub runs : Runs g (IsErrOf {T = T} (Ok value) fault.Disk) old mid
   pub octets : TakesStep g old mid (IsAfterRecovery store_magic store_layout blocks)
-  pub since_start : Leaves g old mid (StandsAlike blocks)
-  pub since_sync : LeavesAlikeSinceSync {T = T} g blocks (Ok value) old mid
+  pub answers : AnswersRecovery {T = T} g store_form blocks (Ok value) old mid
 
 -- all turns but the last
 pub but_last : (turns : List Turn) → (earlier : List Turn) × IsButLast turns earlier
@@ -202,18 +198,23 @@ module _ {P A C D E : Type 0} (seen : Seen D A C) (Brings : List Turn → List �
 
     -- what is known at the start is known behind the recovery
     cuts : IsKnown g disk → CutsOffAmongReads g Failed did.missed (at start old.disk) (at store new.disk) did.done did.cut
-    cuts known = did.cuts (known_on g disk old.disk h.runs.told known)
+    cuts known = did.cuts (known_on g disk old.disk h.answers.runs.told known)
 
     standing : IsKnown g disk → (stands : StandsThrough g store_form Failed (store_on g start old.disk) did.done did.cut disk new.disk) × (stands.ready ≡ g.moment old.disk)
-    standing known = stands-through g on Failed blocks disk old.disk new.disk start store did.done did.cut did.missed h.runs.told h.recovered.content h.since_start
-        (told_weaker (g.content disk) _ _ (λ octets told left. grind (arith, common_steps, left, fine)) h.since_sync) (cuts known)
+    standing known = stands-through g Failed blocks disk old.disk new.disk start store did.done did.cut did.missed h.answers.runs.told h.recovered.content h.answers.since_start
+        (told_weaker (g.content disk) _ _ (λ octets told left. grind (arith, common_steps, left, fine)) h.answers.since_sync) (cuts known)
 
     puts : PutsAmongReads g Failed disk new.disk
-    puts = runs_among g on _ Failed disk old.disk new.disk fine h.runs did.puts
+    puts = runs_among g on _ Failed disk old.disk new.disk fine h.answers.runs did.puts
 
     -- all that it did
     did-all : IsKnown g disk → DoesAmongReads g Failed did.missed start store old.disk new.disk (did.done ++ did.cut)
     did-all known = cuts-among-all g on Failed did.missed (at start old.disk) (at store new.disk) did.done did.cut (cuts known)
+
+    -- how long a disk gets is asked only where it tells its content, and then it is known what the files have
+    within : RecoversInHalves g store_layout blocks disk new.disk
+    within = if_told (g.content disk) _ (λ before told.
+        at_told _ before told (recovers_on g store_layout blocks start.journal.blocks disk old.disk new.disk h.recovered.number h.answers.within (did-all (known_told store_form before told)).within))
 
     pub served : Serves seen blocks given Ran (lent disk old.air clock) (lent new.disk new.air new.clock) result
     served = record {
@@ -231,7 +232,8 @@ module _ {P A C D E : Type 0} (seen : Seen D A C) (Brings : List Turn → List �
         is_unsaid = took.is_unsaid;
         ran = came.ran;
         puts = puts;
-        reads = λ known. runs_missed g on _ Failed disk old.disk new.disk fine h.runs did.missed (did-all known).reads;
+        within = within;
+        reads = λ known. runs_missed g on _ Failed disk old.disk new.disk fine h.answers.runs did.missed (did-all known).reads;
         stands = λ known. (standing known).0;
         ready = λ known. (standing known).1;
         none = λ known none. (did-all known).none none;

@@ -106,14 +106,9 @@ module _ {P S E D : Type 0} (by : Service P S E D) (laws : AreSteps by.steps) wh
       puts = puts-among-then g on ⊥ ⊥ a.disk b.disk c.disk (λ never. never) h.puts k.puts;
       runs = λ known start stands.
           let first = h.runs known start stands in let second = k.runs (then-known known) first.next first.stands in
-          record {
-            next = second.next;
-            stands = second.stands;
-            done = first.done ++ second.done;
-            missed = first.missed + second.missed;
-            goes = laws.on start first.next second.next xs ys (made text first.done first.missed) (made more second.done second.missed) first.goes second.goes;
-            does = among-then g on ⊥ ⊥ first.missed second.missed (by.store a.it) (by.store b.it) (by.store c.it) a.disk b.disk c.disk first.done second.done (λ never. never) first.does second.does;
-          };
+          let goes = laws.on start first.next second.next xs ys (made text first.done first.missed) (made more second.done second.missed) first.goes second.goes in
+          let does = among-then g on ⊥ ⊥ first.missed second.missed (by.store a.it) (by.store b.it) (by.store c.it) a.disk b.disk c.disk first.done second.done (λ never. never) first.does second.does in
+          record { next = second.next; stands = second.stands; done = first.done ++ second.done; missed = first.missed + second.missed; goes = goes; does = does };
     }
 
     module _ (why : NodeStop) (unsaid : Bool) (k : StopsOn by b c ys why unsaid more) where
@@ -123,18 +118,11 @@ module _ {P S E D : Type 0} (by : Service P S E D) (laws : AreSteps by.steps) wh
       stops-behind known start stands =
           let first = h.runs known start stands in let last = k.stops (then-known known) first.next first.stands in
           let m = made text first.done first.missed in let s = last.stops in
-          let over : StopsOver by.steps start (xs ++ ys) why unsaid (made (text ++ more) (first.done ++ last.done) (first.missed + last.missed)) last.cut = record {
-            before = xs ++ s.before;
-            next = s.next;
-            later = s.later;
-            last = s.last;
-            stops = s.stops;
-            earlier = both m s.earlier;
-            then_is = s.then_is;
-            events_are = rw (s.events_are, append_assoc) refl;
-            goes = laws.on start first.next s.then_is xs s.before m s.earlier first.goes s.goes;
-            all_is = ap (both m) s.all_is ∙ sym (both-assoc m s.earlier s.last);
-          } in
+          let are : xs ++ ys ≡ (xs ++ s.before) ++ s.next ∷ s.later = rw (s.events_are, append_assoc) refl in
+          let goes = laws.on start first.next s.then_is xs s.before m s.earlier first.goes s.goes in
+          let all = ap (both m) s.all_is ∙ sym (both-assoc m s.earlier s.last) in
+          let over : StopsOver by.steps start (xs ++ ys) why unsaid (made (text ++ more) (first.done ++ last.done) (first.missed + last.missed)) last.cut =
+          record { before = xs ++ s.before; next = s.next; later = s.later; last = s.last; stops = s.stops; earlier = both m s.earlier; then_is = s.then_is; events_are = are; goes = goes; all_is = all } in
           let cuts = cuts-among-then g on (FailsBy why) first.missed last.missed (store_at by a) (store_at by b) (store_at by c) first.done last.done last.cut first.does last.cuts in (
             record { done = first.done ++ last.done; cut = last.cut; missed = first.missed + last.missed; stops = over; cuts = cuts },
             record { stops = over; between = s.before; in_order = refl },

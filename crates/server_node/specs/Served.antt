@@ -7,6 +7,7 @@ use Rattle.px_base.specs.Outside.{Gains}
 use Rattle.px_base.specs.Polling.{EndsWith, HearsAll, IsOpen}
 use Rattle.px_base.specs.declared.air.Turn.{Turn}
 use Rattle.px_base.specs.declared.air.Turn.TheVariants as turn
+use Rattle.file_journal.specs.Bounds.{RecoversInHalves}
 use Rattle.file_journal.specs.Through.{StandsThrough}
 use Rattle.file_store.specs.Calls.{ChangesReads, Runs, TakesStep}
 use Rattle.file_store.specs.Command.{Command}
@@ -47,7 +48,8 @@ pub record Run : Type 0 where
   pub unsaid : Bool
 
 -- The recovery of the store was refused, or there was no memory for the lists: nothing was heard or said, and the clock
--- wasn't asked. Where the disk didn't fail no count of its faults rose.
+-- wasn't asked. Where the disk didn't fail no count of its faults rose. The disk got no longer than a store of the
+-- block number that it had, or of this one where it had none, or than it was.
 pub record IsUnrecovered {A C D : Type 0} (seen : Seen D A C) (blocks : ℕ) (old new : Lent D A C)
     (result : Result Served NodeStop) : Type 0 where
   pub fault : StoreFault
@@ -56,12 +58,14 @@ pub record IsUnrecovered {A C D : Type 0} (seen : Seen D A C) (blocks : ℕ) (ol
   pub clock : new.clock ≡ old.clock
   pub leaves : LeavesStanding seen.disk blocks fault old.disk new.disk
   pub runs : Runs seen.disk (IsErrOf result stop.Disk) old.disk new.disk
+  pub within : RecoversInHalves seen.disk store_layout blocks old.disk new.disk
 
 -- It was served over the store for which the disk's content stood. Its recovery changed no octet of a formatted store,
 -- and made a formatted one of any other content. Only a write or a sync that failed ends it by the disk. What was heard
--- at which moments and what was said is told always. Where it is known what octets the store's files have, these
--- commands were done, and without any the disk has at the end what the recovery left; a read that failed is told by
--- code 3, and the count of failed reads rose by at least as many as were told, and not where none was.
+-- at which moments and what was said is told always. The disk got no longer than its store may be, or than it was, and
+-- no crash since the start leaves it longer. Where it is known what octets the store's files have, these commands were
+-- done, and without any the disk has at the end what the recovery left; a read that failed is told by code 3, and the
+-- count of failed reads rose by at least as many as were told, and not where none was.
 pub record IsServed {A C D : Type 0} (seen : Seen D A C) (blocks : ℕ) (given : Option ℕ)
     (Ran : Store → Run → Type 0) (old new : Lent D A C) (result : Result Served NodeStop) : Type 0 where
   pub start : Store
@@ -76,6 +80,7 @@ pub record IsServed {A C D : Type 0} (seen : Seen D A C) (blocks : ℕ) (given :
   pub is_unsaid : IsUnsaid run.unsaid (seen.air.write_faults old.air) (seen.air.write_faults new.air)
   pub ran : Ran start run
   pub puts : PutsAmongReads seen.disk (IsErrOf result stop.Disk) old.disk new.disk
+  pub within : RecoversInHalves seen.disk store_layout blocks old.disk new.disk
   pub reads :
       IsKnown seen.disk old.disk
       → CountsSome (seen.disk.read_faults old.disk) (seen.disk.read_faults new.disk) run.all.missed

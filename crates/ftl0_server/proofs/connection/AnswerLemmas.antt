@@ -1,6 +1,6 @@
 -- How a connection answers one packet.
 use Rattle.std.proofs.lemmas.Grind.{common_steps}
-use Rattle.std.proofs.Common.{◌≡◌, inl, inr, ap, ℕ, suc, Bool, true, false, not, List, [], ◌∷◌, ◌++◌, refl, sym, ◌∙◌, subst, arith}
+use Rattle.std.proofs.Common.{◌≡◌, inl, inr, ap, ℕ, suc, ◌+◌, append-nil, Bool, true, false, not, List, [], ◌∷◌, ◌++◌, refl, sym, ◌∙◌, subst, arith}
 use Rattle.std.specs.Prelude.{Result, Ok, Err, ⊤, if◌then◌else◌}
 use Rattle.std.proofs.Math.Nat.{add-zero}
 use Rattle.disk_model.specs.declared.disk.Disk.{Ghosts}
@@ -14,7 +14,7 @@ use Rattle.file_store.specs.Command.{after_all}
 use Rattle.file_store.specs.State.{IsKnown, IsReady, store_in, store_on}
 use Rattle.file_store.specs.Store.{Store}
 use Rattle.file_store.specs.Working.{CutsOffAmongReads, DoesAmongReads, one_if}
-use Rattle.file_store.proofs.Offered.{among-same, among-store, does-among, Does-none, known_back, on_untold}
+use Rattle.file_store.proofs.Offered.{among-at, among-same, among-store, does-among, Does-none, known_back, on_untold}
 use Rattle.ftl0_session.specs.Uploads.Failures.{Failure, failed_reads, failed_write, read_fails, write_fails}
 use Rattle.disk_model.specs.declared.halt.Halt.{Halt as Stop}
 use Rattle.disk_model.specs.declared.halt.Halt.TheVariants as stop
@@ -135,7 +135,15 @@ module _ {D : Type 0} (g : Ghosts D) (on : (first second third : D) → g.lasts 
   row-done : (row : Row) (enough : Bool) (fate : Fate) → is_over fate ≡ not enough → StandsFor w new.link (if enough then after_push end (texts row.replies) else after_abandon end)
       → now.lists ≡ row.lists → state_in now.store new.session ≡ row.state → DoesAmongReads g ⊥ (failed_reads_told row.replies) before.store now.store before.disk now.disk row.commands
       → By (by_tests (session_on g session before) end first row false enough (resting (after_push end (texts row.replies)) row.state row.lists (suc first))) fate (Ok tt)
-  row-done row enough fate over stands same state does = grind (arith, common_steps, among-same, add-zero)
+  row-done row true Stays over stands same state does = (
+    refl,
+    (same, (refl, record { link = stands; rest = refl; state = state })),
+    among-at g ⊥ (failed_reads_told row.replies + 0) before.store now.store before.disk now.disk row.commands (row.commands ++ []) (sym (append-nil row.commands))
+        (among-same g ⊥ ⊥ (failed_reads_told row.replies) (failed_reads_told row.replies + 0) before.store now.store before.disk now.disk row.commands (λ p. p) (λ p. p) (sym (add-zero (failed_reads_told row.replies))) does),
+  )
+  row-done row true Ends over stands same state does = absurd (cc over)
+  row-done row false Stays over stands same state does = absurd (cc over)
+  row-done row false Ends over stands same state does = (refl, (same, (refl, stands)), does)
 
   pub said-done : IsReady g now.store now.disk → (fate : Fate) (text replies : List ℕ) → text ≡ replies → is_over fate ≡ not (fits end text) → StandsFor w new.link (replied end text) → Takes (Ok tt) replies
       → Made (fate, Ok tt)

@@ -12,7 +12,7 @@ use Rattle.file_store.specs.Command.{after_all}
 use Rattle.file_store.specs.State.{IsKnown, IsReady, StoreState, store_on}
 use Rattle.file_store.specs.Store.{Store}
 use Rattle.file_store.specs.Working.{DoesAmongReads, one_if}
-use Rattle.file_store.proofs.Offered.{among-same, among-store, among-then, does-among, Does-none, known_on, puts-among-then}
+use Rattle.file_store.proofs.Offered.{among-at, among-same, among-store, among-then, does-among, Does-none, known_on, puts-among-then}
 use Rattle.ftl0_session.specs.Uploads.Failures.{Failure, failed_reads, read_fails}
 use Rattle.disk_model.specs.declared.halt.Halt.{Halt as Stop}
 use Rattle.ftl0_session.specs.SessionState.{WorkingOn, state_in}
@@ -167,7 +167,10 @@ module _ {D : Type 0} (g : Ghosts D) (lasts : (disk : D) → g.lasts disk disk) 
         rw (settled.later q.parts q.behind, queued-on (store_on g before.it before.disk) all made h.1.1.0, stores, q.is_now)
         (queuing-alike (store_on g between.store between.disk) all (free_octets made.end) (failed_reads q.parts) made alike) in
         let rest : KeepsRest made q.now = rw q.is_now (queuing-keeps (store_on g between.store between.disk) (failed_reads q.parts) (free_octets made.end) made) in
-        let does : DoesAmongReads g ⊥ q.now.missed before.it now.store before.disk now.disk q.now.done = grind (arith, among-same, among-then, append-nil) in
+        let both = among-then g on ⊥ ⊥ made.missed q.missed before.it between.store between.store before.disk between.disk now.disk made.done [] (λ never. never) h.2 q.reads in
+        let those = among-at g ⊥ (made.missed + q.missed) before.it between.store before.disk now.disk (made.done ++ []) q.now.done (append-nil made.done ∙ sym rest.done) both in
+        let does : DoesAmongReads g ⊥ q.now.missed before.it now.store before.disk now.disk q.now.done =
+        rw same (among-same g ⊥ ⊥ (made.missed + q.missed) q.now.missed before.it between.store before.disk now.disk q.now.done (λ p. p) (λ p. p) (sym q.missed_is) those) in
         let by =
         subst (λ p. HearsBy g w (λ writes. progressed left p) before now new Stays (Ok tt)) (sym now_is) (grind arith) in
         let store : store_on g now.store now.disk ≡ after_all (store_on g before.it before.disk) (whole all).done =

@@ -34,7 +34,12 @@ use Rattle.ftl0_server.proofs.connection.TakingLemmas.{IsFront, behind, front-pa
 -- the first of some commands, for some number of them, are the first of more commands
 pub leaves-front : {D : Type 0} (g : Ghosts D) (store : Store) (disk disk_n : D) (front all : List Command) → IsFront front all → Leaves g disk disk_n (λ _. MakesFirst store front)
     → Leaves g disk disk_n (λ _. MakesFirst store all)
-leaves-front g store disk disk_n front all h leaves = grind (arith, common_steps, told_weaker, weaker, makes-within, makes-first)
+leaves-front g store disk disk_n front all h leaves = told_weaker (g.content disk) _ _ (λ octets told left. weaker g.moment g.images_since disk disk_n (MakesFirst store front) (MakesFirst store all) first left) leaves
+  where
+    first : (image : List ℕ) → MakesFirst store front image → MakesFirst store all image
+    first image made = let few = length-append front h.0 in
+        subst (λ (cs : List Command). MakesFirst store cs image) (sym h.1)
+        (makes-within 0 (length front) 0 (length (front ++ h.0)) store (front ++ h.0) image (omega arith) (omega (arith, few)) (makes-first 0 (length front) store front h.0 image (omega arith) made))
 
 -- whether more is taken, by its parts
 pub going-on : (progress : Progress) → progress.over ≡ false → progress.halt ≡ goes_on → going progress ≡ true

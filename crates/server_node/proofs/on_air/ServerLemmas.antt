@@ -46,7 +46,6 @@ use Rattle.server_node.specs.OnAir.Served.{ServerRan, server_from}
 use Rattle.server_node.proofs.Ending.{Came, Recovers, Serves, Stopped, Taken, but_last, came-by, served}
 use Rattle.disk_model.specs.declared.halt.Halt.TheVariants as halt
 use Rattle.node.specs.declared.stop.NodeStop.TheVariants as stop
-use Rattle.node.specs.declared.finished.Finished.TheVariants as finished
 
 -- a server goes over its events one after another
 pub are_steps : AreSteps server_steps
@@ -337,7 +336,7 @@ module _ {A C D : Type 0} (seen : Seen D A C) (terms : ServerTerms) (old new : D
         split = l.split;
         least = l.least;
         brought = l.brought;
-        ends_over = λ known. over (known_on g disk old.disk recovers.runs.told known);
+        ends_over = λ known. over (known_on g disk old.disk recovers.answers.runs.told known);
       };
       ends = ends;
       counts = counts;

@@ -1,7 +1,6 @@
 -- The course of a session's server: that it is lawful, what the server owes by what it hears, and what it gives.
 use Rattle.std.proofs.lemmas.Grind.{common_steps}
 use Rattle.std.proofs.Common.{◌≡◌, inl, inr, ℕ, Bool, false, None, List, [], ◌++◌, refl, ap, sym, ◌∙◌, subst, append_assoc, append-nil, ◌⊎◌, ◌==◌, ◌<◌, ◌∷◌, length, true, true≢false, Option, Some, arith, take, map}
-use Rattle.std.specs.List.{AllByRecursion}
 use Rattle.px_base.specs.CallSign.{CallSign}
 use Rattle.disk_model.specs.declared.disk.Disk.{Ghosts}
 use Rattle.file_store.specs.State.{IsKnown, IsReady, StoreState, store_in, store_on}
@@ -12,10 +11,10 @@ use Rattle.ftl0_session.specs.Downloads.Sending.{due_packet, is_due}
 use Rattle.ftl0_session.specs.Run.{Event as MetEvent, RunsOver, Session, heard_of}
 use Rattle.ftl0_session.specs.Table.{next_due, Row, State, download_part, failed_reads_told, in_session, tells_failed_read}
 use Rattle.node.specs.Course.{AtDisk, IsLawful, GaveAll, GivesNext, at, stop_at_put, stop_of}
-use Rattle.node.specs.Inputs.{Input, IsInput, octets_at, octets_in}
+use Rattle.node.specs.Inputs.{Input, IsInput, octets_at, octets_in, tick}
 use Rattle.node.specs.declared.stop.NodeStop.{NodeStop}
 use Rattle.node.proofs.InputLemmas.{are-octets, octets_in-at}
-use Rattle.server_node.specs.Sessions.Course.{Answers, AwaitsInput, GoesOver, HaltsAt, HaltsOver, IsAnswered, IsHalting, IsLastText, IsRowOf, IsStopped, IsUnderWay, IsUnsaidFirst, NoneDue, Owes, OwesAll, TakesAtMostOne, most_left, session_course, session_in, session_service}
+use Rattle.server_node.specs.Sessions.Course.{Answers, AwaitsInput, GoesOver, HaltsAt, HaltsOver, IsAnswered, IsHalting, IsLastCut, IsLastText, IsRowOf, IsStopped, IsUnderWay, IsUnsaidFirst, NoneDue, Owes, OwesAll, TakesAtMostOne, most_left, session_course, session_in, session_service}
 use Rattle.server_node.specs.Sessions.Packets.{events_behind, events_to, waiting_behind}
 use Rattle.server_node.specs.Sessions.Running.{StopsAt, session_steps}
 use Rattle.server_node.specs.Steps.{RunsOn, RunsTo, Service, StopsOn, StopsTo, made}
@@ -103,6 +102,10 @@ module _ {D : Type 0} (g : Ghosts D) (lasts : (disk : D) → g.lasts disk disk) 
   -- before the first input, whatever it has to say
   pub owes-first : (a : AtDisk ServerState D) → IsReady g a.it.store a.disk → a.it.halted ≡ false → NoneDue a.it.state → Owes g a [] None [] a
   owes-first a up going none_due = none-taken a.it a.disk [] a.it.octets up going none_due IsOctets-nil refl refl
+
+  -- a tick brings no packet
+  pub owes-tick : (moment : ℕ) (a : AtDisk ServerState D) → AwaitsInput g a → Owes g a (tick moment ∷ []) None [] a
+  owes-tick moment a fit = none-taken a.it a.disk (tick moment ∷ []) a.it.octets fit.up fit.goes_on fit.none_due IsOctets-nil refl refl
 
   -- the text of both
   text-then : {a b : AtDisk ServerState D} {xs : List Input} {text : List ℕ} (more : List ℕ) (h : GoesOver g a xs text b) (replies : List ℕ) → more ≡ b.it.replies ++ replies → text ++ more ≡ a.it.replies ++ (h.replies ++ replies)
@@ -450,32 +453,20 @@ module _ {D : Type 0} (g : Ghosts D) (lasts : (disk : D) → g.lasts disk disk) 
                 };
           }
 
-      -- the session stopped at it
-      halting : (caller : CallSign) (why : Halt) → IsLastText why a.state replies → Takes (Err why)
-          → (IsKnown g disk → HaltsAt g (at a disk) event why (at (record (server_n caller true) { replies = [] }) disk_n)) → Owes g (at a disk) inputs (Some why) [] (at (server_n caller true) disk_n)
-      halting caller why text takes halts =
+      -- the session stopped at it, and the disk, if it failed, in one of these commands
+      halting : (caller : CallSign) (why : Halt) (takes : Takes (Err why)) → IsLastText why a.state replies → (IsKnown g disk → (cut : List Command) × IsLastCut why (met_with event (with_part takes.fails 0 [])) (row takes.fails) cut
+          × CutsOffAmongReads g (FailsBy (stop_of why)) (failed_reads_told (row takes.fails).replies) (at a.store disk) (at now.store disk_n) [] cut) → Owes g (at a disk) inputs (Some why) [] (at (server_n caller true) disk_n)
+      halting caller why takes text cuts =
           record { are_octets = inputs-octets; halted = refl; silent = ready.silent; event = event; only = only.0; text_is = text; puts = puts-answered g disk disk_n (Some why) takes.puts; halts = halts }
+        where
+          halts : IsKnown g disk → HaltsAt g (at a disk) event why (at (record (server_n caller true) { replies = [] }) disk_n)
+          halts known =
+              let k = cuts known in let is = row-first a.caller (session_in g (at a disk)) event takes.fails in
+              record { parts = with_part takes.fails 0 []; row = row takes.fails; is_row = is; cut = k.0; last = k.1; cuts = k.2 }
 
       pub owes-last : (caller : CallSign) (stop : Halt) → Takes (Err stop) → Owes g (at a disk) inputs (Some stop) [] (at (server_n caller true) disk_n)
       owes-last caller halt.Disk takes =
-          halting caller halt.Disk takes.stopped.3 takes
-          (λ known. record {
-            parts = with_part takes.fails 0 [];
-            row = row takes.fails;
-            is_row = row-first a.caller (session_in g (at a disk)) event takes.fails;
-            cut = (row takes.fails).commands;
-            last = refl;
-            cuts = taken-cut g on a.caller moment item before now disk disk_n replies ready.up known (lasts disk) takes;
-          })
-      owes-last caller halt.OutOfMemory takes =
-          halting caller halt.OutOfMemory takes.stopped.2 takes
-          (λ known.
+          halting caller halt.Disk takes takes.stopped.3 (λ known. ((row takes.fails).commands, refl, taken-cut g on a.caller moment item before now disk disk_n replies ready.up known (lasts disk) takes))
+      owes-last caller halt.OutOfMemory takes = halting caller halt.OutOfMemory takes takes.stopped.2 (λ known.
           let none = taken-none g on a.caller moment item before now disk disk_n replies ready.up known takes in
-          record {
-            parts = with_part takes.fails 0 [];
-            row = row takes.fails;
-            is_row = row-first a.caller (session_in g (at a disk)) event takes.fails;
-            cut = [];
-            last = (takes.answers known, refl);
-            cuts = cuts-among-none g ⊥ (failed_reads_told (row takes.fails).replies) (at a.store disk) (at now.store disk_n) [] (λ never. never) (lasts disk_n) (rw none.0 none.1);
-          })
+          ([], (takes.answers known, refl), cuts-among-none g ⊥ (failed_reads_told (row takes.fails).replies) (at a.store disk) (at now.store disk_n) [] (λ never. never) (lasts disk_n) (rw none.0 none.1)))

@@ -1,6 +1,6 @@
 -- A session by the turns of its node.
 use Rattle.std.proofs.lemmas.Grind.{common_steps}
-use Rattle.std.proofs.Common.{true≢false, ◌≡◌, ap, sym, ◌∙◌, subst, ◌⊎◌, inl, inr, ℕ, max, List, [], ◌∷◌, ◌++◌, length, Option, Some, Result, Ok, Err, refl, ap₂, ◌+◌, append_assoc, append-nil, arith, None, ◌≢◌, IsErrOf}
+use Rattle.std.proofs.Common.{true≢false, ◌≡◌, ap, sym, ◌∙◌, subst, ◌⊎◌, inl, inr, ℕ, max, List, [], ◌∷◌, ◌++◌, length, Option, Some, Result, Err, refl, ap₂, append_assoc, append-nil, arith, None, IsErrOf}
 use Rattle.px_base.specs.Moments.{MomentsOf}
 use Rattle.px_base.specs.Octets.{IsOctets}
 use Rattle.px_base.specs.declared.air.Turn.{Turn}
@@ -17,7 +17,6 @@ use Rattle.node.specs.Lent.{Seen, lent}
 use Rattle.px_base.specs.Polling.{IsButLast}
 use Rattle.node.specs.Turns.{AreHandedOver, Lent as Driven, MomentsFrom, TookTurns, party_at}
 use Rattle.node.specs.declared.finished.Finished.{Finished}
-use Rattle.node.specs.declared.finished.Finished.TheVariants as finished
 use Rattle.node.specs.declared.stop.NodeStop.{NodeStop}
 use Rattle.node.specs.declared.terms.TurnTerms.{TurnTerms}
 use Rattle.node.specs.declared.stop.NodeStop.TheVariants as stop
@@ -140,7 +139,7 @@ module _ {A C D : Type 0} (seen : Seen D A C) (terms : SessionTerms) (first : �
         let init = init-of took.all.turns last.0 all_moments events (waiting_behind [] took.all.events) last.1 (brings goes.hears.are_octets) in
         let did = did-all service (are_steps terms.caller) lasts (at server mid) (party_at new) events goes.replies from refl took.unsaid result fine over goes.runs in
         came result did.0 ends counts goes.hears.are_octets
-        (inr (record { replies = goes.replies; text_is = goes.text_is; earlier = last.0; but_last = last.1; least = init.0; left = init.1; brought = init.2; ends_over = λ known. did.1 (known_on g disk mid recovers.runs.told known) init.0 }))
+        (inr (record { replies = goes.replies; text_is = goes.text_is; earlier = last.0; but_last = last.1; least = init.0; left = init.1; brought = init.2; ends_over = λ known. did.1 (known_on g disk mid recovers.answers.runs.told known) init.0 }))
 
     stopped : Stopped seen AreHandedOver (session_course g) old new turn_terms ended took (λ p. refl) steps from events CameSo
     stopped why ends counts over h = elim h.ends [
@@ -180,17 +179,10 @@ module _ {A C D : Type 0} (seen : Seen D A C) (terms : SessionTerms) (first : �
                   let here : events ≡ events_to server h.least ++ events_to then_is.it h.more = ap (events_to server) h.events_are ∙ events-then server then_is.it h.least goes.hears h.more in
                   let did = did-stop service (are_steps terms.caller) on (at server mid) then_is (party_at new) (events_to server h.least) (events_to then_is.it h.more) goes.replies stopped.replies goes.runs from refl
                   events (goes.replies ++ stopped.replies) here refl why took.unsaid (over (events_to server h.least)) (subst (λ (caller : CallSign). StopsOn (session_service g caller) then_is (party_at new) (events_to then_is.it h.more) why took.unsaid stopped.replies) goes.hears.caller stopped.stops) in
+                  let text = h.text_is ∙ ap₂ (λ (t u : List ℕ). t ++ u) goes.text_is (stopped.text_is ∙ ap (λ (t : List ℕ). t ++ stopped.replies) goes.silent) ∙ append_assoc (login_text first) goes.replies stopped.replies in
+                  let brought = brings-at h.earlier h.before h.behind h.least h.split h.one_each h.brought goes.hears.are_octets in let over = λ (k : IsKnown g disk). did.1 (known_on g disk mid recovers.answers.runs.told k) in
                   came (Err why) did.0 ends (counts stopped.stops.kept) are
-                  (inr (record {
-                    replies = goes.replies ++ stopped.replies;
-                    text_is = h.text_is ∙ ap₂ (λ (t u : List ℕ). t ++ u) goes.text_is (stopped.text_is ∙ ap (λ (t : List ℕ). t ++ stopped.replies) goes.silent) ∙ append_assoc (login_text first) goes.replies stopped.replies;
-                    earlier = h.earlier;
-                    but_last = h.but_last;
-                    least = events_to server h.least;
-                    left = waiting_behind [] h.least;
-                    brought = brings-at h.earlier h.before h.behind h.least h.split h.one_each h.brought goes.hears.are_octets;
-                    ends_over = λ known. did.1 (known_on g disk mid recovers.runs.told known);
-                  }))
+                  (inr (record { replies = goes.replies ++ stopped.replies; text_is = text; earlier = h.earlier; but_last = h.but_last; least = events_to server h.least; left = waiting_behind [] h.least; brought = brought; ends_over = over }))
                   )
             ]
 

@@ -24,7 +24,8 @@ use std::alloc::Global;
 /// isn't the one of the turn before, there is one tick, and its frames are put. The commands of a frame's packets are
 /// on the disk before any of its frames is put. A read of the disk that fails is told by code 3, and the server goes
 /// on. After a fault of the disk at a write or a sync the frames of that event are put, code 3 among them, and the
-/// server is over; after want of memory none of them is. However it ends, all uploads are parked. Takes memory.
+/// server is over; after want of memory none of them is. However it ends, all uploads are parked, and the disk got no
+/// longer than its store may be, or than it was. Takes memory.
 pub fn serve<D: Disk, A: Air, C: Clock>(
     alloc: Global,
     disk: &mut D,
@@ -40,8 +41,9 @@ pub fn serve<D: Disk, A: Air, C: Clock>(
     // for it.
     ensures refuses { RefusesSession terms.now.limits.blocks (D.content disk.old) result }
 
-    // It was refused, or the server served: what was heard, at which moments, and what was said; and, where it is known
-    // what octets the store's files have, that this is said to that, and what stands on the disk at each moment.
+    // It was refused, or the server served: what was heard, at which moments, what was said, and how long the disk may
+    // have become; and, where it is known what octets the store's files have, that this is said to that, and what
+    // stands on the disk at each moment.
     ensures ends { ServerEnds (seen D.Disk A.Air C.given) (lent disk.old air.old clock.old)
         (lent disk.new air.new clock.new) terms.now result }
 

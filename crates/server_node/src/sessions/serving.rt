@@ -25,7 +25,7 @@ use std::alloc::Global;
 /// turn's is taken before LOGIN_RESP, which has it. What a packet's row does to the store is on the disk before the
 /// replies are said. A read of the disk that fails is told by code 3, and the session goes on. After a fault of the
 /// disk at a write or a sync the reply with code 3 is said, and the session is over. However it ends, its upload is
-/// parked. Takes memory.
+/// parked, and the disk got no longer than its store may be, or than it was. Takes memory.
 pub fn session<D: Disk, A: Air, C: Clock>(
     alloc: Global,
     disk: &mut D,
@@ -40,9 +40,9 @@ pub fn session<D: Disk, A: Air, C: Clock>(
     // for it.
     ensures refuses { RefusesSession terms.now.limits.blocks (D.content disk.old) result }
 
-    // It was refused, or the session was served: what was heard, at which moments, and what was said behind LOGIN_RESP;
-    // and, where it is known what octets the store's files have, that this is said to that, and what stands on the disk
-    // at each moment.
+    // It was refused, or the session was served: what was heard, at which moments, what was said behind LOGIN_RESP, and
+    // how long the disk may have become; and, where it is known what octets the store's files have, that this is said
+    // to that, and what stands on the disk at each moment.
     ensures ends { SessionEnds (seen D.Disk A.Air C.given) (lent disk.old air.old clock.old)
         (lent disk.new air.new clock.new) terms.now result }
     ensures clock { IsSome terms.now.moment → clock.new ≡ clock.old }

@@ -1,7 +1,8 @@
 -- The recovery is refused, or the server serves over what it gives.
 use Rattle.std.proofs.lemmas.Grind.{common_steps}
-use Rattle.std.proofs.Common.{None, arith, refl}
-use Rattle.file_store.specs.State.{IsKnown}
+use Rattle.std.proofs.Common.{None, Ok, arith, refl}
+use Rattle.file_journal.specs.Restoring.{AnswersRecovery}
+use Rattle.file_store.specs.State.{IsKnown, store_form}
 use Rattle.ftl0_server.specs.ServerState.{ServerState}
 use Rattle.node.specs.Course.{at}
 use Rattle.node.specs.Events.{NodeEvents}
@@ -30,7 +31,10 @@ returns g c =
     let terms = c.args.terms.now in let blocks = terms.limits.blocks in
     let station = c.new-station.result in let last = c.drive-station.result.0 in
     let up = started g.D.Disk terms blocks c.args.disk.now mid station c.in_ok-server.server c.new-station.ensures.server c.new-station.ensures.memory h.recovered h.server h.silent in
-    let recovers : Recovers g.D.Disk blocks c.args.disk.now mid c.in_ok-server.server station.server.store = rw c.new-station.ensures.server (record { recovered = h.recovered; rules = h.rules_on; runs = h.runs; octets = h.octets; since_start = h.since_start; since_sync = h.since_sync }) in
+    let answers : AnswersRecovery g.D.Disk store_form blocks (Ok c.in_ok-server.server) c.args.disk.now mid =
+    record { refuses = h.refuses; untouched = h.untouched; untouched_damage = h.untouched_damage; runs = h.runs; since_start = h.since_start; since_sync = h.since_sync; within = h.within } in
+    let recovers : Recovers g.D.Disk blocks c.args.disk.now mid c.in_ok-server.server station.server.store =
+    rw c.new-station.ensures.server (record { recovered = h.recovered; rules = h.rules_on; octets = h.octets; answers = answers }) in
     let serves = server-serves (seen g.D.Disk g.A.Air g.C.Clock.given) terms (lent station mid c.args.air.now c.args.clock.now) (lent last new.disk new.air new.clock) c.drive-station.result.1 c.drive-station.ensures.turns
     g.met.D.Disk.lasts_same g.met.D.Disk.lasts_on up.0 c.args.disk.now c.in_ok-server.server recovers up.1 in
     rw c.answer_of.ensures (record { refuses = serves.refuses; ends = serves.ends; counts = serves.counts; runs = serves.runs })
@@ -40,4 +44,5 @@ returns-in_err-server g c =
     let h = c.in_err-server.ensures in
     let terms = c.args.terms.now in
     let serves = refused {T = ServerState} (seen g.D.Disk g.A.Air g.C.Clock.given) terms.limits.blocks None (Ran (IsKnown g.D.Disk c.args.disk.now) terms) (lent_so c.args.disk.now c.args.air.now c.args.clock.now) c.start.new.disk c.in_err-server.field-0.0
-    c.from_residual.result c.from_residual.ensures.1 h.refuses h.runs h.since_start h.since_sync h.untouched h.untouched_damage in grind (arith, common_steps, serves)
+    c.from_residual.result c.from_residual.ensures.1
+    (record { refuses = h.refuses; untouched = h.untouched; untouched_damage = h.untouched_damage; runs = h.runs; since_start = h.since_start; since_sync = h.since_sync; within = h.within }) in grind (arith, common_steps, serves)

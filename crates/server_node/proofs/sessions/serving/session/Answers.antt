@@ -1,6 +1,7 @@
 -- The recovery is refused, or the session is served over what it gives.
-use Rattle.std.proofs.Common.{refl, ◌∙◌, arith}
-use Rattle.file_store.specs.State.{IsKnown, StoreState}
+use Rattle.std.proofs.Common.{refl, ◌∙◌, Ok}
+use Rattle.file_journal.specs.Restoring.{AnswersRecovery}
+use Rattle.file_store.specs.State.{IsKnown, StoreState, store_form}
 use Rattle.file_store.proofs.Offered.{on_rules_always}
 use Rattle.node.specs.Course.{at}
 use Rattle.node.specs.Lent.{lent as lent_so, seen}
@@ -18,7 +19,7 @@ returns-in_err-store g c =
     let h = c.in_err-store.ensures in
     let terms = c.args.terms.now in
     let serves = refused {T = StoreState} (seen g.D.Disk g.A.Air g.C.Clock.given) terms.limits.blocks terms.moment (Ran (IsKnown g.D.Disk c.args.disk.now) terms) (lent_so c.args.disk.now c.args.air.now c.args.clock.now) c.recover.new.disk
-    c.in_err-store.field-0.0 c.from_residual.result c.from_residual.ensures.1 h.refuses h.runs h.since_start h.since_sync h.untouched h.untouched_damage in
+    c.in_err-store.field-0.0 c.from_residual.result c.from_residual.ensures.1 (record { refuses = h.refuses; untouched = h.untouched; untouched_damage = h.untouched_damage; runs = h.runs; since_start = h.since_start; since_sync = h.since_sync; within = h.within }) in
     record { refuses = serves.refuses; ends = serves.ends; clock = λ given. refl; counts = serves.counts; runs = serves.runs }
 
 -- there was no memory for the lists
@@ -27,7 +28,7 @@ returns-in_default g c =
     let h = c.in_ok-store.ensures in
     let terms = c.args.terms.now in
     let serves = unlisted (seen g.D.Disk g.A.Air g.C.Clock.given) terms.limits.blocks terms.moment (Ran (IsKnown g.D.Disk c.args.disk.now) terms) (lent_so c.args.disk.now c.args.air.now c.args.clock.now) c.recover.new.disk c.in_ok-store.store
-    h.runs h.since_start h.since_sync in
+    (record { refuses = h.refuses; untouched = h.untouched; untouched_damage = h.untouched_damage; runs = h.runs; since_start = h.since_start; since_sync = h.since_sync; within = h.within }) in
     record { refuses = serves.refuses; ends = serves.ends; clock = λ given. refl; counts = serves.counts; runs = serves.runs }
 
 -- LOGIN_RESP is what the server has to say first
@@ -44,8 +45,10 @@ pub returns : goal.returns
 returns g c =
     let h = c.in_ok-store.ensures in
     let new = c.take_turns-ended.new in let mid = c.recover.new.disk in let store = c.in_ok-store.store in
+    let answers : AnswersRecovery g.D.Disk store_form c.args.terms.now.limits.blocks (Ok store) c.args.disk.now mid =
+    record { refuses = h.refuses; untouched = h.untouched; untouched_damage = h.untouched_damage; runs = h.runs; since_start = h.since_start; since_sync = h.since_sync; within = h.within } in
     let recovers : Recovers g.D.Disk c.args.terms.now.limits.blocks c.args.disk.now mid store store =
-    record { recovered = h.recovered; rules = on_rules_always g.D.Disk store mid h.recovered.ready c.state_law.ensures.rules; runs = h.runs; octets = h.octets; since_start = h.since_start; since_sync = h.since_sync } in
+    record { recovered = h.recovered; rules = on_rules_always g.D.Disk store mid h.recovered.ready c.state_law.ensures.rules; octets = h.octets; answers = answers } in
     let serves = session-serves (seen g.D.Disk g.A.Air g.C.Clock.given) c.args.terms.now c.moment_of-first.result store mid c.args.air.now c.moment_of-first.new.clock
     (lent new.party new.disk new.air new.clock) c.take_turns-ended.result (rw c.new-server.ensures at c.take_turns-ended.ensures.turns) g.met.D.Disk.lasts_same g.met.D.Disk.lasts_on c.args.disk.now store recovers c.args.clock.now c.moment_of-first.ensures.moment in
     rw c.answer_of.ensures
