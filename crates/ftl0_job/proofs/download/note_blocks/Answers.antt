@@ -7,6 +7,7 @@ use Rattle.disk_model.specs.declared.halt.Halt.{Halt}
 use Rattle.ftl0_job.specs.Download.{gots}
 use Rattle.ftl0_job.specs.Noting.{HasNoted}
 use Rattle.ftl0_job.proofs.BlockLemmas.{block-allowed, gots-allowed, more-noted, one-stopped}
+use Rattle.ftl0_job.proofs.NotingLemmas.{noted-none}
 use Rattle.ftl0_job.proofs.download.note_blocks.Goals as goal
 
 -- octets that are left
@@ -82,3 +83,7 @@ returns-clause-noted g c =
     let over : (c.len.result + length c.args.octets.now) / 512 ≡ length all / 512 = ap (λ (k : ℕ). k / 512) same in
     let last : c.loop.counter ≡ length all / 512 = omega (arith, over) in
     subst (λ (k : ℕ). DoesSeveral g.D.Disk ⊥ c.args.notes.now c.loop.notes c.args.disk.now c.loop.disk (gots c.args.server c.args.number k all)) last c.loop.invariant.noted
+
+pub loop-init : goal.loop-init
+loop-init g c =
+    let none = noted-none g.D.Disk c.args.notes.now c.args.disk.now c.requires.ready (g.met.D.Disk.lasts_same c.args.disk.now) in search rules

@@ -1,9 +1,9 @@
 use Rattle.std.proofs.lemmas.Grind.{common_steps}
-use Rattle.std.proofs.Common.{arith, ◌≡◌, sym, subst, List, ◌∷◌, []}
+use Rattle.std.proofs.Common.{rules, arith, ◌≡◌, sym, subst, List, ◌∷◌, []}
 use Rattle.client_notes.specs.Command.{NotesCommand, refused}
 use Rattle.ftl0_job.specs.Noting.{NotesAtOnce}
 use Rattle.ftl0_job.specs.Upload.{refusal_of}
-use Rattle.ftl0_job.proofs.NotingLemmas.{answers-at-once}
+use Rattle.ftl0_job.proofs.NotingLemmas.{noted-none, answers-at-once}
 use Rattle.ftl0_job.proofs.noting.note_refused.Goals as goal
 
 pub returns : goal.returns
@@ -12,3 +12,7 @@ returns g c =
     subst (λ (cs : List NotesCommand). NotesAtOnce g.D.Disk c.args.notes.now c.refused.new.self c.args.disk.now c.refused.new.disk cs c.answer_of.result) (sym same)
     (answers-at-once g.D.Disk c.args.notes.now c.refused.new.self c.args.disk.now c.refused.new.disk (refused c.args.task c.args.code) c.refused.result c.answer_of.result c.refused.ensures
     c.answer_of.ensures)
+
+pub returns-then-code-eq-FILE_SYSTEM : goal.returns-then-code-eq-FILE_SYSTEM
+returns-then-code-eq-FILE_SYSTEM g c =
+    let none = noted-none g.D.Disk c.args.notes.now c.args.disk.now c.requires.ready (g.met.D.Disk.lasts_same c.args.disk.now) in search rules

@@ -7,6 +7,7 @@ use Rattle.ftl0_job.proofs.Offered.{ending-none}
 use Rattle.ftl0_client.specs.Attempt.AttemptState.{working}
 use Rattle.ftl0_client.specs.Attempt.Feeding.{Takes}
 use Rattle.ftl0_client.proofs.attempt.AnswerLemmas.{takes-answered}
+use Rattle.client_notes.proofs.Offered.{Several-none}
 use Rattle.ftl0_client.proofs.attempt.attempt.answer.Goals as goal
 
 pub returns-clause-answers : goal.returns-clause-answers
@@ -18,3 +19,7 @@ returns-clause-answers g c =
     subst (λ (item : Item). Takes g.D.Disk (item ∷ []) before now) c.packet-packet.ensures
     (takes-answered g.D.Disk (item_of c.packet-packet.result) before now c.take.new.self c.kind_of-kind.result c.as_slice.result.now c.take.new.replies.items c.kind_of-kind.ensures
     c.as_slice.ensures.value (ending-none job.ending test) c.in_ok-take.ensures.takes c.reply.ensures.replies)
+
+pub returns-then-is_some-clause-answers : goal.returns-then-is_some-clause-answers
+returns-then-is_some-clause-answers g c =
+    let none = Several-none g.D.Disk ⊥ c.args.notes.now c.args.disk.now (λ never. never) c.requires.may.may.ready (g.met.D.Disk.lasts_same c.args.disk.now) in search rules

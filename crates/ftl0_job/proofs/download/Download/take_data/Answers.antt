@@ -1,14 +1,15 @@
 -- Each whole 512 octets are noted.
 use Rattle.std.proofs.Common.{◌≡◌, [], ◌++◌, rules, sym, subst, refl, arith}
 use Rattle.std.proofs.lemmas.Grind.{common_steps}
-use Rattle.std.specs.Prelude.{⊤, Option, Result, Err}
+use Rattle.std.specs.Prelude.{⊤, Option, Some, Result, Ok, Err}
 use Rattle.client_notes.specs.Notes.{got_of}
 use Rattle.ftl0_job.specs.declared.ending.Ending.{Ending}
 use Rattle.disk_model.specs.declared.halt.Halt.{Halt}
 use Rattle.ftl0_job.specs.Download.{Download, data_row, unnoted, whole_gots, with_rest}
 use Rattle.ftl0_job.specs.Noting.{HasNoted}
-use Rattle.ftl0_job.specs.Row.{Row, goes_on}
-use Rattle.ftl0_job.specs.Taking.{TakesRow, with_notes}
+use Rattle.ftl0_job.specs.Row.{Row, goes_on, strange}
+use Rattle.ftl0_job.specs.Taking.{Gives, TakesRow, with_notes}
+use Rattle.ftl0_job.proofs.NotingLemmas.{noted-none}
 use Rattle.ftl0_job.proofs.download.Download.take_data.Goals as goal
 
 pub returns-in_err-self-inside : goal.returns-in_err-self-inside
@@ -23,3 +24,13 @@ returns-in_err-self-inside g c =
     let noted : Download → Type 0 = λ d. HasNoted {T = ⊤} g.D.Disk old c.note_blocks.new.notes c.args.disk.now c.note_blocks.new.disk (whole_gots d.server d.number (d.rest ++ c.args.octets.now)) (Err why) in
     subst (λ (r : Result (Option Ending) Halt). P (data_row (got_of old.lists at.server at.number) at c.args.octets.now) r) (sym stops)
     (subst (λ (row : Row Download). P row (Err why)) (sym few) (record { answers = (refl, refl); noted = subst noted c.self.view_is c.in_err-self-inside.ensures.noted }))
+
+pub returns-then-held-len : goal.returns-then-held-len
+returns-then-held-len g c =
+    let at : Download = c.args.self.now in
+    let old = c.args.notes.now in
+    let none = noted-none g.D.Disk old c.args.disk.now c.requires (g.met.D.Disk.lasts_same c.args.disk.now) in
+    let far : data_row (got_of old.lists at.server at.number) at c.args.octets.now ≡ strange at 0 = grind (arith, common_steps) in
+    let ends : Gives (strange at 0) at [] (Some c.strange.result) = search rules in
+    subst (λ (row : Row Download). TakesRow g.D.Disk row (with_notes at old c.args.disk.now) (with_notes at old c.args.disk.now) [] (Ok (Some c.strange.result))) (sym far)
+    (record { answers = ends; noted = none })

@@ -1,19 +1,25 @@
 -- What the link told decides what becomes of the attempt.
-use Rattle.std.proofs.Common.{◌≡◌, ◌++◌, ℕ, List, ap, refl, subst, ◌∙◌}
+use Rattle.std.proofs.Common.{rules, inl, inr, ◌≡◌, ◌++◌, ℕ, List, Option, Result, Ok, ap, refl, sym, subst, ◌∙◌}
 use Rattle.ax25_frames.specs.Values.{value_of}
-use Rattle.ax25_link.specs.declared.state.Heard.TheVariants.{Bytes}
-use Rattle.ax25_link.specs.Rows.{after_frame}
+use Rattle.ax25_link.specs.declared.state.Heard.{Heard}
+use Rattle.ax25_link.specs.declared.state.Heard.TheVariants.{Bytes, Closed, Nothing, Opened, Reopened}
+use Rattle.ax25_link.specs.declared.state.Why.{Why}
+use Rattle.ax25_link.specs.Kept.{Tells}
+use Rattle.ax25_link.specs.Rows.{after_frame, heard_of}
 use Rattle.ax25_link.specs.Window.{Window}
 use Rattle.ftl0_packets.specs.Reading.{packets_of, under_way}
+use Rattle.ftl0_job.specs.JobState.{MayTake}
+use Rattle.ftl0_job.specs.Table.{JobState}
 use Rattle.ftl0_job.specs.Taking.{with_notes}
 use Rattle.ftl0_client.specs.Attempt.Attempted.{Attempted}
 use Rattle.ftl0_client.specs.Attempt.AttemptState.{AttemptState, HearsBy, IsAttempt, working}
 use Rattle.ftl0_client.specs.Attempt.Feeding.{TakesOctetsBy}
-use Rattle.ftl0_client.specs.Attempt.Hearing.{accepting, after_hearing, packets_heard, with_end}
+use Rattle.ftl0_client.specs.Attempt.Hearing.{accepting, after_hearing, down_by, packets_heard, with_end}
 use Rattle.ftl0_client.specs.Attempt.Inside.{attempt_state}
 use Rattle.ftl0_client.specs.Attempt.Taking.{taking}
 use Rattle.ftl0_client.proofs.attempt.FeedLemmas.{hears-octets}
 use Rattle.ftl0_client.proofs.attempt.HearLemmas.{hears-puts, hears-told}
+use Rattle.client_notes.proofs.Offered.{Several-none, puts_same}
 use Rattle.ftl0_client.proofs.attempt.attempt.Attempt.take_frame.Goals as goal
 
 pub returns-in-Bytes-clause-takes : goal.returns-in-Bytes-clause-takes
@@ -51,3 +57,56 @@ returns-in-Bytes-clause-puts g c =
     hears-puts g.D.Disk g.met.D.Disk.lasts_on (accepting a octets) (packets_of (a.rest ++ octets)) at_first at_last some.w
     (taking c.args.notes.now.lists (accepting a octets) (packets_of (a.rest ++ octets))) c.take_packets.result
     (hears-octets g.D.Disk some.w mid at_first at_last a (record { link = some.stands; rest = refl; job = refl; down = refl }) octets refl c.take_packets.result c.take_packets.ensures.takes)
+
+pub returns-in-Nothing : goal.returns-in-Nothing
+returns-in-Nothing g c =
+    let s = c.self.inside in
+    let frame = value_of c.args.frame.now in
+    let lists = c.args.notes.now.lists in
+    let mid = attempt_state (record { link = c.take.new.self; job = s.job; down = s.down }) in
+    let at = λ (state : AttemptState). with_notes state c.args.notes.now c.args.disk.now in
+    let none = Several-none g.D.Disk ⊥ c.args.notes.now c.args.disk.now (λ never. never) c.requires.may.ready (g.met.D.Disk.lasts_same c.args.disk.now) in
+    let P : AttemptState → Type 0 =
+    λ old. (w : Window) (a : Attempted) → IsAttempt w old a
+    → HearsBy g.D.Disk w (taking lists (after_hearing w a frame) (packets_heard w a frame)) (after_hearing w a frame) (packets_heard w a frame) (at old) (at mid) (Ok tt) in
+    let told : (heard : Heard) → c.take.result ≡ heard → Tells s.link.link (λ w end. heard_of w end frame) heard = λ heard is.
+    subst (λ (t : Heard). Tells s.link.link (λ w end. heard_of w end frame) t) is c.take.ensures.heard in
+    let still : (w : Window) (a : Attempted) → IsAttempt w (attempt_state s) a → IsAttempt w mid (with_end a (after_frame w a.end frame)) = λ w a is.
+    record { link = c.take.ensures.after w a.end is.link; rest = ap under_way c.take.ensures.keeps.reader ∙ is.rest; job = is.job; down = is.down } in
+    let takes : P (attempt_state s) =
+    elim c.in-Nothing.is [
+      | inl nothing ↦ λ w a is. hears-told g.D.Disk w frame (at (attempt_state s)) (at mid) Nothing (Ok tt) (told Nothing nothing) a is (still w a is, none)
+      | inr others ↦ elim others [
+        | inl opened ↦ λ w a is. hears-told g.D.Disk w frame (at (attempt_state s)) (at mid) Opened (Ok tt) (told Opened opened) a is (still w a is, none)
+        | inr reopened ↦ λ w a is. hears-told g.D.Disk w frame (at (attempt_state s)) (at mid) Reopened (Ok tt) (told Reopened reopened) a is (still w a is, none)
+      ]
+    ] in
+    let may = subst (λ (o : AttemptState). MayTake g.D.Disk c.args.notes.now c.args.disk.now o.job) (sym c.self.view_is) c.requires.may in
+    record {
+      takes = subst P c.self.view_is takes;
+      puts = puts_same g.D.Disk c.args.disk.now c.args.disk.now ⊥ _ (λ never. absurd never) (λ e. cc e) none.does.puts;
+      fit = record { may = may; stands_on = c.requires.may.ready.stands_on; stations = search rules };
+    }
+
+pub returns-in-Closed-clause-takes : goal.returns-in-Closed-clause-takes
+returns-in-Closed-clause-takes g c =
+    let s = c.self.inside in
+    let frame = value_of c.args.frame.now in
+    let lists = c.args.notes.now.lists in
+    let why = c.in-Closed.why in
+    let mid = attempt_state (record { link = c.take.new.self; job = s.job; down = s.down }) in
+    let at = λ (state : AttemptState). with_notes state c.args.notes.now c.args.disk.now in
+    let none = Several-none g.D.Disk ⊥ c.args.notes.now c.args.disk.now (λ never. never) c.requires.may.ready (g.met.D.Disk.lasts_same c.args.disk.now) in
+    let P : AttemptState → AttemptState → Type 0 =
+    λ old now. (w : Window) (a : Attempted) → IsAttempt w old a
+    → HearsBy g.D.Disk w (taking lists (after_hearing w a frame) (packets_heard w a frame)) (after_hearing w a frame) (packets_heard w a frame) (at old) (at now) (Ok tt) in
+    let told : Tells s.link.link (λ w end. heard_of w end frame) (Closed why) =
+    subst (λ (t : Heard). Tells s.link.link (λ w end. heard_of w end frame) t) c.in-Closed.is c.take.ensures.heard in
+    let now : AttemptState = record mid { down = down_by s.job.ending s.down why } in
+    subst (λ (o : AttemptState). P o c.close.new.self) c.self.view_is
+    (subst (P (attempt_state s)) (sym c.close.ensures)
+    (λ w a is.
+    let down : down_by s.job.ending s.down why ≡ down_by a.job.ending a.down why =
+    ap (λ (j : JobState). down_by j.ending s.down why) is.job ∙ ap (λ (d : Option Why). down_by a.job.ending d why) is.down in
+    hears-told g.D.Disk w frame (at (attempt_state s)) (at now) (Closed why) (Ok tt) told a is
+    (record { link = c.take.ensures.after w a.end is.link; rest = ap under_way c.take.ensures.keeps.reader ∙ is.rest; job = is.job; down = down }, none)))
