@@ -1,12 +1,11 @@
 -- One more entry of a session: what it says, what it answers, and what its row's commands leave.
-use Rattle.std.proofs.Common.{◌≡◌, ◌⊎◌, inl, inr, ℕ, suc, zero, List, [], ◌∷◌, ◌++◌, length, drop, take, refl, ap, sym}
-use Rattle.std.proofs.Common.{◌∙◌, subst, Bool, Some}
+use Rattle.std.proofs.Common.{◌≡◌, ◌⊎◌, inl, inr, ℕ, suc, zero, List, [], ◌∷◌, ◌++◌, length, drop, take, refl, ap, sym, ◌∙◌, subst, Bool, Some}
 use Rattle.std.specs.List.{AllByRecursion}
 use Rattle.px_base.specs.CallSign.{CallSign, IsCall}
 use Rattle.ftl0_packets.specs.Layout.{Item, PacketValue}
 use Rattle.file_entries.specs.Follows.{AreOf, BringsOctets, FollowsBy, IsOf, KeepsEntries}
-use Rattle.file_entries.proofs.Offered.{follows_law}
-use Rattle.file_store.specs.Command.{AreAllowed, Command, HasCall, HaveCalls, after, begin, drop_entry, grow, seal}
+use Rattle.file_entries.proofs.Offered.{AreAllowed-first, follows_law}
+use Rattle.file_store.specs.Command.{AreAllowed, Command, DropsNothing, HasCall, HaveCalls, after, begin, drop_entry, grow, seal}
 use Rattle.file_store.specs.OnDisk.{after_first}
 use Rattle.file_store.specs.Store.{Store}
 use Rattle.ftl0_session.specs.Table.{State}
@@ -125,35 +124,26 @@ own-calls caller store [] call own = tt
 own-calls caller store (command ∷ commands) call own =
     (own-call caller store command call own.0, own-calls caller (after store command) commands call own.1)
 
--- the first of them bring octets, if all of them do
-brings-first : (P : Command → Type 0) (count : ℕ) (commands : List Command) → AllByRecursion P commands
+-- the first of them are so, if all of them are
+pub such-first : (P : Command → Type 0) (count : ℕ) (commands : List Command) → AllByRecursion P commands
     → AllByRecursion P (take count commands)
-brings-first P zero [] all = tt
-brings-first P (suc count) [] all = tt
-brings-first P zero (command ∷ commands) all = tt
-brings-first P (suc count) (command ∷ commands) all = (all.0, brings-first P count commands all.1)
-
-allowed-first : (count : ℕ) (store : Store) (commands : List Command) → AreAllowed store commands
-    → AreAllowed store (take count commands)
-allowed-first zero store [] all = tt
-allowed-first (suc count) store [] all = tt
-allowed-first zero store (command ∷ commands) all = tt
-allowed-first (suc count) store (command ∷ commands) all =
-    (all.0, allowed-first count (after store command) commands all.1)
+such-first P zero commands all = tt
+such-first P (suc count) [] all = tt
+such-first P (suc count) (command ∷ commands) all = (all.0, such-first P count commands all.1)
 
 own-first : (caller : CallSign) (count : ℕ) (store : Store) (commands : List Command) → AreOf caller store commands
     → AreOf caller store (take count commands)
-own-first caller zero store [] all = tt
+own-first caller zero store commands all = tt
 own-first caller (suc count) store [] all = tt
-own-first caller zero store (command ∷ commands) all = tt
 own-first caller (suc count) store (command ∷ commands) all =
     (all.0, own-first caller count (after store command) commands all.1)
 
--- The commands of a row of this caller over a store are its own, allowed, and bring octets.
+-- The commands of a row of this caller over a store are its own, allowed, and bring octets; none gives a file up.
 pub record AreRowCommands (caller : CallSign) (store : Store) (commands : List Command) : Type 0 where
   pub own : AreOf caller store commands
   pub allowed : AreAllowed store commands
   pub brings : AllByRecursion BringsOctets commands
+  pub drops : DropsNothing commands
 
 module _ (caller : CallSign) (store : Store) (commands : List Command) (call : IsCall caller)
     (sound : IsSoundStore store)
@@ -166,7 +156,7 @@ module _ (caller : CallSign) (store : Store) (commands : List Command) (call : I
   row-follows = record {
     commands = take count commands;
     own = own-first caller count store commands row.own;
-    does = (allowed-first count store commands row.allowed, refl);
+    does = (AreAllowed-first count commands store row.allowed, refl);
   }
 
   pub row-keeps : KeepsEntries store now
@@ -178,4 +168,4 @@ module _ (caller : CallSign) (store : Store) (commands : List Command) (call : I
   row-sound =
       sound-kept store now (take count commands) follows_law sound
       (own-calls caller store (take count commands) call (own-first caller count store commands row.own))
-      (brings-first BringsOctets count commands row.brings) (allowed-first count store commands row.allowed, refl)
+      (such-first BringsOctets count commands row.brings) (AreAllowed-first count commands store row.allowed, refl)

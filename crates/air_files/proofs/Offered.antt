@@ -1,4 +1,5 @@
 -- The lemmas that crates above may use.
+pub use Rattle.air_files.proofs.EntryLemmas.{such-first}
 pub use Rattle.air_files.proofs.GoneLemmas.{alike-itself, facts-over, facts-same, facts-started, over-alike}
 pub use Rattle.air_files.proofs.GoneLemmas.{served-itself}
 pub use Rattle.air_files.proofs.JobTasks.{tasks-lists}

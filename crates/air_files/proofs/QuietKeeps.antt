@@ -3,6 +3,7 @@ use Rattle.std.proofs.Common.{◌≡◌, ◌≢◌, ℕ, zero, suc, List, [], �
 use Rattle.std.specs.List.{AllByRecursion}
 use Rattle.ftl0_packets.specs.Layout.{Fits}
 use Rattle.file_entries.specs.Follows.{FollowsBy}
+use Rattle.file_store.specs.Command.{AreAllowed, DropsNothing}
 use Rattle.file_store.specs.OnDisk.{after_first}
 use Rattle.file_store.specs.Store.{Store}
 use Rattle.ftl0_session.specs.Downloads.Needs.{AreComplete}
@@ -67,6 +68,8 @@ module _ (over : (store : Store) (files : List Asked) (party : Party) → HasFac
     follows =
         subst (λ (s : Store). FollowsBy party.client.me before.store s) (sym it.stays)
         (follows-none party before.store);
+    allowed = subst (AreAllowed before.store) (sym it.commands) tt;
+    drops = subst DropsNothing (sym it.commands) tt;
     during = λ count.
         subst (λ (s : Store). LeftIn files party before.store s)
         (sym (ap (after_first count before.store) it.commands ∙ first-none count before.store))

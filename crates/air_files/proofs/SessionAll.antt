@@ -7,8 +7,8 @@ use Rattle.std.specs.Option.{option_map}
 use Rattle.std.proofs.lemmas.Option.{same_Some}
 use Rattle.ftl0_packets.specs.Layout.{Fits, ul_go_resp, upload_cmd}
 use Rattle.file_entries.specs.Follows.{FollowsBy}
-use Rattle.file_entries.proofs.Offered.{follows_law}
-use Rattle.file_store.specs.Command.{Command, after_all}
+use Rattle.file_entries.proofs.Offered.{AreAllowed-append, follows_law}
+use Rattle.file_store.specs.Command.{AreAllowed, Command, DropsNothing, KeepsFile, after_all}
 use Rattle.file_store.specs.OnDisk.{after_first}
 use Rattle.file_store.specs.Store.{Store}
 use Rattle.file_store.proofs.Offered.{after_all-append}
@@ -30,6 +30,7 @@ use Rattle.air_files.proofs.ApartLemmas.{GrantFact}
 use Rattle.air_files.proofs.GoneLemmas.{alike-itself, facts-over, facts-same}
 use Rattle.air_files.proofs.LikeLemmas.{number-like}
 use Rattle.air_files.proofs.MovedLemmas.{GrantsBegun, facts-left, same-task}
+use Rattle.air_files.proofs.QuietKeeps.{first-none}
 use Rattle.air_files.proofs.SessionFirst.{attempt_mid, first-goes, front-first, party_mid, served-mid, side_mid}
 
 -- ---- one entry, whatever the work
@@ -52,18 +53,13 @@ one-law uploads directories downloads files c party moment before now entries up
 module _ (files : List Asked) (c : ℕ) (party : Party) (before : Session) (served : IsServed files c party before)
     (up : Bool) where
   none-left : (count : ℕ) → LeftIn files party before.store (after_first count before.store [])
-  none-left zero =
-      record {
+  none-left count =
+      subst (LeftIn files party before.store) (sym (first-none count before.store))
+      (record {
         facts = facts-over before.store files party served.facts;
         store = served.store;
         follows = record { commands = []; own = tt; does = (tt, refl) };
-      }
-  none-left (suc count) =
-      record {
-        facts = facts-over before.store files party served.facts;
-        store = served.store;
-        follows = record { commands = []; own = tt; does = (tt, refl) };
-      }
+      })
 
   abbrev none_attempt : Attempt
   none_attempt = session_gone [] before.state up served.attempt served.side
@@ -105,6 +101,8 @@ module _ (files : List Asked) (c : ℕ) (party : Party) (before : Session) (serv
     store = served.store;
     lists = served.lists;
     follows = record { commands = []; own = tt; does = (tt, refl) };
+    allowed = tt;
+    drops = tt;
     during = none-left;
     grants = λ number file_length grants.
         inl (subst (λ (entries : List SessionEntry). Grants
@@ -281,22 +279,20 @@ both-keep x y ys one later files c party moment before now up served goes =
     record {
       facts =
           subst
-          (λ (entries : List SessionEntry).
-          HasFacts now.store files
-          (with_attempt party
-          (record a {
-            server =
-                Some (record side {
-                  connected = record side.connected { state = now.state };
-                  entries = entries;
-                  is_up = up;
-                });
-          })
-          served.older))
+          (λ (entries : List SessionEntry). HasFacts now.store files (with_attempt party (record a {
+            server = Some (record side { connected = record side.connected { state = now.state }; entries = entries; is_up = up });
+          }) served.older))
           (sym joins) those.facts;
       store = those.store;
       lists = those.lists;
       follows = follows_law.joined_by party.client.me before.store mid.store now.store first.follows those.follows;
+      allowed =
+          AreAllowed-append (session.commands_of x) (session.commands_in (y ∷ ys)) before.store
+          (subst (AreAllowed before.store) (append-nil (session.commands_of x)) first.allowed)
+          (subst (λ (s : Store). AreAllowed s (session.commands_in (y ∷ ys))) split.store_is those.allowed);
+      drops =
+          each-append KeepsFile (session.commands_of x) (session.commands_in (y ∷ ys))
+          (subst DropsNothing (append-nil (session.commands_of x)) first.drops) those.drops;
       during =
           left-both files c party moment before served x split.kept mid
           (y ∷ ys) split.store_is first.follows first.during those.during;

@@ -1,10 +1,9 @@
 -- One entry of a session of an upload keeps the client's facts.
-use Rattle.std.proofs.Common.{◌≡◌, inl, inr, ℕ, List, [], ◌∷◌, ◌++◌, length, refl, ap, sym, ◌∙◌, subst, append-nil}
-use Rattle.std.proofs.Common.{Bool, true}
+use Rattle.std.proofs.Common.{◌≡◌, inl, inr, ℕ, List, [], ◌∷◌, ◌++◌, length, refl, ap, sym, ◌∙◌, subst, append-nil, Bool, true}
 use Rattle.std.specs.Prelude.{Ok}
 use Rattle.std.specs.List.{AllByRecursion}
 use Rattle.ftl0_packets.specs.Layout.{Fits, Item, ul_error_resp, ul_go_resp, upload_cmd}
-use Rattle.file_store.specs.Command.{Command}
+use Rattle.file_store.specs.Command.{AreAllowed, Command, DropsNothing}
 use Rattle.file_store.specs.OnDisk.{after_first}
 use Rattle.file_store.specs.Store.{Store}
 use Rattle.ftl0_session.specs.Downloads.Laws.{ListsStayLaw}
@@ -89,6 +88,8 @@ module _ (files : List Asked) (c : ℕ) (party : Party) (before : Session) (serv
       store = (left-all files c party before served item row does).store;
       lists = lists-now;
       follows = (left-all files c party before served item row does).follows;
+      allowed = subst (AreAllowed before.store) (sym same) does.commands.allowed;
+      drops = subst DropsNothing (sym same) does.commands.drops;
       during = left-now (x ∷ []) same;
       grants = new;
       fits = subst (AllByRecursion Fits) (sym (append-nil (session.packets_said x))) fits;

@@ -23,8 +23,7 @@ use Rattle.air_files.specs.Facts.{HasNumber, IsGrantKept, IsOfferKept}
 use Rattle.air_files.specs.Kept.{IsFileAt}
 use Rattle.air_files.specs.Laws.{IsServed, LeftIn, with_attempt}
 use Rattle.air_files.proofs.ApartLemmas.{DueFact, HasSideFacts, ReceiveFact, apart}
-use Rattle.air_files.proofs.EntryLemmas.{AreRowCommands, answers-cases, row-follows, row-keeps, row-sound, says-cases}
-use Rattle.air_files.proofs.EntryLemmas.{with_entry}
+use Rattle.air_files.proofs.EntryLemmas.{AreRowCommands, answers-cases, row-follows, row-keeps, row-sound, says-cases, with_entry}
 use Rattle.air_files.proofs.GrowingLemmas.{StayOthers}
 use Rattle.air_files.proofs.LikeLemmas.{like-side}
 use Rattle.air_files.proofs.MovedLemmas.{GrantsBegun, MovesTo, OwnGrants, facts-left, moves-to, side-moved}
@@ -133,7 +132,7 @@ module _ (files : List Asked) (c : ℕ) (party : Party) (before : Session) (serv
       → before.store.next ≤ number)
       → RowDoes files party before item (idle_row before state replies)
   idle-does item state replies fits quiet new = record {
-    commands = record { own = tt; allowed = tt; brings = tt };
+    commands = record { own = tt; allowed = tt; brings = tt; drops = tt };
     lists = refl;
     fits = fits;
     quiet = quiet;

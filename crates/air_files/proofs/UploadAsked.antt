@@ -251,7 +251,7 @@ module _ (files : List Asked) (c : ℕ) (party : Party) (before : Session) (serv
     begun-does : RowDoes files party before asking begun_row
     begun-does = record {
       commands =
-          record { own = (refl, tt); allowed = (rw ((Decides-eqb next next).1 refl, may) refl, tt); brings = (tt, tt) };
+          record { own = (refl, tt); allowed = (rw ((Decides-eqb next next).1 refl, may) refl, tt); brings = (tt, tt); drops = (tt, tt) };
       lists = refl;
       fits = ((omega (arith, few-numbers), omega arith), tt);
       quiet = (refl, tt);

@@ -10,7 +10,7 @@ use Rattle.std.proofs.lemmas.Option.{same_Some}
 use Rattle.px_base.specs.Octets.{IsFront, IsOctets}
 use Rattle.ftl0_packets.specs.Layout.{Item, data_part, ul_go_resp, upload_cmd}
 use Rattle.file_entries.specs.Follows.{AreOf, BringsOctets}
-use Rattle.file_store.specs.Command.{after_all, grows, unfilled_block, whole_grows}
+use Rattle.file_store.specs.Command.{DropsNothing, after_all, grows, unfilled_block, whole_grows}
 use Rattle.file_store.specs.OnDisk.{after_first}
 use Rattle.file_store.specs.Store.{Entry, Store, entry_of, partial}
 use Rattle.file_store.proofs.Offered.{grows-after}
@@ -89,6 +89,11 @@ grows-bring number (suc n) octets are = (
   grows-bring number n (drop 512 octets)
       (All-drop (λ octet. octet < 256) 512 octets are),
 )
+
+-- and none of them gives a file up
+grows-drop : (number n : ℕ) (octets : List ℕ) → DropsNothing (grows number n octets)
+grows-drop number zero octets = tt
+grows-drop number (suc n) octets = (tt, grows-drop number n (drop 512 octets))
 
 -- ---- the row
 
@@ -181,6 +186,7 @@ module _ (files : List Asked) (c : ℕ) (party : Party) (before : Session) (serv
         brings =
             grows-bring number (length all / 512) all
             (waiting-octets file_taken.held all at.file (from + length octets) came are);
+        drops = grows-drop number (length all / 512) all;
       };
       lists = refl;
       fits = tt;

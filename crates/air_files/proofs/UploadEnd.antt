@@ -11,7 +11,7 @@ use Rattle.ftl0_packets.specs.Layout.{Item, PacketValue, data_end, ul_ack_resp, 
 use Rattle.pfh_items.specs.Faults.{fault_code}
 use Rattle.pfh_items.specs.Stamp.{stamped}
 use Rattle.file_entries.specs.Follows.{AreOf, BringsOctets}
-use Rattle.file_store.specs.Command.{after_all}
+use Rattle.file_store.specs.Command.{DropsNothing, after_all}
 use Rattle.file_store.specs.Info.{IsCompleteIn, is_complete}
 use Rattle.file_store.specs.OnDisk.{after_first}
 use Rattle.file_store.specs.Store.{Entry, Holding, Store, complete, entry_of, partial}
@@ -55,6 +55,10 @@ last-brings : (number : ℕ) (rest : List ℕ) (moment : ℕ) → IsOctets rest
     → AllByRecursion BringsOctets (ending_commands number rest moment)
 last-brings number [] moment are = (tt, tt)
 last-brings number (octet ∷ octets) moment are = (are, (tt, tt))
+
+last-drops : (number : ℕ) (rest : List ℕ) (moment : ℕ) → DropsNothing (ending_commands number rest moment)
+last-drops number [] moment = (tt, tt)
+last-drops number (octet ∷ octets) moment = (tt, (tt, tt))
 
 module _ (files : List Asked) (c : ℕ) (party : Party) (before : Session) (served : IsServed files c party before)
     (at : Upload) (asked_is : served.attempt.client.asked ≡ work.Upload at) (number offset : ℕ) (parts : List (List ℕ))
@@ -194,6 +198,7 @@ module _ (files : List Asked) (c : ℕ) (party : Party) (before : Session) (serv
         brings =
             last-brings number rest moment
             (waiting-octets file_taken.held rest at.file from file_taken.came good.octets);
+        drops = last-drops number rest moment;
       };
       lists = refl;
       fits = (tt, tt);

@@ -7,7 +7,7 @@ use Rattle.px_base.specs.CallSign.{CallSign, IsCall}
 use Rattle.ax25_link.specs.Window.{Window}
 use Rattle.ftl0_packets.specs.Layout.{Fits}
 use Rattle.file_entries.specs.Follows.{FollowsBy}
-use Rattle.file_store.specs.Command.{after, drop_entry}
+use Rattle.file_store.specs.Command.{AreAllowed, DropsNothing, after, drop_entry}
 use Rattle.file_store.specs.OnDisk.{after_first}
 use Rattle.file_store.specs.Store.{Entry, Store, empty_store, entry_of, partial}
 use Rattle.ftl0_session.specs.Downloads.Needs.{AreComplete}
@@ -129,13 +129,16 @@ pub record LeftIn (files : List Asked) (party : Party) (before now : Store) : Ty
   pub follows : FollowsBy party.client.me before now
 
 -- What entries of a session, from one to another, leave of the client: the facts hold behind them, and so they do
--- where a power cut comes after the first of their commands.
+-- where a power cut comes after the first of their commands. Each command is allowed in its turn, and none gives a file
+-- up: one that came whole has no fault.
 pub record SessionKeeps (files : List Asked) (party done : Party) (before now : Session) (entries : List SessionEntry)
     (side : ServerSide) : Type 0 where
   pub facts : HasFacts now.store files done
   pub store : IsSoundStore now.store
   pub lists : AreComplete now.store now.lists
   pub follows : FollowsBy party.client.me before.store now.store
+  pub allowed : AreAllowed before.store (session.commands_in entries)
+  pub drops : DropsNothing (session.commands_in entries)
   pub during :
       (count : ℕ)
       → LeftIn files party before.store (after_first count before.store (session.commands_in entries))

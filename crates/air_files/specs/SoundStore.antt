@@ -1,4 +1,5 @@
 -- What holds of the server's store in the world.
+use Rattle.std.specs.Prelude.{◌≡◌, ◌+◌, length}
 use Rattle.std.specs.List.{AllByRecursion}
 use Rattle.px_base.specs.Octets.{IsOctets}
 use Rattle.file_store.specs.Headers.{KeepsRules}
@@ -11,3 +12,7 @@ pub record IsSoundStore (store : Store) : Type 0 where
   pub is_store : IsStore store
   pub keeps_rules : AllByRecursion (λ entry. KeepsRules entry.holding) store.entries
   pub octets : AllByRecursion (λ entry. IsOctets (octets_of entry.holding)) store.entries
+
+-- No entry was ever given up: each number below the next one has its own.
+abbrev pub NoneGone : Store → Type 0
+NoneGone store = length store.entries + 1 ≡ store.next

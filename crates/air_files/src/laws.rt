@@ -52,7 +52,8 @@ pub fn session_of_list_law()
     downloads_law();
 }
 
-/// Whatever a session does, one thing after another, keeps its client's facts: of an upload, a download or a list.
+/// Whatever a session does, one thing after another, keeps its client's facts: of an upload, a download or a list. None
+/// of its commands gives a file up.
 pub fn session_law()
     ensures { SessionLaw }
 {

@@ -292,6 +292,7 @@ module _ {B : Type 0} (g : Ghosts B) (cuts : Cuts B) (law : SoundLaw) (world : W
         step = step_then;
         bench = record {
           sound = law.kept world next_then (cut_server call choice) bench.sound step_then;
+          none_gone = law.none_gone world next_then (cut_server call choice) bench.sound step_then bench.none_gone;
           plays = record {
             server = bench.plays.server;
             blocks = bench.plays.blocks;

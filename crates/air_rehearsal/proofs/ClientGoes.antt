@@ -331,6 +331,7 @@ module _ {B : Type 0} (g : Ghosts B) (cuts : Cuts B) (world next : World) (event
         step = step;
         bench = record {
           sound = law.kept world next event bench.sound step;
+          none_gone = law.none_gone world next event bench.sound step bench.none_gone;
           plays = record {
             server =
                 subst (λ (d : B). IsServer (store_on g new.server.store d) new.server next.server)

@@ -231,6 +231,7 @@ module _ {B : Type 0} (g : Ghosts B) (cuts : Cuts B)
   bench_first =
       record {
         sound = law.first schedule is_schedule;
+        none_gone = law.first_none_gone schedule;
         plays = record { server = server_plays; blocks = refl; stations = stations_play };
         steady = server_steady;
         all_steady = steady_at;

@@ -13,11 +13,13 @@ use Rattle.disk_model.specs.declared.halt.Halt.{Halt}
 use Rattle.disk_model.specs.declared.halt.Halt.TheVariants as halt
 use Rattle.file_journal.specs.Calls.{EachImage}
 use Rattle.file_journal.specs.Calls.{Leaves}
-use Rattle.file_journal.proofs.Offered.{cut_makes, first_all, told_weaker}
+use Rattle.file_journal.specs.Kept.{alone}
+use Rattle.file_journal.proofs.Offered.{cut_makes, first_all, room_always, told_weaker}
 use Rattle.px_base.specs.CallSign.{CallSign}
 use Rattle.ax25_frames.specs.FrameText.{FrameValue}
 use Rattle.ax25_link.specs.Air.{IsAt, Transmission, delivering}
 use Rattle.node.specs.Events.{IsFor}
+use Rattle.client_notes.proofs.Offered.{one-half}
 use Rattle.client_notes.specs.Command.{NotesCommand}
 use Rattle.client_notes.specs.Notes.{Lists}
 use Rattle.client_notes.specs.Laws.{after_all}
@@ -118,8 +120,9 @@ module _ {D : Type 0} (g : Ghosts D) (it : Client) (frame : FrameValue) (old new
   heard_cut on (Err halt.OutOfMemory) by failed calls passed = absurd (cc failed)
   heard_cut on (Err halt.Disk) by failed calls passed =
       let front = client-stopped g on it frame old new disk disk_now is.lists by in
-      let makes = cut_makes g notes_form front.0 front.1 (notes.notes_on old.notes disk)
-      (notes.notes_on new.notes disk_now) calls (front.3.does.cut tt) passed in
+      let makes = cut_makes g notes_form (alone g ⊤) ⊤ front.0 front.1 (notes.notes_on old.notes disk)
+      (notes.notes_on new.notes disk_now) calls tt (room_always notes_form old.notes.journal front.0 one-half)
+      front.3.does passed in
       subst
       (λ (l : Lists). IfSome (g.content disk) (λ _. EachImage g disk_now
       (notes.MakesBetween (least_done Failed calls Lists NotesCommand notes_form noted) (length noted) l noted))) is.lists

@@ -70,6 +70,7 @@ module _ {B : Type 0} (g : Ghosts B) (cuts : Cuts B) (world : World) (old : Benc
   awaits =
       record {
         sound = bench.sound;
+        none_gone = bench.none_gone;
         plays =
             subst (λ (s : Stations). PlaysWorld g s old.server old.disk world) (sym counts.same)
             (record {
@@ -164,6 +165,7 @@ module _ {B : Type 0} (g : Ghosts B) (cuts : Cuts B) (world : World) (old : Benc
   counted_bench moment report =
       record {
         sound = bench.sound;
+        none_gone = bench.none_gone;
         plays = record {
           server = bench.plays.server;
           blocks = bench.plays.blocks;

@@ -9,12 +9,12 @@ use Rattle.disk_model.specs.Disk.{IsTold}
 use Rattle.disk_model.specs.Moments.{LeavesOnly}
 use Rattle.disk_model.specs.declared.disk.Disk.{Ghosts}
 use Rattle.disk_model.specs.declared.halt.Halt.{Halt}
-use Rattle.file_entries.specs.Command.{Command}
+use Rattle.file_entries.specs.Command.{Command, DropsNothing}
 use Rattle.file_journal.specs.Calls.{Leaves, images_now}
 use Rattle.file_journal.specs.Walk.{state}
 use Rattle.file_journal.proofs.Offered.{at_told, if_told}
 use Rattle.file_store.specs.OnDisk.{MakesBetween, MakesFirst, after_first}
-use Rattle.file_store.specs.State.{StandsFor, standing_of, store_form, store_on}
+use Rattle.file_store.specs.State.{IsReady, StandsFor, standing_of, store_form, store_on}
 use Rattle.file_store.specs.Store.{Store}
 use Rattle.file_store.proofs.Offered.{on_same}
 use Rattle.ftl0_server.specs.Server.{Server, new_server, settled}
@@ -22,6 +22,7 @@ use Rattle.ftl0_server.specs.ServerState.{IsServer}
 use Rattle.ftl0_server.specs.ServerStep.{Empties, happening}
 use Rattle.server_laws.specs.Misses.{FrontOfEventLaw, MissesLaw}
 use Rattle.air_attempt.specs.Party.{sessions_over}
+use Rattle.air_files.specs.SoundStore.{NoneGone}
 use Rattle.air_world.specs.Cuts.{ServerDoes, server_commands}
 use Rattle.air_world.specs.Schedule.{Event}
 use Rattle.air_world.specs.World.{World, counted, store_blocks}
@@ -152,7 +153,8 @@ module _ {B : Type 0} (g : Ghosts B) (cuts : Cuts B)
       (taken : IsTaken g world event (serving old.stations old.server armed) mid answer)
       (gone : IsCutSo g cuts new.stations answer mid.disk new.disk new.server)
       (stations : new.stations ≡ record mid.stations { cut = None }) (me : new.stations.me ≡ old.stations.me)
-      (k : new.stations.k ≡ old.stations.k) where
+      (k : new.stations.k ≡ old.stations.k) (ready : IsReady g old.server.store armed)
+      (drops : DropsNothing (server_commands world taken.coming)) where
     told-armed : IsTold (g.content armed)
     told-armed =
         subst (λ (c : Option (List ℕ)). IsTold c) (sym arms.nothing_else.same_content) awaits.steady.told
@@ -174,8 +176,8 @@ module _ {B : Type 0} (g : Ghosts B) (cuts : Cuts B)
         let writes = subst (λ (c : Option Cut). TellsFailure g c old.disk) waits awaits.tells in
         went-cut g cuts lasts_so on misses front world.server taken.coming old.server mid.server armed mid.disk
         (cut.call - 1) (arms.plain.1 awaits.steady.plain) arms.armed (omega (arith, arms.writes, writes))
-        (omega (arith, arms.reads, awaits.steady.reads)) gone.strikes.memory_before told-armed stands-armed answer
-        gone.strikes.not_stopped taken.hears
+        (omega (arith, arms.reads, awaits.steady.reads)) gone.strikes.memory_before told-armed stands-armed ready
+        (subst NoneGone (sym store-armed) awaits.none_gone) drops answer gone.strikes.not_stopped taken.hears
 
     told-left : IsTold (g.content gone.left)
     told-left = gone.strikes.keeps.told.1 (went.told.1 told-armed)

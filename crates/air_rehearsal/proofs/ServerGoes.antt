@@ -179,6 +179,7 @@ module _ {B : Type 0} (g : Ghosts B) (cuts : Cuts B) (world : World) (event : Ev
         step = step;
         bench = record {
           sound = law.kept world serves.next event bench.sound step;
+          none_gone = law.none_gone world serves.next event bench.sound step bench.none_gone;
           plays = serves.plays;
           steady = serves.steady;
           all_steady = λ c disk within is.

@@ -12,15 +12,16 @@ use Rattle.disk_model.specs.Disk.{IsTold}
 use Rattle.disk_model.specs.declared.disk.Disk.{Ghosts}
 use Rattle.disk_model.specs.declared.halt.Halt.{Halt}
 use Rattle.disk_model.specs.declared.halt.Halt.TheVariants as halt
-use Rattle.file_entries.specs.Command.{Command, after_all}
-use Rattle.file_journal.specs.AmongReads.{CountsSome}
+use Rattle.file_entries.specs.Command.{Command, DropsNothing, after_all}
+use Rattle.file_journal.specs.AmongReads.{CountsSome, among_reads}
 use Rattle.file_journal.specs.Calls.{EachImage, Leaves, TellsAlike, images_now}
+use Rattle.file_journal.specs.Kept.{HasRoomFor}
 use Rattle.file_journal.proofs.Offered.{at_told, cut_makes, told_weaker, weaker}
 use Rattle.file_store.specs.OnDisk.{MakesBetween, MakesFirst, after_first, kept_at}
-use Rattle.file_store.specs.State.{StandsFor, StoreState, store_form, store_on}
+use Rattle.file_store.specs.State.{IsReady, StandsFor, StoreState, store_form, store_on}
 use Rattle.file_store.specs.Store.{Store}
 use Rattle.file_store.specs.Working.{CutsOffAmongReads, DoesAmongReads}
-use Rattle.file_store.proofs.Offered.{after_first-all, cuts-among-all, makes-first, makes-within}
+use Rattle.file_store.proofs.Offered.{after_first-all, cuts-among-all, makes-first, makes-within, room_for}
 use Rattle.ftl0_session.specs.Uploads.Failures.{Failure, NoReadFails, failed_reads, failed_write}
 use Rattle.ftl0_server.specs.Calls.{Hears}
 use Rattle.ftl0_server.specs.Server.{Server, ServerHappened}
@@ -28,6 +29,7 @@ use Rattle.ftl0_server.specs.ServerState.{IsServer, ServerState}
 use Rattle.ftl0_server.specs.ServerStep.{happening}
 use Rattle.node.specs.Events.{NodeEvent}
 use Rattle.server_laws.specs.Misses.{FrontOfEventLaw, MissesLaw, begun_in}
+use Rattle.air_files.specs.SoundStore.{NoneGone}
 use Rattle.air_world.specs.World.{World}
 use Rattle.air_rehearsal.specs.Standing.{StandsNow, least_done}
 use Rattle.air_rehearsal.specs.Stations.{the_server}
@@ -44,6 +46,11 @@ missed-none before now missed counts same below = elim counts.rose [
   | inl rose ↦ omega (arith, rose, same)
   | inr last ↦ absurd (let no : ⊥ = omega (arith, last, same, below) in no)
 ]
+
+-- the first of commands give no entry up, where none of them all does
+drops-front : (some more : List Command) → DropsNothing (some ++ more) → DropsNothing some
+drops-front [] more drops = tt
+drops-front (command ∷ some) more drops = (drops.0, drops-front some more drops.1)
 
 pub no-reads : NoReadFails []
 no-reads part = refl
@@ -189,7 +196,9 @@ module _ {B : Type 0} (g : Ghosts B) (cuts : Cuts B)
       (armed lost : B) (left_calls : ℕ) (plain : cuts.plain armed) (arming : cuts.arming armed ≡ Passes left_calls)
       (writes : g.write_faults armed < 18446744073709551615) (reads : g.read_faults armed < 18446744073709551615)
       (memory : cuts.is_starved lost ≡ false) (told : IsTold (g.content armed))
-      (stands : (image : List ℕ) → images_now g armed image → StandsFor image (store_on g old.store armed)) where
+      (stands : (image : List ℕ) → images_now g armed image → StandsFor image (store_on g old.store armed))
+      (ready : IsReady g old.store armed) (none_gone : NoneGone (store_on g old.store armed))
+      (drops : DropsNothing (happening it coming []).done) where
     abbrev event : List Failure → ServerHappened
     event = happening it coming
 
@@ -268,6 +277,10 @@ module _ {B : Type 0} (g : Ghosts B) (cuts : Cuts B)
         in
         let commands : (event []).done ≡ begun_in happened ++ begins.0 =
         begins.1 ∙ ap (λ (h : ServerHappened). begun_in h ++ begins.0) (sym is) in
+        let content = told-content (g.content armed) told in
+        let room : HasRoomFor store_form old.store.journal (begun_in happened) =
+        room_for g old.store armed ready content.0 content.1 none_gone (begun_in happened) (all.allowed (inr told))
+        (drops-front (begun_in happened) begins.0 (subst DropsNothing commands drops)) in
         record {
           since =
               leaves-more g (store_on g old.store armed) (begun_in happened) begins.0 (event []).done armed lost commands
@@ -277,15 +290,14 @@ module _ {B : Type 0} (g : Ghosts B) (cuts : Cuts B)
           reads = cut.second.reads.same refl ∙ same;
           no_fewer = λ below image now.
               let fails = failed-so then.disk all.puts.lasts same_writes (cut.second.puts.faults.rose tt) in
-              let makes = cut_makes g store_form (begun_in happened) begins.0 (kept_at g old.store armed)
-              (kept_at g new.store lost) left_calls (all.cut tt) fails.passed in
-              let first = told-content (g.content armed) told in
+              let makes = cut_makes g store_form (among_reads g ⊤ missed) ⊤ (begun_in happened) begins.0 (kept_at g old.store armed)
+              (kept_at g new.store lost) left_calls tt room all fails.passed in
               let last = told-content (g.content lost) (all.puts.told.1 told) in
               let each = at_told
               (λ (_ : List ℕ). EachImage g lost (MakesBetween
               (least_done Failed left_calls Store Command store_form (begun_in happened ++ begins.0))
-              (length (begun_in happened ++ begins.0)) (store_on g old.store armed) (begun_in happened ++ begins.0))) first.0
-              first.1 makes in
+              (length (begun_in happened ++ begins.0)) (store_on g old.store armed) (begun_in happened ++ begins.0)))
+              content.0 content.1 makes in
               let here = at_told
               (λ (_ : List ℕ). (image : List ℕ) → images_now g lost image → MakesBetween
               (least_done Failed left_calls Store Command store_form (begun_in happened ++ begins.0))

@@ -18,7 +18,8 @@ use Rattle.disk_model.specs.declared.disk.Disk.{Ghosts}
 use Rattle.disk_model.specs.declared.halt.Halt.{Halt}
 use Rattle.disk_model.specs.declared.halt.Halt.TheVariants as halt
 use Rattle.file_journal.specs.Calls.{EachImage}
-use Rattle.file_journal.proofs.Offered.{cut_makes, told_weaker, weaker}
+use Rattle.file_journal.specs.Kept.{alone}
+use Rattle.file_journal.proofs.Offered.{cut_makes, room_always, told_weaker, weaker}
 use Rattle.client_notes.specs.Answers.{StartsBy, answer_last, answer_of, fresh_task, start_reaches}
 use Rattle.client_notes.specs.Command.{NotesCommand, after, new_task}
 use Rattle.client_notes.specs.Notes.{Lists, Task, is_task_for, last_task, place_from_end, task_count, task_of}
@@ -26,7 +27,7 @@ use Rattle.client_notes.specs.OnDisk.{Does, IsBeforeOrAfter, Untouched}
 use Rattle.client_notes.specs.Records.{notes_form}
 use Rattle.client_notes.specs.Several as notes
 use Rattle.client_notes.specs.State.{NotesState, StandsFor}
-use Rattle.client_notes.proofs.Offered.{Several-one}
+use Rattle.client_notes.proofs.Offered.{Several-one, one-half}
 use Rattle.client_notes.specs.declared.answers.Begun.{Begun}
 use Rattle.client_notes.specs.declared.answers.Begun.TheVariants as begun
 use Rattle.client_notes.specs.declared.refusals.NotesRefusal.{NotesRefusal}
@@ -134,8 +135,9 @@ module _ {D : Type 0} (g : Ghosts D) (whole : ClientPart) (old new : NotesState)
     fails = λ is. does.puts.faults.rose (fails is);
     cut = λ is calls passed.
         let several = Several-one g failed old new disk disk_now command does in
-        let makes = cut_makes g notes_form (command ∷ []) [] (notes.notes_on old disk)
-        (notes.notes_on new disk_now) calls (several.does.cut (fails is)) passed in
+        let makes = cut_makes g notes_form (alone g failed) failed (command ∷ []) [] (notes.notes_on old disk)
+        (notes.notes_on new disk_now) calls (fails is)
+        (room_always notes_form old.journal (command ∷ []) one-half) several.does passed in
         subst
         (λ (commands : List NotesCommand). IfSome (g.content disk) (λ _. EachImage g disk_now
         (notes.MakesBetween (least_done Failed calls Lists NotesCommand notes_form commands) (length commands) whole.party.client.lists

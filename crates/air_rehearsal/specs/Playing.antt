@@ -7,6 +7,7 @@ use Rattle.disk_model.specs.Cuts.{Cuts}
 use Rattle.disk_model.specs.declared.disk.Disk.{Ghosts}
 use Rattle.ftl0_server.specs.ServerState.{ServerState}
 use Rattle.ftl0_client.specs.declared.outcome.Outcome.{Outcome}
+use Rattle.air_files.specs.SoundStore.{NoneGone}
 use Rattle.air_world.specs.Cuts.{WorldStep}
 use Rattle.air_world.specs.Schedule.{Event}
 use Rattle.air_world.specs.Sound.{Sound}
@@ -50,9 +51,11 @@ IsStage world at the_server stage =
 IsStage world at (client_at c) stage = ClientStage world at c stage
 
 module _ {B : Type 0} (g : Ghosts B) (cuts : Cuts B) where
-  -- Between two events the stations play this world, which is sound, over disks that are steady.
+  -- Between two events the stations play this world, which is sound, over disks that are steady. No entry of the
+  -- server's store was given up.
   pub record IsBench (world : World) (at : Bench B) : Type 0 where
     pub sound : Sound world
+    pub none_gone : NoneGone world.server.store
     pub plays : PlaysWorld g at.stations at.server at.disk world
     pub steady : IsSteady g cuts at.disk
     pub all_steady :

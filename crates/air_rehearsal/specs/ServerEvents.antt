@@ -4,6 +4,7 @@ use Rattle.std.specs.Option.{option_map}
 use Rattle.disk_model.specs.Cuts.{Cuts}
 use Rattle.disk_model.specs.declared.disk.Disk.{Ghosts}
 use Rattle.ftl0_server.specs.ServerState.{ServerState}
+use Rattle.air_files.specs.SoundStore.{NoneGone}
 use Rattle.air_world.specs.Cuts.{ServerEvent}
 use Rattle.air_world.specs.Schedule.{Event}
 use Rattle.air_world.specs.Sound.{Sound}
@@ -46,10 +47,11 @@ TellsFailure g None disk = ⊤
 TellsFailure g (Some cut) disk = g.write_faults disk < 18446744073709551615
 
 module _ {B : Type 0} (g : Ghosts B) (cuts : Cuts B) where
-  -- What an event of the server begins with. The world is sound, and the stations and the server play it, at the moment
-  -- of its next event. The disk stands for it, and is steady.
+  -- What an event of the server begins with. The world is sound, no entry of its store was given up, and the stations
+  -- and the server play it, at the moment of its next event. The disk stands for it, and is steady.
   pub record AwaitsServer (world : World) (at : Serving B) : Type 0 where
     pub sound : Sound world
+    pub none_gone : NoneGone world.server.store
     pub plays : PlaysWorld g at.stations at.server at.disk world
     pub moment : at.stations.moment ≡ next_moment world
     pub stands : StandsNow g the_server world at.disk

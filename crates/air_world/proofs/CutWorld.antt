@@ -1,13 +1,12 @@
 -- An event of the server's that is cut keeps a sound world.
-use Rattle.std.proofs.Common.{◌≡◌, ◌≢◌, ◌⊎◌, ℕ, zero, suc, take, ◌<◌, ◌^◌, List, [], Bool, true, false, Option, None}
-use Rattle.std.proofs.Common.{Some, refl, sym, ap, subst, ◌∙◌, inl, inr}
+use Rattle.std.proofs.Common.{◌≡◌, ◌≢◌, ◌⊎◌, ℕ, zero, suc, take, ◌<◌, ◌^◌, List, [], Bool, true, false, Option, None, Some, refl, sym, ap, subst, ◌∙◌, inl, inr}
 use Rattle.std.specs.Prelude.{slice_get}
 use Rattle.std.proofs.lemmas.Bool.{cases_eq}
 use Rattle.std.proofs.lemmas.Option.{same_Some}
 use Rattle.ax25_link.specs.Air.{Transmission}
 use Rattle.ax25_link.specs.Rows.{is_call}
 use Rattle.node.specs.Events.{hears as frame_comes}
-use Rattle.file_store.specs.Command.{Command, after_all}
+use Rattle.file_store.specs.Command.{AreAllowed, Command, DropsNothing, after_all}
 use Rattle.file_store.specs.OnDisk.{after_first}
 use Rattle.file_store.specs.Store.{Store}
 use Rattle.ftl0_server.specs.Connection.Connected.{Connected}
@@ -45,42 +44,46 @@ module _ (left_law : LeftLaw) (stay_law : StayLaw) (old : World) (sound : Sound 
 
 -- ---- a frame
 
+-- What an event with these commands leaves of its client where it is cut. Each is allowed in its turn, and none gives a
+-- file up.
+pub record LeavesOwn (old : World) (party : Party) (commands : List Command) : Type 0 where
+  pub during : (count : ℕ) → LeftIn old.files party old.server.store (after_first count old.server.store commands)
+  pub allowed : AreAllowed old.server.store commands
+  pub drops : DropsNothing commands
+
 module _ (laws : HearingLaws) (some_step : SomeStepLaw) (left_law : LeftLaw) (old : World) (sound : Sound old) (c : ℕ)
     (party : Party) (place : ℕ) (t : Transmission)
-    (coming : IsComing old c party place t) (moment : ℕ) (soon : moment < 2 ^ 32) (count : ℕ) where
+    (coming : IsComing old c party place t) (moment : ℕ) (soon : moment < 2 ^ 32) where
   has : HasStep old.server (frame_comes t.frame moment) []
   has = some_step old.server (frame_comes t.frame moment) [] sound.may_step
 
-  commands-are : server_commands old (frame_comes t.frame moment) ≡ has.gives.done
-  commands-are = sym has.step.done_is
-
-  abbrev pub left : Store
-  left = after_first count old.server.store (server_commands old (frame_comes t.frame moment))
-
-  quiet : (commands : List Command) → commands ≡ [] → after_first count old.server.store commands ≡ old.server.store
-  quiet commands none =
-      ap (λ commands. after_first count old.server.store commands) none
-      ∙ ap (λ these. after_all old.server.store these) (take-none count)
-
-  quiet-left : has.gives.done ≡ [] → LeftIn old.files party old.server.store left
-  quiet-left none =
-      let same = quiet (server_commands old (frame_comes t.frame moment)) (commands-are ∙ none) in
-      subst (λ store. LeftIn old.files party old.server.store store) (sym same)
+  none : (commands : List Command) → commands ≡ [] → LeavesOwn old party commands
+  none commands is =
+      subst (LeavesOwn old party) (sym is)
       (record {
-        facts = laws.stay.over old.server.store old.files party (sound.parties c party coming.is).facts;
-        store = sound.store;
-        follows = record { commands = []; own = tt; does = (tt, refl) };
+        during = λ count.
+            subst (LeftIn old.files party old.server.store)
+            (ap (λ these. after_all old.server.store these) (sym (take-none count)))
+            (record {
+              facts = laws.stay.over old.server.store old.files party (sound.parties c party coming.is).facts;
+              store = sound.store;
+              follows = record { commands = []; own = tt; does = (tt, refl) };
+            });
+        allowed = tt;
+        drops = tt;
       })
 
-  pub own-left : LeftIn old.files party old.server.store left
-  own-left = by (is_call t.frame.kind.control) refl (connection_of old.server t.frame.src) refl
+  pub own-left : LeavesOwn old party (server_commands old (frame_comes t.frame moment))
+  own-left =
+      subst (LeavesOwn old party) has.step.done_is
+      (by (is_call t.frame.kind.control) refl (connection_of old.server t.frame.src) refl)
     where
       by : (call : Bool) → is_call t.frame.kind.control ≡ call → (o : Option Connected)
-          → connection_of old.server t.frame.src ≡ o → LeftIn old.files party old.server.store left
+          → connection_of old.server t.frame.src ≡ o → LeavesOwn old party has.gives.done
       by true calls o was =
-          quiet-left (laws.heard.unheard old.server t.frame moment has.gives (between old sound) (inl calls) has.step).0
+          none has.gives.done (laws.heard.unheard old.server t.frame moment has.gives (between old sound) (inl calls) has.step).0
       by false is_packet None was =
-          quiet-left (laws.heard.unheard old.server t.frame moment has.gives (between old sound)
+          none has.gives.done (laws.heard.unheard old.server t.frame moment has.gives (between old sound)
           (inr (connection-none old.server t.frame.src (between old sound) was)) has.step).0
       by false is_packet (Some seat) was =
           let sits = seat-found laws old sound c party place t coming moment soon has.gives has.step seat was in
@@ -90,27 +93,31 @@ module _ (laws : HearingLaws) (some_step : SomeStepLaw) (left_law : LeftLaw) (ol
           sits.2 in
           let kept = keeps laws.sessions old sound c party place t coming moment is_packet sits.0 seat sits.1 sits.2
           false (λ up. absurd cc) in
-          subst (λ commands. LeftIn old.files party old.server.store (after_first count old.server.store commands))
-          (sym (commands-are ∙ hears.done_is ∙ done)) (kept.during count)
+          subst (LeavesOwn old party) (sym (hears.done_is ∙ done))
+          (record { during = kept.during; allowed = kept.allowed; drops = kept.drops })
 
-  facts-left : (number : ℕ) (was : Party) → PartyAt old number was → HasFacts left old.files (sessions_over was)
-  facts-left number was is = by (cases_eq number c)
-    where
-      by : (number ≡ c) ⊎ (number ≢ c) → HasFacts left old.files (sessions_over was)
-      by (inl own) =
-          let same = same_Some party was (sym coming.is ∙ ap (λ i. slice_get old.parties i) (sym own) ∙ is) in
-          subst (λ (p : Party). HasFacts left old.files (sessions_over p)) same own-left.facts
-      by (inr other) =
-          let differs : was.client.me ≢ party.client.me =
-          λ same. other (sound.stations.distinct number c was party is coming.is same) in
-          laws.stay.over left old.files was
-          (laws.stay.other old.files number was party.client.me old.server.store left (stands old sound number was is)
-          (stands old sound c party coming.is).call differs
-          sound.store own-left.follows (sound.parties number was is).facts)
+  module _ (count : ℕ) where
+    abbrev pub left : Store
+    left = after_first count old.server.store (server_commands old (frame_comes t.frame moment))
 
-  pub frame-cut-sound : Sound
-      (cut left_law old (delivered old sound c party place t coming) sound
-      (are-marked old sound c party place t coming left_law) left)
-  frame-cut-sound =
-      cut-sound left_law old (delivered old sound c party place t coming) sound
-      (are-marked old sound c party place t coming left_law) left own-left.store facts-left laws.stay
+    facts-left : (number : ℕ) (was : Party) → PartyAt old number was → HasFacts left old.files (sessions_over was)
+    facts-left number was is = by (cases_eq number c)
+      where
+        by : (number ≡ c) ⊎ (number ≢ c) → HasFacts left old.files (sessions_over was)
+        by (inl own) =
+            let same = same_Some party was (sym coming.is ∙ ap (λ i. slice_get old.parties i) (sym own) ∙ is) in
+            subst (λ (p : Party). HasFacts left old.files (sessions_over p)) same (own-left.during count).facts
+        by (inr other) =
+            let differs : was.client.me ≢ party.client.me =
+            λ same. other (sound.stations.distinct number c was party is coming.is same) in
+            laws.stay.over left old.files was
+            (laws.stay.other old.files number was party.client.me old.server.store left (stands old sound number was is)
+            (stands old sound c party coming.is).call differs
+            sound.store (own-left.during count).follows (sound.parties number was is).facts)
+
+    pub frame-cut-sound : Sound
+        (cut left_law old (delivered old sound c party place t coming) sound
+        (are-marked old sound c party place t coming left_law) left)
+    frame-cut-sound =
+        cut-sound left_law old (delivered old sound c party place t coming) sound
+        (are-marked old sound c party place t coming left_law) left (own-left.during count).store facts-left laws.stay

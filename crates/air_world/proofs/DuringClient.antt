@@ -25,13 +25,11 @@ use Rattle.air_attempt.specs.Party.{Asked, Party, to_client_delivered, with_newe
 use Rattle.air_files.specs.Facts.{HasFacts}
 use Rattle.air_files.specs.Laws.{started_with}
 use Rattle.air_world.specs.Cuts.{client_commands}
-use Rattle.air_world.specs.Events.{ClientPart, ClientTakes, DeliversToClient, IsPartOf, IsResuming, asking, asking_file}
-use Rattle.air_world.specs.Events.{next_upload, part_with, with_current}
+use Rattle.air_world.specs.Events.{ClientPart, ClientTakes, DeliversToClient, IsPartOf, IsResuming, asking, asking_file, next_upload, part_with, with_current}
 use Rattle.air_world.specs.Headline.{HeadlineIn}
 use Rattle.air_world.specs.Laws.{noted_first}
 use Rattle.air_world.specs.Lawful.{HasParty, IsPossible, MayCome}
-use Rattle.air_world.specs.Schedule.{Event, ask_download, ask_list, ask_resume, ask_upload, break_client, cut_client}
-use Rattle.air_world.specs.Schedule.{cut_server, tick_client, tick_server, to_client, to_server}
+use Rattle.air_world.specs.Schedule.{Event, ask_download, ask_list, ask_resume, ask_upload, break_client, cut_client, cut_server, tick_client, tick_server, to_client, to_server}
 use Rattle.air_world.specs.Sound.{Sound}
 use Rattle.air_world.specs.StationLaws.{ClientLaws}
 use Rattle.air_world.specs.World.{PartyAt, World}
@@ -39,7 +37,7 @@ use Rattle.air_world.proofs.ClientHeard.{IsReceiving, heard-facts, nothing-noted
 use Rattle.air_world.proofs.CutWorld.{take-none}
 use Rattle.air_world.proofs.DuringNotes.{AreRight, StaysBut, headline-noted}
 use Rattle.air_world.proofs.DuringRight.{right-facts, right-own, right-tasked}
-use Rattle.air_world.proofs.Following.{lawful-sent}
+use Rattle.air_world.proofs.Marked.{lawful-sent}
 
 -- the notes of the client of this part, after the first so many of the event's commands
 abbrev noted : ClientPart → ℕ → Lists

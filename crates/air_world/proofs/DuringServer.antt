@@ -12,7 +12,7 @@ use Rattle.air_world.specs.Schedule.{Event}
 use Rattle.air_world.specs.Sound.{Sound}
 use Rattle.air_world.specs.StationLaws.{ServerLaws}
 use Rattle.air_world.specs.World.{World}
-use Rattle.air_world.proofs.Following.{goes-on}
+use Rattle.air_world.proofs.Following.{does-so}
 use Rattle.air_world.proofs.HeadlineLemmas.{headline-follows}
 use Rattle.air_world.proofs.PartsLemmas.{are-offered, has-headline}
 
@@ -23,6 +23,6 @@ pub during-server : ServerLaws → FollowsLaw → HasNoFault → HasNoFront → 
 during-server laws follows fault front world sound event coming delivered count possible takes =
     let store = world.server.store in
     let now = after_first count store (server_commands world coming) in
-    let goes = goes-on laws follows world sound event coming delivered count possible takes in
+    let goes = (does-so laws world sound event coming delivered possible takes).follows count in
     headline-follows world store now (follows.entries store now sound.store.is_store goes) (are-offered world sound)
     (has-headline world fault front sound)

@@ -1,7 +1,6 @@
 -- Each event that may come keeps a sound world.
 use Rattle.std.proofs.Common.{◌≡◌, ℕ, zero, suc, ◌<◌, List, [], Bool, true, refl, sym, ap, subst, ◌∙◌}
 use Rattle.std.proofs.lemmas.Option.{same_Some}
-use Rattle.ax25_link.specs.Air.{IsLawful, Transmission}
 use Rattle.client_notes.specs.Limits.{most_tasks}
 use Rattle.client_notes.specs.Notes.{task_count}
 use Rattle.ftl0_job.specs.declared.work.Work.{Work}
@@ -10,14 +9,12 @@ use Rattle.ftl0_job.specs.Directory.{new_directory}
 use Rattle.ftl0_job.specs.Download.{new_download}
 use Rattle.ftl0_job.specs.Upload.{new_upload}
 use Rattle.ftl0_client.specs.Client as client
-use Rattle.air_attempt.specs.Attempt.{Attempt}
 use Rattle.air_attempt.specs.Party.{Party, to_client_delivered}
 use Rattle.air_files.proofs.Offered.{alike-itself}
 use Rattle.air_world.specs.Cuts.{Changes, ClientDoes, ClientEvent, WorldStep, broken}
 use Rattle.air_world.specs.Events.{ClientPart, asking, asking_file, next_upload, part_with, with_current}
-use Rattle.air_world.specs.Lawful.{IsAllowed, MayCome}
-use Rattle.air_world.specs.Schedule.{Event, ask_download, ask_list, ask_resume, ask_upload, break_client, cut_client}
-use Rattle.air_world.specs.Schedule.{cut_server, tick_client, tick_server, to_client, to_server}
+use Rattle.air_world.specs.Lawful.{IsAllowed}
+use Rattle.air_world.specs.Schedule.{Event, ask_download, ask_list, ask_resume, ask_upload, break_client, cut_client, cut_server, tick_client, tick_server, to_client, to_server}
 use Rattle.air_world.specs.Laws.{SoundLaw}
 use Rattle.air_world.specs.Sound.{Sound}
 use Rattle.air_world.specs.StationLaws.{StationLaws}
@@ -25,6 +22,8 @@ use Rattle.air_world.specs.World.{PartyAt, World, counted, with_party}
 use Rattle.air_world.proofs.FirstLemmas.{first-sound}
 use Rattle.air_world.proofs.ClientsStay.{stay-refl}
 use Rattle.air_world.proofs.Granted.{granted-like}
+use Rattle.air_world.proofs.Following.{does-so, stays-next}
+use Rattle.air_world.proofs.Marked.{lawful-sent}
 use Rattle.air_world.proofs.Rebuild.{IsMade, StayParties, rebuilt}
 use Rattle.air_world.proofs.Seats.{between, calls}
 use Rattle.air_world.proofs.AskOthers.{ask-download, ask-list}
@@ -118,18 +117,11 @@ module _ (laws : StationLaws) (old new : World) (sound : Sound old) where
       let party = takes.1.0 in
       let it = takes.1.2 in
       let is = subst (λ c. PartyAt old c party) takes.0 takes.1.1 in
-      let possible = allowed.possible in
-      let same = same_Some possible.0 party (sym possible.1 ∙ is) in
-      let of = subst (λ (p : Party). MayCome (λ a. a.by_server) (suc place) p) same possible.2 in
-      let attempt_is = same_Some of.0 it.sent.attempt (sym of.2 ∙ it.sent.current) in
-      let lawful = subst (λ (a : Attempt). IsLawful a.window a.by_server place of.1) attempt_is of.3 in
-      let t_is = same_Some of.1 it.t (sym lawful.sent ∙ it.sent.is_at) in
       let coming : IsReceiving old c party place it.t = record {
         is = is;
         attempt = it.sent.attempt;
         current = it.sent.current;
-        lawful =
-            subst (λ (t : Transmission). IsLawful it.sent.attempt.window it.sent.attempt.by_server place t) t_is lawful;
+        lawful = lawful-sent (λ a. a.by_server) old c place party it.t is it.sent allowed.possible;
       } in
       with-part (to_client (suc c) (suc place)) happens c
       (part_with (with_current (to_client_delivered place it.t) party) (client.hears it.t.frame)) takes.0 it.part_is
@@ -195,4 +187,10 @@ module _ (laws : StationLaws) (old new : World) (sound : Sound old) where
 
 -- the law, from those of both stations
 pub sound-law : StationLaws → SoundLaw
-sound-law laws = record { first = first-sound; kept = λ old new event sound step. kept laws old new sound event step }
+sound-law laws = record {
+  first = first-sound;
+  kept = λ old new event sound step. kept laws old new sound event step;
+  first_none_gone = λ schedule. refl;
+  none_gone = λ old new event sound step. (stays-next laws.server old sound event new step).none_gone;
+  drops = λ world event coming delivered sound allowed takes. (does-so laws.server world sound event coming delivered allowed.possible takes).drops;
+}

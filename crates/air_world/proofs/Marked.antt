@@ -1,14 +1,16 @@
 -- A world in which a transmission of one client's is marked as delivered to the server.
-use Rattle.std.proofs.Common.{◌≡◌, ◌⊎◌, ℕ, List, Some, refl, sym, ap, subst, ◌∙◌, inl, inr}
+use Rattle.std.proofs.Common.{◌≡◌, ◌⊎◌, ℕ, suc, List, Some, refl, sym, ap, subst, ◌∙◌, inl, inr}
 use Rattle.std.specs.Prelude.{slice_get}
 use Rattle.std.proofs.lemmas.List.{length-set}
+use Rattle.std.proofs.lemmas.Option.{same_Some}
 use Rattle.ax25_link.specs.Air.{IsLawful, Transmission}
 use Rattle.air_attempt.specs.Attempt.{Attempt, IsAttempt, IsFromTo}
 use Rattle.air_attempt.specs.Laws.{Calls, DeliversToServer, LeftLaw}
 use Rattle.air_attempt.specs.Party.{Party, newest, to_server_delivered, with_newest}
 use Rattle.air_attempt.proofs.Offered.{all-at, set-at}
 use Rattle.air_files.proofs.Offered.{alike-itself, served-itself}
-use Rattle.air_world.specs.Events.{with_current}
+use Rattle.air_world.specs.Events.{IsSent, with_current}
+use Rattle.air_world.specs.Lawful.{HasParty, MayCome}
 use Rattle.air_world.specs.Sound.{Sound}
 use Rattle.air_world.specs.World.{PartyAt, World, with_party}
 use Rattle.air_world.proofs.ClientsStay.{newest-stays, stay-refl}
@@ -40,6 +42,28 @@ pub record IsComing (old : World) (c : ℕ) (party : Party) (place : ℕ) (t : T
   pub attempt : Attempt
   pub current : newest party ≡ Some attempt
   pub lawful : IsLawful attempt.window attempt.by_client place t
+
+-- the transmission that is delivered is the one that may come
+pub lawful-sent : (sent : Attempt → List Transmission) (world : World) (c place : ℕ) (party : Party) (t : Transmission)
+    → PartyAt world c party → (it : IsSent party sent place t) → HasParty world (suc c) (MayCome sent (suc place))
+    → IsLawful it.attempt.window (sent it.attempt) place t
+lawful-sent sent world c place party t is it has =
+    let party_is : has.0 ≡ party = same_Some has.0 party (sym has.1 ∙ is) in
+    let may = subst (λ (it : Party). MayCome sent (suc place) it) party_is has.2 in
+    let attempt_is : may.0 ≡ it.attempt = same_Some may.0 it.attempt (sym may.2 ∙ it.current) in
+    let lawful = subst (λ (a : Attempt). IsLawful a.window (sent a) place may.1) attempt_is may.3 in
+    let t_is : may.1 ≡ t = same_Some may.1 t (sym lawful.sent ∙ it.is_at) in
+    subst (λ (one : Transmission). IsLawful it.attempt.window (sent it.attempt) place one) t_is lawful
+
+pub is-coming : (world : World) (c place : ℕ) (party : Party) (t : Transmission) → PartyAt world c party
+    → IsSent party (λ a. a.by_client) place t → HasParty world (suc c) (MayCome (λ a. a.by_client) (suc place))
+    → IsComing world c party place t
+is-coming world c place party t is it has = record {
+  is = is;
+  attempt = it.attempt;
+  current = it.current;
+  lawful = lawful-sent (λ a. a.by_client) world c place party t is it has;
+}
 
 module _ (old : World) (sound : Sound old) (c : ℕ) (party : Party) (place : ℕ) (t : Transmission)
     (coming : IsComing old c party place t) where

@@ -1,22 +1,20 @@
 -- Each event of the server's keeps a sound world.
-use Rattle.std.proofs.Common.{◌≡◌, ℕ, zero, suc, ◌<◌, ◌^◌, Bool, true, false, Some, sym, ap, subst, ◌∙◌, arith}
-use Rattle.std.proofs.lemmas.Option.{same_Some}
-use Rattle.ax25_link.specs.Air.{IsAt, IsLawful, Transmission}
+use Rattle.std.proofs.Common.{◌≡◌, ℕ, zero, suc, ◌<◌, ◌^◌, Bool, true, false, sym, ap, subst, ◌∙◌, arith}
+use Rattle.ax25_link.specs.Air.{Transmission}
 use Rattle.node.specs.Events.{NodeEvent, hears as frame_comes, ticks as tick_comes}
 use Rattle.file_store.specs.Command.{after_all}
 use Rattle.file_store.specs.OnDisk.{after_first}
-use Rattle.air_attempt.specs.Attempt.{Attempt}
-use Rattle.air_attempt.specs.Party.{Party, newest}
+use Rattle.air_attempt.specs.Party.{Party}
 use Rattle.air_attempt.specs.Transfers.{ServerDid}
 use Rattle.air_world.specs.Cuts.{ServerDoes, ServerEvent, ServerIsCut, server_commands}
-use Rattle.air_world.specs.Lawful.{HasParty, IsAllowed, MayCome}
+use Rattle.air_world.specs.Lawful.{IsAllowed}
 use Rattle.air_world.specs.Schedule.{tick_server, to_server}
 use Rattle.air_world.specs.Sound.{Sound}
 use Rattle.air_world.specs.StationLaws.{ServerLaws}
 use Rattle.air_world.specs.Step.{ServerGoes, parties_after}
-use Rattle.air_world.specs.World.{PartyAt, World, counted, next_moment}
+use Rattle.air_world.specs.World.{World, counted, next_moment}
 use Rattle.air_world.proofs.CutWorld.{frame-cut-sound, take-none, tick-cut-sound}
-use Rattle.air_world.proofs.Marked.{IsComing, delivered}
+use Rattle.air_world.proofs.Marked.{IsComing, delivered, is-coming}
 use Rattle.air_world.proofs.ServerTicked.{tick-sound}
 use Rattle.air_world.proofs.ServerWorld.{heard-sound}
 
@@ -60,23 +58,6 @@ module _ (laws : ServerLaws) (old new : World) (sound : Sound old) where
   -- ---- a frame
 
   module _ (c place : ℕ) where
-    -- what is delivered may come
-    frame-coming : (party : Party) (t : Transmission) → PartyAt old c party → (a : Attempt) → newest party ≡ Some a
-        → IsAt a.by_client place t
-        → HasParty old (suc c) (MayCome (λ a. a.by_client) (suc place)) → IsComing old c party place t
-    frame-coming party t is a current is_at may =
-        let party_is = same_Some may.0 party (sym may.1 ∙ is) in
-        let of = subst (λ (p : Party). MayCome (λ a. a.by_client) (suc place) p) party_is may.2 in
-        let attempt_is = same_Some of.0 a (sym of.2 ∙ current) in
-        let lawful = subst (λ (it : Attempt). IsLawful it.window it.by_client place of.1) attempt_is of.3 in
-        let t_is = same_Some of.1 t (sym lawful.sent ∙ is_at) in
-        record {
-          is = is;
-          attempt = a;
-          current = current;
-          lawful = subst (λ (it : Transmission). IsLawful a.window a.by_client place it) t_is lawful;
-        }
-
     module _ (party : Party) (t : Transmission) (coming_is : IsComing old c party place t) where
       abbrev those-delivered : World
       those-delivered = delivered old sound c party place t coming_is
@@ -118,7 +99,6 @@ module _ (laws : ServerLaws) (old new : World) (sound : Sound old) where
   server-hears-kept (suc c) zero allowed event = absurd event.takes
   server-hears-kept (suc c) (suc at) allowed event =
       let takes = event.takes in
-      let coming = frame-coming c at takes.party takes.t takes.is_party takes.sent.attempt takes.sent.current
-      takes.sent.is_at allowed.possible in
+      let coming = is-coming old c at takes.party takes.t takes.is_party takes.sent allowed.possible in
       frame-does c at takes.party takes.t coming old.is_cut event.coming event.delivered takes.coming_is
       takes.delivered_is event.does

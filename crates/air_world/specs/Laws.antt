@@ -2,7 +2,7 @@
 use Rattle.std.specs.Prelude.{◌≡◌, ◌≢◌, ℕ, ◌≤◌, List, [], ◌∷◌, length, false, true, Some, ⊤}
 use Rattle.std.specs.List.{AllByRecursion}
 use Rattle.file_entries.specs.Follows.{Follows}
-use Rattle.file_store.specs.Command.{after, drop_entry}
+use Rattle.file_store.specs.Command.{DropsNothing, after, drop_entry}
 use Rattle.file_store.specs.IsStore.{IsStore}
 use Rattle.file_store.specs.OnDisk.{after_first}
 use Rattle.file_store.specs.Store.{Entry, Store, entry_of, partial}
@@ -12,6 +12,7 @@ use Rattle.client_notes.specs.Several as notes
 use Rattle.air_world.specs.Cuts.{Happens, IsRun, WorldStep, client_commands, server_commands}
 use Rattle.air_world.specs.Events.{ClientPart, ClientTakes, ServerTakes}
 use Rattle.air_files.specs.Facts.{IsOfferKept}
+use Rattle.air_files.specs.SoundStore.{NoneGone}
 use Rattle.air_world.specs.Headline.{HeadlineIn, HeadlineStays}
 use Rattle.air_world.specs.Lawful.{IsAllowed}
 use Rattle.air_world.specs.Offered.{Offered}
@@ -21,10 +22,18 @@ use Rattle.air_world.specs.Schedule.{Event, IsNoCut, IsSchedule, Schedule}
 use Rattle.air_world.specs.Sound.{Sound}
 use Rattle.air_world.specs.World.{PartyAt, World, first_world, store_blocks, with_party}
 
--- The first world of a schedule is sound, and each event that may come keeps that, with a cut at any place.
+-- The first world of a schedule is sound, and each event that may come keeps that, with a cut at any place. No entry of
+-- the server's store is given up, since each file that is asked has no fault.
 pub record SoundLaw : Type 0 where
   pub first : (schedule : Schedule) → IsSchedule schedule → Sound (first_world schedule)
   pub kept : (old new : World) (event : Event) → Sound old → WorldStep old event new → Sound new
+  pub first_none_gone : (schedule : Schedule) → NoneGone (first_world schedule).server.store
+  pub none_gone :
+      (old new : World) (event : Event) → Sound old → WorldStep old event new → NoneGone old.server.store
+      → NoneGone new.server.store
+  pub drops :
+      (world : World) (event : Event) (coming : NodeEvent) (delivered : World) → Sound world → IsAllowed world event
+      → ServerTakes world event coming delivered → DropsNothing (server_commands world coming)
 
 -- A sound world has all parts, and what is promised of uploads and downloads holds in it.
 pub record PartsLaw : Type 0 where

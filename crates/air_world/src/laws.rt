@@ -40,7 +40,7 @@ fn station_laws()
 
 /// The first world of each schedule is sound, and each event that may come keeps a world sound: frames that are lost,
 /// repeated and displaced, ticks, breaks, askings, and power cuts inside whatever of the event's commands, at either
-/// end.
+/// end. No entry of the server's store is given up.
 pub fn sound_law()
     ensures { SoundLaw }
 {
@@ -89,7 +89,6 @@ pub fn stores_law()
     ensures { StoresLaw }
 {
     station_laws();
-    follows_law();
 }
 
 /// What is promised of uploads and downloads holds in each world of each lawful schedule, the first one too, and while

@@ -87,7 +87,8 @@ returns-in-Some-clause-serves g c =
     (serving (record c.args.self.now { cut = None }) later c.be_cut.new.disk) c.in-Some.cut c.arm-cut.new.disk
     c.tick-came.result awaits waits arms
     (ticks-taken g.B.Disk cuts g.met.B.CutDisk.lasts_so g.met.B.Disk.content_is_image g.met.B.Disk.counts_now
-    c.misses_law.ensures world armed mid c.tick-came.result at_moment awaits.plays.stations) gone refl refl refl)
+    c.misses_law.ensures world armed mid c.tick-came.result at_moment awaits.plays.stations) gone refl refl refl
+    c.arm-cut.ensures.ready.up.ready tt)
     c.be_cut.ensures.cuts
 
 pub returns-after-is_ok-clause-keeps : goal.returns-after-is_ok-clause-keeps

@@ -72,12 +72,14 @@ returns-in-Some-clause-serves g c =
     if-ok-more _ _ c.be_cut.result
     (λ later gone world awaits allowed.
     let armed = plays-armed g.B.Disk cuts world old c.arm-cut.new.disk awaits content in
+    let taken = c.hear-came.ensures.takes world awaits.sound armed.0 armed.1 awaits.moment allowed in
     serves-cut g.B.Disk cuts g.met.B.CutDisk.lasts_so g.met.B.Disk.content_is_image g.met.B.Disk.counts_now world event
     g.met.B.Disk.lasts_on c.misses_law.ensures c.front_of_event_law.ensures old mid
     (serving (record c.hear-came.new.self { cut = None }) later c.be_cut.new.disk) c.in-Some.cut c.arm-cut.new.disk
-    c.hear-came.result awaits waits arms
-    (c.hear-came.ensures.takes world awaits.sound armed.0 armed.1 awaits.moment allowed) gone refl
-    c.hear-came.ensures.keeps.me c.hear-came.ensures.keeps.k) c.be_cut.ensures.cuts
+    c.hear-came.result awaits waits arms taken gone refl c.hear-came.ensures.keeps.me c.hear-came.ensures.keeps.k
+    c.arm-cut.ensures.ready.up.ready
+    (c.sound_law.ensures.drops world event taken.coming taken.delivered awaits.sound allowed taken.takes))
+    c.be_cut.ensures.cuts
 
 pub returns-after-is_ok-clause-keeps : goal.returns-after-is_ok-clause-keeps
 returns-after-is_ok-clause-keeps g c =
