@@ -73,16 +73,16 @@ fn tell_error(rt: &HostRuntime, name: &str, error: Option<SystemError>) {
     };
 }
 
-/// Tells of a file that is the other kind of disk, or a store of the version before.
+/// Tells of a file that is the other kind of disk, or a store of an earlier version.
 fn tell_bad_store(rt: &HostRuntime, disk: &str, why: BadStore) {
     let BadStore::NotAStore { found } = why else {
         return;
     };
     match &found {
-        b"PXSTORE9" => {
+        b"PXSTORE1" => {
             let _ = eprintln!(rt; "pacsat: {disk}: a server's store, and no client's notes");
         }
-        b"PXSTORE0" => {
+        b"PXSTORE9" | b"PXSTORE0" => {
             let _ = eprintln!(rt;
                 "pacsat: {disk}: a store of an earlier version, which this one doesn't read"
             );
