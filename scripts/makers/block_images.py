@@ -1,10 +1,10 @@
-"""The disks of image.rows. A store has 8 blocks, so that the first gate is at 4,112, or 1. In the layout of two halves these
-stand for the same, in the first half; half_images.py has others."""
+"""The disks of image.rows whose records stand in the first half, and which don't begin with the next number. A store has 8 blocks,
+so that the first gate is at 4,112, or 1. half_images.py has the others."""
 
 from headers import header_sum, stamped
 from journal import BLOCK, BLOCKS, HALVES, HEADER, blocks_in, call_octets, disk, first_gate, header, record
 from rows import header_file, words_of
-from stores import EARLIER_MAGIC, LAYOUT, MAGIC, begin, drop, earlier_grow, earlier_seal, grow, seal
+from stores import EARLIER_MAGIC, MAGIC, begin, drop, earlier_grow, earlier_seal, grow, seal
 
 FILE = header_file(b"", name=b"", ext=b"")
 FAULTY = header_file(b"", name=b"", ext=b"", header_sum=-1)
@@ -33,7 +33,7 @@ def in_blocks(held, fill=b"\0", blocks=8):
 
 
 def store(*records, held=None, fill=b"\0", blocks=8):
-    return disk(MAGIC, *records, blocks=blocks, layout=BLOCKS, held=in_blocks(held or {}, fill, blocks))
+    return disk(MAGIC, *records, blocks=blocks, layout=HALVES, held=in_blocks(held or {}, fill, blocks))
 
 
 def filed(*records, octets=FILE, **others):
@@ -56,7 +56,7 @@ def halves(octets):
 
 def text(octets):
     """A disk's octets in a row: the header, the blocks, and what is behind them."""
-    gate = first_gate(BLOCKS, blocks_in(octets))
+    gate = first_gate(HALVES, blocks_in(octets))
     return words_of(octets[:HEADER], octets[HEADER:gate], octets[gate:])
 
 
@@ -69,9 +69,7 @@ TWO = [begin(length=600), grow(0), grow(1, 88)]
 BOTH = {0: FIRST, 1: SECOND}
 STAMPED, STAMPS = [begin(length=89, caller="KA9XYZ-5"), grow(0, 89)], {"octets": WITH_STAMPS}
 STAMPED_SUM = total(WITH_STAMPS, caller="KA9XYZ-5")
-AREA = first_gate(BLOCKS, 8) - HEADER
-# What changes with the second half: an odd selector selects it, and kind 5 is Next.
-LAST, LAST_IS, NO_KIND = (b"\xfe", "even", 9) if LAYOUT == HALVES else (b"\xff", "odd", 5)
+AREA = first_gate(HALVES, 8) - HEADER
 
 STANDING = [
     ("sixteen octets, whatever they are", b"\xff" * 16),
@@ -87,7 +85,7 @@ STANDING = [
     ("no records", store()),
     ("no records, and any octets in the blocks", store(fill=b"\1")),
     ("no records, of 1 block", store(blocks=1)),
-    ("an %s selector, and octets before it that aren't zero" % LAST_IS, changed(filed(*SEALED), 12, b"\1\2\3" + LAST)),
+    ("an even selector, and octets before it that aren't zero", changed(filed(*SEALED), 12, b"\1\2\3\xfe")),
     ("a closed gate before what would be damage", begun(AREA, last=b"\x02\x07\0\0")),
     ("a whole record behind a gate that is closed", store(begin())[:-24] + b"\0" + begin() + b"\0"),
     ("anything behind a closed gate", store(begin()) + b"\1\7" + b"U" * 40),
@@ -142,9 +140,9 @@ STANDING = [
 ]
 
 NO_STORES = [
-    ("a store of the layout before", disk(EARLIER_MAGIC)),
-    ("a store of the layout before, with a file", disk(EARLIER_MAGIC, begin(), earlier_grow(FILE), earlier_seal())),
-    ("the magic of the layout before over blocks", disk(EARLIER_MAGIC, *SEALED, layout=BLOCKS, held=FILE)),
+    ("a store of the first layout", disk(EARLIER_MAGIC)),
+    ("a store of the first layout, with a file", disk(EARLIER_MAGIC, begin(), earlier_grow(FILE), earlier_seal())),
+    ("the magic of the first layout over blocks", disk(EARLIER_MAGIC, *SEALED, layout=BLOCKS, held=FILE)),
     ("another magic", changed(filed(*SEALED), 7, b"8")),
     ("a client's notes", disk(b"PXNOTES1", blocks=1)),
     ("no magic", bytes(17)),
@@ -161,7 +159,7 @@ BAD_HEADERS = [
 
 KINDS = [
     ("a first record of kind 7", store(record(7, b""))),
-    ("a kind that is none", store(record(NO_KIND, b""))),
+    ("a kind that is none", store(record(9, b""))),
     ("kind 0", store(record(0, b"\1\0\0\0"))),
     ("kind 6 behind a file", store(begin(), record(6, b"\1\0\0\0"))),
     ("kind 255 in 1 block", store(record(255, b""), blocks=1)),
@@ -223,9 +221,9 @@ GROWS = [
     ("Grow one octet short", store(begin(), record(2, grow(0, 73)[3:-1]))),
     ("Grow one octet long", store(begin(), record(2, grow(0, 73)[3:] + b"\0"))),
     ("Grow of three octets", store(begin(), record(2, b"\1\0\0"))),
-    ("the Grow of the layout before", filed(begin(), earlier_grow(FILE))),
-    ("the Grow of the layout before, as long as one of this", store(begin(), earlier_grow(FILE[:6]))),
-    ("the Grow of the layout before, of 512 octets", store(begin(length=600), earlier_grow(FIRST))),
+    ("the Grow of the first layout", filed(begin(), earlier_grow(FILE))),
+    ("the Grow of the first layout, as long as one of this", store(begin(), earlier_grow(FILE[:6]))),
+    ("the Grow of the first layout, of 512 octets", store(begin(length=600), earlier_grow(FIRST))),
 ]
 
 SEALS = [
@@ -250,7 +248,7 @@ SEALS = [
     ("Seal of a file whose second block has other octets", store(*TWO, sealed(TWO_BLOCKS), held={0: FIRST})),
     ("Seal of a file whose blocks are exchanged", store(*TWO, sealed(TWO_BLOCKS), held={1: FIRST, 0: SECOND})),
     ("Seal of a file whose octets stand in the next block", store(*SEALED, held={1: FILE})),
-    ("the Seal of the layout before", filed(*HELD, earlier_seal())),
+    ("the Seal of the first layout", filed(*HELD, earlier_seal())),
     ("Seal without a moment", filed(*HELD, record(3, b"\1\0\0\0"))),
     ("Seal one octet short", filed(*HELD, record(3, sealed(FILE)[3:-1]))),
     ("Seal one octet long", filed(*HELD, record(3, sealed(FILE)[3:] + b"\0"))),
@@ -276,7 +274,7 @@ CUTS = [
     ("a record with no gate behind it", store(*HELD)[:-1]),
     ("a sealed file with no gate behind it", filed(*SEALED)[:-1]),
     ("an open gate at the end", filed(*SEALED)[:-1] + b"\1"),
-    ("a bad record before a cut one", store(record(NO_KIND, b""))[:-1] + b"\1\2"),
+    ("a bad record before a cut one", store(record(9, b""))[:-1] + b"\1\2"),
     ("a cut one before a bad record", store(begin(), drop())[:-1]),
 ]
 

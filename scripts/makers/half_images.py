@@ -1,10 +1,10 @@
-"""The disks of image.rows in two halves: those of block_images.py, and others of 1 block, whose halves stand from 528 on and from
+"""The disks of image.rows: those of block_images.py, and others of 1 block, whose halves stand from 528 on and from
 66,092 on, and end at 131,656. A half that is full is written as the words of a row, since it has some 2,000 records."""
 
 from block_images import FILE, FIRST, ROWS, SECOND, TWO_BLOCKS, changed, filed, in_blocks, sealed, store
 from journal import BLOCKS, SELECTOR, disk, half_length, header, record
 from rows import words_of
-from stores import MAGIC, MAGICS, begin, drop, grow, next_is
+from stores import MAGIC, ONE_ROW_MAGIC, begin, drop, grow, next_is
 
 HALF = half_length(1)
 MANY = 250
@@ -106,9 +106,9 @@ STANDING = [
 ]
 
 NO_STORES = [
-    ("a store of one half", disk(MAGICS[BLOCKS], layout=BLOCKS)),
+    ("a store of one half", disk(ONE_ROW_MAGIC, layout=BLOCKS)),
     ("a store of one half, with a file", changed(filed(begin()), 7, b"9")),
-    ("a store of one half whose formatting was interrupted", header(MAGICS[BLOCKS]) + b"\0"),
+    ("a store of one half whose formatting was interrupted", header(ONE_ROW_MAGIC) + b"\0"),
 ]
 
 ENDS = [
@@ -150,6 +150,5 @@ NEXTS = [
     ("a store as it is written anew, and Next again", store(*WHOLE, next_is(5), held=HELD)),
 ]
 
-ROWS = [row if isinstance(row, str) else (row[0].replace("the layout before", "the first layout"), row[1]) for row in ROWS]
-ROWS += ["# Two halves: each selector.", *SELECTORS, "# Two halves that stand for a store.", *STANDING]
+ROWS = [*ROWS, "# Two halves: each selector.", *SELECTORS, "# Two halves that stand for a store.", *STANDING]
 ROWS += ["# Two halves that stand for none.", *NO_STORES, *ENDS, *NEXTS]

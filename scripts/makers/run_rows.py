@@ -135,12 +135,15 @@ def played(row, before):
     words = words.split()
     if len(words) < 4 or not is_plain(words) and not is_small(words):
         return None
-    if octets.startswith("="):
+    if octets == "==":
+        octets = before.begun
+    elif octets.startswith("="):
         octets = before.present if octets == "=" else before.crashed(int(octets[1:]))
     else:
         octets = octets_of(octets)
     passes = int(calls[1:]) if calls.startswith("!") else None
     disk = Disk(octets, passes, [int(number) for number in calls.split()] if passes is None else [])
+    disk.begun = octets
     air = Air(turn_text, int(poll), [int(number) for number in failing.split()])
     status = run(words, air, Disk(b"") if words[0] == "none" else disk)
     left = "".join(" | %s %s" % (pick, content(words[0], disk.crashed(int(pick)))) for pick in picks.split())

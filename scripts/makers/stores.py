@@ -1,17 +1,14 @@
 """The store of files, by the records of its journal ("The records of a store" in docs/FORMATS.md). The octets of files stand in
-blocks, and the records say in which. In the layout of two halves the store is written anew, as few records, where the next one
-has no room."""
+blocks, and the records say in which. The store is written anew, as few records, where the next one has no room in its half."""
 
-import os
 import struct
 
 from headers import first_fault, header_sum, stamped
-from journal import BLOCK, BLOCKS, HALVES, HEADER, block_place, blocks_in, call_octets, is_call, record, walk
+from journal import BLOCK, HALVES, HEADER, block_place, blocks_in, call_octets, is_call, record, walk
 
-# The switch: the layout of all stores that makers make. Another one for one run is given in the environment.
-LAYOUT = os.environ.get("LAYOUT", BLOCKS)
-MAGICS = {BLOCKS: b"PXSTORE9", HALVES: b"PXSTORE1"}
-MAGIC, EARLIER_MAGIC = MAGICS[LAYOUT], b"PXSTORE0"
+LAYOUT, MAGIC = HALVES, b"PXSTORE1"
+# Those of versions before: of stores with one row of records behind their blocks, and with the files among the records.
+ONE_ROW_MAGIC, EARLIER_MAGIC = b"PXSTORE9", b"PXSTORE0"
 LONGEST = 4194304
 
 
@@ -31,12 +28,12 @@ def seal(total, number=1, moment=6):
 
 
 def earlier_grow(octets, number=1):
-    """Of a store of the version before: the octets themselves."""
+    """Of a store with the files among its records: the octets themselves."""
     return record(2, struct.pack("<I", number) + octets)
 
 
 def earlier_seal(number=1, moment=6):
-    """Of a store of the version before."""
+    """Of a store with the files among its records."""
     return record(3, struct.pack("<II", number, moment))
 
 
@@ -45,7 +42,7 @@ def drop(number=1):
 
 
 def next_is(number):
-    """Of two halves: the number of the next file."""
+    """The number of the next file."""
     return record(5, struct.pack("<I", number))
 
 
@@ -76,7 +73,7 @@ class Store:
     def take(self, kind, content):
         """Does what a record says, or raises ValueError where it is none, or isn't allowed."""
         parts = {1: self.begun, 2: self.grown, 3: self.sealed, 4: self.dropped, 5: self.numbered}
-        if kind not in parts or kind == 5 and LAYOUT != HALVES or len(content) < 4:
+        if kind not in parts or len(content) < 4:
             raise ValueError("no command")
         parts[kind](struct.unpack("<I", content[:4])[0], content[4:])
         self.fresh = False

@@ -32,7 +32,7 @@ fn main(rt: HostRuntime) -> Result<()> {
 /// Plays the family of this name.
 fn play<R: AllocGlobal + Files + Print>(rt: &R, family: &str) -> Result<()> {
     match family {
-        "run" => play_family(rt, family, &mut run::RunRows::new()),
+        "run" | "halves" => play_family(rt, family, &mut run::RunRows::new()),
         "client" => play_family(rt, family, &mut client::ClientRows::new()),
         "command" => play_family(rt, family, &mut command::CommandRows),
         "air" => play_family(rt, family, &mut air::AirRows::new()),

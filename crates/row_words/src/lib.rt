@@ -3,7 +3,7 @@
 //! Octets are words of hexadecimal digits. Behind `*` stands how often a word's octets stand; behind `+`, how many
 //! records like it there are, the first number of each greater by one than that of the one before.
 //!
-//! Turns of an air are words too. Octets in hexadecimal are heard in as many turns as polls of so many octets take;
+//! Turns of an air are words too. Octets, written so, are heard in as many turns as polls of so many octets take;
 //! `quiet`, `end` and `fail` are a turn each. Each turn has the clock's moment, which is 1 at first; `@` and a number
 //! is the moment from then on, and `+` and a number are so many quiet turns, each at the moment after the one before.
 //! After the last turn the air is closed, and the clock goes on with the last moment.

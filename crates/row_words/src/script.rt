@@ -4,8 +4,8 @@ ghost use Rattle.std.specs.Prelude.{◌≡◌, ◌≤◌, ◌++◌, length, IfOk
 ghost use Rattle.std.specs.List.{AllByRecursion};
 ghost use Rattle.px_base.specs.Polling.{IsTurn, octets_heard};
 
-use crate::read_numbers;
 use crate::turns::turns_of;
+use crate::{read_numbers, read_octets};
 use anyhow::{Result, ensure};
 use px_base::{MemoryAir, MemoryClock, OutOfMemory, ROOM, Turn};
 use std::alloc::Global;
@@ -74,7 +74,7 @@ impl Script {
             "end" => Ok(self.add(Turn::End)?),
             "fail" => Ok(self.add(Turn::Fail)?),
             octets => {
-                let octets = hex::decode(alloc, octets)?;
+                let octets = read_octets(alloc, octets)?;
                 Ok(self.add_octets(alloc, octets.as_slice(), poll)?)
             }
         }

@@ -12,16 +12,31 @@ use row_words::{
 };
 use std::alloc::Global;
 
-/// Plays rows, each of which may begin on what the row before left on its disk.
+/// Where the octet of a store's header stands that selects one of its halves.
+const SELECTOR: usize = 15;
+
+/// Plays rows, each of which may begin on what the row before left on its disk, or on what that one began on.
 #[derive(Drop)]
 pub struct RunRows {
     before: Option<MemoryDisk>,
+    begun: Option<Vec<u8>>,
 }
 
 impl RunRows {
     /// Before the first row.
     pub fn new() -> RunRows {
-        RunRows { before: None }
+        RunRows {
+            before: None,
+            begun: None,
+        }
+    }
+
+    /// The octets of a row's disk.
+    fn octets(&mut self, alloc: Global, text: &str) -> Result<Vec<u8>> {
+        if text == "==" {
+            return self.begun.take().context("no row before this one");
+        }
+        octets_before(alloc, text, self.before.take())
     }
 }
 
@@ -32,7 +47,7 @@ impl Player for RunRows {
             .rsplit_once(';')
             .context("no failing calls of the disk")?;
         let (row, octets) = row.rsplit_once(';').context("no disk")?;
-        let octets = octets_before(alloc, octets, self.before.take())?;
+        let octets = self.octets(alloc, octets)?;
         let (failing, picks) = failing.split_once('|').unwrap_or((failing, ""));
         let failing = failing.trim();
         let (mut shown, disk) = run_text(alloc, row, octets.as_slice(), failing)?;
@@ -41,6 +56,7 @@ impl Player for RunRows {
             let left = left_text(alloc, row, octets.as_slice(), failing, pick)?;
             push_shown(alloc, &mut shown, format_args!(" | {pick} {left}"))?;
         }
+        self.begun = Some(octets);
         Ok(shown)
     }
 }
@@ -89,7 +105,21 @@ fn content_text(alloc: Global, row: &str, octets: &[u8]) -> Result<String> {
         let len = octets.len();
         return text_of(alloc, format_args!("{len} octets: {words}"));
     }
+    if row.starts_with("length ") {
+        return length_text(alloc, octets);
+    }
     standing_text(alloc, octets)
+}
+
+/// How long a disk is, the octet of its header that selects a half, and what its content stands for.
+fn length_text(alloc: Global, octets: &[u8]) -> Result<String> {
+    let len = octets.len();
+    let selector = octets.get(SELECTOR).context("no header")?;
+    let standing = standing_text(alloc, octets)?;
+    text_of(
+        alloc,
+        format_args!("{len} octets, selector {selector}: {standing}"),
+    )
 }
 
 /// Plays a row over a disk, and gives the octets said in hexadecimal, the status's number, and the line that was shown.
