@@ -8,10 +8,10 @@ use Rattle.file_journal.specs.Form.{Form}
 use Rattle.file_journal.specs.Kept.{Does, IsKept, KeptOn, alone, kept_on}
 use Rattle.file_journal.specs.Position.{Position}
 use Rattle.file_journal.proofs.BoundLemmas.{halves_reads}
-use Rattle.file_journal.proofs.CallLemmas.{changes_none, changes_on, counts_none, counts_on, still, counts_same}
+use Rattle.file_journal.proofs.CallLemmas.{changes_none, changes_on, counts_on, counts_same}
 use Rattle.file_journal.proofs.DoesLemmas.{turn_course, turn_none, turn_then}
 use Rattle.file_journal.proofs.MomentLemmas.{reads}
-use Rattle.file_journal.proofs.ToldLemmas.{alike_on, alike_same}
+use Rattle.file_journal.proofs.ToldLemmas.{alike_on}
 
 -- ---- a count of failed reads
 
@@ -48,16 +48,6 @@ module _ {D : Type 0} (g : Ghosts D) where
       since = ⊎_elim (λ one. inl (one.1, one.2)) (λ only. inr only) puts.stops.since;
     };
     lasts = puts.lasts;
-  }
-
-  -- reads alone, and no write that failed
-  pub puts_among_reads : (P Q : Type 0) (old new : D) → ¬ Q → Reads g P old new → PutsAmongReads g Q old new
-  puts_among_reads P Q old new fine run = record {
-    told = alike_same _ _ run.only.same_content;
-    reads = run.faults.no_less;
-    faults = counts_on _ _ _ Q run.only.same_write_faults (counts_none _ Q fine);
-    stops = record { last = new; lasts = run.lasts; writes = run.only.same_write_faults; since = inl (omega arith, still g new) };
-    lasts = run.lasts;
   }
 
   pub puts_among_same : (P Q : Type 0) (old new : D) → (P → Q) → (Q → P) → PutsAmongReads g P old new → PutsAmongReads g Q old new

@@ -1,12 +1,13 @@
--- How long a disk gets.
-use Rattle.std.proofs.Common.{◌≡◌, inl, inr, ⊎_elim, ℕ, ◌+◌, ◌<◌, ◌≤◌, true≢false, List, length, is_some, Option, None, Some, IfSome, refl, sym, ◌∙◌, ap, subst, arith}
+-- How long a disk gets, and what stands behind its store.
+use Rattle.std.proofs.Common.{◌≡◌, inl, inr, ⊎_elim, ℕ, ◌+◌, ◌<◌, ◌≤◌, true≢false, List, length, drop, is_some, Option, None, Some, IfSome, refl, sym, ◌∙◌, ap, subst, arith}
 use Rattle.std.proofs.lemmas.Bool.{cases_lt}
+use Rattle.std.proofs.lemmas.List.{drop_all}
 use Rattle.disk_model.specs.Disk.{AreAmong, IsTold}
 use Rattle.disk_model.specs.Moments.{TimePasses}
 use Rattle.disk_model.specs.declared.disk.Disk.{Ghosts}
 use Rattle.file_journal.specs.Appending.{IsTornFrom, LeavesAppending}
 use Rattle.file_journal.specs.Blocks.{HasBlock, LeavesWritingBlock}
-use Rattle.file_journal.specs.Bounds.{IsWithin, RecoversInHalves, StaysInHalves, StaysWithin, longest}
+use Rattle.file_journal.specs.Bounds.{EndsIn, HasBehind, RecoversInHalves, StaysInHalves, StaysWithin, longest}
 use Rattle.file_journal.specs.Calls.{ChangesReads, Leaves, TellsAlike, images_now}
 use Rattle.file_journal.specs.Layout.{block_place, first_gate, half_end, half_gate, half_size}
 use Rattle.file_journal.specs.Position.{HasRoom, Position}
@@ -19,6 +20,7 @@ use Rattle.file_journal.specs.declared.layout.Layout.{Layout}
 use Rattle.file_journal.specs.declared.layout.Layout.TheVariants as variant
 use Rattle.file_journal.proofs.CallLemmas.{reads_now}
 use Rattle.file_journal.proofs.MomentLemmas.{joined, reads, weaker}
+use Rattle.file_journal.proofs.RangeLemmas.{kept_behind}
 use Rattle.file_journal.proofs.ToldLemmas.{alike_same, at_told, if_told, told_before, told_weaker}
 
 -- what is told is something
@@ -29,13 +31,13 @@ some_of (Some x) told = (x, refl)
 module _ {D : Type 0} (g : Ghosts D) where
   -- by reads alone
   pub stays_reads : (most : ℕ) (old new : D) → ChangesReads g old new → StaysWithin g most old new
-  stays_reads most old new only bound le = record {
+  stays_reads most old new only bound behind le = record {
     told = (alike_same _ _ only.same_content).1;
-    now = λ within.
+    now = λ had.
         if_told (g.content new) _ (λ now told.
-        let was = at_told _ now (sym only.same_content ∙ told) within in
+        let was = at_told _ now (sym only.same_content ∙ told) had in
         (was.0, λ image left. was.1 image (reads_now g old new only image left)));
-    since = λ within. if_told (g.content old) _ (λ before told. reads g.moment g.images_since old new _ only.same_moment only.same_past);
+    since = λ had. if_told (g.content old) _ (λ before told. reads g.moment g.images_since old new _ only.same_moment only.same_past);
   }
 
   -- where nothing is called
@@ -46,47 +48,44 @@ module _ {D : Type 0} (g : Ghosts D) where
 
   -- by one run of calls and another
   pub stays_on : (most : ℕ) (old mid new : D) → StaysWithin g most old mid → StaysWithin g most mid new → StaysWithin g most old new
-  stays_on most old mid new first second bound le =
-      let early = first bound le in
-      let late = second bound le in
+  stays_on most old mid new first second bound behind le =
+      let early = first bound behind le in
+      let late = second bound behind le in
       record {
         told = λ told. late.told (early.told told);
-        now = λ within. late.now (early.now within);
-        since = λ within.
+        now = λ had. late.now (early.now had);
+        since = λ had.
             if_told (g.content old) _ (λ before told.
             let mid_told = some_of _ (early.told (ap is_some told)) in
-            joined g.moment g.images_since old mid new _ (at_told _ before told (early.since within)) (at_told _ mid_told.0 mid_told.1 (late.since (early.now within))));
+            joined g.moment g.images_since old mid new _ (at_told _ before told (early.since had)) (at_told _ mid_told.0 mid_told.1 (late.since (early.now had))));
       }
 
-  -- no longer than that is no longer than more
-  pub stays_more : (most more : ℕ) (old new : D) → most ≤ more → StaysWithin g most old new → StaysWithin g more old new
-  stays_more most more old new le stays bound fits = stays bound (omega (arith, le, fits))
-
-  -- what is torn from an image from before in a range that ends within so many octets has no more
-  pub torn_within : (counts_now : (disk : D) (t : ℕ) (image : List ℕ) → t ≤ g.moment disk → g.images disk image → g.images_since disk t image) (bound : ℕ) (old : D) → IsWithin g bound old
-      → (before : List ℕ) → g.content old ≡ Some before → (at count : ℕ) → at + count ≤ bound → (image : List ℕ) → IsTornFrom (g.images old) at count image → length image ≤ bound
-  torn_within counts_now bound old within before is at count ends image torn =
-      let few = (at_told _ before is within).1 torn.0 (counts_now old (g.moment old) torn.0 (omega arith) torn.1) in
-      omega (arith, few, ends, torn.2.no_longer)
+  -- what is torn from an image from before in a range that ends within so many octets has the same behind them
+  pub torn_within : (counts_now : (disk : D) (t : ℕ) (image : List ℕ) → t ≤ g.moment disk → g.images disk image → g.images_since disk t image) (bound : ℕ) (behind : List ℕ) (old : D)
+      → HasBehind g bound behind old → (before : List ℕ) → g.content old ≡ Some before → (at count : ℕ) → at + count ≤ bound → (image : List ℕ) → IsTornFrom (g.images old) at count image
+      → EndsIn bound behind image
+  torn_within counts_now bound behind old had before is at count ends image torn =
+      kept_behind bound at count torn.0 image ends torn.2 ∙ (at_told _ before is had).1 torn.0 (counts_now old (g.moment old) torn.0 (omega arith) torn.1)
 
   -- by what a crash leaves of a run of calls
   module _ (counts_now : (disk : D) (t : ℕ) (image : List ℕ) → t ≤ g.moment disk → g.images disk image → g.images_since disk t image)
       (earlier : (disk : D) (t u : ℕ) (image : List ℕ) → t ≤ u → g.images_since disk u image → g.images_since disk t image)
       (is_image : (disk : D) → IfSome (g.content disk) (g.images disk)) (most : ℕ) (old new : D) (told : TellsAlike (g.content old) (g.content new)) where
     pub stays_by : (stands : List ℕ → List ℕ → Type 0) → Leaves g old new stands
-        → ((bound : ℕ) → most ≤ bound → IsWithin g bound old → (before : List ℕ) → g.content old ≡ Some before → (image : List ℕ) → stands before image → length image ≤ bound)
+        → ((bound : ℕ) (behind : List ℕ) → most ≤ bound → HasBehind g bound behind old → (before : List ℕ) → g.content old ≡ Some before → (image : List ℕ) → stands before image
+        → EndsIn bound behind image)
         → StaysWithin g most old new
-    stays_by stands leaves fits bound le =
-        let since : IsWithin g bound old → Leaves g old new (λ before image. length image ≤ bound) =
-        λ within. told_weaker (g.content old) _ _ (λ before is left. weaker g.moment g.images_since old new _ _ (fits bound le within before is) left) leaves in
+    stays_by stands leaves fits bound behind le =
+        let since : HasBehind g bound behind old → Leaves g old new (λ before. EndsIn bound behind) =
+        λ had. told_weaker (g.content old) _ _ (λ before is left. weaker g.moment g.images_since old new _ _ (fits bound behind le had before is) left) leaves in
         record {
           told = told.1;
-          now = λ within.
+          now = λ had.
               if_told (g.content new) _ (λ now is.
               let was = told_before _ _ now told is in
-              let left = at_told _ was.0 was.1 (since within) in
-              let each : (image : List ℕ) → images_now g new image → length image ≤ bound =
-              λ image here. ⊎_elim (λ past. (at_told _ was.0 was.1 within).1 image past) (λ few. few) (left.each (g.moment old) image (omega arith) (earlier new (g.moment old) (g.moment new) image left.later here)) in
+              let left = at_told _ was.0 was.1 (since had) in
+              let each : (image : List ℕ) → images_now g new image → EndsIn bound behind image =
+              λ image here. ⊎_elim (λ past. (at_told _ was.0 was.1 had).1 image past) (λ same. same) (left.each (g.moment old) image (omega arith) (earlier new (g.moment old) (g.moment new) image left.later here)) in
               (each now (counts_now new (g.moment new) now (omega arith) (at_told _ now is (is_image new))), each));
           since = since;
         }
@@ -99,13 +98,13 @@ module _ {D : Type 0} (g : Ghosts D) where
           later = time.later;
           each = λ t image le left. inl (⊎_elim (λ past. past) (λ here. counts_now old t image le (among image here)) (time.nothing_else t image le left));
         }))
-        (λ bound le within before is image never. absurd never)
+        (λ bound behind le had before is image never. absurd never)
 
     -- by octets that are torn in a range that ends within so many
     pub stays_torn : (at count : ℕ) → at + count ≤ most → Leaves g old new (λ _. IsTornFrom (g.images old) at count) → StaysWithin g most old new
     stays_torn at count ends leaves =
         stays_by (λ _. IsTornFrom (g.images old) at count) leaves
-        (λ bound le within before is image torn. torn_within counts_now bound old within before is at count (omega (arith, ends, le)) image torn)
+        (λ bound behind le had before is image torn. torn_within counts_now bound behind old had before is at count (omega (arith, ends, le)) image torn)
 
 module _ {D : Type 0} (g : Ghosts D) where
   -- the same of two halves
@@ -159,6 +158,10 @@ room_longest journal count in_halves room =
 pub block_longest : (blocks block count : ℕ) → block < blocks → count ≤ 512 → block_place block + count ≤ longest blocks
 block_longest blocks block count there most = omega (arith, there, most)
 
+-- so does the header
+header_longest : (blocks : ℕ) → 16 ≤ longest blocks
+header_longest blocks = omega arith
+
 -- and the first two gates
 pub gates_longest : (blocks : ℕ) → first_gate variant.Halves blocks + 2 ≤ longest blocks
 gates_longest blocks = omega arith
@@ -188,23 +191,26 @@ module _ {D : Type 0} (g : Ghosts D) (counts_now : (disk : D) (t : ℕ) (image :
       let at : gate ≡ half_gate variant.Halves journal.blocks chosen = subst (λ (l : Layout). gate ≡ half_gate l journal.blocks chosen) in_halves gate_is in
       let ends : gate + length text ≤ longest journal.blocks = omega (arith, at, fits, half_longest journal.blocks chosen) in
       stays_by g counts_now earlier is_image (longest journal.blocks) old new told (IsChoosing gate text) leaves
-      (λ bound le within before is image left.
-      let few = (at_told _ before is within).0 in
+      (λ bound behind le had before is image left.
+      let same = (at_told _ before is had).0 in
+      let inside : gate + length text ≤ bound = omega (arith, ends, le) in
       elim left [
-        | inl torn ↦ omega (arith, few, ends, le, torn.no_longer)
-        | inr chosen_there ↦ omega (arith, few, ends, le, chosen_there.1.torn.no_longer, chosen_there.2.no_longer)
+        | inl torn ↦ kept_behind bound gate (length text) before image inside torn ∙ same
+        | inr chosen_there ↦
+            kept_behind bound 15 1 chosen_there.0 image (omega (arith, le, header_longest journal.blocks)) chosen_there.2
+            ∙ kept_behind bound gate (length text) before chosen_there.0 inside chosen_there.1.torn ∙ same
       ])
 
   pub recovery_stays : (magic : List ℕ) (layout : Layout) (blocks : ℕ) → Leaves g old new (IsRecovering magic layout blocks) → RecoversInHalves g layout blocks old new
   recovery_stays magic layout blocks leaves = if_told (g.content old) _ (λ before told_before in_halves.
       stays_by g counts_now earlier is_image (longest (number_in blocks before)) old new told (IsRecovering magic layout blocks) leaves
-      (λ bound le within other is image left.
-      let few = (at_told _ other is within).0 in
+      (λ bound behind le had other is image left.
+      let had_before = (at_told _ other is had).0 in
       let same : other ≡ before = some_same other before (sym is ∙ told_before) in
       let gate : gate_in layout blocks other + 2 ≤ longest (number_in blocks before) =
       subst (λ (l : Layout). first_gate l (number_in blocks other) + 2 ≤ longest (number_in blocks before)) (sym in_halves)
       (subst (λ (l : List ℕ). first_gate variant.Halves (number_in blocks other) + 2 ≤ longest (number_in blocks l)) same (gates_longest (number_in blocks other))) in
       elim (cases_lt (length other) (gate_in layout blocks other + 2)) [
-        | inl short ↦ omega (arith, left.no_longer short, gate, le)
-        | inr long ↦ omega (arith, few, ap length (left.formatted long))
+        | inl short ↦ drop_all bound image (omega (arith, left.no_longer short, gate, le)) ∙ sym (drop_all bound other (omega (arith, short, gate, le))) ∙ had_before
+        | inr long ↦ ap (drop bound) (left.formatted long) ∙ had_before
       ]))

@@ -78,10 +78,6 @@ module _ {S C : Type 0} (form : Form S C) where
   pub at_first : (start count : ℕ) (a b : List C) → count ≤ length a → done_at form start (a ++ b) count ≡ done_at form start a count
   at_first start count a b few = ap (λ (cs : List C). start + calls_of form cs) (take-append-le count a b few)
 
-  -- all of both
-  pub at_then : (start : ℕ) (a b : List C) → done_at form start (a ++ b) (length (a ++ b)) ≡ done_at form start a (length a) + calls_of form b
-  at_then start a b = omega (arith, at_all start (a ++ b), at_all start a, calls_append a b)
-
   -- and past the first list, since that was done
   pub at_later : (start middle count : ℕ) (a b : List C) → middle ≡ done_at form start a (length a) → done_at form start (a ++ b) (length a + count) ≡ done_at form middle b count
   at_later start middle count a b then =
@@ -138,10 +134,6 @@ module _ {S C : Type 0} (form : Form S C) where
         makes_within count (length a) count (length (a ++ b)) start (a ++ b) image (omega arith) (omega (arith, length-append a b))
         (makes_first count (length a) start a b image (omega arith) (stay count some most image (subst (λ (t : ℕ). g.images_since disk t image) then left)))
 
-    pub stay_longer : (ready done : ℕ) (start : S) (a b : List C) (disk : D) → done ≤ length a → StayDone g form (done_at form ready a) done start a disk
-        → StayDone g form (done_at form ready (a ++ b)) done start (a ++ b) disk
-    stay_longer ready done start a b disk few = stay_by_longer (done_at form ready (a ++ b)) (done_at form ready a) done start a b disk (λ count least. at_first ready count a b least) few
-
     -- Since so many of the first are done: what might have been left before the second began, or what they leave; and since
     -- so many of the second are done, they all stay.
     pub stay_by_then : (time once again : ℕ → ℕ) (done : ℕ) (start middle : S) (a b : List C) (mid disk : D) → middle ≡ after_all form.after start a → ((count : ℕ) → count ≤ length a → time count ≡ once count)
@@ -164,10 +156,3 @@ module _ {S C : Type 0} (form : Form S C) where
         makes_second (count - length a) (length b) count (length (a ++ b)) start middle a b image at (omega (arith, more)) (omega (arith, sum))
         (second (count - length a) (omega (arith, more)) (omega (arith, more, most)) image (subst (λ (t : ℕ). g.images_since disk t image) later left)))
         (leb_tells count (length a))
-
-    pub stay_then : (ready done : ℕ) (start middle : S) (a b : List C) (mid disk : D) → middle ≡ after_all form.after start a → g.moment mid ≡ done_at form ready a (length a)
-        → StayDone g form (done_at form ready a) (length a) start a mid → LeavesOnly g.moment g.images_since mid disk (MakesFirst form middle b)
-        → StayDone g form (done_at form (g.moment mid) b) done middle b disk → StayDone g form (done_at form ready (a ++ b)) (length a + done) start (a ++ b) disk
-    stay_then ready done start middle a b mid disk at then =
-        stay_by_then (done_at form ready (a ++ b)) (done_at form ready a) (done_at form (g.moment mid) b) done start middle a b mid disk at (λ count few. at_first ready count a b few)
-        (λ count few. at_later ready (g.moment mid) count a b then) (λ count few. omega (arith, then, at_some ready count (length a) a few))

@@ -1,5 +1,5 @@
 -- What a store stands for while the records in its other half are written anew, and once that half is chosen.
-use Rattle.std.proofs.Common.{◌≡◌, ◌≢◌, ◌⊎◌, inl, inr, ℕ, ◌+◌, ◌-◌, ◌<◌, ◌≤◌, List, [], ◌∷◌, ◌++◌, length, take, drop, IfSome, refl, sym, ◌∙◌, ap, subst, arith, append_assoc, length-append, length-drop, take-append-drop, take-take, drop-drop}
+use Rattle.std.proofs.Common.{◌≡◌, ◌≢◌, ◌⊎◌, inl, inr, ℕ, ◌+◌, ◌<◌, ◌≤◌, List, [], ◌∷◌, ◌++◌, length, take, drop, IfSome, refl, sym, ◌∙◌, ap, subst, arith, append_assoc, length-append, length-drop, take-append-drop, take-take}
 use Rattle.std.proofs.lemmas.List.{drop_at, length-take-le, take_all, take_at}
 use Rattle.std.specs.List.{AllByRecursion}
 use Rattle.disk_model.specs.Disk.{Torn}
@@ -17,23 +17,12 @@ use Rattle.file_journal.proofs.BlockOctetLemmas.{same_back, same_front}
 use Rattle.file_journal.proofs.FormatLemmas.{octet_there}
 use Rattle.file_journal.proofs.JournalLemmas.{same_header}
 use Rattle.file_journal.proofs.LayoutLemmas.{gate_behind, half_behind, same_half}
-use Rattle.file_journal.proofs.OctetLemmas.{torn_length}
-use Rattle.file_journal.proofs.RangeLemmas.{torn_by}
+use Rattle.file_journal.proofs.RangeLemmas.{kept_behind, torn_by}
 
 -- what a torn write leaves before it
 kept_front : (m at n : ℕ) (old new : List ℕ) → m ≤ at → m ≤ length old → Torn at n old new → take m new ≡ take m old
 kept_front m at n old new before inside torn =
     sym (take-take m (length old) new inside) ∙ sym (take-take m at (take (length old) new) before) ∙ ap (take m) torn.before ∙ take-take m at old before
-
--- and behind it, where it ends inside
-kept_behind : (m at n : ℕ) (old new : List ℕ) → at + n ≤ m → at + n ≤ length old → Torn at n old new → drop m new ≡ drop m old
-kept_behind m at n old new behind inside torn =
-    let size : length new ≡ length old = torn_length at n old new inside torn in
-    let all : take (length old) new ≡ new = take_all (length old) new (omega (arith, size)) in
-    let rest = m - (at + n) in
-    let there : at + n + rest ≡ m = omega (arith, behind) in
-    let from : (l : List ℕ) → drop m l ≡ drop rest (drop (at + n) l) = λ l. ap (λ (i : ℕ). drop i l) (sym there) ∙ sym (drop-drop rest (at + n) l) in
-    from new ∙ ap (drop rest) (ap (drop (at + n)) (sym all) ∙ torn.after) ∙ sym (from old)
 
 -- from a gate on stand these records, and then a gate that isn't open
 pub record EndsFrom (entries : List Record) (octets : List ℕ) : Type 0 where
@@ -109,7 +98,7 @@ kept_from magic blocks half.Second passed place n before image ends within torn 
     let at = half_gate layout.Halves blocks half.First in
     let there = ends_there magic layout.Halves blocks half.Second passed place before ends in
     let gate = half_gate layout.Halves blocks half.Second in
-    let same = kept_behind gate at n before image (omega (arith, within)) (omega (arith, within, there, ends.is_place)) torn in
+    let same = kept_behind gate at n before image (omega (arith, within)) torn in
     subst (λ (l : List ℕ). EndsFrom passed l) (sym same) (ends_rest magic layout.Halves blocks half.Second passed place before ends)
 
 -- so many octets have room in a half, with a gate
@@ -175,7 +164,7 @@ module _ (magic : List ℕ) (blocks : ℕ) (chosen : Half) (passed entries : Lis
     image_head = same_header 15 magic blocks staged image (omega arith) (kept_front 15 15 1 staged image (omega arith) (omega (arith, staged_long)) torn) (torn_head staged lays.torn)
 
     image_behind : (m : ℕ) → 16 ≤ m → drop m image ≡ drop m staged
-    image_behind m le = kept_behind m 15 1 staged image (omega (arith, le)) (omega (arith, staged_long)) torn
+    image_behind m le = kept_behind m 15 1 staged image (omega (arith, le)) torn
 
     pub image_blocks : (block : ℕ) → block < blocks → block_in image block ≡ block_in before block
     image_blocks block lt = same_back staged image 16 block (omega arith) (image_behind 16 (omega arith)) ∙ torn_blocks staged lays.torn block lt

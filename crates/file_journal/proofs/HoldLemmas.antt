@@ -25,7 +25,7 @@ use Rattle.file_journal.specs.declared.layout.Half.TheVariants as half
 use Rattle.file_journal.specs.declared.layout.Layout.{Layout}
 use Rattle.file_journal.specs.declared.layout.Layout.TheVariants as layout
 use Rattle.file_journal.proofs.BlockOctetLemmas.{torn_behind, torn_other}
-use Rattle.file_journal.proofs.CallLemmas.{either_way, err_there, ok_there, on_err, on_ok_both, puts_same, reads_now}
+use Rattle.file_journal.proofs.CallLemmas.{either_way, err_there, ok_there, on_err, on_ok_both, reads_now}
 use Rattle.file_journal.proofs.MomentLemmas.{weaker}
 use Rattle.file_journal.proofs.PositionLemmas.{among_records}
 use Rattle.file_journal.proofs.ReadingLemmas.{read_past}
@@ -269,6 +269,23 @@ module _ {D S K V C : Type 0} (g : Ghosts D) (steps : Steps S K) (seen : Blocks 
     torn_there : (place count : ℕ) (before image : List ℕ) → g.content old ≡ Some before → IsTornFrom (g.images old) place count image → Torn place count before image
     torn_there place count before image told torn = subst (λ (l : List ℕ). Torn place count l image) (image_before before told torn.0 torn.1) torn.2
 
+    -- the same journal, of which the same blocks are said, holds a state
+    same_holds : (after : Position) (next : K) → IsSameJournal position after → steps.number next ≡ steps.number now → ((HasBlocks after.layout → after.blocks ≡ steps.number next) → Holds g steps after next new)
+        → StandsAt g form steps after next new
+    same_holds after next moved same holds =
+        let layout_is : after.layout ≡ position.layout = ap (λ (p : Position). p.layout) moved.same in
+        record {
+          magic_is = ap (λ (p : Position). p.magic) moved.same ∙ at.magic_is;
+          layout_is = layout_is ∙ at.layout_is;
+          holds = holds (λ has. ap (λ (p : Position). p.blocks) moved.same ∙ at.holds.number (subst HasBlocks layout_is has) ∙ sym same);
+        }
+
+    -- where it hasn't failed, by what the content of a quiet disk stands for
+    moved_holds : (after : Position) (next : K) → IsSameJournal position after → steps.is_kept next → steps.number next ≡ steps.number now → StandsOn g after new → IsQuietNow g new
+        → IfSome (g.content new) (StandsAs steps after next) → StandsAt g form steps after next new
+    moved_holds after next moved reached same stands quiet content =
+        same_holds after next moved same (quiet_holds after next new reached stands (ap (λ (p : Position). p.ended) moved.same ∙ ended_there) content quiet)
+
     -- ---- a record that is put
 
     module _ (after : Position) (entry : Record) (next : K) (reached : steps.is_kept next) (number : steps.number next ≡ steps.number now) (since : LeavesAppending g position entry old new) where
@@ -319,32 +336,18 @@ module _ {D S K V C : Type 0} (g : Ghosts D) (steps : Steps S K) (seen : Blocks 
 
         -- the journal holds the next state then
         pub put_holds : StandsOn g after new → after ≡ record position { place = after.place; failed = after.failed } → TakesStep g old new (Appends position entry) → IsQuietNow g new → StandsAt g form steps after next new
-        put_holds stands moved ok quiet =
-            let blocks_is : after.blocks ≡ position.blocks = ap (λ (p : Position). p.blocks) moved in
-            let layout_is : after.layout ≡ position.layout = ap (λ (p : Position). p.layout) moved in
-            record {
-              magic_is = ap (λ (p : Position). p.magic) moved ∙ at.magic_is;
-              layout_is = layout_is ∙ at.layout_is;
-              holds = quiet_holds after next new reached stands (ap (λ (p : Position). p.ended) moved ∙ ended_there)
-                  (if_told (g.content new) _ (λ octets told_new.
-                  let was = content_now _ _ (Appends position entry) octets alike ok told_new in
-                  stands_moved position after octets next (moved_journal position after after.place after.failed moved)
-                  (image_there position was.0 octets next (next_there was.0 was.1 (store_in position octets) was.2.store)
-                  (λ block uses. ⊎_elim (λ same. ap (λ (l : List ℕ). block_in l block) same) (λ is. record_same next reached number was.0 octets was.1 is.beside block uses)
-                  (content_since _ since was.0 octets was.1 told_new)))))
-                  quiet (λ has. blocks_is ∙ at.holds.number (subst HasBlocks layout_is has) ∙ sym number);
-            }
+        put_holds stands is ok quiet =
+            let moved = moved_journal position after after.place after.failed is in
+            moved_holds after next moved reached number stands quiet (if_told (g.content new) _ (λ octets told_new.
+            let was = content_now _ _ (Appends position entry) octets alike ok told_new in
+            stands_moved position after octets next moved
+            (image_there position was.0 octets next (next_there was.0 was.1 (store_in position octets) was.2.store)
+            (λ block uses. ⊎_elim (λ same. ap (λ (l : List ℕ). block_in l block) same) (λ is. record_same next reached number was.0 octets was.1 is.beside block uses)
+            (content_since _ since was.0 octets was.1 told_new)))))
 
     -- or it failed, and holds whatever it held
     pub cut_holds : (after : Position) → StandsOn g after new → IsSameJournal position after → after.failed ≡ true → StandsAt g form steps after now new
-    cut_holds after stands moved failed =
-        let blocks_is : after.blocks ≡ position.blocks = ap (λ (p : Position). p.blocks) moved.same in
-        let layout_is : after.layout ≡ position.layout = ap (λ (p : Position). p.layout) moved.same in
-        record {
-          magic_is = ap (λ (p : Position). p.magic) moved.same ∙ at.magic_is;
-          layout_is = layout_is ∙ at.layout_is;
-          holds = failed_holds after now new at.holds.reached failed stands (λ has. blocks_is ∙ at.holds.number (subst HasBlocks layout_is has));
-        }
+    cut_holds after stands moved failed = same_holds after now moved refl (failed_holds after now new at.holds.reached failed stands)
 
     -- ---- octets that are put in a block
 
@@ -377,21 +380,14 @@ module _ {D S K V C : Type 0} (g : Ghosts D) (steps : Steps S K) (seen : Blocks 
 
       pub block_put_holds : StandsOn g after new → TakesStep g old new (WritesBlock position put.number put.octets) → IsQuietNow g new → StandsAt g form steps after now new
       block_put_holds stands ok quiet =
-          let blocks_is : after.blocks ≡ position.blocks = ap (λ (p : Position). p.blocks) moved in
-          let layout_is : after.layout ≡ position.layout = ap (λ (p : Position). p.layout) moved in
-          record {
-            magic_is = ap (λ (p : Position). p.magic) moved ∙ at.magic_is;
-            layout_is = layout_is ∙ at.layout_is;
-            holds = quiet_holds after now new at.holds.reached stands (ap (λ (p : Position). p.ended) moved ∙ ended_there)
-                (if_told (g.content new) _ (λ octets told_new.
-                let was = content_now _ _ (WritesBlock position put.number put.octets) octets alike ok told_new in
-                stands_moved position after octets now (moved_journal position after position.place after.failed moved)
-                (image_there position was.0 octets now
-                (⊎_elim (λ same. subst (λ (l : List ℕ). ComesTo position (block_in was.0) (store_in position l) now) (sym same) (stood was.0 was.1))
-                (λ is. subst (λ (t : Standing). ComesTo position (block_in was.0) t now) (sym is.store) (stood was.0 was.1)) (content_since _ since was.0 octets was.1 told_new))
-                (λ block uses. ⊎_elim (λ was. ap (λ (l : List ℕ). block_in l block) was) (λ is. block_same was.0 octets was.1 is.beside block uses) (content_since _ since was.0 octets was.1 told_new)))))
-                quiet (λ has. blocks_is ∙ at.holds.number (subst HasBlocks layout_is has));
-          }
+          let is = moved_journal position after position.place after.failed moved in
+          moved_holds after now is at.holds.reached refl stands quiet (if_told (g.content new) _ (λ octets told_new.
+          let was = content_now _ _ (WritesBlock position put.number put.octets) octets alike ok told_new in
+          stands_moved position after octets now is
+          (image_there position was.0 octets now
+          (⊎_elim (λ same. subst (λ (l : List ℕ). ComesTo position (block_in was.0) (store_in position l) now) (sym same) (stood was.0 was.1))
+          (λ is. subst (λ (t : Standing). ComesTo position (block_in was.0) t now) (sym is.store) (stood was.0 was.1)) (content_since _ since was.0 octets was.1 told_new))
+          (λ block uses. ⊎_elim (λ was. ap (λ (l : List ℕ). block_in l block) was) (λ is. block_same was.0 octets was.1 is.beside block uses) (content_since _ since was.0 octets was.1 told_new)))))
 
       pub block_cut_holds : StandsOn g after new → after.failed ≡ true → StandsAt g form steps after now new
       block_cut_holds stands failed = cut_holds after stands (moved_journal position after position.place after.failed moved) failed
@@ -431,50 +427,41 @@ module _ {D S K V C : Type 0} (g : Ghosts D) (steps : Steps S K) (seen : Blocks 
           ⊎_elim (λ same. subst (λ (t : Standing). ComesTo position (block_in before) t now) (sym same) (stood before told)) (λ made. anew_there before told (store_in position image) made) is.store
 
       -- what is seen is known to stay
-      pub anew_same : HoldSame (steps.uses now) (blocks_on (g.content old)) (blocks_on (g.content new))
+      anew_same : HoldSame (steps.uses now) (blocks_on (g.content old)) (blocks_on (g.content new))
       anew_same = same_on (steps.uses now) (g.content old) (g.content new) alike (λ before octets told told_new block uses.
           ⊎_elim (λ was. ap (λ (l : List ℕ). block_in l block) was) (λ is. used_same before octets is.blocks block uses) (content_since _ since_anew before octets told told_new))
 
-      pub anew_since : Leaves g old new (λ before. StandsFor form (seen (block_in before) now))
+      anew_since : Leaves g old new (λ before. StandsFor form (seen (block_in before) now))
       anew_since = if_told (g.content old) _ (λ before told.
           weaker g.moment g.images_since old new _ _ (λ image is.
           image_stands_for position at.magic_is at.layout_is before now image (rewriting_there before image told is) (used_same before image is.blocks))
           (at_told (λ (octets : List ℕ). LeavesOnly g.moment g.images_since old new (IsRewriting position (steps.anew now) octets)) before told since_anew))
 
-      pub anew_holds : StandsOn g after new → IsSameJournal position after → TakesStep g old new (Rewrites position (steps.anew now)) → IsQuietNow g new → StandsAt g form steps after now new
+      anew_holds : StandsOn g after new → IsSameJournal position after → TakesStep g old new (Rewrites position (steps.anew now)) → IsQuietNow g new → StandsAt g form steps after now new
       anew_holds stands moved ok quiet =
-          let blocks_is : after.blocks ≡ position.blocks = ap (λ (p : Position). p.blocks) moved.same in
-          let layout_is : after.layout ≡ position.layout = ap (λ (p : Position). p.layout) moved.same in
-          record {
-            magic_is = ap (λ (p : Position). p.magic) moved.same ∙ at.magic_is;
-            layout_is = layout_is ∙ at.layout_is;
-            holds = quiet_holds after now new at.holds.reached stands (ap (λ (p : Position). p.ended) moved.same ∙ ended_there)
-                (if_told (g.content new) _ (λ octets told_new.
-                let was = content_now _ _ (Rewrites position (steps.anew now)) octets alike ok told_new in
-                stands_moved position after octets now moved
-                (image_there position was.0 octets now (anew_there was.0 was.1 (store_in position octets) was.2.store) (used_same was.0 octets was.2.blocks))))
-                quiet (λ has. blocks_is ∙ at.holds.number (subst HasBlocks layout_is has));
-          }
+          moved_holds after now moved at.holds.reached refl stands quiet (if_told (g.content new) _ (λ octets told_new.
+          let was = content_now _ _ (Rewrites position (steps.anew now)) octets alike ok told_new in
+          stands_moved position after octets now moved
+          (image_there position was.0 octets now (anew_there was.0 was.1 (store_in position octets) was.2.store) (used_same was.0 octets was.2.blocks))))
 
       -- so what is kept stays, whatever was answered
-      pub anew_stays : {T E : Type 0} (result : Result T E) (P : Type 0) (same : K) → (P → IsErr result) → (IsErr result → P) → same ≡ now → WritesAnew g (steps.anew now) position after old new result
-          → Puts g (IsErr result) old new → StaysKept g form steps seen P (kept_on now position old) (kept_on same after new)
-      anew_stays result P same there back is anew puts =
+      pub anew_stays : {T E : Type 0} (result : Result T E) → WritesAnew g (steps.anew now) position after old new result → Puts g (IsErr result) old new
+          → StaysKept g form steps seen (IsErr result) (kept_on now position old) (kept_on now after new)
+      anew_stays result anew puts =
           let moved : IsSameJournal position after =
           either_way result (on_ok_both result (λ (j : after ≡ rewritten position (steps.anew now)) rest. same_rewritten position after (steps.anew now) (at.layout_is ∙ in_halves) j) anew.goes_on anew.quiet)
           (on_err result (λ (j : after ≡ record position { failed = true }). moved_journal position after position.place true j) anew.fails) in
           record {
-            kept = is;
-            stands_at = subst (λ (k : K). StandsAt g form steps after k new) (sym is)
-                (either_way result (on_ok_both result (λ ok quiet. anew_holds anew.stands_on moved ok quiet) anew.ok anew.quiet)
-                (on_err result (λ (j : after ≡ record position { failed = true }). cut_holds after anew.stands_on moved (ap (λ (p : Position). p.failed) j)) anew.fails));
+            kept = refl;
+            stands_at = either_way result (on_ok_both result (λ ok quiet. anew_holds anew.stands_on moved ok quiet) anew.ok anew.quiet)
+                (on_err result (λ (j : after ≡ record position { failed = true }). cut_holds after anew.stands_on moved (ap (λ (p : Position). p.failed) j)) anew.fails);
             same = anew_same;
             since = anew_since;
             goes = record {
               journal = moved;
-              fails = λ bad. ap (λ (p : Position). p.failed) (err_there result (there bad) anew.fails);
-              goes_on = λ good. ap (λ (p : Position). p.failed) (ok_there result (λ bad. good (back bad)) anew.goes_on);
-              puts = puts_same g old new (IsErr result) P back there puts;
+              fails = λ bad. ap (λ (p : Position). p.failed) (err_there result bad anew.fails);
+              goes_on = λ good. ap (λ (p : Position). p.failed) (ok_there result good anew.goes_on);
+              puts = puts;
               within = λ halves. anew.within;
             };
           }

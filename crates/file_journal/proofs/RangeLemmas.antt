@@ -27,6 +27,18 @@ back_upto at most xs ys same = elim (cases_lt at most) [
       drop_all at (take most xs) (omega (arith, length-take most xs, past)) ∙ sym (drop_all at (take most ys) (omega (arith, length-take most ys, past)))
 ]
 
+-- what a torn write leaves behind it
+pub kept_behind : (m at n : ℕ) (old new : List ℕ) → at + n ≤ m → Torn at n old new → drop m new ≡ drop m old
+kept_behind m at n old new behind torn = elim (cases_lt (length old) (at + n)) [
+  | inl short ↦ drop_all m new (omega (arith, torn.no_longer, behind, short)) ∙ sym (drop_all m old (omega (arith, behind, short)))
+  | inr inside ↦
+      let all : take (length old) new ≡ new = take_all (length old) new (omega (arith, torn.no_longer, inside)) in
+      let there : at + n + (m - (at + n)) ≡ m = omega (arith, behind) in
+      let from : (l : List ℕ) → drop m l ≡ drop (m - (at + n)) (drop (at + n) l) =
+      λ l. ap (λ (i : ℕ). drop i l) (sym there) ∙ sym (drop-drop (m - (at + n)) (at + n) l) in
+      from new ∙ ap (drop (m - (at + n))) (ap (drop (at + n)) (sym all) ∙ torn.after) ∙ sym (from old)
+]
+
 -- torn in a range, and then in it again
 pub torn_then : (at n : ℕ) (old mid new : List ℕ) → Torn at n old mid → Torn at n mid new → Torn at n old new
 torn_then at n old mid new first second =

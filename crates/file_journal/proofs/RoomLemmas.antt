@@ -12,15 +12,6 @@ use Rattle.file_journal.specs.Steps.{IsSeenBy, Steps}
 use Rattle.file_journal.specs.declared.layout.Layout.{Layout}
 use Rattle.file_journal.specs.declared.layout.Layout.TheVariants as layout
 
--- records have an end where there is no room for one, and so two halves
-pub halves_there : (journal : Position) (len : ℕ) → len ≤ 600 → room_in journal.place (end_of journal) < 4 + len → journal.layout ≡ layout.Halves
-halves_there journal len most less = by journal.layout less
-  where
-    by : (l : Layout) → room_in journal.place (half_end l journal.blocks journal.half) < 4 + len → l ≡ layout.Halves
-    by layout.Growing few = absurd (omega (arith, few, most))
-    by layout.Blocks few = absurd (omega (arith, few, most))
-    by layout.Halves few = refl
-
 -- where there is room for so many octets, and where there isn't
 pub room_there : (journal : Position) (count : ℕ) → 1 ≤ count → count ≤ room_in journal.place (end_of journal) → HasRoom journal count
 room_there journal count some enough = by (end_of journal) enough
@@ -36,8 +27,8 @@ no_room journal count most less has = by (end_of journal) less has
     by None few there = omega (arith, few, most)
     by (Some end) few there = omega (arith, few, there)
 
--- where there is none, there are two halves
-halves_without : (journal : Position) (count : ℕ) → (HasRoom journal count → ⊥) → journal.layout ≡ layout.Halves
+-- records have an end where there is no room, and so two halves
+pub halves_without : (journal : Position) (count : ℕ) → (HasRoom journal count → ⊥) → journal.layout ≡ layout.Halves
 halves_without journal count none = by journal.layout none
   where
     by : (l : Layout) → (IfSome (half_end l journal.blocks journal.half) (λ end. journal.place + 1 + count ≤ end) → ⊥) → l ≡ layout.Halves

@@ -50,7 +50,9 @@ module _ {D S C : Type 0} (g : Ghosts D) (form : Form S C) (own : TellsItsNumber
   both : Both
   both = turn_both g form first_course second_course any_course ⊥ failed done cut start between new (λ never. never) between_alike later_alike first second (λ one other. tt) tt tt
 
-  pub stands_through : (stands : StandsThrough g form failed start.now done cut disk new.disk) × (stands.ready ≡ g.moment start.disk)
+  pub stands_through :
+      (stands : StandsThrough g form failed start.now done cut disk new.disk)
+      × (stands.ready ≡ g.moment start.disk) × (stands.journal ≡ start.journal)
   stands_through = let all = both.0 in (
     record {
       allowed = λ known. all.allowed (knows_on form _ _ alike known);
@@ -95,6 +97,7 @@ module _ {D S C : Type 0} (g : Ghosts D) (form : Form S C) (own : TellsItsNumber
             at_most = since_told _ some.0.at_most;
           };
     },
+    refl,
     refl,
   )
 

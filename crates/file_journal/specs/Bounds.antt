@@ -1,5 +1,5 @@
--- How long a disk gets.
-use Rattle.std.specs.Prelude.{◌≡◌, ℕ, ◌+◌, ◌*◌, ◌≤◌, List, length, IfSome}
+-- How long a disk gets, and what stands behind its store.
+use Rattle.std.specs.Prelude.{◌≡◌, ℕ, ◌+◌, ◌*◌, ◌≤◌, List, drop, IfSome}
 use Rattle.disk_model.specs.Disk.{IsTold}
 use Rattle.disk_model.specs.declared.disk.Disk.{Ghosts}
 use Rattle.file_journal.specs.Calls.{Leaves, images_now}
@@ -12,24 +12,30 @@ use Rattle.file_journal.specs.declared.layout.Layout.TheVariants as variant
 abbrev pub longest : ℕ → ℕ
 longest blocks = first_gate variant.Halves blocks + 2 * half_size blocks
 
--- Where the content is told, it has at most so many octets, and so has each image that a crash since this moment might
--- have left.
-abbrev pub IsWithin : {D : Type 0} → Ghosts D → ℕ → D → Type 0
-IsWithin g most disk =
+-- Behind so many octets stand these, and no others; none, where the list ends before.
+abbrev pub EndsIn : ℕ → List ℕ → List ℕ → Type 0
+EndsIn most behind octets = drop most octets ≡ behind
+
+-- Where the content is told, these octets stand behind so many in it, and in each image that a crash since this moment
+-- might have left.
+abbrev pub HasBehind : {D : Type 0} → Ghosts D → ℕ → List ℕ → D → Type 0
+HasBehind g most behind disk =
     IfSome (g.content disk) (λ octets.
-    (length octets ≤ most) × ((image : List ℕ) → images_now g disk image → length image ≤ most))
+    EndsIn most behind octets × ((image : List ℕ) → images_now g disk image → EndsIn most behind image))
 
--- Where the disk was within so many octets, it is so now, and a crash since then leaves no more.
-pub record KeepsWithin {D : Type 0} (g : Ghosts D) (most : ℕ) (old new : D) : Type 0 where
+-- Where these octets stood behind so many, they do so now, and a crash since then leaves them there. So where there was
+-- none, the disk is no longer than so many octets, and no crash since then leaves more.
+pub record KeepsBehind {D : Type 0} (g : Ghosts D) (most : ℕ) (behind : List ℕ) (old new : D) : Type 0 where
   pub told : IsTold (g.content old) → IsTold (g.content new)
-  pub now : IsWithin g most old → IsWithin g most new
-  pub since : IsWithin g most old → Leaves g old new (λ before image. length image ≤ most)
+  pub now : HasBehind g most behind old → HasBehind g most behind new
+  pub since : HasBehind g most behind old → Leaves g old new (λ before. EndsIn most behind)
 
--- The disk gets no longer than so many octets, or than it was.
+-- Nothing is written behind so many octets: the disk gets no longer than that, or than it was, and what stood behind
+-- that stays.
 abbrev pub StaysWithin : {D : Type 0} → Ghosts D → ℕ → D → D → Type 0
-StaysWithin g most old new = (bound : ℕ) → most ≤ bound → KeepsWithin g bound old new
+StaysWithin g most old new = (bound : ℕ) (behind : List ℕ) → most ≤ bound → KeepsBehind g bound behind old new
 
--- where the layout has two halves, no longer than a store of so many blocks
+-- where the layout has two halves, nothing behind a store of so many blocks
 abbrev pub StaysInHalves : {D : Type 0} → Ghosts D → Layout → ℕ → D → D → Type 0
 StaysInHalves g layout blocks old new = layout ≡ variant.Halves → StaysWithin g (longest blocks) old new
 

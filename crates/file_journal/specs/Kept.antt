@@ -94,7 +94,7 @@ pub record Paces {S C : Type 0} (form : Form S C) (journal : Position) (start : 
 -- them, for some number of them, and no fewer than were done when it came: the first so many are done at the moment
 -- that `time` has of that number. The commands come one behind another, and each takes its calls of the disk. The
 -- journal keeps the state; but for its place, its half, and whether it failed, it is as it was. Where there was room
--- for all of their records, it goes on behind them in its half. In two halves the disk gets no longer than the store.
+-- for all of their records, it goes on behind them in its half. In two halves nothing is written behind the store.
 pub record DoesInTurn {D S C : Type 0} (g : Ghosts D) (form : Form S C) (course : Course D) (failed : Type 0)
     (commands : List C) (old new : KeptOn D S) : Type 0 where
   pub time : ℕ → ℕ

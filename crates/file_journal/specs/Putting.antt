@@ -11,7 +11,7 @@ use Rattle.file_journal.specs.Rewriting.{LeavesRewriting, Rewrites, rewritten}
 use Rattle.file_journal.specs.Steps.{Steps}
 
 -- But for its half and its place there the journal is as it was, and it has failed where the disk failed; the calls
--- were writes and syncs. In two halves the disk gets no longer than the store.
+-- were writes and syncs. In two halves nothing is written behind the store.
 pub record GoesOn {D : Type 0} (g : Ghosts D) (failed : Type 0) (before now : Position) (old new : D)
     : Type 0 where
   pub journal : IsSameJournal before now
@@ -47,7 +47,8 @@ seen_on g seen at = kept_on (seen (blocks_on (g.content at.disk)) at.now) at.jou
 
 -- The records that make what is kept anew were written into the other half first: so far what is kept stays, and the
 -- journal goes on behind them, where it has room for the command's record. That took a call of the disk for each of
--- them and four more; and from there on the command is done, or the disk failed in it.
+-- them and four more, in which a crash leaves the records from before or these; and from there on the command is done,
+-- or the disk failed in it.
 pub record MadeRoom {D S K V C : Type 0} (g : Ghosts D) (form : Form V C) (steps : Steps S K) (seen : Blocks → K → V)
     (failed : Type 0) (command : C) (old new : KeptOn D K) : Type 0 where
   pub between : KeptOn D K
@@ -56,6 +57,7 @@ pub record MadeRoom {D S K V C : Type 0} (g : Ghosts D) (form : Form V C) (steps
   pub journal : between.journal ≡ rewritten old.journal (steps.anew old.now)
   pub calls :
       IfSome (g.content old.disk) (λ _. g.moment between.disk ≡ g.moment old.disk + (length (steps.anew old.now) + 4))
+  pub since : LeavesRewriting g old.journal (steps.anew old.now) old.disk between.disk
   pub room : HasRoom between.journal (form.octets command)
   pub does : Does g form failed (command ∷ []) (seen_on g seen between) (seen_on g seen new)
 

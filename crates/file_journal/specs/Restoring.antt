@@ -56,7 +56,7 @@ LeavesAlikeSinceSync g form blocks result disk disk_now =
 -- What a recovery answers and leaves on the disk, whether it is refused or not. But for a fault of the disk and want of
 -- memory each refusal comes exactly where the content stands for it, and leaves it as it was. A crash since the start
 -- leaves what it might have left before, or what stands for the same; since the end of the first sync the latter, but
--- where that sync failed. In two halves the disk gets no longer than the store whose block number it has, or gets.
+-- where that sync failed. In two halves nothing is written behind the store whose block number it has, or gets.
 pub record AnswersRecovery {D S C T : Type 0} (g : Ghosts D) (form : Form S C) (blocks : ℕ)
     (result : Result T StoreFault) (disk disk_now : D) : Type 0 where
   pub refuses : RefusesRecovery form blocks (g.content disk) result

@@ -81,7 +81,7 @@ rewritten journal entries =
 
 -- What a rewriting does to a journal of two halves, and to its disk: these records are put in place of all others; or
 -- the disk failed, or had failed before, and so has the journal. A crash since the start leaves the one or the other.
--- It makes a call of the disk for each record, and four more, and the disk gets no longer than the store.
+-- It makes a call of the disk for each record, and four more, and nothing is written behind the store.
 pub record WritesAnew {D T E : Type 0} (g : Ghosts D) (entries : List Record) (before now : Position) (old new : D)
     (result : Result T E) : Type 0 where
   pub stands_on : StandsOn g now new

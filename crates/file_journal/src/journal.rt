@@ -93,7 +93,7 @@ impl Journal {
         ensures since_start { Leaves D.Disk disk.old disk.new (IsRecovering magic layout blocks) }
         ensures since_sync { LeavesSinceSync D.Disk result disk.old disk.new (IsRecovering magic layout blocks) }
 
-        // In two halves the disk gets no longer than the store whose block number it has, or gets.
+        // In two halves nothing is written behind the store whose block number it has, or gets.
         ensures within { RecoversInHalves D.Disk layout blocks disk.old disk.new }
     {
         // A crash before this sync leaves any octets where an earlier write wasn't synced, whatever a read gives; after
@@ -154,8 +154,8 @@ impl Journal {
     }
 
     /// Reads the next record: its kind, with its content in `room`; `None` exactly at the first gate that isn't open.
-    /// Only a record replaces what is in `room`. No append, no write of a block and no rewriting failed before. Takes no
-    /// memory.
+    /// Only a record replaces what is in `room`. No append, no write of a block and no rewriting failed before. Takes
+    /// no memory.
     ///
     /// `Damaged`: the gate isn't there, or it is open, and no whole record with a gate behind it follows, in the half
     /// of the journal's records. It and `Disk` leave the journal as it was. `NotAStore` is not answered.
@@ -369,8 +369,8 @@ impl Journal {
         }
     }
 
-    /// Reads the octets of a block of the store, from octet `at` of it on, into the room. No append, no write of a block
-    /// and no rewriting failed before. It reads once, and changes no octet. Takes no memory.
+    /// Reads the octets of a block of the store, from octet `at` of it on, into the room. No append, no write of a
+    /// block and no rewriting failed before. It reads once, and changes no octet. Takes no memory.
     pub fn read_block<D: Disk>(
         &self,
         disk: &mut D,

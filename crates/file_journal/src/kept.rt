@@ -3,17 +3,17 @@
 ghost use Rattle.std.specs.Prelude.{◌≡◌, ◌+◌, ◌<◌, ◌≤◌, ◌∷◌, [], length, false, true, IfOk, IfSome, IsErr, OnErr, OnOk};
 ghost use Rattle.file_journal.specs.Appending.{TakesCalls};
 ghost use Rattle.disk_model.specs.Disk.{FillsRoom};
-ghost use Rattle.file_journal.specs.Calls.{IsQuietNow, Puts, Reads};
+ghost use Rattle.file_journal.specs.Calls.{Reads};
 ghost use Rattle.file_journal.specs.Form.{record_calls};
 ghost use Rattle.file_journal.specs.Header.{AreBlocks};
 ghost use Rattle.file_journal.specs.Kept.{Does, MayTurn, StandsAt, kept_at, kept_on};
 ghost use Rattle.file_journal.specs.declared.layout.Layout.TheVariants as Layout;
 ghost use Rattle.file_journal.specs.Layout.{HasBlocks, HoldSame, block_in, blocks_on};
-ghost use Rattle.file_journal.specs.Position.{HasRoom, MovesOn, StandsOn};
+ghost use Rattle.file_journal.specs.Position.{HasRoom, MovesOn};
 ghost use Rattle.file_journal.specs.Putting.{GoesOn, MakesRoom, StaysKept, TurnsInto};
 ghost use Rattle.file_journal.specs.Records.{record_of};
 ghost use Rattle.file_journal.specs.Restoring.{AnswersRecovery, IsRestored};
-ghost use Rattle.file_journal.specs.Rewriting.{MayRewrite, WritesAnew};
+ghost use Rattle.file_journal.specs.Rewriting.{WritesAnew};
 ghost use Rattle.file_journal.specs.Steps.{HasPut, Knows, WritesTurn, block_calls, kept_by};
 
 use crate::{Change, Journal, Ledger, RecordContent, RecordPlace, Records, StoreFault};
@@ -152,23 +152,23 @@ impl<L: Ledger> Kept<L> {
         if self.journal.room() >= 4 + self.content.len() as u64 {
             return Ok(kind);
         }
-        self.write_anew(disk)?;
+        self.write_anew::<D, C>(disk)?;
         Ok(change.write(&self.ledger, &mut self.content))
     }
 
     /// Writes the records that make what the ledger holds anew into the other half of its journal, and goes on there. A
     /// crash leaves those from before, or these. It makes a write for each of them and one more, a sync, a write and a
     /// sync.
-    fn write_anew<D: Disk>(&mut self, disk: &mut D) -> Result<(), DiskFault>
-        requires stands_on { StandsOn D.Disk self.old.journal disk.old }
-        requires quiet { IsQuietNow D.Disk disk.old }
+    fn write_anew<D: Disk, C: Change<L>>(&mut self, disk: &mut D) -> Result<(), DiskFault>
+        requires stands_at { StandsAt D.Disk C.form C.steps self.old.journal (C.state self.old.ledger) disk.old }
         requires healthy { self.old.journal.failed ≡ false }
-        requires in_halves { L.form.layout ≡ Layout.Halves }
-        requires may { MayRewrite self.old.journal (L.steps.anew (kept_by L.steps L.state self.old.ledger)) }
+        requires in_halves { self.old.journal.layout ≡ Layout.Halves }
         ensures ledger { self.new.ledger ≡ self.old.ledger }
-        ensures anew { WritesAnew D.Disk (L.steps.anew (kept_by L.steps L.state self.old.ledger))
-            self.old.journal self.new.journal disk.old disk.new result }
-        ensures puts { Puts D.Disk (IsErr result) disk.old disk.new }
+        ensures stays { StaysKept D.Disk C.form C.steps C.seen (IsErr result)
+            (kept_on (C.state self.old.ledger) self.old.journal disk.old)
+            (kept_on (C.state self.new.ledger) self.new.journal disk.new) }
+        ensures anew { WritesAnew D.Disk (C.steps.anew (C.state self.old.ledger)) self.old.journal self.new.journal
+            disk.old disk.new result }
     {
         let mut records = LedgerRecords {
             ledger: &self.ledger,

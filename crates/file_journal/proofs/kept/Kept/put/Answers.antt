@@ -94,6 +94,7 @@ returns-clause-room g c none =
       content = anew.ok;
       journal = anew.goes_on;
       calls = anew.calls.each;
+      since = anew.since;
       room = subst (HasRoom start.self.journal) (sym room.writes.octets) room.room;
       does = rw room.ledger at c.put_there.ensures.does;
     })
