@@ -1,26 +1,11 @@
--- The runs that marks in line stand for, as numbers and marks change.
+-- Marks in line, and the runs that they stand for, as numbers and marks change.
 use Rattle.std.proofs.Common.{◌≡◌, ◌∙◌, ℕ, zero, suc, ◌+◌, ◌-◌, ◌<◌, ◌≤◌, List, [], ◌∷◌, ◌++◌, length, map, take, drop}
 use Rattle.std.proofs.Common.{get_or, refl, ap, sym, subst, arith}
-use Rattle.std.proofs.Math.ListN.{set}
-use Rattle.std.specs.List.{remove}
-use Rattle.std.proofs.lemmas.Grind.{same_number_lists}
-use Rattle.std.proofs.lemmas.List.{get_or-drop, get_or-set_other, get_or-set_same, get_or-take, length-drop, length-set}
-use Rattle.std.proofs.lemmas.List.{length-take-le, take_more}
+use Rattle.std.proofs.lemmas.List.{drop-drop, drop-map, drop-take, map-append, take-map, take-take}
 use Rattle.std.proofs.lemmas.List.Sums.{sum_by-cons}
 use Rattle.block_table.specs.Kept.{AreInLine, earlier, run_in, runs_in}
-use Rattle.block_table.specs.Table.{Run, rooms_of, with_block}
+use Rattle.block_table.specs.Table.{Run, rooms_of}
 use Rattle.block_table.specs.declared.marks.RunMark.{RunMark}
-
--- parts of two lists are the same where they agree place by place
-same_part : (xs ys : List ℕ) (f g c : ℕ) → f + c ≤ length xs → g + c ≤ length ys
-    → ((t : ℕ) → t < c → get_or xs (f + t) 0 ≡ get_or ys (g + t) 0) → take c (drop f xs) ≡ take c (drop g ys)
-same_part xs ys f g c fx gy same =
-    let lx : length (take c (drop f xs)) ≡ c = length-take-le c (drop f xs) (omega (arith, length-drop f xs)) in
-    let ly : length (take c (drop g ys)) ≡ c = length-take-le c (drop g ys) (omega (arith, length-drop g ys)) in
-    same_number_lists (take c (drop f xs)) (take c (drop g ys)) (lx ∙ sym ly)
-    (λ t h. let lt : t < c = omega (arith, lx, h) in
-    get_or-take c (drop f xs) t 0 lt ∙ get_or-drop f xs t 0 ∙ same t lt
-    ∙ sym (get_or-drop g ys t 0) ∙ sym (get_or-take c (drop g ys) t 0 lt))
 
 -- runs in line have so many places together as from the first to the end
 pub line-rooms : (numbers : List ℕ) (from : ℕ) (marks : List RunMark) (end : ℕ) → AreInLine from marks end
@@ -33,148 +18,87 @@ line-rooms numbers from (mark ∷ marks) end line =
       sum_by-cons (λ (r : Run). r.room) (run_in numbers mark) (runs_in numbers marks),
     )
 
--- where a run of the line lies
-pub record Lies (from end : ℕ) (mark : RunMark) : Type 0 where
-  pub low : from ≤ mark.first
-  pub high : mark.first + mark.room ≤ end
+-- a mark of a line, between those before it and those behind it
+pub record At (marks : List RunMark) (from end k : ℕ) (mark : RunMark) : Type 0 where
+  pub before : AreInLine from (take k marks) mark.first
   pub fits : mark.count ≤ mark.room
+  pub behind : AreInLine (mark.first + mark.room) (drop (suc k) marks) end
 
--- the first run of a line
-head-lies : (from : ℕ) (mark : RunMark) (marks : List RunMark) (end : ℕ) → AreInLine from (mark ∷ marks) end
-    → Lies from end mark
-head-lies from mark marks end line = omega (arith, line.0, line.1, line-rooms [] (from + mark.room) marks end line.2)
+pub line-at : (from : ℕ) (marks : List RunMark) (end k : ℕ) (d : RunMark) → AreInLine from marks end
+    → k < length marks → At marks from end k (get_or marks k d)
+line-at from [] end k d line lt = absurd (omega (arith, lt))
+line-at from (mark ∷ marks) end zero d line lt =
+    let behind = subst (λ (n : ℕ). AreInLine (n + mark.room) marks end) (sym line.0) line.2 in
+    record { before = sym line.0; fits = line.1; behind = behind }
+line-at from (mark ∷ marks) end (suc k) d line lt =
+    let more = line-at (from + mark.room) marks end k d line.2 (omega (arith, lt)) in
+    record { before = (line.0, line.1, more.before); fits = more.fits; behind = more.behind }
 
-pub lies-at : (from : ℕ) (marks : List RunMark) (end k : ℕ) (d : RunMark) → AreInLine from marks end
-    → k < length marks → Lies from end (get_or marks k d)
-lies-at from [] end k d line lt = omega (arith, lt)
-lies-at from (mark ∷ marks) end zero d line lt = head-lies from mark marks end line
-lies-at from (mark ∷ marks) end (suc k) d line lt =
-    omega (arith, lies-at (from + mark.room) marks end k d line.2 (omega (arith, lt)))
+pub line-join : (from : ℕ) (marks : List RunMark) (mid : ℕ) (others : List RunMark) (end : ℕ)
+    → AreInLine from marks mid → AreInLine mid others end → AreInLine from (marks ++ others) end
+line-join from [] mid others end line rest = subst (λ (n : ℕ). AreInLine n others end) (sym line) rest
+line-join from (mark ∷ marks) mid others end line rest =
+    (line.0, line.1, line-join (from + mark.room) marks mid others end line.2 rest)
 
--- a run whose numbers moved so many places to the front
-run-moved : (numbers now : List ℕ) (first places : ℕ) (mark : RunMark) → first + places ≡ mark.first
-    → mark.first + mark.count ≤ length numbers → length now ≡ length numbers
-    → ((t : ℕ) → t < mark.count → get_or now (first + t) 0 ≡ get_or numbers (mark.first + t) 0)
-    → run_in now (record { first = first; count = mark.count; room = mark.room }) ≡ run_in numbers mark
-run-moved numbers now first places mark is fits len same =
-    ap (λ (bs : List ℕ). record { blocks = bs; room = mark.room })
-    (same_part now numbers first mark.first mark.count (omega (arith, fits, len, is)) fits same)
+-- so many elements from a later place on
+part : (xs : List ℕ) (from more count : ℕ)
+    → drop more (take (more + count) (drop from xs)) ≡ take count (drop (from + more) xs)
+part xs from more count = drop-take more count (drop from xs) ∙ ap (take count) (drop-drop more from xs)
 
--- a run whose numbers stay
-run-same : (numbers now : List ℕ) (from : ℕ) (mark : RunMark) (marks : List RunMark) (end : ℕ)
-    → AreInLine from (mark ∷ marks) end → end ≤ length numbers → length now ≡ length numbers
-    → ((t : ℕ) → from ≤ t → t < from + mark.room → get_or now t 0 ≡ get_or numbers t 0)
-    → run_in now mark ≡ run_in numbers mark
-run-same numbers now from mark marks end line fits len same =
-    let lies = head-lies from mark marks end line in
-    run-moved numbers now mark.first 0 mark (omega arith) (omega (arith, lies, fits)) len
-    (λ t h. same (mark.first + t) (omega (arith, lies)) (omega (arith, line.0, line.1, h)))
+fewer : (c n : ℕ) (xs ys : List ℕ) → c ≤ n → take n xs ≡ take n ys → take c xs ≡ take c ys
+fewer c n xs ys h same = sym (take-take c n xs h) ∙ ap (take c) same ∙ take-take c n ys h
 
-runs-same : (numbers now : List ℕ) (from : ℕ) (marks : List RunMark) (end : ℕ) → AreInLine from marks end
-    → end ≤ length numbers → length now ≡ length numbers
-    → ((t : ℕ) → from ≤ t → get_or now t 0 ≡ get_or numbers t 0) → runs_in now marks ≡ runs_in numbers marks
-runs-same numbers now from [] end line fits len same = refl
-runs-same numbers now from (mark ∷ marks) end line fits len same = λ i.
-    run-same numbers now from mark marks end line fits len (λ t low _. same t low) i
-    ∷ runs-same numbers now (from + mark.room) marks end line.2 fits len (λ t low. same t (omega (arith, low))) i
-
--- one more block in the next place of a run
-abbrev pub counting : RunMark → RunMark
-counting mark = record { first = mark.first; count = mark.count + 1; room = mark.room }
-
-abbrev pub numbers_taking : List ℕ → RunMark → ℕ → List ℕ
-numbers_taking numbers mark block = set numbers (mark.first + mark.count) block
-
-run-taking : (numbers : List ℕ) (mark : RunMark) (block : ℕ) → mark.first + mark.count < length numbers
-    → run_in (numbers_taking numbers mark block) (counting mark) ≡ with_block (run_in numbers mark) block
-run-taking numbers mark block lt =
-    let place = mark.first + mark.count in
-    let now = set numbers place block in
-    let len : length now ≡ length numbers = length-set numbers place block in
-    let more : mark.count < length (drop mark.first now) = omega (arith, length-drop mark.first now, len, lt) in
-    let front : take mark.count (drop mark.first now) ≡ take mark.count (drop mark.first numbers) =
-    same_part now numbers mark.first mark.first mark.count (omega (arith, lt, len)) (omega (arith, lt))
-    (λ t h. get_or-set_other numbers place (mark.first + t) block 0 (omega (arith, h))) in
-    let last : get_or (drop mark.first now) mark.count 0 ≡ block =
-    get_or-drop mark.first now mark.count 0 ∙ get_or-set_same numbers place block 0 lt in
-    ap (λ (bs : List ℕ). record { blocks = bs; room = mark.room })
-    (take_more (drop mark.first now) mark.count 0 more ∙ (λ i. front i ++ last i ∷ []))
-
-pub taking : (numbers : List ℕ) (from : ℕ) (marks : List RunMark) (end k block : ℕ) (d : RunMark)
-    → AreInLine from marks end → end ≤ length numbers → k < length marks
-    → (get_or marks k d).count < (get_or marks k d).room
-    → AreInLine from (set marks k (counting (get_or marks k d))) end
-    × (runs_in (numbers_taking numbers (get_or marks k d) block) (set marks k (counting (get_or marks k d)))
-    ≡ set (runs_in numbers marks) k (with_block (run_in numbers (get_or marks k d)) block))
-taking numbers from [] end k block d line fits lt room = absurd (omega (arith, lt))
-taking numbers from (mark ∷ marks) end zero block d line fits lt room =
-    let place = mark.first + mark.count in (
-      (line.0, omega (arith, room), line.2),
-      λ i.
-          run-taking numbers mark block (omega (arith, head-lies from mark marks end line, room, fits)) i
-          ∷ runs-same numbers (set numbers place block) (from + mark.room) marks end line.2 fits
-          (length-set numbers place block)
-          (λ t low. get_or-set_other numbers place t block 0 (omega (arith, line.0, room, low))) i,
-    )
-taking numbers from (mark ∷ marks) end (suc k) block d line fits lt room =
-    let lies = lies-at (from + mark.room) marks end k d line.2 (omega (arith, lt)) in
-    let place = (get_or marks k d).first + (get_or marks k d).count in
-    let more = taking numbers (from + mark.room) marks end k block d line.2 fits (omega (arith, lt)) room in (
-      (line.0, line.1, more.0),
-      λ i.
-          run-same numbers (set numbers place block) from mark marks end line fits (length-set numbers place block)
-          (λ t low high. get_or-set_other numbers place t block 0 (omega (arith, lies.low, high))) i ∷ more.1 i,
-    )
-
--- a run behind the others
-pub line-beginning : (from : ℕ) (marks : List RunMark) (end : ℕ) (mark : RunMark) → AreInLine from marks end
-    → mark.first ≡ end → mark.count ≤ mark.room → AreInLine from (marks ++ mark ∷ []) (end + mark.room)
-line-beginning from [] end mark line first fits = (first ∙ sym line, fits, ap (λ (n : ℕ). n + mark.room) line)
-line-beginning from (m ∷ marks) end mark line first fits =
-    (line.0, line.1, line-beginning (from + m.room) marks end mark line.2 first fits)
-
-earlier-place : (first places t : ℕ) → places ≤ first → first - places + t ≡ first + t - places
-earlier-place first places t low = omega (arith, low)
-
--- the runs behind one that is gone, whose places began at `from`
-moved : (numbers now : List ℕ) (places from : ℕ) (marks : List RunMark) (end : ℕ)
-    → AreInLine (from + places) marks end → end ≤ length numbers → length now ≡ length numbers
-    → ((t : ℕ) → from + places ≤ t → t < end → get_or now (t - places) 0 ≡ get_or numbers t 0)
+-- runs whose numbers came so many places to the front
+moved : (numbers now : List ℕ) (places from : ℕ) (marks : List RunMark) (end : ℕ) → AreInLine (from + places) marks end
+    → ((c : ℕ) → from + places + c ≤ end → take c (drop from now) ≡ take c (drop (from + places) numbers))
     → AreInLine from (map (earlier places) marks) (end - places)
     × (runs_in now (map (earlier places) marks) ≡ runs_in numbers marks)
-moved numbers now places from [] end line fits len same = (omega (arith, line), refl)
-moved numbers now places from (mark ∷ marks) end line fits len same =
+moved numbers now places from [] end line same = (omega (arith, line), refl)
+moved numbers now places from (mark ∷ marks) end line same =
     let next : from + places + mark.room ≡ from + mark.room + places = omega arith in
-    let lies = head-lies (from + places) mark marks end line in
     let more = moved numbers now places (from + mark.room) marks end
-    (subst (λ (n : ℕ). AreInLine n marks end) next line.2) fits len (λ t l h. same t (omega (arith, l)) h) in (
-      (omega (arith, line.0), line.1, more.0),
+    (subst (λ (n : ℕ). AreInLine n marks end) next line.2)
+    (λ c h. sym (part now from mark.room c) ∙ ap (drop mark.room) (same (mark.room + c) (omega (arith, h)))
+    ∙ part numbers (from + places) mark.room c ∙ ap (λ (n : ℕ). take c (drop n numbers)) next) in
+    let first : mark.first - places ≡ from = omega (arith, line.0) in
+    let blocks : take mark.count (drop from now) ≡ take mark.count (drop (from + places) numbers) =
+    same mark.count (omega (arith, line.1, line-rooms [] (from + places + mark.room) marks end line.2)) in (
+      (first, line.1, more.0),
       λ i.
-          run-moved numbers now (mark.first - places) places mark (omega (arith, line.0))
-          (omega (arith, lies, fits)) len
-          (λ t h. ap (λ (n : ℕ). get_or now n 0) (earlier-place mark.first places t (omega (arith, line.0)))
-          ∙ same (mark.first + t) (omega (arith, line.0)) (omega (arith, lies, h))) i ∷ more.1 i,
+          record {
+            blocks = (ap (λ (n : ℕ). take mark.count (drop n now)) first ∙ blocks
+                ∙ ap (λ (n : ℕ). take mark.count (drop n numbers)) (sym line.0)) i;
+            room = mark.room;
+          } ∷ more.1 i,
     )
 
--- the marks without this one, those behind it by its places earlier
-abbrev pub marks_without : List RunMark → ℕ → ℕ → List RunMark
-marks_without marks k places = take k (remove marks k) ++ map (earlier places) (drop k (remove marks k))
+pub earlier-none : (marks : List RunMark) → map (earlier 0) marks ≡ marks
+earlier-none [] = refl
+earlier-none (mark ∷ marks) =
+    let first : mark.first - 0 ≡ mark.first = omega arith in
+    λ i. record { first = first i; count = mark.count; room = mark.room } ∷ earlier-none marks i
 
-pub gone : (numbers now : List ℕ) (from : ℕ) (marks : List RunMark) (end k : ℕ) (d : RunMark)
-    → AreInLine from marks end → end ≤ length numbers → length now ≡ length numbers → k < length marks
-    → ((t : ℕ) → t < (get_or marks k d).first → get_or now t 0 ≡ get_or numbers t 0)
-    → ((t : ℕ) → (get_or marks k d).first + (get_or marks k d).room ≤ t → t < end
-    → get_or now (t - (get_or marks k d).room) 0 ≡ get_or numbers t 0)
-    → AreInLine from (marks_without marks k (get_or marks k d).room) (end - (get_or marks k d).room)
-    × (runs_in now (marks_without marks k (get_or marks k d).room) ≡ remove (runs_in numbers marks) k)
-gone numbers now from [] end k d line fits len lt front behind = absurd (omega (arith, lt))
-gone numbers now from (mark ∷ marks) end zero d line fits len lt front behind =
-    moved numbers now mark.room from marks end line.2 fits len (λ t l h. behind t (omega (arith, line.0, l)) h)
-gone numbers now from (mark ∷ marks) end (suc k) d line fits len lt front behind =
-    let lies = lies-at (from + mark.room) marks end k d line.2 (omega (arith, lt)) in
-    let more = gone numbers now (from + mark.room) marks end k d line.2 fits len (omega (arith, lt)) front behind in (
-      (line.0, line.1, more.0),
-      λ i.
-          run-same numbers now from mark marks end line fits len (λ t _ h. front t (omega (arith, lies.low, h))) i
-          ∷ more.1 i,
+-- marks in line where others take the place of one, and those behind it come so many places to the front
+pub changed : (numbers now : List ℕ) (marks : List RunMark) (end k places to : ℕ) (mark : RunMark)
+    → At marks 0 end k mark → (mid : List RunMark) → AreInLine mark.first mid to → to + places ≡ mark.first + mark.room
+    → take mark.first now ≡ take mark.first numbers
+    → take (end - (to + places)) (drop to now) ≡ take (end - (to + places)) (drop (to + places) numbers)
+    → AreInLine 0 (take k marks ++ (mid ++ map (earlier places) (drop (suc k) marks))) (end - places)
+    × (runs_in now (take k marks ++ (mid ++ map (earlier places) (drop (suc k) marks)))
+    ≡ take k (runs_in numbers marks) ++ (runs_in now mid ++ drop (suc k) (runs_in numbers marks)))
+changed numbers now marks end k places to mark at mid inside whole front same =
+    let behind = subst (λ (n : ℕ). AreInLine n (drop (suc k) marks) end) (sym whole) at.behind in
+    let back = moved numbers now places to (drop (suc k) marks) end behind
+    (λ c h. fewer c (end - (to + places)) (drop to now) (drop (to + places) numbers) (omega (arith, h)) same) in
+    let first : runs_in now (take k marks) ≡ take k (runs_in numbers marks) =
+    ap (runs_in now) (sym (earlier-none (take k marks)))
+    ∙ (moved numbers now 0 0 (take k marks) mark.first at.before
+    (λ c h. fewer c mark.first now numbers (omega (arith, h)) front)).1
+    ∙ sym (take-map (run_in numbers) k marks) in
+    let moves = map (earlier places) (drop (suc k) marks) in
+    let last = back.1 ∙ sym (drop-map (run_in numbers) (suc k) marks) in (
+      line-join 0 (take k marks) mark.first (mid ++ moves) (end - places) at.before
+          (line-join mark.first mid to moves (end - places) inside back.0),
+      map-append (run_in now) (take k marks) (mid ++ moves)
+          ∙ (λ i. first i ++ (map-append (run_in now) mid moves ∙ ap (λ rs. runs_in now mid ++ rs) last) i),
     )

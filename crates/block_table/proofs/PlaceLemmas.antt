@@ -1,128 +1,73 @@
 -- Where a block stands: a block that is taken stands at one place of one run.
-use Rattle.std.proofs.Common.{◌≡◌, ℕ, zero, suc, ◌+◌, ◌<◌, ◌≤◌, ◌≢◌, ◌==◌, cond, List, [], ◌∷◌, length}
+use Rattle.std.proofs.Common.{◌≡◌, ℕ, suc, ◌+◌, ◌<◌, ◌≤◌, ◌==◌, cond, List, [], ◌∷◌, length, take}
 use Rattle.std.proofs.Common.{get_or, inl, inr, ap, sym, subst, arith}
-use Rattle.std.proofs.Math.ListN.{set}
+use Rattle.std.specs.Prelude.{sum_by}
 use Rattle.std.proofs.lemmas.Bool.Decides.{eqb_tells}
-use Rattle.std.proofs.lemmas.List.{get_or-set_other, length-set}
-use Rattle.std.proofs.lemmas.List.Sums.{sum_by-cons, sum_by-remove, sum_by-set}
-use Rattle.block_table.specs.Kept.{times_among}
+use Rattle.std.proofs.lemmas.List.{get_or-take, length-take-le}
+use Rattle.std.proofs.lemmas.List.Sums.{get_or-le-sum_by, sum_by-cons, sum_by_more_le}
 use Rattle.block_table.specs.Laws.{Stands, StandsAt}
-use Rattle.block_table.specs.Table.{IsTable, IsTaken, Run, Table, new_run, run_at, times_in, times_of}
+use Rattle.block_table.specs.Table.{IsTable, IsTaken, Table, new_run, run_at, times_in}
 
-among-cons : (block b : ℕ) (blocks : List ℕ)
-    → times_among block (b ∷ blocks) ≡ cond (b == block) 1 0 + times_among block blocks
-among-cons block b blocks = sum_by-cons (λ (x : ℕ). cond (x == block) 1 0) b blocks
-
--- a block that stands in a list stands at some place of it, and the other way round
-pub among-place : (block : ℕ) (blocks : List ℕ) → 1 ≤ times_among block blocks
-    → (at : ℕ) × ((at < length blocks) × (get_or blocks at 0 ≡ block))
-among-place block [] some = absurd (omega (arith, some))
-among-place block (b ∷ blocks) some =
-    elim (eqb_tells b block) [
-      | inl same ↦ (0, (omega arith, same.1))
-      | inr other ↦
-          let more = among-place block blocks (grind (arith, some, among-cons block b blocks, other.0)) in
-          (suc more.0, (omega (arith, more.1.0), more.1.1))
-    ]
-
-pub place-among : (block : ℕ) (blocks : List ℕ) (at : ℕ) → at < length blocks → get_or blocks at 0 ≡ block
-    → 1 ≤ times_among block blocks
-place-among block [] at lt is = absurd (omega (arith, lt))
-place-among block (b ∷ blocks) zero lt is = grind (arith, among-cons block b blocks, eqb_tells b block)
-place-among block (b ∷ blocks) (suc at) lt is =
-    omega (arith, place-among block blocks at (omega (arith, lt)) is, among-cons block b blocks)
-
--- at two places it stands twice
-two-places : (block : ℕ) (blocks : List ℕ) (at other : ℕ) → at < other → other < length blocks
-    → get_or blocks at 0 ≡ block → get_or blocks other 0 ≡ block → 2 ≤ times_among block blocks
-two-places block [] at other less lt is iso = absurd (omega (arith, lt))
-two-places block (b ∷ blocks) at zero less lt is iso = absurd (omega (arith, less))
-two-places block (b ∷ blocks) zero (suc other) less lt is iso =
-    grind (arith, place-among block blocks other (omega (arith, lt)) iso, among-cons block b blocks, eqb_tells b block)
-two-places block (b ∷ blocks) (suc at) (suc other) less lt is iso =
-    omega (
-      arith,
-      among-cons block b blocks,
-      two-places block blocks at other (omega (arith, less)) (omega (arith, lt)) is iso,
-    )
-
--- a block that is taken stands in some run
-some-run : (block : ℕ) (runs : List Run) (d : Run) → 1 ≤ times_of block runs
-    → (k : ℕ) × ((k < length runs) × (1 ≤ times_in block (get_or runs k d)))
-some-run block [] d some = absurd (omega (arith, some))
-some-run block (r ∷ runs) d some =
-    elim (eqb_tells (times_in block r) 0) [
+-- a sum that isn't 0 has a term that isn't
+pub some-at : {X : Type 0} (f : X → ℕ) (xs : List X) (d : X) → 1 ≤ sum_by f xs
+    → (k : ℕ) × ((k < length xs) × (1 ≤ f (get_or xs k d)))
+some-at f [] d some = absurd (omega (arith, some))
+some-at f (x ∷ xs) d some =
+    elim (eqb_tells (f x) 0) [
       | inl none ↦
-          let more = some-run block runs d (omega (arith, some, sum_by-cons (times_in block) r runs, none.1)) in
+          let more = some-at f xs d (omega (arith, some, sum_by-cons f x xs, none.1)) in
           (suc more.0, (omega (arith, more.1.0), more.1.1))
       | inr here ↦ (0, (omega arith, omega (arith, here.1)))
     ]
 
-run-some : (block : ℕ) (runs : List Run) (k : ℕ) (d : Run) → k < length runs
-    → times_in block (get_or runs k d) ≤ times_of block runs
-run-some block runs k d lt = omega (arith, sum_by-remove (times_in block) runs k d lt)
+-- a sum of at most 1 has no two
+two-at : {X : Type 0} (f : X → ℕ) (xs : List X) (i j : ℕ) (d : X) → i < j → j < length xs
+    → f (get_or xs i d) + f (get_or xs j d) ≤ sum_by f xs
+two-at f xs i j d less lt =
+    let first = get_or-le-sum_by f (take j xs) i d (omega (arith, length-take-le j xs, less, lt)) in
+    omega (arith, first, ap f (get_or-take j xs i d less), sum_by_more_le f xs j d lt)
 
--- in two runs it stands as often as in both together
-two-runs : (block : ℕ) (runs : List Run) (k other : ℕ) (d : Run) → k < length runs → other < length runs → k ≢ other
-    → times_in block (get_or runs k d) + times_in block (get_or runs other d) ≤ times_of block runs
-two-runs block runs k other d lt lto apart =
-    let rest = set runs k (new_run 0) in
-    let some = run-some block rest other d (omega (arith, length-set runs k (new_run 0), lto)) in
-    omega (
-      arith,
-      sum_by-set (times_in block) runs k (new_run 0) d lt,
-      some,
-      ap (λ (r : Run). times_in block r) (get_or-set_other runs k other (new_run 0) d (λ e. apart (sym e))),
-    )
+only-at : {X : Type 0} (f : X → ℕ) (xs : List X) (i j : ℕ) (d : X) → i < length xs → j < length xs → sum_by f xs ≤ 1
+    → 1 ≤ f (get_or xs i d) → 1 ≤ f (get_or xs j d) → i ≡ j
+only-at f xs i j d lt lto once here there = grind (arith, two-at f xs i j d, two-at f xs j i d)
+
+-- whether a number is this block
+abbrev is_block : ℕ → ℕ → ℕ
+is_block block b = cond (b == block) 1 0
 
 -- a block that is taken stands in a run, and the other way round
 pub taken-stands : (table : Table) (block : ℕ) → IsTaken table block → Stands table block
 taken-stands table block taken =
-    let here = some-run block table.runs (new_run 0) taken in
-    let place = among-place block (run_at table here.0).blocks here.1.1 in
-    (here.0, (place.0, record { there = here.1.0; place = place.1.0; block_is = place.1.1 }))
+    let run = some-at (times_in block) table.runs (new_run 0) taken in
+    let blocks = (run_at table run.0).blocks in
+    let at = some-at (is_block block) blocks 0 run.1.1 in
+    let is : get_or blocks at.0 0 ≡ block = grind (arith, at.1.1, eqb_tells (get_or blocks at.0 0) block) in
+    (run.0, (at.0, record { there = run.1.0; place = at.1.0; block_is = is }))
 
-stands-often : (table : Table) (run at block : ℕ) → StandsAt table run at block → 1 ≤ times_in block (run_at table run)
-stands-often table run at block stands =
-    place-among block (run_at table run).blocks at stands.place stands.block_is
+stands-here : {table : Table} {run at block : ℕ} → StandsAt table run at block
+    → 1 ≤ is_block block (get_or (run_at table run).blocks at 0)
+stands-here {table = table} {run = run} {at = at} {block = block} stands =
+    grind (arith, stands.block_is, eqb_tells (get_or (run_at table run).blocks at 0) block)
 
-pub stands-taken : (table : Table) (run at block : ℕ) → StandsAt table run at block → IsTaken table block
-stands-taken table run at block stands =
-    omega (arith, stands-often table run at block stands, run-some block table.runs run (new_run 0) stands.there)
+stands-often : {table : Table} {run at block : ℕ} → StandsAt table run at block → 1 ≤ times_in block (run_at table run)
+stands-often {table = table} {run = run} {at = at} {block = block} stands =
+    omega (arith, stands-here stands, get_or-le-sum_by (is_block block) (run_at table run).blocks at 0 stands.place)
 
--- in no other run
-pub stands-run : (table : Table) (block run at other_run other_at : ℕ) → IsTable table → StandsAt table run at block
-    → StandsAt table other_run other_at block → run ≡ other_run
-stands-run table block run at other_run other_at rules stands other =
-    elim (eqb_tells run other_run) [
-      | inl same ↦ same.1
-      | inr apart ↦ absurd (omega (
-        arith,
-        rules.once block,
-        stands-often table run at block stands,
-        stands-often table other_run other_at block other,
-        two-runs block table.runs run other_run (new_run 0) stands.there other.there apart.1,
-      ))
-    ]
+pub stands-taken : {table : Table} {run at block : ℕ} → StandsAt table run at block → IsTaken table block
+stands-taken {table = table} {run = run} {block = block} stands =
+    omega (arith, stands-often stands, get_or-le-sum_by (times_in block) table.runs run (new_run 0) stands.there)
 
-not-before : (table : Table) (block run at other : ℕ) → IsTable table → StandsAt table run at block
-    → StandsAt table run other block → at < other → ⊥
-not-before table block run at other rules stands again less =
-    omega (
-      arith,
-      rules.once block,
-      run-some block table.runs run (new_run 0) stands.there,
-      two-places block (run_at table run).blocks at other less again.place stands.block_is again.block_is,
-    )
-
--- and at no other place
-pub stands-place : (table : Table) (block run at other : ℕ) → IsTable table → StandsAt table run at block
-    → StandsAt table run other block → at ≡ other
-stands-place table block run at other rules stands again =
-    omega (
-      arith,
-      not-before table block run at other rules stands again,
-      not-before table block run other at rules again stands,
+-- at no other place
+pub stands-once : {table : Table} {block run at other_run other_at : ℕ} → IsTable table → StandsAt table run at block
+    → StandsAt table other_run other_at block → (run ≡ other_run) × (at ≡ other_at)
+stands-once {table = table} {block = block} {run = run} {at = at} {other_run = to} {other_at = place} rules one other =
+    let same = only-at (times_in block) table.runs run to (new_run 0) one.there other.there (rules.once block)
+    (stands-often one) (stands-often other) in
+    let here = subst (λ (n : ℕ). StandsAt table n place block) (sym same) other in
+    let once = get_or-le-sum_by (times_in block) table.runs run (new_run 0) one.there in (
+      same,
+      only-at (is_block block) (run_at table run).blocks at place 0 one.place here.place
+          (omega (arith, once, rules.once block)) (stands-here one) (stands-here here),
     )
 
 -- a block that is taken is one that there is

@@ -1,80 +1,114 @@
--- What the steps of a table make of its runs, and that they keep its rules.
-use Rattle.std.proofs.Common.{◌≡◌, ℕ, suc, ◌+◌, ◌-◌, ◌<◌, ◌≤◌, ◌==◌, cond, List, [], ◌∷◌, ◌++◌}
-use Rattle.std.proofs.Common.{length, take, drop, get_or, arith}
+-- What the steps of a table make of its runs: they keep its rules, and the marks of blocks go with them.
+use Rattle.std.proofs.Common.{◌≡◌, ℕ, suc, ◌+◌, ◌<◌, ◌≤◌, ◌==◌, Bool, true, cond, List, [], ◌∷◌, ◌++◌, length, take, drop}
+use Rattle.std.proofs.Common.{◌-◌, get_or, inl, inr, refl, arith}
 use Rattle.std.proofs.Math.ListN.{set}
+use Rattle.std.specs.Int.{from_bool}
 use Rattle.std.specs.List.{All, remove}
 use Rattle.std.proofs.lemmas.Bool.Decides.{eqb_tells}
+use Rattle.std.proofs.lemmas.Grind.{common_steps}
 use Rattle.std.proofs.lemmas.List.Elements.{All-append, All-drop, All-push, All-set, All-take}
 use Rattle.std.proofs.lemmas.List.Sums.{sum_by-remove, sum_by-set, sum_by_push}
-use Rattle.std.proofs.lemmas.List.{length-append}
-use Rattle.block_table.specs.Table.{AreRuns, IsRun, Run, new_run, rooms_of, times_in, times_of, with_block}
+use Rattle.std.proofs.lemmas.List.{length_push}
+use Rattle.block_table.specs.Kept.{AreFreed, AreShown}
+use Rattle.block_table.specs.Table.{AreRuns, Begins, HasRoom, IsFree, IsRun, IsTable, Run, Table, after_taking}
+use Rattle.block_table.specs.Table.{left_in, new_run, new_table, rooms_of, run_at, times_in, times_of, with_block, without}
+use Rattle.block_table.proofs.PlaceLemmas.{some-at}
 
 pub All-remove : {X : Type 0} (P : X → Type 0) (xs : List X) (k : ℕ) → All P xs → All P (remove xs k)
 All-remove P xs k all =
     All-append P (take k xs) (drop (suc k) xs) (All-take P k xs all) (All-drop P (suc k) xs all)
 
--- how often a block stands in runs, after each step
-pub times-beginning : (block : ℕ) (runs : List Run) (room : ℕ)
-    → times_of block (runs ++ new_run room ∷ []) ≡ times_of block runs
-times-beginning block runs room = omega (arith, sum_by_push (times_in block) runs (new_run room))
-
-pub times-taking : (b : ℕ) (runs : List Run) (k block : ℕ) (d : Run) → k < length runs
-    → times_of b (set runs k (with_block (get_or runs k d) block)) ≡ times_of b runs + cond (block == b) 1 0
-times-taking b runs k block d lt =
-    let run = get_or runs k d in
+-- how often a block stands in runs where one has one more block
+times-taking : (table : Table) (run block b : ℕ) → run < length table.runs
+    → times_of b (after_taking table run block).runs ≡ times_of b table.runs + cond (block == b) 1 0
+times-taking table run block b there =
+    let here = run_at table run in
     omega (
       arith,
-      sum_by-set (times_in b) runs k (with_block run block) d lt,
-      sum_by_push (λ (x : ℕ). cond (x == b) 1 0) run.blocks block,
+      sum_by-set (times_in b) table.runs run (with_block here block) (new_run 0) there,
+      sum_by_push (λ (x : ℕ). cond (x == b) 1 0) here.blocks block,
     )
 
-pub times-without : (b : ℕ) (runs : List Run) (k : ℕ) (d : Run) → k < length runs
-    → times_of b (remove runs k) + times_in b (get_or runs k d) ≡ times_of b runs
-times-without b runs k d lt = sum_by-remove (times_in b) runs k d lt
-
--- no block stands twice
-once-taking : (runs : List Run) (k block : ℕ) (d : Run) → k < length runs → ((b : ℕ) → times_of b runs ≤ 1)
-    → times_of block runs ≡ 0 → (b : ℕ) → times_of b (set runs k (with_block (get_or runs k d) block)) ≤ 1
-once-taking runs k block d lt once free b = grind (arith, times-taking b runs k block d lt, once b, eqb_tells block b)
+still-runs : {runs now : List Run} {limit : ℕ} → AreRuns runs limit → All (IsRun limit) now → rooms_of now ≤ limit
+    → ((b : ℕ) → times_of b now ≤ 1) → AreRuns now limit
+still-runs rules each rooms once =
+    record { each = each; rooms = rooms; once = once; some = rules.some; most = rules.most }
 
 -- the rules, at first and after each step
-pub runs-none : (limit : ℕ) → 1 ≤ limit → limit ≤ 65536 → AreRuns [] limit
+pub runs-none : (limit : ℕ) → 1 ≤ limit → limit ≤ 65536 → IsTable (new_table limit)
 runs-none limit some most =
     record { each = λ i d h. omega (arith, h); rooms = omega arith; once = λ b. omega arith; some = some; most = most }
 
-pub runs-beginning : (runs : List Run) (limit room : ℕ) → AreRuns runs limit → room ≤ limit - rooms_of runs
-    → AreRuns (runs ++ new_run room ∷ []) limit
-runs-beginning runs limit room are fits = record {
-  each = All-push (IsRun limit) runs (new_run room) are.each
-      (record { fits = omega arith; below = λ i d h. omega (arith, h) });
-  rooms = omega (arith, sum_by_push (λ (r : Run). r.room) runs (new_run room), are.rooms, fits);
-  once = λ b. omega (arith, times-beginning b runs room, are.once b);
-  some = are.some;
-  most = are.most;
-}
+pub runs-beginning : (before now : Table) (room : ℕ) → IsTable before → room ≤ left_in before
+    → Begins before room now → IsTable now
+runs-beginning before now room rules fits begins =
+    let run = new_run room in
+    let new : IsRun before.limit run = record { fits = omega arith; below = λ i d h. omega (arith, h) } in
+    rw (begins.runs, begins.limit) (still-runs rules (All-push (IsRun before.limit) before.runs run rules.each new)
+    (omega (arith, sum_by_push (λ (r : Run). r.room) before.runs run, rules.rooms, fits))
+    (λ b. omega (arith, sum_by_push (times_in b) before.runs run, rules.once b)))
 
-pub runs-taking : (runs : List Run) (limit k block : ℕ) (d : Run) → AreRuns runs limit → k < length runs
-    → length (get_or runs k d).blocks < (get_or runs k d).room → block < limit → times_of block runs ≡ 0
-    → AreRuns (set runs k (with_block (get_or runs k d) block)) limit
-runs-taking runs limit k block d are lt room below free =
-    let run = get_or runs k d in
-    let fits : length (run.blocks ++ block ∷ []) ≤ run.room =
-    omega (arith, length-append run.blocks (block ∷ []), room) in
-    let all = All-push (λ (b : ℕ). b < limit) run.blocks block (are.each k d lt).below below in
+pub runs-taking : (table : Table) (run block : ℕ) → IsTable table → HasRoom table run → IsFree table block
+    → IsTable (after_taking table run block)
+runs-taking table run block rules room free =
+    let here = run_at table run in
+    let all = All-push (λ (b : ℕ). b < table.limit) here.blocks block (rules.each run (new_run 0) room.there).below
+    free.below in
+    let more : IsRun table.limit (with_block here block) =
+    record { fits = omega (arith, length_push here.blocks block, room.room); below = all } in
+    let rooms = sum_by-set (λ (r : Run). r.room) table.runs run (with_block here block) (new_run 0) room.there in
+    still-runs rules (All-set (IsRun table.limit) table.runs run (with_block here block) more rules.each)
+    (omega (arith, rooms, rules.rooms))
+    (λ b. grind (arith, times-taking table run block b room.there, rules.once b, eqb_tells block b, free.free))
+
+pub runs-without : (table : Table) (run : ℕ) → IsTable table → run < length table.runs → IsTable (without table run)
+runs-without table run rules lt =
+    still-runs rules (All-remove (IsRun table.limit) table.runs run rules.each)
+    (omega (arith, sum_by-remove (λ (r : Run). r.room) table.runs run (new_run 0) lt, rules.rooms))
+    (λ b. omega (arith, sum_by-remove (times_in b) table.runs run (new_run 0) lt, rules.once b))
+
+-- the marks of blocks and the hint, after each step
+pub shown-beginning : (runs : List Run) (limit room : ℕ) (taken : List Bool) (lowest : ℕ)
+    → AreShown runs limit taken lowest → room ≤ limit - rooms_of runs
+    → AreShown (runs ++ new_run room ∷ []) limit taken lowest
+shown-beginning runs limit room taken lowest shown fits =
+    let before : Table = record { runs = runs; limit = limit; spare = 0 } in
+    let now : Table = record { runs = runs ++ new_run room ∷ []; limit = limit; spare = 0 } in
+    let times = λ (b : ℕ). sum_by_push (times_in b) runs (new_run room) in
     record {
-      each = All-set (IsRun limit) runs k (with_block run block) (record { fits = fits; below = all }) are.each;
-      rooms = omega (arith, sum_by-set (λ (r : Run). r.room) runs k (with_block run block) d lt, are.rooms);
-      once = once-taking runs k block d lt are.once free;
-      some = are.some;
-      most = are.most;
+      rules = runs-beginning before now room shown.rules fits (record { runs = refl; limit = refl; spare = omega arith });
+      marked = λ b. grind (arith, times b, shown.marked b);
+      lower = λ b h. omega (arith, times b, shown.lower b h);
     }
 
-pub runs-without : (runs : List Run) (limit k : ℕ) → AreRuns runs limit → k < length runs
-    → AreRuns (remove runs k) limit
-runs-without runs limit k are lt = record {
-  each = All-remove (IsRun limit) runs k are.each;
-  rooms = omega (arith, sum_by-remove (λ (r : Run). r.room) runs k (new_run 0) lt, are.rooms);
-  once = λ b. omega (arith, times-without b runs k (new_run 0) lt, are.once b);
-  some = are.some;
-  most = are.most;
-}
+pub shown-taking : (table : Table) (taken : List Bool) (lowest run block more : ℕ)
+    → AreShown table.runs table.limit taken lowest → HasRoom table run → IsFree table block
+    → length taken ≡ table.limit → more ≡ from_bool (block == lowest)
+    → AreShown (after_taking table run block).runs table.limit (set taken block true) (lowest + more)
+shown-taking table taken lowest run block more shown room free len passed =
+    let times = λ (b : ℕ). times-taking table run block b room.there in
+    record {
+      rules = runs-taking table run block shown.rules room free;
+      marked = λ b. grind (arith, common_steps, times b, eqb_tells block b, shown.marked b, free.below);
+      lower = λ b h. grind (arith, times b, eqb_tells block b, eqb_tells block lowest, shown.lower b);
+    }
+
+pub shown-without : (table : Table) (taken freed : List Bool) (lowest low run : ℕ)
+    → AreShown table.runs table.limit taken lowest → run < length table.runs
+    → AreFreed taken freed (run_at table run).blocks → low ≤ lowest → All (λ b. low ≤ b) (run_at table run).blocks
+    → AreShown (remove table.runs run) table.limit freed low
+shown-without table taken freed lowest low run shown lt free most each =
+    let blocks = (run_at table run).blocks in
+    let times = λ (b : ℕ). sum_by-remove (times_in b) table.runs run (new_run 0) lt in
+    let none = λ (b : ℕ). eqb_tells (times_in b (run_at table run)) 0 in
+    record {
+      rules = runs-without table run shown.rules lt;
+      marked = λ b. grind (arith, times b, none b, free.each b, shown.marked b, shown.rules.once b);
+      lower = λ b h.
+          elim (none b) [
+            | inl none ↦ omega (arith, times b, none.1, shown.lower b (omega (arith, h, most)))
+            | inr some ↦
+                let at = some-at (λ (x : ℕ). cond (x == b) 1 0) blocks 0 (omega (arith, some.1)) in
+                absurd (grind (arith, each at.0 0 at.1.0, at.1.1, eqb_tells (get_or blocks at.0 0) b, h))
+          ];
+    }

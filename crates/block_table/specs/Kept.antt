@@ -1,7 +1,7 @@
 -- How the code keeps a table: the numbers of all runs in one list, each run's behind the earlier ones', and a mark for
 -- each block.
 use Rattle.std.specs.Prelude.{◌≡◌, ◌↔◌, ℕ, ◌+◌, ◌-◌, ◌<◌, ◌≤◌, ◌==◌, Bool, false, true, List, [], ◌∷◌, length, map}
-use Rattle.std.specs.Prelude.{take, drop, count_by, slice_index_or, IsTrue}
+use Rattle.std.specs.Prelude.{take, drop, cond, count_by, slice_index_or, IsTrue}
 use Rattle.block_table.specs.Table.{AreRuns, Run, times_of}
 use Rattle.block_table.specs.declared.marks.RunMark.{RunMark}
 
@@ -40,24 +40,29 @@ earlier places mark = record { first = mark.first - places; count = mark.count; 
 abbrev pub AreMarked : List Run → List Bool → Type 0
 AreMarked runs taken = (block : ℕ) → IsTrue (slice_index_or taken block false) ↔ (1 ≤ times_of block runs)
 
+-- the marks of blocks that these runs leave, and the hint
+pub record AreShown (runs : List Run) (limit : ℕ) (taken : List Bool) (lowest : ℕ) : Type 0 where
+  pub rules : AreRuns runs limit
+  pub marked : AreMarked runs taken
+  pub lower : (block : ℕ) → block < lowest → 1 ≤ times_of block runs
+
 -- what holds of the parts of a table
 pub record IsKept (parts : Parts) : Type 0 where
-  pub runs : AreRuns (runs_of parts) parts.limit
   pub line : AreInLine 0 parts.marks parts.rooms
   pub numbers_length : length parts.numbers ≡ parts.limit
   pub taken_length : length parts.taken ≡ parts.limit
-  pub marked : AreMarked (runs_of parts) parts.taken
-  pub lower : (block : ℕ) → block < parts.lowest → 1 ≤ times_of block (runs_of parts)
+  pub shown : AreShown (runs_of parts) parts.limit parts.taken parts.lowest
 
--- each block is marked
-abbrev pub AllMarked : List Bool → Type 0
-AllMarked taken = (block : ℕ) → block < length taken → slice_index_or taken block false ≡ true
+-- each block from this one on is marked
+abbrev pub AllMarked : List Bool → ℕ → Type 0
+AllMarked taken from = (block : ℕ) → from ≤ block → block < length taken → slice_index_or taken block false ≡ true
 
--- the first block that isn't marked
-abbrev pub IsFirstFree : List Bool → ℕ → Type 0
-IsFirstFree taken first =
-    (first < length taken) × (slice_index_or taken first false ≡ false)
-    × ((block : ℕ) → block < first → slice_index_or taken block false ≡ true)
+-- the first block from this one on that isn't marked
+pub record IsFirstFree (taken : List Bool) (from first : ℕ) : Type 0 where
+  pub low : from ≤ first
+  pub there : first < length taken
+  pub free : slice_index_or taken first false ≡ false
+  pub passed : (block : ℕ) → from ≤ block → block < first → slice_index_or taken block false ≡ true
 
 -- how often a block stands in this list
 abbrev pub times_among : ℕ → List ℕ → ℕ
@@ -66,6 +71,5 @@ times_among block blocks = count_by (λ b. b == block) blocks
 -- these blocks aren't marked, and each other one is as before
 pub record AreFreed (before now : List Bool) (blocks : List ℕ) : Type 0 where
   pub marks : length now ≡ length before
-  pub free : (block : ℕ) → 1 ≤ times_among block blocks → slice_index_or now block false ≡ false
-  pub others : (block : ℕ) → times_among block blocks ≡ 0
-      → slice_index_or now block false ≡ slice_index_or before block false
+  pub each : (block : ℕ) → slice_index_or now block false
+      ≡ cond (times_among block blocks == 0) (slice_index_or before block false) false

@@ -1,6 +1,6 @@
 //! Where the blocks of a run stand in the table's list of numbers, and which blocks are taken.
 
-ghost use Rattle.std.specs.Prelude.{◌≡◌, ◌<◌, ◌≤◌, IfNone, IfSome, length, map};
+ghost use Rattle.std.specs.Prelude.{◌≡◌, ◌<◌, ◌≤◌, ◌++◌, IfNone, IfSome, length, map, take, drop};
 ghost use Rattle.std.specs.List.{All};
 ghost use Rattle.block_table.specs.Kept.{AllMarked, AreFreed, IsFirstFree, earlier};
 
@@ -15,22 +15,28 @@ pub struct RunMark {
     pub room: u32,
 }
 
-/// The places of these runs begin so many places earlier.
-pub fn move_up(marks: &mut [RunMark], places: u32)
-    requires { All (λ m. places ≤ m.first) marks.old }
-    ensures { marks.new ≡ map (earlier places) marks.old }
+/// The places of the runs from this one on begin so many places earlier.
+pub fn move_up(marks: &mut [RunMark], from: usize, places: u32)
+    requires from { from ≤ length marks.old }
+    requires places { All (λ m. places ≤ m.first) (drop from marks.old) }
+    ensures { marks.new ≡ take from marks.old ++ map (earlier places) (drop from marks.old) }
 {
-    for mark in marks.iter_mut() {
+    for mark in &mut marks[from..] {
         mark.first -= places;
     }
 }
 
-/// The place of the first block that isn't marked, if there is one.
-pub fn first_free(taken: &[bool]) -> Option<usize>
-    ensures some { IfSome result (IsFirstFree taken.now) }
-    ensures none { IfNone result (AllMarked taken.now) }
+/// The first block from this one on that isn't marked, if there is one.
+pub fn first_free(taken: &[bool], from: usize) -> Option<usize>
+    ensures some { IfSome result (IsFirstFree taken.now from) }
+    ensures none { IfNone result (AllMarked taken.now from) }
 {
-    taken.iter().position(|taken| !*taken)
+    for block in from..taken.len() {
+        if !taken[block] {
+            return Some(block);
+        }
+    }
+    None
 }
 
 /// Takes the marks of these blocks away. The result is at most `lowest`, and at most each of them.

@@ -131,9 +131,7 @@ impl BlockTable {
         ensures free { IsLowestFree self.old result }
         ensures same { self.new ≡ self.old }
     {
-        let from = self.lowest as usize;
-        let ahead = first_free(&self.taken[from..]).unwrap();
-        self.lowest = (from + ahead) as u32;
+        self.lowest = first_free(&self.taken, self.lowest as usize).unwrap() as u32;
         self.lowest
     }
 
@@ -148,9 +146,7 @@ impl BlockTable {
         self.numbers[(mark.first + mark.count) as usize] = block as u16;
         mark.count += 1;
         self.taken[block as usize] = true;
-        if block == self.lowest {
-            self.lowest += 1;
-        }
+        self.lowest += u32::from(block == self.lowest);
     }
 
     /// How many blocks this run has. Takes no memory.
@@ -183,7 +179,7 @@ impl BlockTable {
         self.lowest = free_blocks(&mut self.taken, blocks, self.lowest);
         let behind = first + gone.room as usize;
         self.numbers.copy_within(behind..self.rooms as usize, first);
-        move_up(&mut self.runs[run..], gone.room);
+        move_up(&mut self.runs, run, gone.room);
         self.rooms -= gone.room;
     }
 }

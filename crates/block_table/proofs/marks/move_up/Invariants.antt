@@ -3,4 +3,6 @@ use Rattle.block_table.specs.Kept.{earlier}
 use Rattle.block_table.proofs.marks.move_up.Given as goal
 
 abbrev pub invariant-loop-mark : goal.invariant-loop-mark
-invariant-loop-mark l = l.marks ≡ map (earlier l.places) (take l.mark-index l.fn.marks) ++ drop l.mark-index l.fn.marks
+invariant-loop-mark l =
+    let old = drop l.from l.fn.marks in
+    l.mark-items ≡ map (earlier l.places) (take l.mark-index old) ++ drop l.mark-index old

@@ -11,4 +11,4 @@ overflow_add-self c =
 pub invariant_of-self : goal.invariant_of-self
 invariant_of-self c =
     let fits = subst (λ (t : Table). c.args.room ≤ left_in t) (sym c.self.view_is) c.requires.room in
-    rw (rw c.unwrap.ensures at c.push.ensures.items) (kept-beginning c.self.invariant c.args.room 0 fits)
+    rw (rw c.unwrap.ensures at c.push.ensures.items) (kept-beginning c.self.invariant c.args.room fits)

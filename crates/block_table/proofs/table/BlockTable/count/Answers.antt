@@ -1,10 +1,11 @@
-use Rattle.std.proofs.Common.{◌≡◌, ◌<◌, length, subst, sym}
-use Rattle.block_table.specs.Table.{Table, run_at}
-use Rattle.block_table.proofs.KeptLemmas.{kept-count, mark-at}
+use Rattle.std.proofs.Common.{◌≡◌, ◌∙◌, ◌<◌, length, ap, subst, sym}
+use Rattle.block_table.specs.Table.{Run, Table, run_at}
+use Rattle.block_table.proofs.KeptLemmas.{mark-at}
 use Rattle.block_table.proofs.table.BlockTable.count.Goals as goal
 
 pub returns-clause-count : goal.returns-clause-count
 returns-clause-count c =
     let there = subst (λ (t : Table). c.args.run < length t.runs) (sym c.self.view_is) c.requires in
+    let at = mark-at c.self.invariant c.args.run c.index.result.now there c.index.ensures in
     subst (λ (t : Table). c.index.result.now.count ≡ length (run_at t c.args.run).blocks) c.self.view_is
-    (kept-count c.self.invariant (mark-at c.self.invariant c.args.run c.index.result.now there c.index.ensures) 0)
+    (sym (ap (λ (r : Run). length r.blocks) at.is ∙ at.count))
