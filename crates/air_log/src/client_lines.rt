@@ -3,7 +3,7 @@
 use crate::lines::Lines;
 use crate::meaning::meaning_of_code;
 use crate::transfer::{Transfer, Work};
-use ftl0_packets::Packet;
+use ftl0_packets::{ErrorCode, Packet};
 use std::fmt::Write;
 
 /// Shows what the client asks for. How far an upload is the server's acknowledgements tell.
@@ -32,13 +32,13 @@ pub(crate) fn show_got(job: &mut Transfer, packet: &Packet<'_>, moment: u32, lin
         Packet::SelectResp(count) => {
             let _ = write!(lines.line, "{count} selected");
         }
-        Packet::UlAckResp | Packet::UlErrorResp(12) => {
+        reply if is_acknowledgement(reply) => {
             let _ = write!(lines.line, "acknowledged {number}, ending the link");
         }
         Packet::DlCompletedResp => {
             let _ = write!(lines.line, "fetched {number}, ending the link");
         }
-        Packet::DlErrorResp(5 | 11) if work == Work::List => {
+        Packet::DlErrorResp(code) if work == Work::List && says_empty(*code) => {
             let _ = write!(lines.line, "listed, ending the link");
         }
         Packet::UlErrorResp(code) | Packet::UlNakResp(code) | Packet::DlErrorResp(code) => {
@@ -48,4 +48,18 @@ pub(crate) fn show_got(job: &mut Transfer, packet: &Packet<'_>, moment: u32, lin
         _ => return,
     }
     lines.end(false);
+}
+
+/// Whether the server says that it keeps the file: now, or since an earlier link.
+fn is_acknowledgement(reply: &Packet<'_>) -> bool {
+    match reply {
+        Packet::UlAckResp => true,
+        Packet::UlErrorResp(code) => ErrorCode::FileComplete.is(*code),
+        _ => false,
+    }
+}
+
+/// Whether the code ends a list.
+fn says_empty(code: u8) -> bool {
+    ErrorCode::SelectionEmpty.is(code) || ErrorCode::AlsoSelectionEmpty.is(code)
 }

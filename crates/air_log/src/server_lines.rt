@@ -3,7 +3,7 @@
 use crate::lines::Lines;
 use crate::meaning::meaning_of_code;
 use crate::transfer::{Transfer, Work};
-use ftl0_packets::Packet;
+use ftl0_packets::{ErrorCode, Packet};
 use px_base::Call;
 use std::fmt::Write;
 
@@ -42,7 +42,7 @@ pub(crate) fn show_said(job: &mut Transfer, caller: Call, packet: &Packet<'_>, l
         Packet::DlCompletedResp => {
             let _ = write!(lines.line, "{caller} download done");
         }
-        Packet::DlErrorResp(11) => return,
+        Packet::DlErrorResp(code) if ErrorCode::SelectionEmpty.is(*code) => return,
         Packet::UlErrorResp(code) | Packet::UlNakResp(code) | Packet::DlErrorResp(code) => {
             let meaning = meaning_of_code(*code);
             let _ = write!(lines.line, "{caller} refused {code} ({meaning})");

@@ -1,6 +1,8 @@
 -- The list of the files that a selection holds of (FTL0 1990, directories and selections): its states, and its rows of
 -- the client's table.
 use Rattle.std.specs.Prelude.{ℕ, ◌==◌, List, [], ◌∷◌, ◌++◌, length, nat_lt, Bool, ◌||◌, if◌then◌else◌}
+use Rattle.ftl0_packets.specs.ErrorCodes.{octet_of}
+use Rattle.ftl0_packets.specs.declared.error_code.ErrorCode.TheVariants as error
 use Rattle.ftl0_packets.specs.Layout.{PacketValue, data_end, data_part, dir_short_cmd, dl_error_resp, kind_of}
 use Rattle.ftl0_packets.specs.Layout.{login_resp, select_cmd, select_resp}
 use Rattle.ftl0_job.specs.declared.ending.Outcome.TheVariants as outcome
@@ -63,7 +65,7 @@ empty_row directory =
 
 -- whether the code says that the selection is empty
 abbrev pub is_empty_code : ℕ → Bool
-is_empty_code code = (code == 11) || (code == 5)
+is_empty_code code = (code == octet_of error.SelectionEmpty) || (code == octet_of error.AlsoSelectionEmpty)
 
 abbrev pub listing_row : Directory → PacketValue → Row Directory
 listing_row directory (data_part octets) = data_row directory octets

@@ -2,6 +2,8 @@
 use Rattle.std.specs.Prelude.{ℕ, zero, suc, ◌+◌, ◌*◌, ◌/◌, ◌==◌, List, [], ◌∷◌, ◌++◌, length, take, drop, nat_lt, Option, None, Some}
 use Rattle.std.specs.Prelude.{if◌then◌else◌}
 use Rattle.px_base.specs.CallSign.{CallSign}
+use Rattle.ftl0_packets.specs.ErrorCodes.{octet_of}
+use Rattle.ftl0_packets.specs.declared.error_code.ErrorCode.TheVariants as error
 use Rattle.ftl0_packets.specs.Layout.{PacketValue, data_end, data_part, dl_ack_cmd, dl_completed_resp, dl_error_resp}
 use Rattle.ftl0_packets.specs.Layout.{dl_nak_cmd, download_cmd, kind_of, login_resp}
 use Rattle.pfh_items.specs.Faults.{fault_code}
@@ -78,7 +80,8 @@ data_end_row held download = whole_row download (fault_code (held ++ download.re
 -- given up.
 abbrev pub error_row : Download → ℕ → Row Download
 error_row download code =
-    ends download (if code == 2 then forgot download.server download.number ∷ [] else []) (outcome.Refused code)
+    ends download (if code == octet_of error.BadContinue then forgot download.server download.number ∷ [] else [])
+    (outcome.Refused code)
 
 abbrev pub fetching_row : List ℕ → Download → PacketValue → Row Download
 fetching_row held download (data_part octets) = data_row held download octets

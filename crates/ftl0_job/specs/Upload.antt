@@ -1,5 +1,7 @@
 -- The upload of a file (FTL0 1990, uploading): its states, and its rows of the client's table.
 use Rattle.std.specs.Prelude.{ℕ, ◌==◌, ◌≤◌, List, [], ◌∷◌, length, nat_le, nat_lt, Bool, not, ◌&&◌, if◌then◌else◌, ⊤}
+use Rattle.ftl0_packets.specs.ErrorCodes.{octet_of}
+use Rattle.ftl0_packets.specs.declared.error_code.ErrorCode.TheVariants as error
 use Rattle.ftl0_packets.specs.Layout.{PacketValue, data_end, kind_of, login_resp, ul_ack_resp, ul_error_resp}
 use Rattle.ftl0_packets.specs.Layout.{ul_go_resp, ul_nak_resp, upload_cmd}
 use Rattle.client_notes.specs.Command.{NotesCommand, acked, numbered, refused}
@@ -45,11 +47,11 @@ go_resp_row upload number offset =
 
 -- a refusal of a task's file with this code is noted, but for a fault of the server's disk
 abbrev pub refusal_of : ℕ → ℕ → List NotesCommand
-refusal_of task code = if code == 3 then [] else refused task code ∷ []
+refusal_of task code = if code == octet_of error.ServerFsys then [] else refused task code ∷ []
 
 -- whether this code tells of a file that is continued that it is complete
 abbrev pub is_complete : Upload → ℕ → Bool
-is_complete upload code = not (is_new upload) && (code == 12)
+is_complete upload code = not (is_new upload) && (code == octet_of error.FileComplete)
 
 -- Go, UL_ERROR_RESP: the file is refused, but where it is complete already.
 abbrev pub error_row : Upload → ℕ → Row Upload

@@ -4,7 +4,7 @@
 ghost use Rattle.std.specs.Prelude.{◌≡◌, ◌≤◌, [], length, Ok};
 ghost use Rattle.ftl0_packets.specs.Values.{value_of};
 ghost use Rattle.ftl0_job.specs.Directory.{data_end_row, data_row, directory_row, empty_row, listing_row, login_row, new_directory};
-ghost use Rattle.ftl0_job.specs.Directory.{select_resp_row, selecting_row};
+ghost use Rattle.ftl0_job.specs.Directory.{is_empty_code, select_resp_row, selecting_row};
 ghost use Rattle.ftl0_job.specs.Taking.{Answers, AnswersAlone};
 
 use crate::ending::strange;
@@ -12,15 +12,10 @@ use crate::limits::LONGEST_LISTING;
 use crate::phases::DirectoryPhase;
 use crate::short::are_short_headers;
 use crate::{Ending, Outcome, Replies};
-use ftl0_packets::{Packet, write_packet};
+use ftl0_packets::{ErrorCode, Packet, write_packet};
 use px_base::{FileBytes, OutOfMemory};
 use std::alloc::Global;
 use std::marker::Model;
-
-/// The code by which the selection is empty, and another that is read as the same.
-const SELECTION_EMPTY: u8 = 11;
-
-const ALSO_EMPTY: u8 = 5;
 
 /// The types of DATA, DATA_END and DL_ERROR_RESP.
 const DATA: u8 = 0;
@@ -135,7 +130,7 @@ impl Directory {
         match *packet {
             Packet::DataPart(octets) => self.take_data(octets),
             Packet::DataEnd => Ok(self.go_on(replies)),
-            Packet::DlErrorResp(SELECTION_EMPTY | ALSO_EMPTY) => Ok(Some(self.end())),
+            Packet::DlErrorResp(code) if says_empty(code) => Ok(Some(self.end())),
             Packet::DlErrorResp(code) => Ok(Some(Ending::at_once(Outcome::Refused { code }))),
             _ => Ok(Some(strange(packet.kind()))),
         }
@@ -174,4 +169,11 @@ impl Directory {
             strange(DL_ERROR_RESP)
         }
     }
+}
+
+/// Whether the code says that the selection is empty.
+fn says_empty(code: u8) -> bool
+    ensures { result ≡ is_empty_code code }
+{
+    ErrorCode::SelectionEmpty.is(code) || ErrorCode::AlsoSelectionEmpty.is(code)
 }

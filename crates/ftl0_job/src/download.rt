@@ -18,13 +18,10 @@ use crate::{Ending, Outcome, Replies};
 use arrayvec::ArrayVec;
 use client_notes::{LONGEST_FILE, MOST_GOT, Notes};
 use disk_model::{Disk, Halt};
-use ftl0_packets::{Packet, write_packet};
+use ftl0_packets::{ErrorCode, Packet, write_packet};
 use pfh_reader::check;
 use px_base::Call;
 use std::marker::Model;
-
-/// The code of an offset above the file's length.
-const BAD_CONTINUE: u8 = 2;
 
 /// The type of DATA.
 const DATA: u8 = 0;
@@ -193,7 +190,7 @@ impl Download {
         ensures { TakesRow D.Disk (error_row self.now code)
             (with_notes self.now notes.old disk.old) (with_notes self.now notes.new disk.new) [] result }
     {
-        if code == BAD_CONTINUE {
+        if ErrorCode::BadContinue.is(code) {
             note_forgot(disk, notes, self.server, self.number)?;
         }
         Ok(Some(Ending::at_once(Outcome::Refused { code })))

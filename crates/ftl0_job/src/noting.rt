@@ -9,10 +9,8 @@ ghost use Rattle.ftl0_job.specs.Upload.{refusal_of};
 use client_notes::{Notes, NotesRefusal};
 use disk_model::{Disk, Halt};
 use file_journal::JournalFault;
+use ftl0_packets::ErrorCode;
 use px_base::Call;
-
-/// The code of a fault of the server's disk.
-const FILE_SYSTEM: u8 = 3;
 
 /// Notes the number of a task's file. Takes no memory.
 pub(crate) fn note_number<D: Disk>(
@@ -45,7 +43,7 @@ pub(crate) fn note_refused<D: Disk>(
     requires { MayNote D.Disk notes.old disk.old (refused task code) }
     ensures { NotesAtOnce D.Disk notes.old notes.new disk.old disk.new (refusal_of task code) result }
 {
-    if code == FILE_SYSTEM {
+    if ErrorCode::ServerFsys.is(code) {
         return Ok(());
     }
     answer_of(notes.refused(disk, task, code))

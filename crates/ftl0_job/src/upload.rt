@@ -19,12 +19,9 @@ use crate::{Ending, Outcome, Replies};
 use arrayvec::ArrayVec;
 use client_notes::Notes;
 use disk_model::{Disk, Halt};
-use ftl0_packets::{Packet, write_packet};
+use ftl0_packets::{ErrorCode, Packet, write_packet};
 use px_base::FileBytes;
 use std::marker::Model;
-
-/// The code of a file that is complete.
-const FILE_COMPLETE: u8 = 12;
 
 /// The type of UL_GO_RESP.
 const UL_GO_RESP: u8 = 4;
@@ -187,7 +184,7 @@ impl Upload {
         ensures { TakesAtOnce D.Disk (error_row self.now code)
             (with_notes self.now notes.old disk.old) (with_notes self.now notes.new disk.new) [] result }
     {
-        if !self.is_new() && code == FILE_COMPLETE {
+        if !self.is_new() && ErrorCode::FileComplete.is(code) {
             note_acked(disk, notes, self.task)?;
             return Ok(Some(acked(self.known)));
         }

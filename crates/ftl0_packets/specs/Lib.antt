@@ -1,3 +1,4 @@
+pub mod ErrorCodes
 pub mod Filling
 pub mod Items
 pub mod Layout

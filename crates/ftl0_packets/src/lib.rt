@@ -6,6 +6,7 @@
 //! [`write_packet`] writes one.
 #![tactic(auto)]
 
+mod error_code;
 pub mod laws;
 mod packet;
 mod pieces;
@@ -14,6 +15,7 @@ mod stream;
 mod text;
 mod writer;
 
+pub use error_code::ErrorCode;
 pub use packet::{Malformed, Packet};
 pub use pieces::{PacketSink, feed_pieces};
 pub use reader::{PacketFed, PacketReader};

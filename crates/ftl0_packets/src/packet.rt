@@ -17,16 +17,16 @@ pub enum Packet<'a> {
     UploadCmd { number: u32, length: u32 },
     /// Type 4, UL_GO_RESP: the file's number, and the place in octets to send from.
     UlGoResp { number: u32, offset: u32 },
-    /// Type 5, UL_ERROR_RESP: the code of the error.
+    /// Type 5, UL_ERROR_RESP: the octet of an [`crate::ErrorCode`], or another.
     UlErrorResp(u8),
     /// Type 6, UL_ACK_RESP: the file is kept.
     UlAckResp,
-    /// Type 7, UL_NAK_RESP: the code of the error.
+    /// Type 7, UL_NAK_RESP: the octet of an [`crate::ErrorCode`], or another.
     UlNakResp(u8),
     /// Type 8, DOWNLOAD_CMD: the file's number, 0 for the next of the selection, the place in octets to send from, and
     /// whether the destination is to be locked.
     DownloadCmd { number: u32, offset: u32, lock: u8 },
-    /// Type 9, DL_ERROR_RESP: the code of the error.
+    /// Type 9, DL_ERROR_RESP: the octet of an [`crate::ErrorCode`], or another.
     DlErrorResp(u8),
     /// Type 10, DL_ABORTED_RESP.
     DlAbortedResp,

@@ -19,7 +19,7 @@ use Rattle.ftl0_session.specs.Downloads.Table as download
 use Rattle.ftl0_session.specs.Downloads.Table.{DownloadState}
 use Rattle.ftl0_session.proofs.downloads.ReplyLemmas.{row_replies}
 use Rattle.ftl0_session.specs.Laws.{DueFaultLaw, FaultCodeLaw}
-use Rattle.ftl0_session.specs.Table.{State, download_part, error_by, error_reply, in_session, next_due, session_row, failed_reads_told, tells_failed_read, upload_part}
+use Rattle.ftl0_session.specs.Table.{State, download_part, error_by, in_session, next_due, session_row, failed_reads_told, tells_failed_read, upload_part}
 use Rattle.ftl0_session.proofs.CaseLemmas.{session-case}
 use Rattle.ftl0_session.proofs.RowLemmas.{upload_part-free}
 
@@ -134,7 +134,7 @@ row-keeps caller moment store lists state item fails =
     subst (λ (p : upload.State). IfSome (upload.row_by_read caller moment store part given fails) (λ row. KeepsBy fails (upload.row_unread store p given) row.replies))
     (sym (upload_part-free part)) (uploads-keep caller moment store fails part given))
     (λ part packet. IfSome_then (download.download_row caller store lists part packet fails) (part-keeps caller store lists part packet fails) (λ row keeps. keeps-by fails _ row.replies keeps))
-    (λ at given. keeps-by fails _ (error_reply given ∷ []) (error-keeps fails (is_upload_kind (kind_of_item given)))) state item
+    (λ at given. keeps-by fails _ (error_by (is_upload_kind (kind_of_item given)) ∷ []) (error-keeps fails (is_upload_kind (kind_of_item given)))) state item
 
 pub fault_codes : FaultCodeLaw
 fault_codes caller moment store lists state item =

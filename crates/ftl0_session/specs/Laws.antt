@@ -4,6 +4,8 @@ use Rattle.std.specs.Prelude.{IfSome, Ok}
 use Rattle.std.specs.List.{AllByRecursion}
 use Rattle.px_base.specs.CallSign.{CallSign, IsCall}
 use Rattle.px_base.specs.Octets.{IsOctets}
+use Rattle.ftl0_packets.specs.ErrorCodes.{octet_of}
+use Rattle.ftl0_packets.specs.declared.error_code.ErrorCode.TheVariants as error
 use Rattle.ftl0_packets.specs.Layout.{Item, data_end, ul_ack_resp, ul_error_resp, ul_nak_resp, upload_cmd}
 use Rattle.pfh_items.specs.Faults.{fault_code}
 use Rattle.pfh_items.specs.Stamp.{stamped}
@@ -68,7 +70,7 @@ pub record HoldsAll (store : Store) (lists : List CallerList) (number : ℕ) (en
     (row : Row) : Type 0 where
   pub state : row.state ≡ command
   pub lists_stay : row.lists ≡ lists
-  pub replies : row.replies ≡ ul_nak_resp 3 ∷ []
+  pub replies : row.replies ≡ ul_nak_resp (octet_of error.ServerFsys) ∷ []
   pub under_way : IsUnderWay (after_all store row.commands) number (holding entry octets) octets
 
 -- Where a read fails, a file of which all octets came isn't acknowledged, and all its octets are held.
@@ -106,8 +108,9 @@ AcknowledgedStandsLaw =
 pub record KeepsFaultCodes (row : Bool → Row) (unread : Option upload.Row) : Type 0 where
   pub reads : failed_reads_told (row false).replies ≡ 0
   pub writes : AllByRecursion IsNoFault (row false).replies
-  pub errors : AllByRecursion (λ reply. reply ≢ ul_error_resp 3) (row true).replies
-  pub naks : unread ≡ None → AllByRecursion (λ reply. reply ≢ ul_nak_resp 3) (row true).replies
+  pub errors : AllByRecursion (λ reply. reply ≢ ul_error_resp (octet_of error.ServerFsys)) (row true).replies
+  pub naks :
+      unread ≡ None → AllByRecursion (λ reply. reply ≢ ul_nak_resp (octet_of error.ServerFsys)) (row true).replies
 
 -- Code 3 comes by DL_ERROR_RESP only where a read of the disk fails, by UL_NAK_RESP only where one fails at DATA_END of
 -- a whole file, and by UL_ERROR_RESP in no row of the table: else it comes only where a write or a sync fails.

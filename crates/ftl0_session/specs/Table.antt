@@ -2,6 +2,8 @@
 use Rattle.std.specs.Prelude.{ℕ, ◌+◌, ◌==◌, List, [], ◌∷◌, Bool, false, if◌then◌else◌, Option, None, Some, Ok, Err}
 use Rattle.std.specs.Option.{option_map}
 use Rattle.px_base.specs.CallSign.{CallSign}
+use Rattle.ftl0_packets.specs.ErrorCodes.{octet_of}
+use Rattle.ftl0_packets.specs.declared.error_code.ErrorCode.TheVariants as error
 use Rattle.ftl0_packets.specs.Items.{kind_of_item}
 use Rattle.ftl0_packets.specs.Layout.{Item, PacketValue, dl_error_resp, login_resp, ul_error_resp, ul_nak_resp}
 use Rattle.ftl0_session.specs.Lists.Lists.{CallerList}
@@ -81,16 +83,18 @@ by_download row =
 
 -- error 1 to a packet of uploading, or to any other one
 abbrev pub error_by : Bool → PacketValue
-error_by of_uploading = if of_uploading then ul_error_resp 1 else dl_error_resp 1
+error_by of_uploading =
+    if of_uploading then ul_error_resp (octet_of error.IllFormedCmd) else dl_error_resp (octet_of error.IllFormedCmd)
 
--- error 1: UL_ERROR_RESP to DATA, DATA_END and UPLOAD_CMD, DL_ERROR_RESP to all others
-abbrev pub error_reply : Item → PacketValue
-error_reply item = error_by (upload.is_upload_kind (kind_of_item item))
-
--- error 1, and nothing else changes
+-- error 1: UL_ERROR_RESP to DATA, DATA_END and UPLOAD_CMD, DL_ERROR_RESP to all others; and nothing else changes
 abbrev pub error_row : List CallerList → State → Item → Row
 error_row lists state item =
-    record { state = state; lists = lists; commands = []; replies = error_reply item ∷ [] }
+    record {
+      state = state;
+      lists = lists;
+      commands = [];
+      replies = error_by (upload.is_upload_kind (kind_of_item item)) ∷ [];
+    }
 
 -- The packet's row of uploading, where a read fails or none does, if it has one: none while something is sent or
 -- listed, or the word is waited for that a file came.
@@ -159,8 +163,8 @@ next_due store state fails = option_map in_session (due.next_due store (download
 -- whether a reply of a row, or a packet that is sent, tells that a read of the disk failed: DL_ERROR_RESP or
 -- UL_NAK_RESP with code 3
 abbrev pub tells_failed_read : PacketValue → Bool
-tells_failed_read (dl_error_resp code) = code == 3
-tells_failed_read (ul_nak_resp code) = code == 3
+tells_failed_read (dl_error_resp code) = code == octet_of error.ServerFsys
+tells_failed_read (ul_nak_resp code) = code == octet_of error.ServerFsys
 tells_failed_read packet = false
 
 -- how many of these packets do

@@ -30,7 +30,7 @@ use crate::uploads::{Replies, Session as Uploads};
 use arrayvec::ArrayVec;
 use disk_model::{Disk, Halt};
 use file_store::FileStore;
-use ftl0_packets::{Malformed, Packet, write_packet};
+use ftl0_packets::{ErrorCode, Malformed, Packet, write_packet};
 use px_base::Call;
 use std::marker::Model;
 
@@ -39,9 +39,6 @@ const FLAGS: u8 = 4;
 
 /// Bit 3 of LOGIN_RESP's flags: the caller's selection has numbers left.
 const SELECTED: u8 = 8;
-
-/// The code of an ill-formed command, or of a packet that has no place in the state.
-const ILL_FORMED: u8 = 1;
 
 /// The session of one caller. It must be ended, which parks its upload. While it receives a file, or waits for the end
 /// of one that it refused, it does nothing of downloading. Contracts see it as a `SessionState`.
@@ -305,9 +302,10 @@ fn is_of_uploading(packet: &Result<Packet<'_>, Malformed>) -> bool
 fn refuse(of_uploading: bool, replies: &mut Replies)
     ensures { replies.new.items ≡ packet_text (error_by of_uploading) }
 {
+    let code = ErrorCode::IllFormedCmd.code();
     if of_uploading {
-        write_packet(&Packet::UlErrorResp(ILL_FORMED), replies);
+        write_packet(&Packet::UlErrorResp(code), replies);
     } else {
-        write_packet(&Packet::DlErrorResp(ILL_FORMED), replies);
+        write_packet(&Packet::DlErrorResp(code), replies);
     }
 }

@@ -1,6 +1,8 @@
 -- How the code sends what is due.
 use Rattle.std.specs.Prelude.{◌≡◌, ◌↔◌, List, ℕ, Bool, true, false, IsTrue, Option, None, Some, IfSome}
 use Rattle.disk_model.specs.declared.disk.Disk.{Ghosts}
+use Rattle.ftl0_packets.specs.ErrorCodes.{octet_of}
+use Rattle.ftl0_packets.specs.declared.error_code.ErrorCode.TheVariants as error
 use Rattle.ftl0_packets.specs.Layout.{dl_error_resp, packet_text}
 use Rattle.file_store.specs.Calls.{Reads}
 use Rattle.file_store.specs.State.{IsKnown}
@@ -35,8 +37,9 @@ pub record PutsDue {D : Type 0} (g : Ghosts D) (store : Store) (before now : Fil
   pub reads : Reads g (IsTrue fails) before.disk now.disk
   pub told :
       IsKnown g before.disk → fails ≡ true
-      → IfSome (next_due store before.state fails) (λ due. due.packet ≡ dl_error_resp 3)
+      → IfSome (next_due store before.state fails) (λ due. due.packet ≡ dl_error_resp (octet_of error.ServerFsys))
   pub is_due :
       IsKnown g before.disk
       → IsDue (next_due store before.state fails) put before.disk now.disk before.state now.state before.out now.out
-  pub tells : (fails ≡ true) ↔ ((put ≡ true) × (now.out ≡ packet_text (dl_error_resp 3)))
+  pub tells :
+      (fails ≡ true) ↔ ((put ≡ true) × (now.out ≡ packet_text (dl_error_resp (octet_of error.ServerFsys))))

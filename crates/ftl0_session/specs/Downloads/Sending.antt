@@ -3,6 +3,8 @@
 use Rattle.std.specs.Prelude.{ℕ, suc, ◌+◌, ◌-◌, ◌==◌, min, List, [], ◌∷◌, length, take, drop, flat_map}
 use Rattle.std.specs.Prelude.{Bool, true, false, ◌&&◌, if◌then◌else◌, Option, None, Some}
 use Rattle.std.specs.List.{list_any}
+use Rattle.ftl0_packets.specs.ErrorCodes.{octet_of}
+use Rattle.ftl0_packets.specs.declared.error_code.ErrorCode.TheVariants as error
 use Rattle.ftl0_packets.specs.Layout.{PacketValue, data_end, data_part, dl_error_resp}
 use Rattle.file_store.specs.Store.{Store}
 use Rattle.ftl0_session.specs.Downloads.Table.{DownloadState, Due, kept, listing, octets_in, ready, sending, stored}
@@ -89,7 +91,8 @@ pub record DuePacket : Type 0 where
 abbrev pub due_packet : Store → DownloadState → Bool → DuePacket
 due_packet store state fails =
     if length (octets_due store state) == 0 then record { packet = data_end; state = state_at_end state }
-    else if fails && is_read state then record { packet = dl_error_resp 3; state = ready }
+    else if fails && is_read state
+    then record { packet = dl_error_resp (octet_of error.ServerFsys); state = ready }
     else record { packet = data_part (take most_data (octets_due store state)); state = state_after most_data state }
 
 -- What is due next in a state, where a read fails or none does; nothing where the session is ready or waits.

@@ -5,6 +5,8 @@ use Rattle.std.specs.Prelude.{Bool, not, ◌&&◌, if◌then◌else◌, Option, 
 use Rattle.std.specs.List.{list_all}
 use Rattle.std.specs.Option.{option_and_then, option_map}
 use Rattle.px_base.specs.CallSign.{CallSign}
+use Rattle.ftl0_packets.specs.ErrorCodes.{octet_of}
+use Rattle.ftl0_packets.specs.declared.error_code.ErrorCode.TheVariants as error
 use Rattle.ftl0_packets.specs.Layout.{PacketValue, dir_long_cmd, dir_short_cmd, dl_aborted_resp, dl_ack_cmd}
 use Rattle.ftl0_packets.specs.Layout.{dl_completed_resp, dl_error_resp, dl_nak_cmd, download_cmd, select_cmd}
 use Rattle.ftl0_packets.specs.Layout.{select_resp}
@@ -71,9 +73,9 @@ asked_file lists caller number = if number == 0 then slice_get (left_of lists ca
 -- The complete file of this number, if there is one, is sent from the offset on, and only then its number is taken from
 -- the caller's list. No such file: error 4. An offset above its length: error 2.
 abbrev pub file_row : CallSign → List CallerList → ℕ → ℕ → ℕ → Option (List ℕ) → DownloadRow
-file_row caller lists asked offset number None = refused_row lists 4
+file_row caller lists asked offset number None = refused_row lists (octet_of error.NoSuchFileNumber)
 file_row caller lists asked offset number (Some file) =
-    if nat_lt (length file) offset then refused_row lists 2
+    if nat_lt (length file) offset then refused_row lists (octet_of error.BadContinue)
     else record {
       state = sending number offset (length file);
       lists = lists_after lists caller asked 1;
@@ -82,7 +84,7 @@ file_row caller lists asked offset number (Some file) =
 
 -- the row of the file that is asked for; error 11 where nothing is left
 abbrev pub asked_row : CallSign → Store → List CallerList → ℕ → ℕ → Option ℕ → DownloadRow
-asked_row caller store lists asked offset None = refused_row lists 11
+asked_row caller store lists asked offset None = refused_row lists (octet_of error.SelectionEmpty)
 asked_row caller store lists asked offset (Some number) =
     file_row caller lists asked offset number (file_of store number)
 
@@ -90,7 +92,7 @@ asked_row caller store lists asked offset (Some number) =
 abbrev pub download_cmd_row : CallSign → Store → List CallerList → ℕ → ℕ → ℕ → DownloadRow
 download_cmd_row caller store lists number offset lock =
     if lock == 0 then asked_row caller store lists number offset (asked_file lists caller number)
-    else refused_row lists 10
+    else refused_row lists (octet_of error.NoSuchDestination)
 
 -- the files that a directory command with this number lists: for number 0 the next ones that are left in the caller's
 -- list, at most ten
@@ -118,9 +120,9 @@ long_due store numbers = map (header_due store) numbers
 abbrev pub files_row :
     CallSign → Store → List CallerList → ℕ → (Store → List ℕ → List Due) → Bool → List ℕ → DownloadRow
 files_row caller store lists asked due fails numbers =
-    if length numbers == 0 then refused_row lists 11
-    else if not (list_all (has_file store) numbers) then refused_row lists 4
-    else if fails then refused_row lists 3
+    if length numbers == 0 then refused_row lists (octet_of error.SelectionEmpty)
+    else if not (list_all (has_file store) numbers) then refused_row lists (octet_of error.NoSuchFileNumber)
+    else if fails then refused_row lists (octet_of error.ServerFsys)
     else record {
       state = listing (due store numbers);
       lists = lists_after lists caller asked (length numbers);
@@ -147,15 +149,17 @@ chosen_row caller lists numbers =
 
 -- Tokens with a fault: error 8. A read of a header fails: error 3. Both leave the lists.
 abbrev pub tree_row : CallSign → Store → List CallerList → Bool → Result Tree SelFault → DownloadRow
-tree_row caller store lists fails (Err fault) = refused_row lists 8
+tree_row caller store lists fails (Err fault) = refused_row lists (octet_of error.PoorlyFormedSel)
 tree_row caller store lists fails (Ok tree) =
-    if fails then refused_row lists 3 else chosen_row caller lists (chosen tree store.entries)
+    if fails then refused_row lists (octet_of error.ServerFsys)
+    else chosen_row caller lists (chosen tree store.entries)
 
 -- Ready, SELECT_CMD: the caller's list becomes the complete files that the selection holds of. A packet has at most
 -- 2,047 octets of tokens; more are a fault too.
 abbrev pub select_row : CallSign → Store → List CallerList → List ℕ → Bool → DownloadRow
 select_row caller store lists tokens fails =
-    if nat_lt 2047 (length tokens) then refused_row lists 8 else tree_row caller store lists fails (tree_in tokens)
+    if nat_lt 2047 (length tokens) then refused_row lists (octet_of error.PoorlyFormedSel)
+    else tree_row caller store lists fails (tree_in tokens)
 
 -- a download comes to its end with this reply
 abbrev pub ended_row : List CallerList → PacketValue → DownloadRow

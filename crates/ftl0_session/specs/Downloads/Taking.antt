@@ -3,6 +3,9 @@ use Rattle.std.specs.Prelude.{◌≡◌, List, ℕ, [], ◌∷◌, flat_map, Boo
 use Rattle.std.specs.Prelude.{Result, Ok, Err, is_some}
 use Rattle.px_base.specs.CallSign.{CallSign}
 use Rattle.disk_model.specs.declared.disk.Disk.{Ghosts}
+use Rattle.ftl0_packets.specs.ErrorCodes.{octet_of}
+use Rattle.ftl0_packets.specs.declared.error_code.ErrorCode.{ErrorCode}
+use Rattle.ftl0_packets.specs.declared.error_code.ErrorCode.TheVariants as error
 use Rattle.ftl0_packets.specs.Layout.{dl_error_resp, packet_text}
 use Rattle.ftl0_session.specs.Causes.{Says}
 use Rattle.ftl0_session.specs.Lists.Lists.{CallerList}
@@ -40,7 +43,8 @@ pub record MakesRow {D : Type 0} (g : Ghosts D) (store : StoreState) (disk disk_
   pub fails : Bool
   pub reads : Reads g (IsTrue fails) disk disk_now
   pub told :
-      IsKnown g disk → fails ≡ true → (row (store_on g store disk) fails).replies ≡ dl_error_resp 3 ∷ []
+      IsKnown g disk → fails ≡ true
+      → (row (store_on g store disk) fails).replies ≡ dl_error_resp (octet_of error.ServerFsys) ∷ []
   pub is_row : IsKnown g disk → now ≡ made_by (row (store_on g store disk) fails)
   pub anyway :
       row (store_in store) true ≡ row (store_in store) false
@@ -65,7 +69,8 @@ pub record TakesByRow {D : Type 0} (g : Ghosts D) (store : StoreState) (row : St
   pub passed : taken ≡ false → (fails ≡ false) × (disk_now ≡ disk) × (now ≡ before)
   pub told :
       IsKnown g disk → fails ≡ true
-      → IsSomeAnd (row (store_on g store disk) fails) (λ given. given.replies ≡ dl_error_resp 3 ∷ [])
+      → IsSomeAnd (row (store_on g store disk) fails)
+      (λ given. given.replies ≡ dl_error_resp (octet_of error.ServerFsys) ∷ [])
   pub is_row : IsKnown g disk → IsRow (row (store_on g store disk) fails) taken disk disk_now before now
   pub anyway :
       row (store_in store) true ≡ row (store_in store) false
@@ -78,14 +83,14 @@ due_by form.Short = short_due
 due_by form.Long = long_due
 
 -- the row of a DOWNLOAD_CMD with this number that asks for these octets, or is refused with this code
-abbrev pub answer_row : CallSign → List CallerList → ℕ → Result Span ℕ → DownloadRow
+abbrev pub answer_row : CallSign → List CallerList → ℕ → Result Span ErrorCode → DownloadRow
 answer_row caller lists number (Ok span) =
     record {
       state = sending span.number span.place span.last;
       lists = lists_after lists caller number 1;
       replies = [];
     }
-answer_row caller lists number (Err code) = refused_row lists code
+answer_row caller lists number (Err code) = refused_row lists (octet_of code)
 
 -- the tokens are those of this tree, whoever sends them
 abbrev pub SelectsBy : List ℕ → Tree → Type 0
@@ -97,4 +102,4 @@ SelectsBy tokens tree =
 abbrev pub SelectsNone : List ℕ → Type 0
 SelectsNone tokens =
     (caller : CallSign) (store : Store) (lists : List CallerList) (fails : Bool)
-    → select_row caller store lists tokens fails ≡ refused_row lists 8
+    → select_row caller store lists tokens fails ≡ refused_row lists (octet_of error.PoorlyFormedSel)

@@ -5,6 +5,8 @@ use Rattle.std.specs.Prelude.{Option, None, Some, IfSome, is_some, Ok}
 use Rattle.std.specs.List.{AllByRecursion}
 use Rattle.px_base.specs.CallSign.{CallSign, IsCall}
 use Rattle.px_base.specs.Octets.{IsOctets}
+use Rattle.ftl0_packets.specs.ErrorCodes.{octet_of}
+use Rattle.ftl0_packets.specs.declared.error_code.ErrorCode.TheVariants as error
 use Rattle.ftl0_packets.specs.Items.{kind_of_item}
 use Rattle.ftl0_packets.specs.Layout.{Item, PacketValue, data_end, ul_ack_resp, ul_error_resp}
 use Rattle.ftl0_packets.specs.Layout.{ul_nak_resp, upload_cmd}
@@ -33,7 +35,8 @@ GrantedLaw =
 
 -- not code 3
 abbrev pub IsNoFault : PacketValue → Type 0
-IsNoFault reply = (reply ≢ ul_error_resp 3) × (reply ≢ ul_nak_resp 3)
+IsNoFault reply =
+    (reply ≢ ul_error_resp (octet_of error.ServerFsys)) × (reply ≢ ul_nak_resp (octet_of error.ServerFsys))
 
 -- No row of the table replies code 3 where no read of the disk fails.
 abbrev pub FaultCodeLaw : Type 0

@@ -5,6 +5,8 @@ use Rattle.std.specs.Prelude.{bytes_eq, Bool, true, false, not, ◌&&◌, ◌||�
 use Rattle.std.specs.Option.{option_or}
 use Rattle.px_base.specs.CallSign.{CallSign}
 use Rattle.pfh_items.specs.Faults.{fault_code}
+use Rattle.ftl0_packets.specs.ErrorCodes.{octet_of}
+use Rattle.ftl0_packets.specs.declared.error_code.ErrorCode.TheVariants as error
 use Rattle.ftl0_packets.specs.Items.{kind_of_item}
 use Rattle.ftl0_packets.specs.Layout.{Item, PacketValue, data_part, data_end}
 use Rattle.ftl0_packets.specs.Layout.{ul_ack_resp, ul_error_resp, ul_go_resp, ul_nak_resp, upload_cmd}
@@ -47,7 +49,8 @@ granted_row caller moment number file_length =
 -- too long, or no entry, no number or no room is left: error 13.
 abbrev pub begin_row : CallSign → ℕ → Store → ℕ → Row
 begin_row caller moment store file_length =
-    if can_begin store file_length then granted_row caller moment store.next file_length else refused_row command 13
+    if can_begin store file_length then granted_row caller moment store.next file_length
+    else refused_row command (octet_of error.NoRoom)
 
 -- the same call
 abbrev pub is_same_call : CallSign → CallSign → Bool
@@ -66,10 +69,10 @@ resumed_row number held =
 -- Command, UPLOAD_CMD with the number of a file. No entry of the number stands: error 4. It is of another caller, or
 -- has another length: error 2. It is complete: error 12. Else the file goes on.
 abbrev pub continue_row : CallSign → ℕ → ℕ → Option Entry → Row
-continue_row caller number file_length None = refused_row command 4
+continue_row caller number file_length None = refused_row command (octet_of error.NoSuchFileNumber)
 continue_row caller number file_length (Some entry) =
-    if not (is_theirs caller file_length entry) then refused_row command 2
-    else if is_complete entry.holding then refused_row command 12
+    if not (is_theirs caller file_length entry) then refused_row command (octet_of error.BadContinue)
+    else if is_complete entry.holding then refused_row command (octet_of error.FileComplete)
     else resumed_row number (length (octets_of entry.holding))
 
 -- Command, UPLOAD_CMD: number 0 is for a new file, and any other for the file of that number.
@@ -89,7 +92,7 @@ abbrev pub data_row : Store → ℕ → List ℕ → List ℕ → Row
 data_row store number rest octets =
     if passes (λ e. has_room e.holding e.length (length (rest ++ octets))) (entry_of store number)
     then taken_row number (rest ++ octets)
-    else record { state = aborting; commands = []; replies = ul_nak_resp 1 ∷ [] }
+    else record { state = aborting; commands = []; replies = ul_nak_resp (octet_of error.IllFormedCmd) ∷ [] }
 
 -- whether the octets held and these are all of the entry's
 abbrev pub is_all : Option Entry → List ℕ → Bool
@@ -113,7 +116,7 @@ abbrev pub end_row : ℕ → Store → ℕ → List ℕ → Row
 end_row moment store number rest =
     if is_all (entry_of store number) rest
     then whole_row moment number rest (fault_code (octets_at (entry_of store number) ++ rest))
-    else record { state = command; commands = []; replies = ul_nak_resp 16 ∷ [] }
+    else record { state = command; commands = []; replies = ul_nak_resp (octet_of error.BodyCheck) ∷ [] }
 
 -- a row without commands and replies
 abbrev pub silent_row : State → Row
@@ -122,7 +125,8 @@ silent_row state = record { state = state; commands = []; replies = [] }
 -- Any packet that belongs to uploading and has no row of its own, malformed ones too: error 1, and nothing else
 -- changes. Any other packet has no row here.
 abbrev pub error_row : State → Item → Option Row
-error_row state item = if is_upload_kind (kind_of_item item) then Some (refused_row state 1) else None
+error_row state item =
+    if is_upload_kind (kind_of_item item) then Some (refused_row state (octet_of error.IllFormedCmd)) else None
 
 -- The table, row by row: what a packet gives in a state, over a store, at a moment, where no read of the disk fails.
 -- None exactly where the packet isn't of uploading.
@@ -139,7 +143,11 @@ session_row caller moment store state item = error_row state item
 -- the row of a whole file whose octets can't be read: those that wait become held, and the file stays under way
 abbrev pub unread_row : ℕ → List ℕ → Row
 unread_row number rest =
-    record { state = command; commands = last_grow number rest; replies = ul_nak_resp 3 ∷ [] }
+    record {
+      state = command;
+      commands = last_grow number rest;
+      replies = ul_nak_resp (octet_of error.ServerFsys) ∷ [];
+    }
 
 -- The row where a read of the disk fails, of a packet at which the file is read: DATA_END of a whole file, UL_NAK_RESP
 -- 3. At no other one is anything read.
@@ -156,9 +164,9 @@ row_by_read caller moment store state item fails =
 -- The reply to a packet at whose row a write or a sync of the disk failed: code 3, by UL_NAK_RESP where a file is
 -- received, else by UL_ERROR_RESP.
 abbrev pub fault_reply : State → PacketValue
-fault_reply command = ul_error_resp 3
-fault_reply (receiving number rest) = ul_nak_resp 3
-fault_reply aborting = ul_error_resp 3
+fault_reply command = ul_error_resp (octet_of error.ServerFsys)
+fault_reply (receiving number rest) = ul_nak_resp (octet_of error.ServerFsys)
+fault_reply aborting = ul_error_resp (octet_of error.ServerFsys)
 
 -- whether a file is received in this state
 abbrev pub is_receiving : State → Bool

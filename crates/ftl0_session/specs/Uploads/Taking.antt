@@ -2,6 +2,9 @@
 use Rattle.std.specs.Prelude.{◌≡◌, ℕ, List, [], ◌∷◌, Bool, true, false, IsTrue, ⊤, Option, Some, Result, Ok, Err}
 use Rattle.std.specs.Prelude.{IsErrOf, OnOk}
 use Rattle.disk_model.specs.declared.disk.Disk.{Ghosts}
+use Rattle.ftl0_packets.specs.ErrorCodes.{octet_of}
+use Rattle.ftl0_packets.specs.declared.error_code.ErrorCode.{ErrorCode}
+use Rattle.ftl0_packets.specs.declared.error_code.ErrorCode.TheVariants as error
 use Rattle.ftl0_packets.specs.Layout.{Item, ul_error_resp, ul_nak_resp}
 use Rattle.file_store.specs.Command.{DoesAll, after_all}
 use Rattle.file_store.specs.OnDisk.{outlined_all}
@@ -70,7 +73,7 @@ PutsRow g fails row before now (Err stop.OutOfMemory) = ⊤
 -- What a packet with this row gives, where a read of the disk failed, which code 3 tells, or none did.
 pub record MakesRow {D : Type 0} (g : Ghosts D) (fails : Bool) (item : Item) (row : Row)
     (before now : AtDisk Working D) (replies : List ℕ) (result : Result ⊤ Halt) : Type 0 where
-  pub told : fails ≡ true → row.replies ≡ ul_nak_resp 3 ∷ []
+  pub told : fails ≡ true → row.replies ≡ ul_nak_resp (octet_of error.ServerFsys) ∷ []
   pub answers : Answers g item before row now replies result
   pub on_disk : PutsRow g fails row before now result
   pub untouched : fails ≡ false → row.commands ≡ [] → now.disk ≡ before.disk
@@ -124,16 +127,16 @@ pub record TakesPacket {D : Type 0} (g : Ghosts D) (packet : CallerPacket) (befo
   pub says : OnOk result (Says g before.disk fails replies)
 
 -- the answer by UL_ERROR_RESP with this code
-abbrev pub AnswersCode : ℕ → List ℕ → Result ⊤ Halt → Type 0
-AnswersCode code replies result = (result ≡ Ok tt) × (replies ≡ texts (ul_error_resp code ∷ []))
+abbrev pub AnswersCode : ErrorCode → List ℕ → Result ⊤ Halt → Type 0
+AnswersCode code replies result = (result ≡ Ok tt) × (replies ≡ texts (ul_error_resp (octet_of code) ∷ []))
 
 -- The answer to a refusal to begin a file, of a store that hadn't failed before: error 13; code 3 where the disk
 -- failed; or a stop.
 abbrev pub AnswersRefusal : BeginRefusal → List ℕ → Result ⊤ Halt → Type 0
-AnswersRefusal refusal.TooLong replies result = AnswersCode 13 replies result
-AnswersRefusal refusal.TooMany replies result = AnswersCode 13 replies result
-AnswersRefusal refusal.NumbersGone replies result = AnswersCode 13 replies result
-AnswersRefusal (refusal.NoRoom blocks free) replies result = AnswersCode 13 replies result
+AnswersRefusal refusal.TooLong replies result = AnswersCode error.NoRoom replies result
+AnswersRefusal refusal.TooMany replies result = AnswersCode error.NoRoom replies result
+AnswersRefusal refusal.NumbersGone replies result = AnswersCode error.NoRoom replies result
+AnswersRefusal (refusal.NoRoom blocks free) replies result = AnswersCode error.NoRoom replies result
 AnswersRefusal refusal.Failed replies result = ⊥
 AnswersRefusal refusal.Disk replies result = (result ≡ Err stop.Disk) × (replies ≡ texts (fault_reply command ∷ []))
 AnswersRefusal refusal.OutOfMemory replies result = (result ≡ Err stop.OutOfMemory) × (replies ≡ [])

@@ -5,6 +5,7 @@ ghost use Rattle.std.specs.Prelude.{IsErrOf, IsTrue, OnErr};
 ghost use Rattle.std.specs.Prelude.{OnOk, Some, false, true};
 ghost use Rattle.std.specs.List.{list_all};
 ghost use Rattle.std.specs.Option.{ForSome, option_map};
+ghost use Rattle.ftl0_packets.specs.ErrorCodes.{octet_of};
 ghost use Rattle.ftl0_packets.specs.Layout.{dl_error_resp, information, packet_text};
 ghost use Rattle.ftl0_packets.specs.Values.{value_of};
 ghost use Rattle.file_store.specs.Reads.{OnlyReads};
@@ -32,28 +33,10 @@ use crate::lists::Lists;
 use arrayvec::ArrayVec;
 use disk_model::{Disk, DiskFault};
 use file_store::{FileStore, HeaderFault};
-use ftl0_packets::{Packet, write_packet};
+use ftl0_packets::{ErrorCode, Packet, write_packet};
 use px_base::Call;
 use selection::Selection;
 use std::marker::Model;
-
-/// The code of an offset above the file's length.
-const BAD_CONTINUE: u8 = 2;
-
-/// The code of a read of the server's disk that failed, or that gave no header of a file any more.
-const FILE_SYSTEM: u8 = 3;
-
-/// The code of a number of which there is no complete file.
-const NO_SUCH_FILE: u8 = 4;
-
-/// The code of tokens that are no selection.
-const BAD_SELECTION: u8 = 8;
-
-/// The code of a lock, which isn't granted.
-const NO_DESTINATION: u8 = 10;
-
-/// The code of a command with number 0 where no number is left in the caller's list.
-const SELECTION_EMPTY: u8 = 11;
 
 /// The most octets of tokens in a packet.
 const MOST_TOKENS: usize = 2047;
@@ -188,7 +171,7 @@ impl Downloads {
         match self.read_part(disk, store, &mut part) {
             Err(DiskFault) => {
                 self.phase = Phase::Ready;
-                write_packet(&Packet::DlErrorResp(FILE_SYSTEM), out);
+                refuse(ErrorCode::ServerFsys, out);
             }
             Ok(()) if part.is_empty() => {
                 self.end();
@@ -334,17 +317,17 @@ impl Downloads {
     {
         let numbers = files_to_list(number, caller, lists);
         if numbers.is_empty() {
-            return refuse(SELECTION_EMPTY, replies);
+            return refuse(ErrorCode::SelectionEmpty, replies);
         }
         if !are_files(store, &numbers) {
-            return refuse(NO_SUCH_FILE, replies);
+            return refuse(ErrorCode::NoSuchFileNumber, replies);
         }
         match self.read_headers(disk, form, &numbers, store) {
             Ok(()) => {
                 take_numbers(number, numbers.len(), caller, lists);
                 replies.clear();
             }
-            Err(_fault) => refuse(FILE_SYSTEM, replies),
+            Err(_fault) => refuse(ErrorCode::ServerFsys, replies),
         }
     }
 
@@ -427,19 +410,19 @@ fn asked_span(
     caller: Call,
     store: &FileStore,
     lists: &Lists,
-) -> Result<Span, u8>
+) -> Result<Span, ErrorCode>
     ensures row { download_cmd_row caller (store_in store.now) lists.now number offset lock
         ≡ answer_row caller lists.now number result }
     ensures within { IfOk result (λ span. LiesIn (store_in store.now) span.number span.place span.last) }
     ensures left { OnOk result (number ≡ 0 → 1 ≤ length (left_of lists.now caller)) }
 {
     if lock != 0 {
-        return Err(NO_DESTINATION);
+        return Err(ErrorCode::NoSuchDestination);
     }
-    let asked = first_asked(number, caller, lists).ok_or(SELECTION_EMPTY)?;
-    let last = length_of(store, asked).ok_or(NO_SUCH_FILE)?;
+    let asked = first_asked(number, caller, lists).ok_or(ErrorCode::SelectionEmpty)?;
+    let last = length_of(store, asked).ok_or(ErrorCode::NoSuchFileNumber)?;
     if offset > last {
-        return Err(BAD_CONTINUE);
+        return Err(ErrorCode::BadContinue);
     }
     Ok(Span {
         number: asked,
@@ -523,14 +506,14 @@ fn select<D: Disk>(
     ensures keeps { KeepsFiles D.Disk store.old store.new disk.new lists.new ready }
 {
     let Some(selection) = selection_of(tokens) else {
-        return refuse(BAD_SELECTION, replies);
+        return refuse(ErrorCode::PoorlyFormedSel, replies);
     };
     match chosen_files(disk, store, &selection) {
         Ok(numbers) => {
             lists.select(caller, &numbers);
             write_packet(&Packet::SelectResp(numbers.len() as u16), replies);
         }
-        Err(_fault) => refuse(FILE_SYSTEM, replies),
+        Err(_fault) => refuse(ErrorCode::ServerFsys, replies),
     }
 }
 
@@ -545,9 +528,10 @@ fn selection_of(tokens: &[u8]) -> Option<Selection>
     Selection::read(tokens).ok()
 }
 
-/// Refuses a command with this code.
-fn refuse(code: u8, replies: &mut Replies)
-    ensures { replies.new.items ≡ packet_text (dl_error_resp code) }
+/// Refuses a command with this code, or says it in the place of a DATA: DL_ERROR_RESP in place of what `out` holds.
+fn refuse<const N: usize>(code: ErrorCode, out: &mut ArrayVec<u8, N>)
+    requires { 3 ≤ N }
+    ensures { out.new.items ≡ packet_text (dl_error_resp (octet_of code)) }
 {
-    write_packet(&Packet::DlErrorResp(code), replies);
+    write_packet(&Packet::DlErrorResp(code.code()), out);
 }

@@ -1,9 +1,10 @@
 //! The uploads of one caller's session: what each packet of uploading gives (FTL0 1990, uploading).
 
 ghost use Rattle.std.specs.Prelude.{◌≡◌, ◌≢◌, ◌↔◌, ℕ, [], ◌∷◌, false, true, IsErrOf, IsTrue, None, Ok};
+ghost use Rattle.ftl0_packets.specs.ErrorCodes.{octet_of};
 ghost use Rattle.ftl0_packets.specs.Items.{kind_of_item, texts};
 ghost use Rattle.ftl0_packets.specs.Layout.{data_end, data_part, packet_text, ul_ack_resp, ul_error_resp};
-ghost use Rattle.ftl0_packets.specs.Layout.{ul_go_resp, upload_cmd};
+ghost use Rattle.ftl0_packets.specs.Layout.{ul_go_resp, ul_nak_resp, upload_cmd};
 ghost use Rattle.ftl0_packets.specs.Values.{item_of};
 ghost use Rattle.file_store.specs.EntriesKept.{KeepsComplete};
 ghost use Rattle.file_store.specs.State.{StandsOn, store_in};
@@ -26,31 +27,10 @@ use file_store::laws::state_law;
 use file_store::{
     AppendRefusal, BeginRefusal, FileStore, OpenUpload, Receipt, ResumeRefusal, SealRefusal,
 };
-use ftl0_packets::{Malformed, Packet, write_packet};
+use ftl0_packets::{ErrorCode, Malformed, Packet, write_packet};
 use px_base::Call;
 use std::marker::Model;
 use std::mem;
-
-/// The code of an ill-formed command, or of a packet that has no place in the state.
-const ILL_FORMED: u8 = 1;
-
-/// The code of a file that is another caller's, or of another length than is said.
-const BAD_CONTINUE: u8 = 2;
-
-/// The code of a fault of the server's disk.
-const FILE_SYSTEM: u8 = 3;
-
-/// The code of a number of which no file is there.
-const NO_SUCH_FILE: u8 = 4;
-
-/// The code of a file that is whole already.
-const FILE_COMPLETE: u8 = 12;
-
-/// The code of a file for which there is no room.
-const NO_ROOM: u8 = 13;
-
-/// The code of a file that ended before its last octet, or whose body isn't what its checksum says.
-const BODY_CHECK: u8 = 16;
 
 /// The octets of the replies to one packet.
 pub type Replies = ArrayVec<u8, 32>;
@@ -200,7 +180,7 @@ impl Session {
         match asked {
             Asked::Part(octets) => take_data(disk, self.caller, up, octets, store, replies),
             Asked::End => self.take_end(disk, up, moment, store, replies),
-            _ => refuse(Phase::Receiving(up), ILL_FORMED, replies),
+            _ => refuse(Phase::Receiving(up), ErrorCode::IllFormedCmd, replies),
         }
     }
 
@@ -224,7 +204,7 @@ impl Session {
             }
             Err(SealRefusal::Short(up)) => {
                 store.park(up);
-                write_packet(&Packet::UlNakResp(BODY_CHECK), replies);
+                reply_nak(ErrorCode::BodyCheck, replies);
                 (Phase::Command, Ok(()))
             }
             Err(SealRefusal::Header { code }) => {
@@ -233,11 +213,11 @@ impl Session {
             }
             Err(SealRefusal::Read(up)) => {
                 store.park(up);
-                write_packet(&Packet::UlNakResp(FILE_SYSTEM), replies);
+                reply_nak(ErrorCode::ServerFsys, replies);
                 (Phase::Command, Ok(()))
             }
             Err(SealRefusal::Disk) => {
-                write_packet(&Packet::UlNakResp(FILE_SYSTEM), replies);
+                reply_nak(ErrorCode::ServerFsys, replies);
                 (Phase::Command, Err(Halt::Disk))
             }
             Err(SealRefusal::Failed) => unreachable!(),
@@ -261,7 +241,7 @@ fn take_command<D: Disk>(
     match asked {
         Asked::Upload { number: 0, length } => begin(disk, caller, length, moment, store, replies),
         Asked::Upload { number, length } => resume(caller, number, length, store, replies),
-        _ => refuse(Phase::Command, ILL_FORMED, replies),
+        _ => refuse(Phase::Command, ErrorCode::IllFormedCmd, replies),
     }
 }
 
@@ -299,11 +279,11 @@ fn refuse_begin(refusal: BeginRefusal, replies: &mut Replies) -> Result<(), Halt
         | BeginRefusal::TooMany
         | BeginRefusal::NumbersGone
         | BeginRefusal::NoRoom { .. } => {
-            write_packet(&Packet::UlErrorResp(NO_ROOM), replies);
+            reply_error(ErrorCode::NoRoom, replies);
             Ok(())
         }
         BeginRefusal::Disk => {
-            write_packet(&Packet::UlErrorResp(FILE_SYSTEM), replies);
+            reply_error(ErrorCode::ServerFsys, replies);
             Err(Halt::Disk)
         }
         BeginRefusal::OutOfMemory => {
@@ -333,9 +313,9 @@ fn resume(
             go_on(number, up.held(), replies);
             (Phase::Receiving(up), Ok(()))
         }
-        Err(ResumeRefusal::NoSuch) => refuse(Phase::Command, NO_SUCH_FILE, replies),
-        Err(ResumeRefusal::Bad) => refuse(Phase::Command, BAD_CONTINUE, replies),
-        Err(ResumeRefusal::Complete) => refuse(Phase::Command, FILE_COMPLETE, replies),
+        Err(ResumeRefusal::NoSuch) => refuse(Phase::Command, ErrorCode::NoSuchFileNumber, replies),
+        Err(ResumeRefusal::Bad) => refuse(Phase::Command, ErrorCode::BadContinue, replies),
+        Err(ResumeRefusal::Complete) => refuse(Phase::Command, ErrorCode::FileComplete, replies),
         Err(ResumeRefusal::Failed) => unreachable!(),
     }
 }
@@ -348,12 +328,26 @@ fn go_on(number: u32, offset: u32, replies: &mut Replies)
 }
 
 /// Refuses a packet with this code. The phase stays.
-fn refuse(phase: Phase, code: u8, replies: &mut Replies) -> Taken
-    ensures text { replies.new.items ≡ texts (ul_error_resp code ∷ []) }
+fn refuse(phase: Phase, code: ErrorCode, replies: &mut Replies) -> Taken
+    ensures text { replies.new.items ≡ texts (ul_error_resp (octet_of code) ∷ []) }
     ensures taken { result ≡ (phase, Ok tt) }
 {
-    write_packet(&Packet::UlErrorResp(code), replies);
+    reply_error(code, replies);
     (phase, Ok(()))
+}
+
+/// Replies UL_ERROR_RESP with this code.
+fn reply_error(code: ErrorCode, replies: &mut Replies)
+    ensures { replies.new.items ≡ packet_text (ul_error_resp (octet_of code)) }
+{
+    write_packet(&Packet::UlErrorResp(code.code()), replies);
+}
+
+/// Replies UL_NAK_RESP with this code.
+fn reply_nak(code: ErrorCode, replies: &mut Replies)
+    ensures { replies.new.items ≡ packet_text (ul_nak_resp (octet_of code)) }
+{
+    write_packet(&Packet::UlNakResp(code.code()), replies);
 }
 
 /// Replies nothing to a packet, which leaves this phase.
@@ -383,11 +377,11 @@ fn take_data<D: Disk>(
         Ok(up) => reply_nothing(Phase::Receiving(up), replies),
         Err(AppendRefusal::TooMuch(up)) => {
             store.park(up);
-            write_packet(&Packet::UlNakResp(ILL_FORMED), replies);
+            reply_nak(ErrorCode::IllFormedCmd, replies);
             (Phase::Aborting, Ok(()))
         }
         Err(AppendRefusal::Disk) => {
-            write_packet(&Packet::UlNakResp(FILE_SYSTEM), replies);
+            reply_nak(ErrorCode::ServerFsys, replies);
             (Phase::Command, Err(Halt::Disk))
         }
         Err(AppendRefusal::OutOfMemory(up)) => {
@@ -405,6 +399,6 @@ fn take_aborting(asked: Asked<'_>, replies: &mut Replies) -> Taken
     match asked {
         Asked::Part(_) => reply_nothing(Phase::Aborting, replies),
         Asked::End => reply_nothing(Phase::Command, replies),
-        _ => refuse(Phase::Aborting, ILL_FORMED, replies),
+        _ => refuse(Phase::Aborting, ErrorCode::IllFormedCmd, replies),
     }
 }

@@ -13,6 +13,6 @@ returns g c =
     (answers-at-once g.D.Disk c.args.notes.now c.refused.new.self c.args.disk.now c.refused.new.disk (refused c.args.task c.args.code) c.refused.result c.answer_of.result c.refused.ensures
     c.answer_of.ensures)
 
-pub returns-then-code-eq-FILE_SYSTEM : goal.returns-then-code-eq-FILE_SYSTEM
-returns-then-code-eq-FILE_SYSTEM g c =
+pub returns-then-is : goal.returns-then-is
+returns-then-is g c =
     let none = noted-none g.D.Disk c.args.notes.now c.args.disk.now c.requires.ready (g.met.D.Disk.lasts_same c.args.disk.now) in search rules

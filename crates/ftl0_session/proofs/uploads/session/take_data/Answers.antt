@@ -69,7 +69,7 @@ returns-in-Err-TooMuch g c = λ moment.
     (g.met.D.Disk.lasts_same c.args.disk.now)
     (parked c.args.caller c.args.store.now c.args.up holds moment item c.park.new.self phase.Aborting
     (record { state = aborting; commands = []; replies = ul_nak_resp 1 ∷ [] }) _
-    (λ files like. too_much c.args.caller c.args.store.now c.args.up holds files like moment c.args.octets.now refused.0) refl refl c.write_packet.ensures.text refl tt c.requires.held.1 changes journal uploads
+    (λ files like. too_much c.args.caller c.args.store.now c.args.up holds files like moment c.args.octets.now refused.0) refl refl c.reply_nak.ensures refl tt c.requires.held.1 changes journal uploads
     c.requires.only))
 
 pub returns-in-Err-Disk : goal.returns-in-Err-Disk
@@ -90,7 +90,7 @@ returns-in-Err-Disk g c = λ moment.
             taken_row a.up.number (with_bytes store a.up bytes),
             taken a.caller store a.up holds files like moment bytes refused.0,
             refl,
-          )) refl c.write_packet-in-Err-Disk.ensures.text;
+          )) refl c.reply_nak-in-Err-Disk.ensures;
       failed = λ e. (does.cut refl).failed;
       healthy = λ ok. absurd (ok refl);
       stands_on = c.in-Err-Disk.ensures.keeps.stands_on;

@@ -50,8 +50,8 @@ returns-in-Err-clause-puts g c =
       fails = true;
       reads = reads_same D disk c.read_part.new.disk _ (true ≡ true) (λ e. refl) (λ e. refl) c.in-Err.ensures.reads.reads;
       told = λ known failed. rw (next known) refl;
-      is_due = λ known. rw (next known) (refl, search rules, c.write_packet.ensures.text);
-      tells = (λ failed. (refl, c.write_packet.ensures.text), λ both. refl);
+      is_due = λ known. rw (next known) (refl, search rules, c.refuse.ensures);
+      tells = (λ failed. (refl, c.refuse.ensures), λ both. refl);
     }
 
 pub returns-in-Ok-clause-puts : goal.returns-in-Ok-clause-puts
@@ -70,8 +70,8 @@ returns-in-Ok-clause-puts g c =
       fails = false;
       reads = reads_same D disk c.read_part.new.disk _ (false ≡ true) (λ e. absurd cc) (λ e. absurd (true≢false (sym e))) c.in-Ok.ensures.reads.reads;
       told = λ known failed. absurd (true≢false (sym failed));
-      tells = (λ failed. absurd (true≢false (sym failed)), λ both. absurd (end-no_error (sym c.write_packet-in-Ok.ensures.text ∙ both.1)));
-      is_due = λ known. rw (next known) (refl, c.end.ensures ∙ ap state_at_end c.in-Ok.ensures.state ∙ end-after state 254, c.write_packet-in-Ok.ensures.text);
+      tells = (λ failed. absurd (true≢false (sym failed)), λ both. absurd (end-no_error (sym c.write_packet.ensures.text ∙ both.1)));
+      is_due = λ known. rw (next known) (refl, c.end.ensures ∙ ap state_at_end c.in-Ok.ensures.state ∙ end-after state 254, c.write_packet.ensures.text);
     }
 
 pub returns-in-Ok-2-clause-puts : goal.returns-in-Ok-2-clause-puts

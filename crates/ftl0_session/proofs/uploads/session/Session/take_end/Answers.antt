@@ -76,7 +76,7 @@ returns-in-Err-Short g c =
     (g.met.D.Disk.lasts_same c.args.disk.now)
     (parked c.args.self.now.caller c.args.store.now c.args.up holds c.args.moment item c.park.new.self phase.Command
     (record { state = command; commands = []; replies = ul_nak_resp 16 ∷ [] }) _
-    (λ files like. short c.args.self.now.caller c.args.store.now c.args.up holds files like c.args.moment refused.0) refl refl c.write_packet.ensures.text refl tt c.requires.held.1 changes journal uploads
+    (λ files like. short c.args.self.now.caller c.args.store.now c.args.up holds files like c.args.moment refused.0) refl refl c.reply_nak.ensures refl tt c.requires.held.1 changes journal uploads
     c.requires.only))
 
 pub returns-in-Err-Header : goal.returns-in-Err-Header
@@ -106,10 +106,10 @@ returns-in-Err-Header g c =
             whole caller store a.up holds files (on_like g.D.Disk store disk c.requires.ready known) a.moment (Some code) refused.0.0 (refused.1.1 known),
             whole-sealing files store a.up a.moment (Some code) (refused.1.1 known),
             refl,
-            c.write_packet-in-Err-Header.ensures.text,
+            c.write_packet.ensures.text,
           )) (λ known failed. absurd (true≢false (sym failed))) (λ ok none. absurd (sealing-some files store a.up a.moment none))
           (λ row looks. absurd (end-looks caller store a.up holds a.moment row refused.0.0 looks))
-          (says-one g.D.Disk disk false _ (ul_nak_resp code) c.write_packet-in-Err-Header.ensures.text (λ failed. absurd (true≢false (sym failed)))
+          (says-one g.D.Disk disk false _ (ul_nak_resp code) c.write_packet.ensures.text (λ failed. absurd (true≢false (sym failed)))
           (λ three. absurd (true≢false (sym (eq-eqb code 3 three) ∙ fault-other (Some refused.1.0.0) code (ap (λ (k : ℕ). Some k) (sym refused.1.0.1))))));
       failed = λ e. absurd (cc e);
       healthy = λ ok. goes_on (λ e. cc e) ∙ c.requires.ready.healthy;
@@ -157,9 +157,9 @@ returns-in-Err-Read g c =
             unread caller store a.up holds files (on_like g.D.Disk store disk c.requires.ready known) a.moment refused.0.0,
             refl,
             refl,
-            c.write_packet-in-Err-Read.ensures.text,
+            c.reply_nak-in-Err-Read.ensures,
           )) (λ known failed. refl) (λ ok none. absurd (true≢false ok)) (λ row looks. absurd (end-looks caller store a.up holds a.moment row refused.0.0 looks))
-          (says-one g.D.Disk disk true _ (ul_nak_resp 3) c.write_packet-in-Err-Read.ensures.text (λ failed. refl) (λ three. refl));
+          (says-one g.D.Disk disk true _ (ul_nak_resp 3) c.reply_nak-in-Err-Read.ensures (λ failed. refl) (λ three. refl));
       failed = λ e. absurd (cc e);
       healthy = λ ok. ap (λ j. j.failed) journal ∙ goes_on (λ e. cc e) ∙ c.requires.ready.healthy;
       stands_on = stands_parked g.D.Disk mid now disk_now parks.store_is journal keeps.stands_on;
@@ -197,7 +197,7 @@ returns-in-Err-Disk g c =
             whole_row a.moment a.up.number (waiting store a.up) fault,
             whole caller store a.up holds files (on_like g.D.Disk store disk c.requires.ready known) a.moment fault refused.0 refl,
             whole-sealing files store a.up a.moment fault refl,
-          )) (λ none. absurd (sealing-some files store a.up a.moment none)) refl c.write_packet-in-Err-Disk.ensures.text
+          )) (λ none. absurd (sealing-some files store a.up a.moment none)) refl c.reply_nak-in-Err-Disk.ensures
           (λ row looks. absurd (end-looks caller store a.up holds a.moment row refused.0 looks));
       failed = λ e. stops refl;
       healthy = λ ok. absurd (ok refl);
