@@ -34,8 +34,8 @@ kept_at g self disk = kept_on (store_on g self disk) self.journal disk
 -- the disk that the form of a store says; where the journal had no room for its record behind those before it, at most
 -- those more by which the records are written anew. A crash since the call began leaves the store after the first of
 -- them, for some number of them, and no fewer than were done when it came. Without commands the disk is untouched.
--- Where it is known what the store's files hold, each command was allowed, and the store is the one after them. The
--- disk gets no longer than a store of so many blocks may be, or than it was.
+-- Where it is known what the store's files hold, each command was allowed, and the store is the one after them.
+-- Nothing is written behind what a store of so many blocks may take.
 abbrev pub Does :
     {D : Type 0} → Ghosts D → Type 0 → StoreState → StoreState → D → D → List Command → Type 0
 Does g failed old new disk disk_now commands =

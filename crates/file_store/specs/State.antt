@@ -13,7 +13,7 @@ use Rattle.file_journal.specs.Form as form
 use Rattle.file_journal.specs.Form.{Form}
 use Rattle.file_journal.specs.Kept.{StandsAt}
 use Rattle.file_journal.specs.Layout.{blocks_on}
-use Rattle.file_journal.specs.Position.{Position}
+use Rattle.file_journal.specs.Position.{Position, StandsOn as JournalStandsOn}
 use Rattle.file_journal.specs.Steps.{Knows}
 use Rattle.file_journal.specs.Walk.{Stands}
 use Rattle.file_journal.specs.declared.layout.Layout.{Layout}
@@ -90,3 +90,9 @@ pub record IsRead (journal : Position) : Type 0 where
   pub magic_is : journal.magic ≡ store_magic
   pub layout_is : journal.layout ≡ store_layout
   pub ended : journal.ended ≡ true
+
+-- So it was on this disk, on which it hasn't failed: its half and its place are those of the records there.
+pub record IsReadOn {D : Type 0} (g : Ghosts D) (journal : Position) (disk : D) : Type 0 where
+  pub read : IsRead journal
+  pub healthy : journal.failed ≡ false
+  pub stands_on : JournalStandsOn g journal disk

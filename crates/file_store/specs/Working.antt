@@ -12,8 +12,8 @@ pub use Rattle.file_journal.specs.AmongReads.{CountsSome, PutsAmongReads, StopsA
 -- behind them, of which so many failed at least, or none did. Each command took the calls of the disk that the form of
 -- a store says; where the journal had no room for its record behind those before it, at most those more by which the
 -- records are written anew. A crash since it began leaves the store after the first of the commands, for some number of
--- them, and no fewer than were done when it came. Without commands the disk is as reads leave it. The disk gets no
--- longer than a store of so many blocks may be, or than it was.
+-- them, and no fewer than were done when it came. Without commands the disk is as reads leave it. Nothing is
+-- written behind what a store of so many blocks may take.
 abbrev pub DoesAmongReads :
     {D : Type 0} → Ghosts D → Type 0 → ℕ → StoreState → StoreState → D → D → List Command → Type 0
 DoesAmongReads g failed missed old new disk disk_now commands =

@@ -115,7 +115,7 @@ impl FileStore {
         ensures since_start { Leaves D.Disk disk.old disk.new (StandsAlike limits.blocks) }
         ensures since_sync { LeavesAlikeSinceSync D.Disk limits.blocks result disk.old disk.new }
 
-        // The disk gets no longer than the store whose block number it has, or gets.
+        // Nothing is written behind the store whose block number the disk has, or gets.
         ensures within { RecoversInHalves D.Disk store_layout limits.blocks disk.old disk.new }
     {
         let kept = Kept::recover(alloc, disk, limits.blocks)?;

@@ -1,10 +1,11 @@
 -- A session or a server from the recovery of its store, which is refused or gives one, to its end by the turns of its
 -- node; what it does to its disk, and what stands there.
 use Rattle.std.proofs.lemmas.Grind.{common_steps}
-use Rattle.std.proofs.Common.{◌≡◌, inl, inr, ℕ, List, ◌++◌, refl, ◌∙◌, ap, arith, [], ◌∷◌, true, false, sym, ◌≢◌, Result, Ok, Err, IsErrAnd, IsErrOf, Option}
+use Rattle.std.proofs.Common.{◌≡◌, inl, inr, ℕ, List, ◌++◌, refl, ◌∙◌, ap, subst, arith, [], ◌∷◌, true, false, sym, ◌≢◌, Result, Ok, Err, IsErrAnd, IsErrOf, Option}
 use Rattle.disk_model.specs.AtDisk.{AtDisk, at}
 use Rattle.disk_model.specs.declared.disk.Disk.{Ghosts}
 use Rattle.file_journal.specs.Bounds.{RecoversInHalves}
+use Rattle.file_journal.specs.Position.{Position}
 use Rattle.file_journal.specs.Restoring.{AnswersRecovery}
 use Rattle.file_journal.specs.Through.{StandsThrough}
 use Rattle.file_store.specs.Calls.{Runs, TakesStep}
@@ -19,7 +20,7 @@ use Rattle.px_base.specs.Moments.{MomentsOf}
 use Rattle.px_base.specs.Polling.{IsButLast}
 use Rattle.px_base.specs.declared.air.Turn.{Turn}
 use Rattle.file_store.specs.Recovery.{IsRecovered}
-use Rattle.file_store.specs.State.{IsKnown, StoreState, store_form, store_layout, store_magic, store_on}
+use Rattle.file_store.specs.State.{IsKnown, IsRead, IsReadOn, StoreState, store_form, store_layout, store_magic, store_on}
 use Rattle.node.specs.Course.{AtDisk, Course}
 use Rattle.node.specs.Lent.{Lent, Seen, lent}
 use Rattle.node.specs.Turns.{HasAirCause as NodeHasCause, Lent as Driven, RanBy, StoppedInLast, TookAll, TookTurns, TurnsBy as NodeTurnsBy, party_at}
@@ -200,7 +201,9 @@ module _ {P A C D E : Type 0} (seen : Seen D A C) (Brings : List Turn → List �
     cuts : IsKnown g disk → CutsOffAmongReads g Failed did.missed (at start old.disk) (at store new.disk) did.done did.cut
     cuts known = did.cuts (known_on g disk old.disk h.answers.runs.told known)
 
-    standing : IsKnown g disk → (stands : StandsThrough g store_form Failed (store_on g start old.disk) did.done did.cut disk new.disk) × (stands.ready ≡ g.moment old.disk)
+    standing :
+        IsKnown g disk → (stands : StandsThrough g store_form Failed (store_on g start old.disk) did.done did.cut disk new.disk)
+        × (stands.ready ≡ g.moment old.disk) × (stands.journal ≡ start.journal)
     standing known = stands-through g Failed blocks disk old.disk new.disk start store did.done did.cut did.missed h.answers.runs.told h.recovered.content h.answers.since_start
         (told_weaker (g.content disk) _ _ (λ octets told left. grind (arith, common_steps, left, fine)) h.answers.since_sync) (cuts known)
 
@@ -236,6 +239,14 @@ module _ {P A C D E : Type 0} (seen : Seen D A C) (Brings : List Turn → List �
         reads = λ known. runs_missed g on _ Failed disk old.disk new.disk fine h.answers.runs did.missed (did-all known).reads;
         stands = λ known. (standing known).0;
         ready = λ known. (standing known).1;
+        journal = λ known.
+            let ready = h.recovered.ready in
+            let at = ready.stands_on in
+            let read : IsRead start.journal =
+            record { magic_is = at.magic_is; layout_is = at.layout_is; ended = at.holds.keeps.ended ready.healthy } in
+            let on : IsReadOn g start.journal old.disk =
+            record { read = read; healthy = ready.healthy; stands_on = at.holds.keeps.stands_on } in
+            subst (λ (journal : Position). IsReadOn g journal old.disk) (sym (standing known).2) on;
         none = λ known none. (did-all known).none none;
       });
       counts = came.counts;

@@ -13,7 +13,7 @@ use Rattle.file_store.specs.Calls.{ChangesReads, Runs, TakesStep}
 use Rattle.file_store.specs.Command.{Command}
 use Rattle.file_store.specs.IsStore.{IsStore}
 use Rattle.file_store.specs.Journal.{IsAfterRecovery}
-use Rattle.file_store.specs.State.{IsKnown, standing_of, store_form, store_layout, store_magic}
+use Rattle.file_store.specs.State.{IsKnown, IsReadOn, standing_of, store_form, store_layout, store_magic}
 use Rattle.file_store.specs.Store.{Store}
 use Rattle.file_store.specs.Walk.{state}
 use Rattle.file_store.specs.Working.{CountsSome, PutsAmongReads}
@@ -49,7 +49,7 @@ pub record Run : Type 0 where
 
 -- The recovery of the store was refused, or there was no memory for the lists: nothing was heard or said, and the clock
 -- wasn't asked. Where the disk didn't fail no count of its faults rose. The disk got no longer than a store of the
--- block number that it had, or of this one where it had none, or than it was.
+-- block number that it had, or of this one where it had none, or than it was; what stood behind that stays.
 pub record IsUnrecovered {A C D : Type 0} (seen : Seen D A C) (blocks : ℕ) (old new : Lent D A C)
     (result : Result Served NodeStop) : Type 0 where
   pub fault : StoreFault
@@ -63,9 +63,10 @@ pub record IsUnrecovered {A C D : Type 0} (seen : Seen D A C) (blocks : ℕ) (ol
 -- It was served over the store for which the disk's content stood. Its recovery changed no octet of a formatted store,
 -- and made a formatted one of any other content. Only a write or a sync that failed ends it by the disk. What was heard
 -- at which moments and what was said is told always. The disk got no longer than its store may be, or than it was, and
--- no crash since the start leaves it longer. Where it is known what octets the store's files have, these commands were
--- done, and without any the disk has at the end what the recovery left; a read that failed is told by code 3, and the
--- count of failed reads rose by at least as many as were told, and not where none was.
+-- no crash since the start leaves it longer; what stood behind that stays. Where it is known what octets the store's
+-- files have, these commands were done, at moments that are told by the room of the journal that the recovery left; and
+-- without any the disk has at the end what it left. A read that failed is told by code 3, and the count of failed reads
+-- rose by at least as many as were told, and not where none was.
 pub record IsServed {A C D : Type 0} (seen : Seen D A C) (blocks : ℕ) (given : Option ℕ)
     (Ran : Store → Run → Type 0) (old new : Lent D A C) (result : Result Served NodeStop) : Type 0 where
   pub start : Store
@@ -88,6 +89,7 @@ pub record IsServed {A C D : Type 0} (seen : Seen D A C) (blocks : ℕ) (given :
       IsKnown seen.disk old.disk
       → StandsThrough seen.disk store_form (IsErrOf result stop.Disk) start run.all.done run.cut old.disk new.disk
   pub ready : (known : IsKnown seen.disk old.disk) → (stands known).ready ≡ seen.disk.moment recovered
+  pub journal : (known : IsKnown seen.disk old.disk) → IsReadOn seen.disk (stands known).journal recovered
   pub none :
       IsKnown seen.disk old.disk → run.all.done ++ run.cut ≡ [] → ChangesReads seen.disk recovered new.disk
 

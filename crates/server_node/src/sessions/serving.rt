@@ -25,7 +25,7 @@ use std::alloc::Global;
 /// turn's is taken before LOGIN_RESP, which has it. What a packet's row does to the store is on the disk before the
 /// replies are said. A read of the disk that fails is told by code 3, and the session goes on. After a fault of the
 /// disk at a write or a sync the reply with code 3 is said, and the session is over. However it ends, its upload is
-/// parked, and the disk got no longer than its store may be, or than it was. Takes memory.
+/// parked, and nothing was written behind what its store may take. Takes memory.
 pub fn session<D: Disk, A: Air, C: Clock>(
     alloc: Global,
     disk: &mut D,
