@@ -6,10 +6,11 @@ use Rattle.hex.specs.Hex.{decode_of}
 use Rattle.hex.specs.declared.error.FromHexError.{FromHexError}
 use Rattle.hex.proofs.HexLemmas.{decode_of-ok, decode_of-same}
 use Rattle.px_base.specs.CallSign.{CallText}
-use Rattle.command_words.specs.Clients.{AreTermsInRange, ClientTerms, ClientText, FetchText, HexText, ListText, SendText, TermsText, client_options}
+use Rattle.command_words.specs.Clients.{AreTermsInRange, ClientText, FetchText, HexText, ListText, SendText, TermsText, client_options}
 use Rattle.command_words.specs.Commands.{AsksBy, client_word}
 use Rattle.command_words.specs.declared.command.ClientCommand.{ClientCommand}
 use Rattle.command_words.specs.declared.command.ClientCommand.TheVariants as client
+use Rattle.command_words.specs.declared.terms.ClientTerms.{ClientTerms}
 use Rattle.command_words.specs.declared.disk.DiskWord.TheVariants.{Named}
 use Rattle.command_words.specs.Disks.{IsDiskOf}
 use Rattle.command_words.specs.Grammar.{line_places, line_value}

@@ -19,8 +19,8 @@ use Rattle.command_words.specs.declared.command.ClientCommand.{ClientCommand}
 use Rattle.command_words.specs.declared.command.ClientCommand.TheVariants as client
 use Rattle.command_words.specs.declared.command.CommandWord.{CommandWord}
 use Rattle.command_words.specs.declared.command.CommandWord.TheVariants as word
-use Rattle.command_words.specs.declared.command.NameCommand.{NameCommand}
-use Rattle.command_words.specs.declared.command.NameCommand.TheVariants.{Frames, PfhCheck, PfhShow}
+use Rattle.command_words.specs.declared.command.FileCommand.{FileCommand}
+use Rattle.command_words.specs.declared.command.FileCommand.TheVariants.{Check, Frames, Show}
 use Rattle.command_words.specs.declared.line.MakeTexts.{MakeTexts}
 use Rattle.command_words.specs.Airs.{IsAirOf}
 use Rattle.command_words.specs.declared.air.AirWord.{AirWord}
@@ -315,7 +315,7 @@ abbrev pub AreOf : CommandWord → List Text → Type 0
 AreOf word.Session words = AsksSession words
 AreOf word.Serve words = AsksServe words
 AreOf (word.Client command) words = AsksBy command words
-AreOf (word.Named command) words = (name : Text) × IsNamed (word_of command) words name
+AreOf (word.File command) words = (name : Text) × IsNamed (word_of command) words name
 AreOf word.PfhMake words = (body kept : Text) × (spec : MakeValue) × IsMake words body kept spec
 AreOf word.PfhBody words = (name kept : Text) × IsBody words name kept
 AreOf word.Rehearse words = AsksRehearse words
@@ -327,9 +327,9 @@ of_set (inr (inl serve)) = (word.Serve, serve)
 of_set (inr (inr (inl (inl send)))) = (word.Client client.Send, send)
 of_set (inr (inr (inl (inr (inl fetch))))) = (word.Client client.Fetch, fetch)
 of_set (inr (inr (inl (inr (inr list))))) = (word.Client client.List, list)
-of_set (inr (inr (inr (inl frames)))) = (word.Named Frames, frames)
-of_set (inr (inr (inr (inr (inl (inl check)))))) = (word.Named PfhCheck, check)
-of_set (inr (inr (inr (inr (inl (inr (inl show))))))) = (word.Named PfhShow, show)
+of_set (inr (inr (inr (inl frames)))) = (word.File Frames, frames)
+of_set (inr (inr (inr (inr (inl (inl check)))))) = (word.File Check, check)
+of_set (inr (inr (inr (inr (inl (inr (inl show))))))) = (word.File Show, show)
 of_set (inr (inr (inr (inr (inl (inr (inr (inl make)))))))) = (word.PfhMake, make)
 of_set (inr (inr (inr (inr (inl (inr (inr (inr body)))))))) = (word.PfhBody, body)
 of_set (inr (inr (inr (inr (inr rehearse))))) = (word.Rehearse, rehearse)
@@ -342,7 +342,7 @@ third_word word.Serve (asked, asks) = (asks.disk, asks.air, codes "serve", asks.
 third_word (word.Client client.Send) (terms, name, asks) = (asks.disk, asks.air, codes "send", asks.others, asks.written, refl)
 third_word (word.Client client.Fetch) (terms, number, name, asks) = (asks.disk, asks.air, codes "fetch", asks.others, asks.written, refl)
 third_word (word.Client client.List) (terms, tokens, asks) = (asks.disk, asks.air, codes "list", asks.others, asks.written, refl)
-third_word (word.Named command) (name, asks) = (asks.disk, asks.air, word_of command, asks.others, asks.written, refl)
+third_word (word.File command) (name, asks) = (asks.disk, asks.air, word_of command, asks.others, asks.written, refl)
 third_word word.PfhMake (body, kept, spec, asks) = (asks.disk, asks.air, codes "pfh-make", asks.others, asks.written, refl)
 third_word word.PfhBody (name, kept, asks) = (asks.disk, asks.air, codes "pfh-body", asks.others, asks.written, refl)
 third_word word.Rehearse (inl (name, asks)) = (asks.disk, asks.air, codes "rehearse", asks.others, asks.written, refl)
@@ -363,9 +363,9 @@ named_by c =
     (cond (bytes_eq c (codes "send")) (Some (word.Client client.Send))
     (cond (bytes_eq c (codes "fetch")) (Some (word.Client client.Fetch))
     (cond (bytes_eq c (codes "list")) (Some (word.Client client.List))
-    (cond (bytes_eq c (codes "frames")) (Some (word.Named Frames))
-    (cond (bytes_eq c (codes "pfh-check")) (Some (word.Named PfhCheck))
-    (cond (bytes_eq c (codes "pfh-show")) (Some (word.Named PfhShow))
+    (cond (bytes_eq c (codes "frames")) (Some (word.File Frames))
+    (cond (bytes_eq c (codes "pfh-check")) (Some (word.File Check))
+    (cond (bytes_eq c (codes "pfh-show")) (Some (word.File Show))
     (cond (bytes_eq c (codes "pfh-make")) (Some word.PfhMake)
     (cond (bytes_eq c (codes "pfh-body")) (Some word.PfhBody)
     (cond (bytes_eq c (codes "rehearse")) (Some word.Rehearse) None))))))))))
@@ -376,9 +376,9 @@ names c word.Serve is = ap named_by is
 names c (word.Client client.Send) is = ap named_by is
 names c (word.Client client.Fetch) is = ap named_by is
 names c (word.Client client.List) is = ap named_by is
-names c (word.Named Frames) is = ap named_by is
-names c (word.Named PfhCheck) is = ap named_by is
-names c (word.Named PfhShow) is = ap named_by is
+names c (word.File Frames) is = ap named_by is
+names c (word.File Check) is = ap named_by is
+names c (word.File Show) is = ap named_by is
 names c word.PfhMake is = ap named_by is
 names c word.PfhBody is = ap named_by is
 names c word.Rehearse is = ap named_by is
@@ -412,9 +412,9 @@ pub client_usage : (command : ClientCommand) {words : List Text} {d a : Text} {o
     → (AsksBy command (d ∷ a ∷ client_word command ∷ others) → ⊥) → IsUsage words
 client_usage command whole none = usage_of (word.Client command) refl whole none
 
-pub name_usage : (command : NameCommand) {words : List Text} {d a : Text} {others : List Text} → words ≡ d ∷ a ∷ word_of command ∷ others
+pub name_usage : (command : FileCommand) {words : List Text} {d a : Text} {others : List Text} → words ≡ d ∷ a ∷ word_of command ∷ others
     → ((name : Text) → IsNamed (word_of command) (d ∷ a ∷ word_of command ∷ others) name → ⊥) → IsUsage words
-name_usage command whole none = usage_of (word.Named command) refl whole (λ (name, asks). none name asks)
+name_usage command whole none = usage_of (word.File command) refl whole (λ (name, asks). none name asks)
 
 pub make_usage : {words : List Text} {d a : Text} {others : List Text} → words ≡ d ∷ a ∷ codes "pfh-make" ∷ others
     → ((body kept : Text) (spec : MakeValue) → IsMake (d ∷ a ∷ codes "pfh-make" ∷ others) body kept spec → ⊥) → IsUsage words

@@ -8,8 +8,8 @@ use Rattle.command_words.specs.declared.command.ClientCommand.{ClientCommand}
 use Rattle.command_words.specs.declared.command.ClientCommand.TheVariants as client
 use Rattle.command_words.specs.declared.command.CommandWord.{CommandWord}
 use Rattle.command_words.specs.declared.command.CommandWord.TheVariants as word
-use Rattle.command_words.specs.declared.command.NameCommand.{NameCommand}
-use Rattle.command_words.specs.declared.command.NameCommand.TheVariants.{Frames, PfhCheck, PfhShow}
+use Rattle.command_words.specs.declared.command.FileCommand.{FileCommand}
+use Rattle.command_words.specs.declared.command.FileCommand.TheVariants.{Check, Frames, Show}
 use Rattle.command_words.specs.Disks.{IsDiskOf}
 use Rattle.command_words.specs.declared.disk.DiskWord.{DiskWord}
 use Rattle.command_words.specs.Grammar.{line_value}
@@ -80,10 +80,10 @@ serve_same asked other one two =
 -- ---- only one meaning
 
 -- words that ask for a header are of no other command
-header_apart : (words : List Text) (other : CommandWord) → (other ≡ word.Named PfhCheck → ⊥) → (other ≡ word.Named PfhShow → ⊥) → (other ≡ word.PfhMake → ⊥)
+header_apart : (words : List Text) (other : CommandWord) → (other ≡ word.File Check → ⊥) → (other ≡ word.File Show → ⊥) → (other ≡ word.PfhMake → ⊥)
     → (other ≡ word.PfhBody → ⊥) → AreOf other words → AsksHeader words → ⊥
-header_apart words other no_check no_show no_make no_body asks (inl check) = not_both words other (word.Named PfhCheck) no_check asks check
-header_apart words other no_check no_show no_make no_body asks (inr (inl show)) = not_both words other (word.Named PfhShow) no_show asks show
+header_apart words other no_check no_show no_make no_body asks (inl check) = not_both words other (word.File Check) no_check asks check
+header_apart words other no_check no_show no_make no_body asks (inr (inl show)) = not_both words other (word.File Show) no_show asks show
 header_apart words other no_check no_show no_make no_body asks (inr (inr (inl make))) = not_both words other word.PfhMake no_make asks make
 header_apart words other no_check no_show no_make no_body asks (inr (inr (inr body))) = not_both words other word.PfhBody no_body asks body
 
@@ -95,8 +95,8 @@ client_apart words other differ asks (inr (inr list)) = not_both words other (wo
 
 -- nor for a header
 client_headers : (words : List Text) → AsksClient words → AsksHeader words → ⊥
-client_headers words client (inl check) = client_apart words (word.Named PfhCheck) (λ command same. cc) check client
-client_headers words client (inr (inl show)) = client_apart words (word.Named PfhShow) (λ command same. cc) show client
+client_headers words client (inl check) = client_apart words (word.File Check) (λ command same. cc) check client
+client_headers words client (inr (inl show)) = client_apart words (word.File Show) (λ command same. cc) show client
 client_headers words client (inr (inr (inl make))) = client_apart words word.PfhMake (λ command same. cc) make client
 client_headers words client (inr (inr (inr body))) = client_apart words word.PfhBody (λ command same. cc) body client
 
@@ -119,27 +119,27 @@ only_one words = record {
   usage_rehearse = λ usage rehearse. usage (inr (inr (inr (inr (inr rehearse)))));
   session_serve = λ session serve. not_both words word.Session word.Serve (λ same. cc) session serve;
   session_client = λ session client. client_apart words word.Session (λ command same. cc) session client;
-  session_frames = λ session frames. not_both words word.Session (word.Named Frames) (λ same. cc) session frames;
+  session_frames = λ session frames. not_both words word.Session (word.File Frames) (λ same. cc) session frames;
   session_header = λ session header. header_apart words word.Session (λ same. cc) (λ same. cc) (λ same. cc) (λ same. cc) session header;
   session_rehearse = λ session rehearse. not_both words word.Session word.Rehearse (λ same. cc) session rehearse;
   serve_client = λ serve client. client_apart words word.Serve (λ command same. cc) serve client;
-  serve_frames = λ serve frames. not_both words word.Serve (word.Named Frames) (λ same. cc) serve frames;
+  serve_frames = λ serve frames. not_both words word.Serve (word.File Frames) (λ same. cc) serve frames;
   serve_header = λ serve header. header_apart words word.Serve (λ same. cc) (λ same. cc) (λ same. cc) (λ same. cc) serve header;
   serve_rehearse = λ serve rehearse. not_both words word.Serve word.Rehearse (λ same. cc) serve rehearse;
-  client_frames = λ client frames. client_apart words (word.Named Frames) (λ command same. cc) frames client;
+  client_frames = λ client frames. client_apart words (word.File Frames) (λ command same. cc) frames client;
   client_header = λ client header. client_headers words client header;
   client_rehearse = λ client rehearse. client_apart words word.Rehearse (λ command same. cc) rehearse client;
-  frames_header = λ frames header. header_apart words (word.Named Frames) (λ same. cc) (λ same. cc) (λ same. cc) (λ same. cc) frames header;
-  frames_rehearse = λ frames rehearse. not_both words (word.Named Frames) word.Rehearse (λ same. cc) frames rehearse;
+  frames_header = λ frames header. header_apart words (word.File Frames) (λ same. cc) (λ same. cc) (λ same. cc) (λ same. cc) frames header;
+  frames_rehearse = λ frames rehearse. not_both words (word.File Frames) word.Rehearse (λ same. cc) frames rehearse;
   header_rehearse = λ header rehearse. header_apart words word.Rehearse (λ same. cc) (λ same. cc) (λ same. cc) (λ same. cc) rehearse header;
   send_fetch = λ send fetch. not_both words (word.Client client.Send) (word.Client client.Fetch) (λ same. cc) send fetch;
   send_list = λ send list. not_both words (word.Client client.Send) (word.Client client.List) (λ same. cc) send list;
   fetch_list = λ fetch list. not_both words (word.Client client.Fetch) (word.Client client.List) (λ same. cc) fetch list;
-  check_show = λ name other check show. not_both words (word.Named PfhCheck) (word.Named PfhShow) (λ same. cc) (name, check) (other, show);
-  check_make = λ name body kept spec check make. not_both words (word.Named PfhCheck) word.PfhMake (λ same. cc) (name, check) (body, kept, spec, make);
-  show_make = λ name body kept spec show make. not_both words (word.Named PfhShow) word.PfhMake (λ same. cc) (name, show) (body, kept, spec, make);
-  check_body = λ name other kept check body. not_both words (word.Named PfhCheck) word.PfhBody (λ same. cc) (name, check) (other, kept, body);
-  show_body = λ name other kept show body. not_both words (word.Named PfhShow) word.PfhBody (λ same. cc) (name, show) (other, kept, body);
+  check_show = λ name other check show. not_both words (word.File Check) (word.File Show) (λ same. cc) (name, check) (other, show);
+  check_make = λ name body kept spec check make. not_both words (word.File Check) word.PfhMake (λ same. cc) (name, check) (body, kept, spec, make);
+  show_make = λ name body kept spec show make. not_both words (word.File Show) word.PfhMake (λ same. cc) (name, show) (body, kept, spec, make);
+  check_body = λ name other kept check body. not_both words (word.File Check) word.PfhBody (λ same. cc) (name, check) (other, kept, body);
+  show_body = λ name other kept show body. not_both words (word.File Show) word.PfhBody (λ same. cc) (name, show) (other, kept, body);
   make_body = λ body kept name other spec make is. not_both words word.PfhMake word.PfhBody (λ same. cc) (body, kept, spec, make) (name, other, is);
   rehearsal_drawn = λ name seed count named drawn. let (others, first, second) = neither_same named drawn in name_drawn name seed count first second;
 }
@@ -251,7 +251,7 @@ form_decided air = elim (air_decided air) [
 ]
 
 -- words of a command with a name
-named_meant : (command : NameCommand) (disk air : Text) (others : List Text)
+named_meant : (command : FileCommand) (disk air : Text) (others : List Text)
     → ((name : Text) → IsNamed (word_of command) (disk ∷ air ∷ word_of command ∷ others) name → Meant (disk ∷ air ∷ word_of command ∷ others))
     → Meant (disk ∷ air ∷ word_of command ∷ others)
 named_meant command disk air others asked = elim (name_decided others) [
@@ -262,10 +262,10 @@ named_meant command disk air others asked = elim (name_decided others) [
   ]
 ]
 
-command_meant : (command : NameCommand) (disk air : Text) (others : List Text) → Meant (disk ∷ air ∷ word_of command ∷ others)
+command_meant : (command : FileCommand) (disk air : Text) (others : List Text) → Meant (disk ∷ air ∷ word_of command ∷ others)
 command_meant Frames disk air others = named_meant Frames disk air others (λ name asks. inr (inr (inr (inr (inl (name, asks))))))
-command_meant PfhCheck disk air others = named_meant PfhCheck disk air others (λ name asks. inr (inr (inr (inr (inr (inl (inl (name, asks))))))))
-command_meant PfhShow disk air others = named_meant PfhShow disk air others (λ name asks. inr (inr (inr (inr (inr (inl (inr (inl (name, asks)))))))))
+command_meant Check disk air others = named_meant Check disk air others (λ name asks. inr (inr (inr (inr (inr (inl (inl (name, asks))))))))
+command_meant Show disk air others = named_meant Show disk air others (λ name asks. inr (inr (inr (inr (inr (inl (inr (inl (name, asks)))))))))
 
 make_meant : (disk air : Text) (others : List Text) → Meant (disk ∷ air ∷ codes "pfh-make" ∷ others)
 make_meant disk air others = elim (make_decided others) [
@@ -318,23 +318,23 @@ client_word_decided c = elim (cases_Bool (bytes_eq c (codes "send"))) [
     none client.List is no_send no_fetch no_list = true≢false (sym (text_eq c (codes "list") is) ∙ no_list)
 
 -- or one with a name, or none
-name_word_decided : (c : Text) → Decided ((command : NameCommand) × (c ≡ word_of command))
+name_word_decided : (c : Text) → Decided ((command : FileCommand) × (c ≡ word_of command))
 name_word_decided c = elim (cases_Bool (bytes_eq c (codes "frames"))) [
   | inl is ↦ inl (Frames, text_same c (codes "frames") is)
   | inr no_frames ↦ elim (cases_Bool (bytes_eq c (codes "pfh-check"))) [
-    | inl is ↦ inl (PfhCheck, text_same c (codes "pfh-check") is)
+    | inl is ↦ inl (Check, text_same c (codes "pfh-check") is)
     | inr no_check ↦ elim (cases_Bool (bytes_eq c (codes "pfh-show"))) [
-      | inl is ↦ inl (PfhShow, text_same c (codes "pfh-show") is)
+      | inl is ↦ inl (Show, text_same c (codes "pfh-show") is)
       | inr no_show ↦ inr (λ (command, is). none command is no_frames no_check no_show)
     ]
   ]
 ]
   where
-    none : (command : NameCommand) → c ≡ word_of command → bytes_eq c (codes "frames") ≡ false → bytes_eq c (codes "pfh-check") ≡ false
+    none : (command : FileCommand) → c ≡ word_of command → bytes_eq c (codes "frames") ≡ false → bytes_eq c (codes "pfh-check") ≡ false
         → bytes_eq c (codes "pfh-show") ≡ false → ⊥
     none Frames is no_frames no_check no_show = true≢false (sym (text_eq c (codes "frames") is) ∙ no_frames)
-    none PfhCheck is no_frames no_check no_show = true≢false (sym (text_eq c (codes "pfh-check") is) ∙ no_check)
-    none PfhShow is no_frames no_check no_show = true≢false (sym (text_eq c (codes "pfh-show") is) ∙ no_show)
+    none Check is no_frames no_check no_show = true≢false (sym (text_eq c (codes "pfh-check") is) ∙ no_check)
+    none Show is no_frames no_check no_show = true≢false (sym (text_eq c (codes "pfh-show") is) ∙ no_show)
 
 -- each word names a command or none
 command_decided : (c : Text) → Decided ((command : CommandWord) × IsCommandOf c command)
@@ -351,7 +351,7 @@ command_decided c = elim (cases_Bool (bytes_eq c (codes "rehearse"))) [
           | inr no_body ↦ elim (client_word_decided c) [
             | inl (command, is) ↦ inl (word.Client command, is)
             | inr no_client ↦ elim (name_word_decided c) [
-              | inl (command, is) ↦ inl (word.Named command, is)
+              | inl (command, is) ↦ inl (word.File command, is)
               | inr no_name ↦ inr (λ (command, is). none command is no_rehearsal no_session no_serve no_make no_body no_client no_name)
             ]
           ]
@@ -363,11 +363,11 @@ command_decided c = elim (cases_Bool (bytes_eq c (codes "rehearse"))) [
   where
     none : (command : CommandWord) → IsCommandOf c command → bytes_eq c (codes "rehearse") ≡ false → bytes_eq c (codes "session") ≡ false
         → bytes_eq c (codes "serve") ≡ false → bytes_eq c (codes "pfh-make") ≡ false → bytes_eq c (codes "pfh-body") ≡ false → ((command : ClientCommand) × (c ≡ client_word command) → ⊥)
-        → ((command : NameCommand) × (c ≡ word_of command) → ⊥) → ⊥
+        → ((command : FileCommand) × (c ≡ word_of command) → ⊥) → ⊥
     none word.Session is no_rehearsal no_session no_serve no_make no_body no_client no_name = true≢false (sym (text_eq c (codes "session") is) ∙ no_session)
     none word.Serve is no_rehearsal no_session no_serve no_make no_body no_client no_name = true≢false (sym (text_eq c (codes "serve") is) ∙ no_serve)
     none (word.Client command) is no_rehearsal no_session no_serve no_make no_body no_client no_name = no_client (command, is)
-    none (word.Named command) is no_rehearsal no_session no_serve no_make no_body no_client no_name = no_name (command, is)
+    none (word.File command) is no_rehearsal no_session no_serve no_make no_body no_client no_name = no_name (command, is)
     none word.PfhMake is no_rehearsal no_session no_serve no_make no_body no_client no_name = true≢false (sym (text_eq c (codes "pfh-make") is) ∙ no_make)
     none word.PfhBody is no_rehearsal no_session no_serve no_make no_body no_client no_name = true≢false (sym (text_eq c (codes "pfh-body") is) ∙ no_body)
     none word.Rehearse is no_rehearsal no_session no_serve no_make no_body no_client no_name = true≢false (sym (text_eq c (codes "rehearse") is) ∙ no_rehearsal)
@@ -376,7 +376,7 @@ meant_by : (d a c : Text) (others : List Text) (command : CommandWord) → IsCom
 meant_by d a c others word.Session is = subst (λ (t : Text). Meant (d ∷ a ∷ t ∷ others)) (sym is) (session_meant d a others)
 meant_by d a c others word.Serve is = subst (λ (t : Text). Meant (d ∷ a ∷ t ∷ others)) (sym is) (serve_meant d a others)
 meant_by d a c others (word.Client command) is = subst (λ (t : Text). Meant (d ∷ a ∷ t ∷ others)) (sym is) (client_meant command d a others)
-meant_by d a c others (word.Named command) is = subst (λ (t : Text). Meant (d ∷ a ∷ t ∷ others)) (sym is) (command_meant command d a others)
+meant_by d a c others (word.File command) is = subst (λ (t : Text). Meant (d ∷ a ∷ t ∷ others)) (sym is) (command_meant command d a others)
 meant_by d a c others word.PfhMake is = subst (λ (t : Text). Meant (d ∷ a ∷ t ∷ others)) (sym is) (make_meant d a others)
 meant_by d a c others word.PfhBody is = subst (λ (t : Text). Meant (d ∷ a ∷ t ∷ others)) (sym is) (body_meant d a others)
 meant_by d a c others word.Rehearse is = subst (λ (t : Text). Meant (d ∷ a ∷ t ∷ others)) (sym is) (rehearse_meant d a others)

@@ -1,20 +1,14 @@
 -- What the words after `send`, `fetch` and `list` ask for.
 use Rattle.std.specs.Prelude.{◌≡◌, ℕ, ◌≤◌, List, [], ◌∷◌, length, Option, Ok, codes}
 use Rattle.hex.specs.Hex.{decode_of}
-use Rattle.px_base.specs.CallSign.{CallSign, CallText}
+use Rattle.px_base.specs.CallSign.{CallText}
+use Rattle.command_words.specs.declared.terms.ClientTerms.{ClientTerms}
 use Rattle.command_words.specs.Grammar.{Line, line_places, line_value}
 use Rattle.command_words.specs.Numbers.{IsNumberOr, NumberText, default_k, default_polls}
 
 -- the options of a client's commands
 abbrev pub client_options : List (List ℕ)
 client_options = codes "k" ∷ codes "polls" ∷ []
-
--- with whom a client speaks, under which call, with which k, and at how many polls at most
-pub record ClientTerms : Type 0 where
-  pub server : CallSign
-  pub me : CallSign
-  pub k : ℕ
-  pub polls : ℕ
 
 -- These texts give the terms of a client: they are its server's call and its own, and the values of its options, where these
 -- are given.

@@ -3,7 +3,7 @@ use Rattle.std.specs.Prelude.{◌≡◌, ℕ, ◌⊎◌, List}
 use Rattle.header_tool.specs.Made.{MakeValue}
 use Rattle.command_words.specs.declared.request.SessionRequest.{SessionRequest}
 use Rattle.command_words.specs.declared.serve.ServeRequest.{ServeRequest}
-use Rattle.command_words.specs.Clients.{ClientTerms}
+use Rattle.command_words.specs.declared.terms.ClientTerms.{ClientTerms}
 use Rattle.command_words.specs.Words.{AsksClient, AsksFetch, AsksHeader, AsksList, AsksRehearse, AsksSend}
 use Rattle.command_words.specs.Words.{IsFetch, IsList, IsSend, IsServe, IsSession, IsUsage}
 use Rattle.command_words.specs.Words.{IsBody, IsCheck, IsDrawn, IsFrames, IsMake, IsRehearsal, IsShow}

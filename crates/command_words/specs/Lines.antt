@@ -10,8 +10,7 @@ use Rattle.clap.specs.declared.builder.action.ArgAction.TheVariants.{Set}
 use Rattle.clap.specs.declared.parser.matches.ArgMatches.{ArgMatches}
 use Rattle.command_words.specs.declared.body.BodyRequest.{BodyRequest}
 use Rattle.command_words.specs.declared.line.MakeTexts.{MakeTexts}
-use Rattle.command_words.specs.declared.terms.Terms.{Terms}
-use Rattle.command_words.specs.Clients.{ClientTerms, client_options}
+use Rattle.command_words.specs.Clients.{client_options}
 use Rattle.command_words.specs.Grammar.{Line, line_places, line_value}
 use Rattle.command_words.specs.Making.{MakeOptions, make_options, options_given}
 use Rattle.command_words.specs.Rehearsals.{rehearse_options}
@@ -138,10 +137,6 @@ pub record ClientLine (count : ℕ) (words places : List (List ℕ)) (k polls : 
   pub places_are : line_places line ≡ places
   pub k_given : line_value line (codes "k") ≡ k
   pub polls_given : line_value line (codes "polls") ≡ polls
-
--- the terms of a client that were read
-abbrev pub terms_read : Terms → ClientTerms
-terms_read terms = record { server = terms.server; me = terms.me; k = terms.k; polls = terms.polls }
 
 -- the values of the options of `pfh-make` that were read
 abbrev pub options_read : MakeTexts → MakeOptions

@@ -7,7 +7,8 @@ use Rattle.command_words.specs.declared.disk.DiskWord.{DiskWord}
 use Rattle.command_words.specs.declared.disk.DiskWord.TheVariants.{Named}
 use Rattle.command_words.specs.declared.request.SessionRequest.{SessionRequest}
 use Rattle.command_words.specs.declared.serve.ServeRequest.{ServeRequest}
-use Rattle.command_words.specs.Clients.{ClientTerms, FetchText, ListText, SendText}
+use Rattle.command_words.specs.declared.terms.ClientTerms.{ClientTerms}
+use Rattle.command_words.specs.Clients.{FetchText, ListText, SendText}
 use Rattle.command_words.specs.Disks.{IsDiskOf}
 use Rattle.command_words.specs.Grammar.{Line, line_places, line_value}
 use Rattle.command_words.specs.Making.{MakeText}

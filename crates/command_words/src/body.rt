@@ -7,6 +7,7 @@ ghost use Rattle.command_words.specs.Words.{IsBody};
 
 use crate::air::read_air;
 use crate::line;
+use crate::make::MakingRequest;
 use crate::request::{Refusal, Request};
 use std::alloc::Global;
 
@@ -34,5 +35,5 @@ pub(crate) fn body_request<'a>(
         return Err(Refusal::Usage);
     }
     let asked = line::read_body(alloc, line)?;
-    Ok(Request::PfhBody(asked))
+    Ok(Request::Making(MakingRequest::Body(asked)))
 }

@@ -2,7 +2,7 @@
 
 ghost use Rattle.std.specs.Prelude.{◌∷◌, ℕ, List, IfOk, codes, drop, map, string_bytes};
 ghost use Rattle.command_words.specs.Asked.{AsksBehind, AsksFor};
-ghost use Rattle.command_words.specs.Clients.{ClientTerms, FetchText, HexText, ListText, SendText};
+ghost use Rattle.command_words.specs.Clients.{FetchText, HexText, ListText, SendText};
 ghost use Rattle.command_words.specs.Commands.{AsksBy, client_word};
 ghost use Rattle.command_words.specs.Refusals.{IsRefusedFor};
 
@@ -12,8 +12,8 @@ use crate::disk::is_station;
 use crate::hex_text::{is_hex, octets_of};
 use crate::number::read_number;
 use crate::request::{Refusal, Request};
-use crate::terms::read_terms;
-use px_base::{Call, OutOfMemory};
+use crate::terms::{ClientTerms, read_terms};
+use px_base::OutOfMemory;
 use std::alloc::Global;
 
 /// How many octets NAME of `send` may have at most.
@@ -25,15 +25,8 @@ const LAST_NUMBER: u64 = 4_294_967_295;
 /// A file of the shelf that is to be sent to a server.
 #[derive(Clone, Copy, Debug, PartialEq, Eq)]
 pub struct SendRequest<'a> {
-    /// The call of the server.
-    pub server: Call,
-    /// The call of the client itself.
-    pub me: Call,
-    /// How many I frames of the link may be outstanding (k of AX.25 2.0, 2.4.7.4): 1 to 7; [`K`](crate::K) where the words
-    /// give none.
-    pub k: u8,
-    /// How many polls are made at most: 1 or more; [`POLLS`](crate::POLLS) where the words give none.
-    pub polls: u64,
+    /// With whom the client speaks, and how.
+    pub terms: ClientTerms,
     /// The file's name on the shelf: 1 to 64 octets.
     pub name: &'a str,
 }
@@ -41,16 +34,10 @@ pub struct SendRequest<'a> {
 /// A file of a server that is to be kept on the shelf.
 #[derive(Clone, Copy, Debug, PartialEq, Eq)]
 pub struct FetchRequest<'a> {
-    /// The call of the server.
-    pub server: Call,
-    /// The call of the client itself.
-    pub me: Call,
+    /// With whom the client speaks, and how.
+    pub terms: ClientTerms,
     /// The file's number on the server: 1 or more.
     pub number: u32,
-    /// How many I frames of the link may be outstanding, as of [`SendRequest`].
-    pub k: u8,
-    /// How many polls are made at most, as of [`SendRequest`].
-    pub polls: u64,
     /// The name on the shelf under which it is to be kept.
     pub name: &'a str,
 }
@@ -58,14 +45,8 @@ pub struct FetchRequest<'a> {
 /// A list of the files of a server that a selection holds of.
 #[derive(Clone, Copy, Debug, PartialEq, Eq)]
 pub struct ListRequest<'a> {
-    /// The call of the server.
-    pub server: Call,
-    /// The call of the client itself.
-    pub me: Call,
-    /// How many I frames of the link may be outstanding, as of [`SendRequest`].
-    pub k: u8,
-    /// How many polls are made at most, as of [`SendRequest`].
-    pub polls: u64,
+    /// With whom the client speaks, and how.
+    pub terms: ClientTerms,
     /// The tokens of the selection (FTL0 1990, the selection commands) in hexadecimal, two digits an octet, in either case:
     /// at most 2,047 octets, which [`tokens`](ListRequest::tokens) gives.
     pub hex: &'a str,
@@ -130,10 +111,7 @@ fn send_request<'a>(alloc: Global, line: &'a [String]) -> Result<Request<'a>, Re
         return Err(Refusal::Usage);
     }
     Ok(Request::Client(ClientRequest::Send(SendRequest {
-        server: terms.server,
-        me: terms.me,
-        k: terms.k,
-        polls: terms.polls,
+        terms,
         name: texts.subject,
     })))
 }
@@ -152,11 +130,8 @@ fn fetch_request<'a>(alloc: Global, line: &'a [String]) -> Result<Request<'a>, R
         return Err(Refusal::Usage);
     };
     Ok(Request::Client(ClientRequest::Fetch(FetchRequest {
-        server: terms.server,
-        me: terms.me,
+        terms,
         number: number as u32,
-        k: terms.k,
-        polls: terms.polls,
         name: texts.name,
     })))
 }
@@ -175,10 +150,7 @@ fn list_request<'a>(alloc: Global, line: &'a [String]) -> Result<Request<'a>, Re
         return Err(Refusal::Usage);
     }
     Ok(Request::Client(ClientRequest::List(ListRequest {
-        server: terms.server,
-        me: terms.me,
-        k: terms.k,
-        polls: terms.polls,
+        terms,
         hex: texts.subject,
     })))
 }

@@ -1,11 +1,7 @@
 //! The word COMMAND.
 
-ghost use Rattle.std.specs.Prelude.{◌≡◌, ℕ, List, IfNone, IfSome};
-ghost use Rattle.command_words.specs.Asked.{AsksFor};
+ghost use Rattle.std.specs.Prelude.{◌≡◌, IfNone, IfSome};
 ghost use Rattle.command_words.specs.Commands.{IsCommandOf, client_word, word_of};
-ghost use Rattle.command_words.specs.Words.{IsNamed};
-
-use crate::request::Request;
 
 /// What the word COMMAND names.
 #[derive(Clone, Copy)]
@@ -16,8 +12,8 @@ pub(crate) enum CommandWord {
     Serve,
     /// A command of a client.
     Client(ClientCommand),
-    /// A command whose one place is a name.
-    Named(NameCommand),
+    /// A command that shows a text of a file.
+    File(FileCommand),
     /// The making of a file.
     PfhMake,
     /// The body of a file.
@@ -26,15 +22,16 @@ pub(crate) enum CommandWord {
     Rehearse,
 }
 
-/// The commands that have one place, a name, and no options, and that need neither disk nor air.
-#[derive(Clone, Copy)]
-pub(crate) enum NameCommand {
-    /// `frames`.
+/// A command that shows a text of a file on the shelf. It has one place, the file's name, and no options, and needs
+/// neither disk nor air.
+#[derive(Clone, Copy, Debug, PartialEq, Eq)]
+pub enum FileCommand {
+    /// `frames`: a line for each part of recorded KISS text.
     Frames,
-    /// `pfh-check`.
-    PfhCheck,
-    /// `pfh-show`.
-    PfhShow,
+    /// `pfh-show`: a line for each item of the file's header, and the line of its check.
+    Show,
+    /// `pfh-check`: the line of its check.
+    Check,
 }
 
 /// The commands of a client, which need a disk and an air.
@@ -62,8 +59,8 @@ pub(crate) fn read_command(word: &str) -> Option<CommandWord>
     if let Some(command) = read_client_command(word) {
         return Some(CommandWord::Client(command));
     }
-    if let Some(command) = read_name_command(word) {
-        return Some(CommandWord::Named(command));
+    if let Some(command) = read_file_command(word) {
+        return Some(CommandWord::File(command));
     }
     if word == "pfh-make" {
         return Some(CommandWord::PfhMake);
@@ -77,19 +74,19 @@ pub(crate) fn read_command(word: &str) -> Option<CommandWord>
     None
 }
 
-/// Which of the commands with a name this is.
-fn read_name_command(word: &str) -> Option<NameCommand>
+/// Which of the commands that show a file's text this is.
+fn read_file_command(word: &str) -> Option<FileCommand>
     ensures some { IfSome result (λ command. word.now ≡ word_of command) }
-    ensures none { IfNone result ((command : NameCommand) → word.now ≡ word_of command → ⊥) }
+    ensures none { IfNone result ((command : FileCommand) → word.now ≡ word_of command → ⊥) }
 {
     if word == "frames" {
-        return Some(NameCommand::Frames);
+        return Some(FileCommand::Frames);
     }
     if word == "pfh-check" {
-        return Some(NameCommand::PfhCheck);
+        return Some(FileCommand::Check);
     }
     if word == "pfh-show" {
-        return Some(NameCommand::PfhShow);
+        return Some(FileCommand::Show);
     }
     None
 }
@@ -111,26 +108,15 @@ fn read_client_command(word: &str) -> Option<ClientCommand>
     None
 }
 
-impl NameCommand {
+impl FileCommand {
     /// The word of this command.
     pub(crate) fn word(self) -> &'static str
         ensures { result.now ≡ word_of self }
     {
         match self {
-            NameCommand::Frames => "frames",
-            NameCommand::PfhCheck => "pfh-check",
-            NameCommand::PfhShow => "pfh-show",
-        }
-    }
-
-    /// What this command asks for with a name.
-    pub(crate) fn request<'a>(self, name: &'a str) -> Request<'a>
-        ensures { (words : List (List ℕ)) → IsNamed (word_of self) words name.entry.now → AsksFor words result }
-    {
-        match self {
-            NameCommand::Frames => Request::Frames { name },
-            NameCommand::PfhCheck => Request::PfhCheck { name },
-            NameCommand::PfhShow => Request::PfhShow { name },
+            FileCommand::Frames => "frames",
+            FileCommand::Show => "pfh-show",
+            FileCommand::Check => "pfh-check",
         }
     }
 }

@@ -9,6 +9,7 @@ ghost use Rattle.command_words.specs.Refusals.{IsRefusedFor};
 ghost use Rattle.command_words.specs.Words.{IsMake};
 
 use crate::air::read_air;
+use crate::body::BodyRequest;
 use crate::line::{self, MakeTexts};
 use crate::number::{LAST_MOMENT, number_or};
 use crate::request::{Refusal, Request};
@@ -28,6 +29,15 @@ pub struct MakeRequest<'a> {
     /// What its header is to say, which isn't refused ([`MakeSpec::refusal`]). Where the words don't say, the extension
     /// and the source are empty, the type and the time 0, and there is no destination and no title.
     pub header: MakeSpec<'a>,
+}
+
+/// The file that the words ask to keep, which is made of another one.
+#[derive(Clone, Copy, Debug, PartialEq, Eq)]
+pub enum MakingRequest<'a> {
+    /// `pfh-make`: a file of a body and a header.
+    Make(MakeRequest<'a>),
+    /// `pfh-body`: the body of a file.
+    Body(BodyRequest<'a>),
 }
 
 /// Reads the words of `pfh-make`: AIR and the line from `pfh-make` on. Takes memory.
@@ -50,11 +60,11 @@ pub(crate) fn make_request<'a>(
     };
     match header.refusal() {
         Some(_) => Err(Refusal::Usage),
-        None => Ok(Request::PfhMake(MakeRequest {
+        None => Ok(Request::Making(MakingRequest::Make(MakeRequest {
             body: texts.body,
             kept: texts.kept,
             header,
-        })),
+        }))),
     }
 }
 

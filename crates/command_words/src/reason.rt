@@ -73,7 +73,7 @@ fn parser_of<'a>(
         CommandWord::Client(_) => client_command(alloc, word),
         CommandWord::PfhMake => make_command(alloc),
         CommandWord::PfhBody => body_command(alloc),
-        CommandWord::Named(_) => line_command(alloc, word, "name"),
+        CommandWord::File(_) => line_command(alloc, word, "name"),
         CommandWord::Rehearse if names_a_schedule(line) => line_command(alloc, word, "name"),
         CommandWord::Rehearse => drawn_command(alloc),
     }

@@ -10,12 +10,12 @@ ghost use Rattle.command_words.specs.Refusals.{IsRefusedFor};
 ghost use Rattle.command_words.specs.Words.{IsNamed, IsUsage, NamesCommand, SessionText};
 
 use crate::air::{names_air, read_air};
-use crate::body::{BodyRequest, body_request};
+use crate::body::body_request;
 use crate::client::{ClientRequest, client_request};
-use crate::command::{CommandWord, NameCommand, read_command};
+use crate::command::{CommandWord, FileCommand, read_command};
 use crate::disk::{DiskWord, read_disk};
 use crate::line;
-use crate::make::{MakeRequest, make_request};
+use crate::make::{MakingRequest, make_request};
 use crate::number::{number_or, optional_moment};
 use crate::rehearse::{RehearseRequest, rehearse_request};
 use crate::serve::{ServeRequest, serve_request};
@@ -57,25 +57,15 @@ pub enum Request<'a> {
     Serve(ServeRequest),
     /// Something of a client.
     Client(ClientRequest<'a>),
-    /// The frames in a file of the shelf.
-    Frames {
-        /// The file's name.
-        name: &'a str,
-    },
-    /// The check of a file of the shelf.
-    PfhCheck {
+    /// A text of a file of the shelf.
+    File {
+        /// Which text.
+        command: FileCommand,
         /// The file's name on the shelf.
         name: &'a str,
     },
-    /// The header of a file of the shelf.
-    PfhShow {
-        /// The file's name on the shelf.
-        name: &'a str,
-    },
-    /// A file that is made of a body.
-    PfhMake(MakeRequest<'a>),
-    /// The body of a file.
-    PfhBody(BodyRequest<'a>),
+    /// A file that is made of another one.
+    Making(MakingRequest<'a>),
     /// A rehearsal.
     Rehearse(RehearseRequest<'a>),
 }
@@ -127,7 +117,7 @@ pub fn read(alloc: Global, words: &Words) -> Result<Request<'_>, Refusal>
         Some(CommandWord::Client(asked)) => {
             client_request(alloc, asked, disk.as_str(), air.as_str(), line)
         }
-        Some(CommandWord::Named(named)) => name_request(alloc, named, air.as_str(), line),
+        Some(CommandWord::File(shown)) => file_request(alloc, shown, air.as_str(), line),
         Some(CommandWord::PfhMake) => make_request(alloc, air.as_str(), line),
         Some(CommandWord::PfhBody) => body_request(alloc, air.as_str(), line),
         Some(CommandWord::Rehearse) => rehearse_request(alloc, air.as_str(), line),
@@ -188,10 +178,10 @@ fn read_texts(alloc: Global, line: &[String]) -> Result<SessionAsked, Refusal>
     })
 }
 
-/// Reads the words of a command with one place, a name: AIR and the line from the command on. Takes memory.
-fn name_request<'a>(
+/// Reads the words of a command that shows a file's text: AIR and the line from the command on. Takes memory.
+fn file_request<'a>(
     alloc: Global,
-    command: NameCommand,
+    command: FileCommand,
     air: &str,
     line: &'a [String],
 ) -> Result<Request<'a>, Refusal>
@@ -204,5 +194,5 @@ fn name_request<'a>(
         return Err(Refusal::Usage);
     }
     let name = line::read_name(alloc, command.word(), line)?;
-    Ok(command.request(name))
+    Ok(Request::File { command, name })
 }

@@ -2,7 +2,7 @@
 
 use crate::help::tell_usage;
 use air_log::meaning_of_code;
-use command_words::{ClientRequest, RehearseRequest, Request, Words, read};
+use command_words::{ClientRequest, MakingRequest, RehearseRequest, Request, Words, read};
 use pacsat_cli::{BadStore, RefusedBy, Status};
 use real_outside::SystemError;
 use std::io::{self, ErrorKind};
@@ -103,14 +103,17 @@ fn tell_shelf(rt: &HostRuntime, words: &Words, read_alone: bool, error: Option<S
     match request {
         Request::Client(ClientRequest::Send(send)) => tell_error(rt, send.name, error),
         Request::Client(ClientRequest::Fetch(fetch)) => tell_error(rt, fetch.name, error),
-        Request::Frames { name }
-        | Request::PfhShow { name }
-        | Request::PfhCheck { name }
-        | Request::Rehearse(RehearseRequest::Schedule { name }) => tell_error(rt, name, error),
-        Request::PfhMake(make) if read_alone => tell_error(rt, make.body, error),
-        Request::PfhMake(make) => tell_either(rt, make.body, make.kept, error),
-        Request::PfhBody(body) if read_alone => tell_error(rt, body.name, error),
-        Request::PfhBody(body) => tell_either(rt, body.name, body.kept, error),
+        Request::File { name, .. } | Request::Rehearse(RehearseRequest::Schedule { name }) => {
+            tell_error(rt, name, error)
+        }
+        Request::Making(MakingRequest::Make(make)) if read_alone => {
+            tell_error(rt, make.body, error)
+        }
+        Request::Making(MakingRequest::Make(make)) => tell_either(rt, make.body, make.kept, error),
+        Request::Making(MakingRequest::Body(body)) if read_alone => {
+            tell_error(rt, body.name, error)
+        }
+        Request::Making(MakingRequest::Body(body)) => tell_either(rt, body.name, body.kept, error),
         _ => {}
     }
 }

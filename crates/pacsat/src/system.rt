@@ -158,9 +158,9 @@ fn watcher<'a>(rt: &HostRuntime, words: &Words, disk: &'a str) -> Option<Watcher
 /// The call of the client itself.
 fn me_of(client: &ClientRequest<'_>) -> Call {
     match client {
-        ClientRequest::Send(send) => send.me,
-        ClientRequest::Fetch(fetch) => fetch.me,
-        ClientRequest::List(list) => list.me,
+        ClientRequest::Send(send) => send.terms.me,
+        ClientRequest::Fetch(fetch) => fetch.terms.me,
+        ClientRequest::List(list) => list.terms.me,
     }
 }
 

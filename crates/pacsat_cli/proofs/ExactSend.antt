@@ -31,7 +31,7 @@ use Rattle.uploader.specs.Loading.{IsSendable, IsUnfit, sum_of}
 use Rattle.uploader.specs.Sending.{EndsAtStart, IsTaskFor, IsUnloaded, IsUnnoted, IsUnstarted, Uploads, first_command, last_answer, upload_of}
 use Rattle.uploader.proofs.LedLemmas.{led-law}
 use Rattle.uploader.proofs.StartLemmas.{IsOfTask, of_task}
-use Rattle.command_words.specs.Clients.{ClientTerms as AskedTerms}
+use Rattle.command_words.specs.declared.terms.ClientTerms.{ClientTerms as AskedTerms}
 use Rattle.pacsat_cli.specs.declared.status.Status.{Status}
 use Rattle.pacsat_cli.specs.declared.status.Status.TheVariants as status
 use Rattle.pacsat_cli.specs.Clients.{RunsSend, SendRan, client_terms, outside}

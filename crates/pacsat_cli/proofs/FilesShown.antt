@@ -11,7 +11,7 @@ use Rattle.px_base.proofs.Told.{Gains-front, Gains-none}
 use Rattle.header_tool.specs.Faults.{fault_code}
 use Rattle.header_tool.specs.declared.shown.Shown.{Shown}
 use Rattle.header_tool.specs.Lines.{IsCodeOf}
-use Rattle.pacsat_cli.specs.declared.files.FileCommand.{FileCommand}
+use Rattle.command_words.specs.declared.command.FileCommand.{FileCommand}
 use Rattle.pacsat_cli.specs.declared.status.Status.{Status}
 use Rattle.pacsat_cli.specs.declared.status.Status.TheVariants as status
 use Rattle.pacsat_cli.specs.Files.{FileEnd, FileShown, IsTextOf, IsTextPut, OctetsShown, checks_headers, code_status, end_of, fault_status, is_file_status, most_octets}

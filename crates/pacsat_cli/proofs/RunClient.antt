@@ -9,8 +9,8 @@ use Rattle.uploader.specs.Fetching.{file_asked}
 use Rattle.uploader.specs.Listing.{files_asked}
 use Rattle.command_words.specs.declared.client.ClientRequest.{ClientRequest}
 use Rattle.command_words.specs.declared.client.ClientRequest.TheVariants as client
-use Rattle.command_words.specs.Clients.{ClientTerms as AskedTerms}
-use Rattle.command_words.specs.Asked.{AsksClientFor, fetch_terms, list_terms, send_terms}
+use Rattle.command_words.specs.declared.terms.ClientTerms.{ClientTerms as AskedTerms}
+use Rattle.command_words.specs.Asked.{AsksClientFor}
 use Rattle.command_words.specs.Laws.{Determined, OnlyOne}
 use Rattle.command_words.specs.Words.{AsksClient, AsksList, IsFetch, IsList, IsSend}
 use Rattle.pacsat_cli.specs.declared.status.Status.{Status}
@@ -25,9 +25,9 @@ use Rattle.pacsat_cli.proofs.ClientStops.{is_client_status}
 
 -- the words ask a client for this
 pub asks-client : (words : List (List ℕ)) (request : ClientRequest) → AsksClientFor words request → AsksClient words
-asks-client words (client.Send asked) is = inl (send_terms asked, asked.name.now, is)
-asks-client words (client.Fetch asked) is = inr (inl (fetch_terms asked, asked.number, asked.name.now, is))
-asks-client words (client.List asked) is = inr (inr (list_terms asked, is.0, is.2))
+asks-client words (client.Send asked) is = inl (asked.terms, asked.name.now, is)
+asks-client words (client.Fetch asked) is = inr (inl (asked.terms, asked.number, asked.name.now, is))
+asks-client words (client.List asked) is = inr (inr (asked.terms, is.0, is.2))
 
 pub may-run : (words : List (List ℕ)) (request : ClientRequest) → AsksClientFor words request → MayRun request
 may-run words (client.Send asked) is = record { ranges = is.text.text.ranges; some = is.text.some; few = is.text.few }
@@ -66,39 +66,39 @@ module _ {A C D S O : Type 0} (see : Seen D A C) (sh : ShelfGhosts S) (o : OutGh
   listed-did asked tokens is same_shelf (inr ran) = list-did see sh o old new shelf shelf_now out mid words s (client_terms asked) tokens (asked, tokens, is) same_shelf ran
 
   pub client-did : (request : ClientRequest) → AsksClientFor words request → ClientRan see sh o (outside old shelf out) (outside new shelf_now mid) request s → ClientDid see sh o old new shelf shelf_now out mid words s
-  client-did (client.Send asked) is ran = send-did see sh o old new shelf shelf_now out mid words s (client_terms (send_terms asked)) asked.name.now (send_terms asked, asked.name.now, is) ran
+  client-did (client.Send asked) is ran = send-did see sh o old new shelf shelf_now out mid words s (client_terms asked.terms) asked.name.now (asked.terms, asked.name.now, is) ran
   client-did (client.Fetch asked) is ran =
-      fetch-did see sh o old new shelf shelf_now out mid words s (client_terms (fetch_terms asked)) asked.number asked.name.now (fetch_terms asked, asked.number, asked.name.now, is) ran
-  client-did (client.List asked) is ran = listed-did (list_terms asked) is.0 is.2 ran.1 (ran.0 is.0 is.1)
+      fetch-did see sh o old new shelf shelf_now out mid words s (client_terms asked.terms) asked.number asked.name.now (asked.terms, asked.number, asked.name.now, is) ran
+  client-did (client.List asked) is ran = listed-did asked.terms is.0 is.2 ran.1 (ran.0 is.0 is.1)
 
   -- what the shelf holds stays, but for a file that is fetched
   pub client-held : (request : ClientRequest) → AsksClientFor words request → ClientRan see sh o (outside old shelf out) (outside new shelf_now mid) request s → (AsksKept words → ⊥) → Stays sh.held shelf shelf_now
   client-held (client.Send asked) is ran others = ran.held
-  client-held (client.Fetch asked) is ran others = absurd (others (inr (fetch_terms asked, asked.number, asked.name.now, is)))
+  client-held (client.Fetch asked) is ran others = absurd (others (inr (asked.terms, asked.number, asked.name.now, is)))
   client-held (client.List asked) is ran others = ap sh.held ran.1
 
   -- and a list leaves it alone
   pub client-alone : OnlyOne words → (request : ClientRequest) → AsksClientFor words request → ClientRan see sh o (outside old shelf out) (outside new shelf_now mid) request s → AsksList words → shelf_now ≡ shelf
-  client-alone only (client.Send asked) is ran lists = absurd (only.send_list (send_terms asked, asked.name.now, is) lists)
-  client-alone only (client.Fetch asked) is ran lists = absurd (only.fetch_list (fetch_terms asked, asked.number, asked.name.now, is) lists)
+  client-alone only (client.Send asked) is ran lists = absurd (only.send_list (asked.terms, asked.name.now, is) lists)
+  client-alone only (client.Fetch asked) is ran lists = absurd (only.fetch_list (asked.terms, asked.number, asked.name.now, is) lists)
   client-alone only (client.List asked) is ran lists = ran.1
 
   -- the words ask for this alone
   module _ (only : OnlyOne words) (determined : Determined words) (line : Shows o.shown o.faults mid now (line_of s)) (done : line_of s ≡ [] → now ≡ mid) where
     pub client-sends : (request : ClientRequest) → AsksClientFor words request → ClientRan see sh o (outside old shelf out) (outside new shelf_now mid) request s → RunsSend words see sh o (outside old shelf out) (outside new shelf_now now) s
-    client-sends (client.Send asked) is ran = send-runs determined line done (send_terms asked) asked.name.now is ran
-    client-sends (client.Fetch asked) is ran = λ other another too. absurd (only.send_fetch (other, another, too) (fetch_terms asked, asked.number, asked.name.now, is))
-    client-sends (client.List asked) is ran = λ other another too. absurd (only.send_list (other, another, too) (list_terms asked, is.0, is.2))
+    client-sends (client.Send asked) is ran = send-runs determined line done asked.terms asked.name.now is ran
+    client-sends (client.Fetch asked) is ran = λ other another too. absurd (only.send_fetch (other, another, too) (asked.terms, asked.number, asked.name.now, is))
+    client-sends (client.List asked) is ran = λ other another too. absurd (only.send_list (other, another, too) (asked.terms, is.0, is.2))
 
     pub client-fetches : (request : ClientRequest) → AsksClientFor words request → ClientRan see sh o (outside old shelf out) (outside new shelf_now mid) request s → RunsFetch words see sh o (outside old shelf out) (outside new shelf_now now) s
-    client-fetches (client.Send asked) is ran = λ other number another too. absurd (only.send_fetch (send_terms asked, asked.name.now, is) (other, number, another, too))
-    client-fetches (client.Fetch asked) is ran = fetch-runs determined line done (fetch_terms asked) asked.number asked.name.now is ran
-    client-fetches (client.List asked) is ran = λ other number another too. absurd (only.fetch_list (other, number, another, too) (list_terms asked, is.0, is.2))
+    client-fetches (client.Send asked) is ran = λ other number another too. absurd (only.send_fetch (asked.terms, asked.name.now, is) (other, number, another, too))
+    client-fetches (client.Fetch asked) is ran = fetch-runs determined line done asked.terms asked.number asked.name.now is ran
+    client-fetches (client.List asked) is ran = λ other number another too. absurd (only.fetch_list (other, number, another, too) (asked.terms, is.0, is.2))
 
     pub client-lists : (request : ClientRequest) → AsksClientFor words request → ClientRan see sh o (outside old shelf out) (outside new shelf_now mid) request s → RunsList words see o (outside old shelf out) (outside new shelf_now now) s
-    client-lists (client.Send asked) is ran = λ other tokens too. absurd (only.send_list (send_terms asked, asked.name.now, is) (other, tokens, too))
-    client-lists (client.Fetch asked) is ran = λ other tokens too. absurd (only.fetch_list (fetch_terms asked, asked.number, asked.name.now, is) (other, tokens, too))
-    client-lists (client.List asked) is ran = list-runs determined line done (list_terms asked) is.0 is.2 ran.1 (ran.0 is.0 is.1)
+    client-lists (client.Send asked) is ran = λ other tokens too. absurd (only.send_list (asked.terms, asked.name.now, is) (other, tokens, too))
+    client-lists (client.Fetch asked) is ran = λ other tokens too. absurd (only.fetch_list (asked.terms, asked.number, asked.name.now, is) (other, tokens, too))
+    client-lists (client.List asked) is ran = list-runs determined line done asked.terms is.0 is.2 ran.1 (ran.0 is.0 is.1)
 
   module _ (did : ClientDid see sh o old new shelf shelf_now out mid words s) where
     -- a client's command ends with no other command's status

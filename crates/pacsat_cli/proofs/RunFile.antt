@@ -3,14 +3,15 @@ use Rattle.std.proofs.Common.{◌≡◌, ℕ, ◌≤◌, List, [], ap, sym, subs
 use Rattle.std.specs.Prelude.{Option, IfSome}
 use Rattle.px_base.specs.Outside.{Rose}
 use Rattle.px_base.specs.Shelves.{Holding, content_of}
-use Rattle.pacsat_cli.specs.declared.files.FileCommand.{FileCommand}
+use Rattle.command_words.specs.declared.command.FileCommand.{FileCommand}
 use Rattle.pacsat_cli.specs.declared.status.RefusedBy.TheVariants as by
 use Rattle.pacsat_cli.specs.declared.status.Status.{Status}
 use Rattle.pacsat_cli.specs.declared.status.Status.TheVariants as status
 use Rattle.pacsat_cli.specs.Files.{FileEnd, FileShown, IsNoSuchBy, IsShownBy, IsTooLongBy, is_file_status}
 use Rattle.pacsat_cli.specs.Run.{Shows}
 use Rattle.pacsat_cli.specs.Status.{line_of}
-use Rattle.pacsat_cli.specs.Tasks.{AsksText, RunsFile, WhereHeld}
+use Rattle.command_words.specs.Asked.{AsksText}
+use Rattle.pacsat_cli.specs.Tasks.{RunsFile, WhereHeld}
 use Rattle.pacsat_cli.proofs.FileEnds.{no_such-end, shown-end, too_long-end}
 
 -- whether no text of a file ends with this status

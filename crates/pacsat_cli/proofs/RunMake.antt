@@ -5,14 +5,15 @@ use Rattle.px_base.specs.Shelves.{Holding}
 use Rattle.command_words.specs.Laws.{Determined, OnlyOne}
 use Rattle.command_words.specs.Words.{AsksMake}
 use Rattle.header_tool.specs.Made.{MakeValue, make_value}
-use Rattle.pacsat_cli.specs.declared.making.MakeCommand.{MakeCommand}
-use Rattle.pacsat_cli.specs.declared.making.MakeCommand.TheVariants.{Make, Body}
+use Rattle.command_words.specs.declared.make.MakingRequest.{MakingRequest}
+use Rattle.command_words.specs.declared.make.MakingRequest.TheVariants.{Make, Body}
 use Rattle.pacsat_cli.specs.declared.status.RefusedBy.TheVariants as by
 use Rattle.pacsat_cli.specs.declared.status.Status.{Status}
 use Rattle.pacsat_cli.specs.declared.status.Status.TheVariants as status
 use Rattle.pacsat_cli.specs.Bodies.{BodyEnd, BodyRan}
 use Rattle.pacsat_cli.specs.Making.{MakeEnd, MakeRan}
-use Rattle.pacsat_cli.specs.Tasks.{AsksMaking, MakingRan, MayMake, RunsBody, RunsMake}
+use Rattle.command_words.specs.Asked.{AsksMakingFor}
+use Rattle.pacsat_cli.specs.Tasks.{MakingRan, MayMake, RunsBody, RunsMake}
 
 -- whether a make can end with this status
 abbrev pub is_make_status : Status → Bool
@@ -36,26 +37,26 @@ body-status : (IsFile : List ℕ → Type 0) (name : List ℕ) (before now : Opt
 body-status IsFile name before now (status.Refused (by.Fault code)) h = refl
 body-status IsFile name before now s h = make-status IsFile name before now s h
 
-making-status : (command : MakeCommand) (before now : Option Holding) (s : Status) → MakingRan command before now s → is_make_status s ≡ true
+making-status : (command : MakingRequest) (before now : Option Holding) (s : Status) → MakingRan command before now s → is_make_status s ≡ true
 making-status (Make request) before now s ran = make-status _ request.kept.now before now s ran.ends
 making-status (Body request) before now s ran = body-status _ request.kept.now before now s ran.ends
 
 -- a make ends with no other command's status
-pub make-not : (command : MakeCommand) (before now : Option Holding) (s : Status) → MakingRan command before now s → (other : Status) → is_make_status other ≡ false → s ≡ other → ⊥
+pub make-not : (command : MakingRequest) (before now : Option Holding) (s : Status) → MakingRan command before now s → (other : Status) → is_make_status other ≡ false → s ≡ other → ⊥
 make-not command before now s ran other isnt is = let yes = making-status command before now s ran in let same = ap is_make_status is in absurd (cc)
 
 module _ (words : List (List ℕ)) where
-  pub asks-make : (command : MakeCommand) → AsksMaking words command → AsksMake words
+  pub asks-make : (command : MakingRequest) → AsksMakingFor words command → AsksMake words
   asks-make (Make request) is = inl (request.body.now, request.kept.now, make_value request.header, is)
   asks-make (Body request) is = inr (request.name.now, request.kept.now, is)
 
-  pub may-make : (command : MakeCommand) → AsksMaking words command → MayMake command
+  pub may-make : (command : MakingRequest) → AsksMakingFor words command → MayMake command
   may-make (Make request) is = is.text.possible
   may-make (Body request) is = tt
 
   -- the words ask for this file alone
   module _ {S : Type 0} (holds : S → Option Holding) (shelf shelf_now : S) (s : Status) (only : OnlyOne words) (determined : Determined words) where
-    pub make-runs : (command : MakeCommand) → AsksMaking words command → MakingRan command (holds shelf) (holds shelf_now) s → RunsMake words holds shelf shelf_now s
+    pub make-runs : (command : MakingRequest) → AsksMakingFor words command → MakingRan command (holds shelf) (holds shelf_now) s → RunsMake words holds shelf shelf_now s
     make-runs (Make request) is ran = λ other another later too.
         let same = determined.make request.body.now other request.kept.now another (make_value request.header) later is too in
         let at_body : List ℕ → Type 0 = λ b. MakeRan (make_value request.header) b request.kept.now (holds shelf) (holds shelf_now) s in
@@ -64,7 +65,7 @@ module _ (words : List (List ℕ)) where
         subst at_asked same.2 (subst at_name same.1 (subst at_body same.0 ran))
     make-runs (Body request) is ran = λ other another later too. absurd (only.make_body other another request.name.now request.kept.now later too is)
 
-    pub body-runs : (command : MakeCommand) → AsksMaking words command → MakingRan command (holds shelf) (holds shelf_now) s → RunsBody words holds shelf shelf_now s
+    pub body-runs : (command : MakingRequest) → AsksMakingFor words command → MakingRan command (holds shelf) (holds shelf_now) s → RunsBody words holds shelf shelf_now s
     body-runs (Make request) is ran = λ other another too. absurd (only.make_body request.body.now request.kept.now other another (make_value request.header) is too)
     body-runs (Body request) is ran = λ other another too.
         let same = determined.body request.name.now other request.kept.now another is too in

@@ -10,6 +10,7 @@ use Rattle.node.specs.Lent.{Lent, Seen}
 use Rattle.command_words.specs.declared.request.SessionRequest.{SessionRequest}
 use Rattle.command_words.specs.declared.serve.ServeRequest.{ServeRequest}
 use Rattle.px_base.proofs.Told.{Gains-none}
+use Rattle.command_words.specs.Asked.{AsksText}
 use Rattle.command_words.specs.Laws.{OnlyOne}
 use Rattle.command_words.specs.Words.{AsksClient, AsksMake, AsksRehearse, IsServe, IsSession, IsUsage, NamesCommand}
 use Rattle.command_words.specs.declared.request.Refusal.{Refusal}
@@ -18,7 +19,7 @@ use Rattle.header_tool.specs.Made.{MakeValue}
 use Rattle.node.specs.Lent.{lent, seen}
 use Rattle.pacsat_cli.specs.declared.status.Status.{Status}
 use Rattle.pacsat_cli.specs.declared.status.Status.TheVariants as status
-use Rattle.pacsat_cli.specs.declared.files.FileCommand.{FileCommand}
+use Rattle.command_words.specs.declared.command.FileCommand.{FileCommand}
 use Rattle.pacsat_cli.specs.Bodies.{BodyRan, body_status}
 use Rattle.pacsat_cli.specs.Clients.{RunsFetch, RunsList, RunsSend, outside}
 use Rattle.pacsat_cli.specs.Files.{FileEnd, FileShown, IsNoSuchBy, IsShownBy, IsTooLongBy}
@@ -28,7 +29,7 @@ use Rattle.pacsat_cli.specs.Servers.{RunsServe, WhereServed}
 use Rattle.pacsat_cli.specs.Sessions.{HasDiskCause, HasStoreCause, IsDoneBy, IsSpentBy, RunsSession, WhereHeard}
 use Rattle.pacsat_cli.specs.Status.{line_of}
 use Rattle.pacsat_cli.specs.Stops.{status_of_refusal}
-use Rattle.pacsat_cli.specs.Tasks.{AsksText, RunsBody, RunsFile, RunsMake, WhereHeld}
+use Rattle.pacsat_cli.specs.Tasks.{RunsBody, RunsFile, RunsMake, WhereHeld}
 use Rattle.pacsat_cli.proofs.NodeEnds.{Goes, is_early_status, node-complete}
 use Rattle.pacsat_cli.proofs.OneTask.{usage-file, usage-make}
 

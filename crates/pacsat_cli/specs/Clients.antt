@@ -21,8 +21,8 @@ use Rattle.command_words.specs.declared.client.ClientRequest.TheVariants as clie
 use Rattle.command_words.specs.declared.client.FetchRequest.{FetchRequest}
 use Rattle.command_words.specs.declared.client.ListRequest.{ListRequest}
 use Rattle.command_words.specs.declared.client.SendRequest.{SendRequest}
-use Rattle.command_words.specs.Asked.{fetch_terms, list_terms, send_terms}
-use Rattle.command_words.specs.Clients.{AreTermsInRange, ClientTerms as AskedTerms, HexText}
+use Rattle.command_words.specs.declared.terms.ClientTerms.{ClientTerms as AskedTerms}
+use Rattle.command_words.specs.Clients.{AreTermsInRange, HexText}
 use Rattle.command_words.specs.Words.{IsFetch, IsList, IsSend}
 use Rattle.pacsat_cli.specs.declared.status.Status.{Status}
 use Rattle.pacsat_cli.specs.declared.status.Status.TheVariants.{Done, Out, OutOfMemory}
@@ -101,20 +101,20 @@ abbrev pub IsListed :
 IsListed see o old new out out_now asked status =
     (tokens : List ℕ) → HexText asked.hex.now tokens
     → IsUnlisted old new out out_now status
-    ⊎ ListRan see o old new out out_now (files_asked (client_terms (list_terms asked)) tokens) status
+    ⊎ ListRan see o old new out out_now (files_asked (client_terms asked.terms) tokens) status
 
 -- so it was with the file that is to be sent
 abbrev pub IsSent :
     {A C D S O : Type 0} → Seen D A C → ShelfGhosts S → OutGhosts O → Outside D A C S O → Outside D A C S O
     → SendRequest → Status → Type 0
-IsSent see s o old new asked status = SendRan see s o old new (client_terms (send_terms asked)) asked.name.now status
+IsSent see s o old new asked status = SendRan see s o old new (client_terms asked.terms) asked.name.now status
 
 -- so it was with the one that is to be fetched
 abbrev pub IsFetched :
     {A C D S O : Type 0} → Seen D A C → ShelfGhosts S → OutGhosts O → Outside D A C S O → Outside D A C S O
     → FetchRequest → Status → Type 0
 IsFetched see s o old new asked status =
-    FetchRan see s o old new (file_asked (client_terms (fetch_terms asked)) asked.number asked.name.now) status
+    FetchRan see s o old new (file_asked (client_terms asked.terms) asked.number asked.name.now) status
 
 -- so it was with what a client was asked for
 abbrev pub ClientRan :
@@ -127,18 +127,18 @@ ClientRan see s o old new (client.List asked) status =
 
 -- The numbers and the texts of a request are such as the words give: of `send` NAME has 1 to 64 octets,
 pub record MaySend (asked : SendRequest) : Type 0 where
-  pub ranges : AreTermsInRange (send_terms asked)
+  pub ranges : AreTermsInRange asked.terms
   pub some : 1 ≤ length asked.name.now
   pub few : length asked.name.now ≤ 64
 
 -- of `fetch` they are in their ranges,
 pub record MayFetch (asked : FetchRequest) : Type 0 where
-  pub ranges : AreTermsInRange (fetch_terms asked)
+  pub ranges : AreTermsInRange asked.terms
   pub some : 1 ≤ asked.number
 
 -- of `list` HEX is hexadecimal,
 pub record MayList (asked : ListRequest) : Type 0 where
-  pub ranges : AreTermsInRange (list_terms asked)
+  pub ranges : AreTermsInRange asked.terms
   pub hex : (tokens : List ℕ) × HexText asked.hex.now tokens
 
 -- and so of each request.

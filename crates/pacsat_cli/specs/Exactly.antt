@@ -26,7 +26,7 @@ use Rattle.uploader.specs.Led.{IsLedTo}
 use Rattle.uploader.specs.Listing.{directory_of}
 use Rattle.uploader.specs.Loading.{IsBad, IsLong, IsSendable, sum_of}
 use Rattle.uploader.specs.Sending.{IsTaskFor, last_answer, upload_of}
-use Rattle.command_words.specs.Clients.{ClientTerms as AskedTerms}
+use Rattle.command_words.specs.declared.terms.ClientTerms.{ClientTerms as AskedTerms}
 use Rattle.command_words.specs.Words.{IsFetch, IsList, IsSend}
 use Rattle.pacsat_cli.specs.declared.status.RefusedBy.TheVariants.{Fault, Server}
 use Rattle.pacsat_cli.specs.declared.status.Status.{Status}

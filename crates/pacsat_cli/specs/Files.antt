@@ -9,8 +9,8 @@ use Rattle.header_tool.specs.Faults.{fault_code}
 use Rattle.header_tool.specs.declared.shown.Shown.{Shown}
 use Rattle.header_tool.specs.Lines.{check_text, header_lines}
 use Rattle.header_tool.specs.Frames.FramesText.{FramesText}
-use Rattle.pacsat_cli.specs.declared.files.FileCommand.{FileCommand}
-use Rattle.pacsat_cli.specs.declared.files.FileCommand.TheVariants.{Frames, Show, Check}
+use Rattle.command_words.specs.declared.command.FileCommand.{FileCommand}
+use Rattle.command_words.specs.declared.command.FileCommand.TheVariants.{Frames, Show, Check}
 use Rattle.pacsat_cli.specs.declared.status.RefusedBy.TheVariants.{Shown as by_shown}
 use Rattle.pacsat_cli.specs.declared.status.Status.{Status}
 use Rattle.pacsat_cli.specs.declared.status.Status.TheVariants.{Done, Refused, NoSuch, OutOfMemory, Out, Shelf, TooLong}

@@ -1,55 +1,31 @@
 -- What the words ask a run to do, and what a run did of it.
 use Rattle.std.specs.Prelude.{◌≡◌, ◌⊎◌, ℕ, List, Option, Some}
 use Rattle.px_base.specs.Shelves.{Holding, content_of}
-use Rattle.command_words.specs.Asked.{AsksClientFor, AsksRehearseFor}
-use Rattle.command_words.specs.Words.{AsksClient, AsksFetch, AsksMake, AsksRehearse, IsBody, IsMake, IsServe}
-use Rattle.command_words.specs.Words.{IsCheck, IsFrames, IsSession, IsShow}
+use Rattle.command_words.specs.declared.command.FileCommand.{FileCommand}
+use Rattle.command_words.specs.declared.make.MakingRequest.{MakingRequest}
+use Rattle.command_words.specs.declared.make.MakingRequest.TheVariants as making
+use Rattle.command_words.specs.Asked.{AsksText}
+use Rattle.command_words.specs.Words.{AsksClient, AsksFetch, AsksMake, AsksRehearse, IsBody, IsMake}
 use Rattle.header_tool.specs.Made.{MakeValue, make_value}
-use Rattle.pacsat_cli.specs.declared.files.FileCommand.{FileCommand}
-use Rattle.pacsat_cli.specs.declared.files.FileCommand.TheVariants as command
-use Rattle.pacsat_cli.specs.declared.making.MakeCommand.{MakeCommand}
-use Rattle.pacsat_cli.specs.declared.making.MakeCommand.TheVariants as making
 use Rattle.pacsat_cli.specs.declared.status.Status.{Status}
-use Rattle.pacsat_cli.specs.declared.task.Task.{Task}
-use Rattle.pacsat_cli.specs.declared.task.Task.TheVariants.{Session, Serve, File, Make, Client, Rehearse}
 use Rattle.pacsat_cli.specs.Bodies.{BodyRan}
 use Rattle.pacsat_cli.specs.Files.{FileRan}
 use Rattle.pacsat_cli.specs.Making.{IsPossible, MakeRan}
-
--- the words ask for this command's text of the file of this name
-abbrev pub AsksText : List (List ℕ) → FileCommand → List ℕ → Type 0
-AsksText words command.Frames name = IsFrames words name
-AsksText words command.Show name = IsShow words name
-AsksText words command.Check name = IsCheck words name
 
 -- the words ask for the text of a file
 abbrev pub AsksFile : List (List ℕ) → Type 0
 AsksFile words = (command : FileCommand) × (name : List ℕ) × AsksText words command name
 
--- the words ask for a file that is made so
-abbrev pub AsksMaking : List (List ℕ) → MakeCommand → Type 0
-AsksMaking words (making.Make request) = IsMake words request.body.now request.kept.now (make_value request.header)
-AsksMaking words (making.Body request) = IsBody words request.name.now request.kept.now
-
 -- such a file may be made: its header isn't refused
-abbrev pub MayMake : MakeCommand → Type 0
+abbrev pub MayMake : MakingRequest → Type 0
 MayMake (making.Make request) = IsPossible (make_value request.header)
 MayMake (making.Body request) = Unit
 
 -- such a file was made and kept, or was not, and this is the status
-abbrev pub MakingRan : MakeCommand → Option Holding → Option Holding → Status → Type 0
+abbrev pub MakingRan : MakingRequest → Option Holding → Option Holding → Status → Type 0
 MakingRan (making.Make request) before now status =
     MakeRan (make_value request.header) request.body.now request.kept.now before now status
 MakingRan (making.Body request) before now status = BodyRan request.name.now request.kept.now before now status
-
--- the words ask for this
-abbrev pub AsksTask : List (List ℕ) → Task → Type 0
-AsksTask words (Session request) = IsSession words request
-AsksTask words (Serve request) = IsServe words request
-AsksTask words (File command name) = AsksText words command name.now
-AsksTask words (Make command) = AsksMaking words command
-AsksTask words (Client request) = AsksClientFor words request.now
-AsksTask words (Rehearse request) = AsksRehearseFor words request.now
 
 -- the words ask for a file that is kept on the shelf: one that is made, or one that is fetched
 abbrev pub AsksKept : List (List ℕ) → Type 0

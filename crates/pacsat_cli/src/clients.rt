@@ -3,13 +3,15 @@
 ghost use Rattle.std.specs.Prelude.{◌≡◌, ◌≤◌, length};
 ghost use Rattle.node.specs.Lent.{lent, seen};
 ghost use Rattle.pacsat_cli.specs.Clients.{ClientRan, IsFetched, IsListed, IsSent, MayFetch, MayList, MayRun, MaySend};
-ghost use Rattle.pacsat_cli.specs.Clients.{PutsLine, outside};
+ghost use Rattle.pacsat_cli.specs.Clients.{PutsLine, client_terms, outside};
 ghost use Rattle.pacsat_cli.specs.Status.{numbered_line};
 ghost use Rattle.pacsat_cli.specs.Stops.{status_of_stop as stop_status};
 
 use crate::status::numbered;
 use crate::{BadStore, RefusedBy, Status};
-use command_words::{ClientRequest, FetchRequest, ListRequest, SendRequest};
+use command_words::{
+    ClientRequest, ClientTerms as AskedTerms, FetchRequest, ListRequest, SendRequest,
+};
 use disk_model::Disk;
 use px_base::{Air, Clock, Out, Shelf};
 use std::alloc::Global;
@@ -52,12 +54,7 @@ fn run_send<D: Disk, A: Air, S: Shelf, O: Out, C: Clock>(
         (outside (lent disk.old air.old clock.old) shelf.old out.old)
         (outside (lent disk.new air.new clock.new) shelf.new out.new) request.now result }
 {
-    let terms = ClientTerms {
-        server: request.server,
-        me: request.me,
-        k: request.k,
-        polls: request.polls,
-    };
+    let terms = terms_of(&request.terms);
     match send(alloc, disk, air, shelf, clock, &terms, request.name) {
         Ok(sent) => show_numbered("acked ", sent.number, out),
         Err(why) => status_of_stop(why),
@@ -79,12 +76,7 @@ fn run_fetch<D: Disk, A: Air, S: Shelf, O: Out, C: Clock>(
         (outside (lent disk.old air.old clock.old) shelf.old out.old)
         (outside (lent disk.new air.new clock.new) shelf.new out.new) request.now result }
 {
-    let terms = ClientTerms {
-        server: request.server,
-        me: request.me,
-        k: request.k,
-        polls: request.polls,
-    };
+    let terms = terms_of(&request.terms);
     match fetch(
         alloc,
         disk,
@@ -116,15 +108,22 @@ fn run_list<D: Disk, A: Air, O: Out, C: Clock>(
     let Ok(tokens) = request.tokens(alloc) else {
         return Status::OutOfMemory;
     };
-    let terms = ClientTerms {
-        server: request.server,
-        me: request.me,
-        k: request.k,
-        polls: request.polls,
-    };
+    let terms = terms_of(&request.terms);
     match list(alloc, disk, air, out, clock, &terms, tokens.as_slice()) {
         Ok(()) => Status::Done,
         Err(why) => status_of_stop(why),
+    }
+}
+
+/// With what a client's command is carried out.
+fn terms_of(asked: &AskedTerms) -> ClientTerms
+    ensures { result ≡ client_terms asked.now }
+{
+    ClientTerms {
+        server: asked.server,
+        me: asked.me,
+        k: asked.k,
+        polls: asked.polls,
     }
 }
 
@@ -133,7 +132,7 @@ fn show_numbered<O: Out>(words: &str, number: u32, out: &mut O) -> Status
     requires { length words.now ≤ 20 }
     ensures { PutsLine O.Out (numbered_line words.now number) out.old out.new result }
 {
-    match out.put(numbered(words, number).as_slice()) {
+    match out.put(numbered(words, u64::from(number)).as_slice()) {
         Ok(()) => Status::Done,
         Err(_down) => Status::Out,
     }

@@ -6,6 +6,7 @@ ghost use Rattle.pacsat_cli.specs.Run.{HasStatusCause, Stays};
 
 use crate::status::status_of_load;
 use crate::{RefusedBy, Status};
+use command_words::FileCommand;
 use header_tool::frames::show_frames;
 use header_tool::{Shown, check_line, show};
 use px_base::{Out, OutOfMemory, Shelf};
@@ -13,17 +14,6 @@ use std::alloc::Global;
 
 /// The most octets of a file on the shelf that a command reads.
 pub(crate) const MOST_OCTETS: usize = 4_194_304;
-
-/// A command that shows a text of a file on the shelf.
-#[derive(Clone, Copy)]
-pub(crate) enum FileCommand {
-    /// `frames`: a line for each part of recorded KISS text.
-    Frames,
-    /// `pfh-show`: a line for each item of the file's header, and the line of its check.
-    Show,
-    /// `pfh-check`: the line of its check.
-    Check,
-}
 
 /// Shows the command's text of the file that the shelf has under this name. Takes memory for the file, and for
 /// `pfh-show` and `pfh-check` for their text; takes time that grows with the file's length.

@@ -10,7 +10,6 @@ mod rehearsing;
 mod serving;
 mod startup;
 mod status;
-mod task;
 mod top_call;
 
 pub use bench::fresh_bench;

@@ -9,34 +9,25 @@ ghost use Rattle.pacsat_cli.specs.Tasks.{MakingRan, MayMake};
 use crate::files::MOST_OCTETS;
 use crate::status::status_of_load;
 use crate::{RefusedBy, Status};
-use command_words::{BodyRequest, MakeRequest};
+use command_words::MakingRequest;
 use header_tool::{MakeRefusal, MakeSpec, body_of, make};
 use px_base::Shelf;
 use std::alloc::Global;
 
-/// A command that keeps a file which is made of another one.
-#[derive(Clone, Copy)]
-pub(crate) enum MakeCommand<'a> {
-    /// `pfh-make`: a file of a body and a header.
-    Make(MakeRequest<'a>),
-    /// `pfh-body`: the body of a file.
-    Body(BodyRequest<'a>),
-}
-
-/// Makes the command's file, and keeps it. Takes memory for the one that it is made of, and `pfh-make` for the one that
-/// is made.
+/// Makes the file that is asked for, and keeps it. Takes memory for the one that it is made of, and `pfh-make` for the
+/// one that is made.
 pub(crate) fn run_making<S: Shelf>(
     alloc: Global,
-    command: &MakeCommand<'_>,
+    request: &MakingRequest<'_>,
     shelf: &mut S,
 ) -> Status
-    requires { MayMake command.now }
-    ensures made { MakingRan command.now (S.held shelf.old) (S.held shelf.new) result }
+    requires { MayMake request.now }
+    ensures made { MakingRan request.now (S.held shelf.old) (S.held shelf.new) result }
     ensures shelf { HasStatusCause Status.Shelf (S.faults shelf.old) (S.faults shelf.new) result }
 {
-    match command {
-        MakeCommand::Make(make) => run_make(alloc, &make.header, make.body, make.kept, shelf),
-        MakeCommand::Body(body) => run_body(alloc, body.name, body.kept, shelf),
+    match request {
+        MakingRequest::Make(make) => run_make(alloc, &make.header, make.body, make.kept, shelf),
+        MakingRequest::Body(body) => run_body(alloc, body.name, body.kept, shelf),
     }
 }
 

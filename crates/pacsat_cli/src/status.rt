@@ -1,9 +1,10 @@
 //! How a run of the program ended.
 
-ghost use Rattle.std.specs.Prelude.{◌≡◌, ◌+◌, ◌≤◌, ◌++◌, codes, decimal, length};
+ghost use Rattle.std.specs.Prelude.{◌≡◌, ◌*◌, ◌+◌, ◌≤◌, ◌++◌, length};
 ghost use Rattle.arrayvec.specs.ArrayVec.{array_vec_len};
 ghost use Rattle.hex.specs.Hex.{encode_lower};
-ghost use Rattle.pacsat_cli.specs.Status.{bad_line, changed_line, line_of, number_of, numbered_line, refused_line, sum_text};
+ghost use Rattle.pacsat_cli.specs.Status.{bad_line, changed_line, line_of, number_of, numbered_line, sum_text};
+ghost use Rattle.pacsat_cli.specs.declared.status.BadStore.TheVariants.{NotAStore};
 ghost use Rattle.pacsat_cli.specs.Stops.{status_of_load as load_status};
 
 use arrayvec::ArrayVec;
@@ -138,22 +139,24 @@ impl Status {
         ensures { result.items ≡ line_of self.now }
     {
         match self {
-            Status::Done => Line::new(),
-            Status::Refused(by) => line_of_refusal(by),
+            Status::Done | Status::Refused(RefusedBy::Shown) => Line::new(),
+            Status::Refused(RefusedBy::Server { code }) => numbered("refused ", u64::from(*code)),
+            Status::Refused(RefusedBy::Fault { code }) => numbered("fault ", u64::from(*code)),
             Status::Usage => text("usage\n"),
             Status::AirRead => text("air read\n"),
             Status::AirWrite => text("air write\n"),
             Status::Disk => text("disk\n"),
             Status::NoSuch => text("no such file\n"),
             Status::FileChanged { kept, given } => line_of_change(kept, given),
-            Status::BadStore(why) => line_of_bad_store(why),
+            Status::BadStore(BadStore::NotAStore { found }) => line_of_content(found),
+            Status::BadStore(BadStore::Damaged { at }) => numbered("damaged ", *at),
             Status::OutOfMemory => text("out of memory\n"),
             Status::Spent => text("spent\n"),
             Status::Out => text("out\n"),
             Status::Shelf => text("shelf\n"),
             Status::LinkDown => text("link down\n"),
-            Status::BadSchedule { line } => line_of_schedule(*line),
-            Status::Strange { kind } => numbered("strange packet ", u32::from(*kind)),
+            Status::BadSchedule { line } => numbered("bad schedule ", *line),
+            Status::Strange { kind } => numbered("strange packet ", u64::from(*kind)),
             Status::NotesFull => text("notes full\n"),
             Status::TooLong => text("too long\n"),
         }
@@ -171,45 +174,21 @@ fn text(text: &str) -> Line
 }
 
 /// The line of these words and a number.
-pub(crate) fn numbered(words: &str, number: u32) -> Line
+pub(crate) fn numbered(words: &str, number: u64) -> Line
     requires { length words.now ≤ 20 }
     ensures { result.items ≡ numbered_line words.now number }
 {
-    let mut line = Line::new();
-    push(&mut line, words.as_bytes());
-    push_number(&mut line, number);
-    push(&mut line, b"\n");
-    line
-}
-
-/// The line of content that is no lawful schedule, by the line of that.
-fn line_of_schedule(number: u64) -> Line
-    ensures { result.items ≡ numbered_line (codes "bad schedule ") number }
-{
-    let mut line = Line::new();
-    push(&mut line, b"bad schedule ");
+    let mut line = text(words);
     push(&mut line, Buffer::new().format(number).as_bytes());
     push(&mut line, b"\n");
     line
-}
-
-/// The line of a refusal: none where what was shown says why.
-fn line_of_refusal(by: &RefusedBy) -> Line
-    ensures { result.items ≡ refused_line by.now }
-{
-    match by {
-        RefusedBy::Shown => Line::new(),
-        RefusedBy::Server { code } => numbered("refused ", u32::from(*code)),
-        RefusedBy::Fault { code } => numbered("fault ", u32::from(*code)),
-    }
 }
 
 /// The line of a file that isn't the one of its task: the length and the digest of that one, and then its own.
 fn line_of_change(kept: &FileSum, given: &FileSum) -> Line
     ensures { result.items ≡ changed_line kept.now given.now }
 {
-    let mut line = Line::new();
-    push(&mut line, b"file changed ");
+    let mut line = text("file changed ");
     push_sum(&mut line, kept);
     push(&mut line, b" ");
     push_sum(&mut line, given);
@@ -217,35 +196,14 @@ fn line_of_change(kept: &FileSum, given: &FileSum) -> Line
     line
 }
 
-/// The line of content that is no store: its first eight octets as sixteen hexadecimal digits, in lower case, or the place of
-/// the damage.
-fn line_of_bad_store(why: &BadStore) -> Line
-    ensures { result.items ≡ bad_line why.now }
+/// The line of content that is no store: these first eight octets of it in hexadecimal digits, in lower case.
+fn line_of_content(found: &[u8; 8]) -> Line
+    ensures { result.items ≡ bad_line (NotAStore found.now) }
 {
-    let mut line = Line::new();
-    match why {
-        BadStore::NotAStore { found } => {
-            push(&mut line, b"not a store ");
-            push_hex(&mut line, found);
-        }
-        BadStore::Damaged { at } => {
-            push(&mut line, b"damaged ");
-            push(&mut line, Buffer::new().format(*at).as_bytes());
-        }
-    }
+    let mut line = text("not a store ");
+    push_hex(&mut line, found);
     push(&mut line, b"\n");
     line
-}
-
-/// Adds eight octets to a line in hexadecimal digits, in lower case.
-fn push_hex(line: &mut Line, octets: &[u8; 8])
-    requires { array_vec_len line.old + 16 ≤ LINE_ROOM }
-    ensures text { line.new.items ≡ line.old.items ++ encode_lower octets.now }
-    ensures len { array_vec_len line.new ≡ array_vec_len line.old + 16 }
-{
-    let mut digits = [0; 16];
-    hex::encode_to_slice(octets.as_slice(), digits.as_mut_slice()).unwrap();
-    push(line, digits.as_slice());
 }
 
 /// Adds a file's length in decimal digits, a blank, and its digest in hexadecimal digits, in lower case.
@@ -254,20 +212,22 @@ fn push_sum(line: &mut Line, sum: &FileSum)
     ensures text { line.new.items ≡ line.old.items ++ sum_text sum.now }
     ensures len { array_vec_len line.new ≤ array_vec_len line.old + 75 }
 {
-    let mut digits = [0; 64];
-    hex::encode_to_slice(&sum.digest, &mut digits).unwrap();
-    push_number(line, sum.length);
+    push(line, Buffer::new().format(sum.length).as_bytes());
     push(line, b" ");
-    push(line, &digits);
+    push_hex(line, &sum.digest);
 }
 
-/// Adds a number in decimal digits.
-fn push_number(line: &mut Line, number: u32)
-    requires { array_vec_len line.old + 10 ≤ LINE_ROOM }
-    ensures text { line.new.items ≡ line.old.items ++ decimal number }
-    ensures len { array_vec_len line.new ≤ array_vec_len line.old + 10 }
+/// Adds at most 32 octets in hexadecimal digits, in lower case.
+fn push_hex(line: &mut Line, octets: &[u8])
+    requires few { length octets.now ≤ 32 }
+    requires room { array_vec_len line.old + 2 * length octets.now ≤ LINE_ROOM }
+    ensures text { line.new.items ≡ line.old.items ++ encode_lower octets.now }
+    ensures len { array_vec_len line.new ≡ array_vec_len line.old + 2 * length octets.now }
 {
-    push(line, Buffer::new().format(number).as_bytes());
+    let mut digits = [0; 64];
+    let digits = &mut digits[..2 * octets.len()];
+    hex::encode_to_slice(octets, digits).unwrap();
+    push(line, digits);
 }
 
 /// Adds octets to a line.

@@ -3,7 +3,7 @@
 ghost use Rattle.std.specs.Prelude.{◌≡◌, ◌≤◌, [], ◌∷◌};
 ghost use Rattle.disk_model.specs.Cuts.{AreFresh, cuts_by};
 ghost use Rattle.command_words.specs.Laws.{AsksServe, AsksSession};
-ghost use Rattle.command_words.specs.Words.{AsksClient, AsksList, AsksMake, AsksRehearse, IsUsage, NamesCommand};
+ghost use Rattle.command_words.specs.Words.{AsksList, AsksMake, AsksRehearse, IsUsage, NamesCommand};
 ghost use Rattle.px_base.specs.Outside.{Rose};
 ghost use Rattle.node.specs.Lent.{lent, seen};
 ghost use Rattle.pacsat_cli.specs.Acknowledged.{ServiceStands, SessionStands};
@@ -26,12 +26,11 @@ use crate::files::run_file;
 use crate::making::run_making;
 use crate::rehearsing::run_rehearsal;
 use crate::serving::{run_serve, run_session};
-use crate::task::{Task, task_of};
 use crate::{Status, Words};
 use acknowledged_laws::{server_acknowledges_law, session_acknowledges_law};
 use air_schedule::laws::one_schedule;
-use command_words::Refusal;
 use command_words::laws::one_meaning;
+use command_words::{Refusal, Request};
 use disk_model::{CutDisk, Disk};
 use ftl0_client::laws::{one_step_law, stays_law};
 use node::laws::one_run_law;
@@ -199,34 +198,34 @@ pub fn run<D: Disk, A: Air, S: Shelf, O: Out, C: Clock, B: CutDisk>(
             return status;
         }
     };
-    match task_of(&request) {
-        Task::Session(request) => {
-            let status = run_session(alloc, &request, disk, air, clock);
+    match request {
+        Request::Session(asked) => {
+            let status = run_session(alloc, &asked, disk, air, clock);
             show_line(status, out);
             status
         }
-        Task::Serve(request) => {
-            let status = run_serve(alloc, &request, disk, air, clock);
+        Request::Serve(asked) => {
+            let status = run_serve(alloc, &asked, disk, air, clock);
             show_line(status, out);
             status
         }
-        Task::File { command, name } => {
+        Request::File { command, name } => {
             let status = run_file(alloc, command, name, shelf, out);
             show_line(status, out);
             status
         }
-        Task::Make(command) => {
-            let status = run_making(alloc, &command, shelf);
+        Request::Making(asked) => {
+            let status = run_making(alloc, &asked, shelf);
             show_line(status, out);
             status
         }
-        Task::Client(request) => {
-            let status = run_client(alloc, request, disk, air, shelf, out, clock);
+        Request::Client(asked) => {
+            let status = run_client(alloc, &asked, disk, air, shelf, out, clock);
             show_line(status, out);
             status
         }
-        Task::Rehearse(request) => {
-            let status = run_rehearsal(alloc, request, bench, shelf, out);
+        Request::Rehearse(asked) => {
+            let status = run_rehearsal(alloc, &asked, bench, shelf, out);
             show_line(status, out);
             status
         }

@@ -7,8 +7,8 @@ use Rattle.command_words.specs.Commands.{client_word, word_of}
 use Rattle.command_words.specs.declared.command.ClientCommand.{ClientCommand}
 use Rattle.command_words.specs.declared.command.ClientCommand.TheVariants as client
 use Rattle.command_words.specs.Words.{commands}
-use Rattle.command_words.specs.declared.command.NameCommand.{NameCommand}
-use Rattle.command_words.specs.declared.command.NameCommand.TheVariants.{Frames, PfhCheck, PfhShow}
+use Rattle.command_words.specs.declared.command.FileCommand.{FileCommand}
+use Rattle.command_words.specs.declared.command.FileCommand.TheVariants.{Check, Frames, Show}
 use Rattle.command_words.proofs.Uses.{Text}
 use Rattle.command_words.proofs.Meanings.{body_usage, client_usage, make_usage, name_usage, no_command_usage, rehearse_usage, serve_usage, session_usage, three_words}
 use Rattle.command_words.proofs.request.read.Goals as goal
@@ -69,24 +69,24 @@ returns-in-Some-Client c = record {
 
 -- ---- a command with a name
 
-name_words : (c : goal.After-name_request)
-    → c.args.words.now ≡ string_bytes c.disk-item.result ∷ c.as_str-in-Some-Named.result.now ∷ word_of c.in-Some-Named.named ∷ drop 1 (map string_bytes (take (length c.as_slice-texts.result.now - 2) (drop 2 c.as_slice-texts.result.now)))
+name_words : (c : goal.After-file_request)
+    → c.args.words.now ≡ string_bytes c.disk-item.result ∷ c.as_str-in-Some-File.result.now ∷ word_of c.in-Some-File.shown ∷ drop 1 (map string_bytes (take (length c.as_slice-texts.result.now - 2) (drop 2 c.as_slice-texts.result.now)))
 name_words c =
     sym c.as_slice-texts.ensures ∙ three_words c.as_slice-texts.result.now c.disk-item.result c.air-item.result c.command-item.result _ _ _ c.in-len3-up.len_at_least c.disk-item.is c.air-item.is c.command-item.is
-    refl c.as_str-in-Some-Named.ensures.value (sym (rw c.in-Some-Named.field-0-is at c.in-Some-Named.ensures.some) ∙ c.as_str.ensures.value)
+    refl c.as_str-in-Some-File.ensures.value (sym (rw c.in-Some-File.field-0-is at c.in-Some-File.ensures.some) ∙ c.as_str.ensures.value)
 
 -- which is one of the commands
-name_known : (command : NameCommand) → Contains commands (word_of command)
+name_known : (command : FileCommand) → Contains commands (word_of command)
 name_known Frames = (5, lit< tt, refl)
-name_known PfhCheck = (6, lit< tt, refl)
-name_known PfhShow = (7, lit< tt, refl)
+name_known Check = (6, lit< tt, refl)
+name_known Show = (7, lit< tt, refl)
 
-pub returns-in-Some-Named : goal.returns-in-Some-Named
-returns-in-Some-Named c = record {
-  asks = subst (λ (ws : List Text). IfOk c.name_request.result (AsksFor ws)) (sym (name_words c))
-      (IfOk-weaker c.name_request.result _ _ (λ request asks. asks (string_bytes c.disk-item.result)) c.name_request.ensures.asks);
-  usage = λ usage. name_usage c.in-Some-Named.named (name_words c) (c.name_request.ensures.refused usage (string_bytes c.disk-item.result));
-  memory = λ _. (_, _, _, _, name_words c, name_known c.in-Some-Named.named);
+pub returns-in-Some-File : goal.returns-in-Some-File
+returns-in-Some-File c = record {
+  asks = subst (λ (ws : List Text). IfOk c.file_request.result (AsksFor ws)) (sym (name_words c))
+      (IfOk-weaker c.file_request.result _ _ (λ request asks. asks (string_bytes c.disk-item.result)) c.file_request.ensures.asks);
+  usage = λ usage. name_usage c.in-Some-File.shown (name_words c) (c.file_request.ensures.refused usage (string_bytes c.disk-item.result));
+  memory = λ _. (_, _, _, _, name_words c, name_known c.in-Some-File.shown);
 }
 
 -- ---- `pfh-make`

@@ -1,6 +1,6 @@
 -- Each command's text of the octets, as it was shown.
 use Rattle.std.proofs.Common.{refl}
-use Rattle.pacsat_cli.specs.declared.files.FileCommand.TheVariants as command
+use Rattle.command_words.specs.declared.command.FileCommand.TheVariants as command
 use Rattle.pacsat_cli.proofs.FilesShown.{front-shown, put-shown}
 use Rattle.pacsat_cli.proofs.files.show_octets.Goals as goal
 

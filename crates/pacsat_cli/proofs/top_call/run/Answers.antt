@@ -1,14 +1,15 @@
 -- Each task by what it did, and refused words by why they were.
 use Rattle.std.proofs.Common.{◌≡◌, ℕ, List, refl, ap, sym, arith, inl, inr, Err}
+use Rattle.command_words.specs.Asked.{AsksText}
 use Rattle.command_words.specs.Laws.{AsksServe, AsksSession}
 use Rattle.command_words.specs.Words.{AsksClient, AsksMake, AsksRehearse}
-use Rattle.pacsat_cli.specs.declared.files.FileCommand.{FileCommand}
+use Rattle.command_words.specs.declared.command.FileCommand.{FileCommand}
 use Rattle.pacsat_cli.specs.declared.status.Status.TheVariants as status
 use Rattle.disk_model.specs.Cuts.{cuts_by}
 use Rattle.pacsat_cli.specs.Rehearsing.{PlayEnd, setting, seen_setting}
 use Rattle.pacsat_cli.specs.Status.{line_of}
 use Rattle.pacsat_cli.specs.Stops.{status_of_refusal}
-use Rattle.pacsat_cli.specs.Tasks.{AsksFile, AsksText}
+use Rattle.pacsat_cli.specs.Tasks.{AsksFile}
 use Rattle.node.specs.Lent.{lent, seen}
 use Rattle.pacsat_cli.specs.Clients.{outside}
 use Rattle.pacsat_cli.proofs.Acknowledged.{service-stands, session-stands}
@@ -94,16 +95,16 @@ returns-in-Err g c =
     })
 
 pub run_session-status-requires-clause-some : goal.run_session-status-requires-clause-some
-run_session-status-requires-clause-some g c = some_blocks c.args.words.now c.in-Session.request (c.in-Session.ensures c.args.words.now c.in-Ok.ensures.asks)
+run_session-status-requires-clause-some g c = some_blocks c.args.words.now c.in-Session.asked (rw c.in-Session.is at c.in-Ok.ensures.asks)
 
 pub run_session-status-requires-clause-most : goal.run_session-status-requires-clause-most
-run_session-status-requires-clause-most g c = most_blocks c.args.words.now c.in-Session.request (c.in-Session.ensures c.args.words.now c.in-Ok.ensures.asks)
+run_session-status-requires-clause-most g c = most_blocks c.args.words.now c.in-Session.asked (rw c.in-Session.is at c.in-Ok.ensures.asks)
 
 pub returns-in-Session : goal.returns-in-Session
 returns-in-Session g c =
-    let asked = c.in-Session.request in
+    let asked = c.in-Session.asked in
     let words = c.args.words.now in
-    let asks = c.in-Session.ensures words c.in-Ok.ensures.asks in
+    let asks = rw c.in-Session.is at c.in-Ok.ensures.asks in
     let session : AsksSession words = (asked, asks) in
     let only = c.one_meaning.ensures.only_one words in
     let determined = c.one_meaning.ensures.determined words in
@@ -167,14 +168,14 @@ returns-in-Session g c =
 
 pub run_serve-status-requires : goal.run_serve-status-requires
 run_serve-status-requires g c =
-    let asks = c.in-Serve.ensures c.args.words.now c.in-Ok.ensures.asks in
+    let asks = rw c.in-Serve.is at c.in-Ok.ensures.asks in
     record { ranges = asks.text.ranges }
 
 pub returns-in-Serve : goal.returns-in-Serve
 returns-in-Serve g c =
-    let asked = c.in-Serve.request in
+    let asked = c.in-Serve.asked in
     let words = c.args.words.now in
-    let asks = c.in-Serve.ensures words c.in-Ok.ensures.asks in
+    let asks = rw c.in-Serve.is at c.in-Ok.ensures.asks in
     let serve : AsksServe words = (asked, asks) in
     let only = c.one_meaning.ensures.only_one words in
     let determined = c.one_meaning.ensures.determined words in
@@ -241,7 +242,7 @@ returns-in-File g c =
     let command = c.in-File.command in
     let name = c.in-File.name.now in
     let words = c.args.words.now in
-    let asks = c.in-File.ensures words c.in-Ok.ensures.asks in
+    let asks = rw c.in-File.is at c.in-Ok.ensures.asks in
     let only = c.one_meaning.ensures.only_one words in
     let file : AsksFile words = (command, name, asks) in
     let one : (other : FileCommand) (another : List ℕ) → AsksText words other another → (command ≡ other) × (name ≡ another) = λ other another too. one-text words only (c.one_meaning.ensures.determined words) command other name another asks too in
@@ -313,24 +314,24 @@ returns-in-File g c =
     }
 
 pub run_making-status-requires : goal.run_making-status-requires
-run_making-status-requires g c = may-make c.args.words.now c.in-Make.command (c.in-Make.ensures c.args.words.now c.in-Ok.ensures.asks)
+run_making-status-requires g c = may-make c.args.words.now c.in-Making.asked (rw c.in-Making.is at c.in-Ok.ensures.asks)
 
-pub returns-in-Make : goal.returns-in-Make
-returns-in-Make g c =
-    let command = c.in-Make.command in
+pub returns-in-Making : goal.returns-in-Making
+returns-in-Making g c =
+    let command = c.in-Making.asked in
     let words = c.args.words.now in
-    let asks = c.in-Make.ensures words c.in-Ok.ensures.asks in
+    let asks = rw c.in-Making.is at c.in-Ok.ensures.asks in
     let only = c.one_meaning.ensures.only_one words in
     let determined = c.one_meaning.ensures.determined words in
     let make : AsksMake words = asks-make words command asks in
     let ran = c.run_making-status in
     let made = ran.ensures.made in
-    let line = c.show_line-in-Make.ensures in
+    let line = c.show_line-in-Making.ensures in
     let isnt = make-not command (g.S.Shelf.held c.args.shelf.now) (g.S.Shelf.held ran.new.shelf) ran.result made in
     let no_session = unasked-session words (seen g.D.Disk g.A.Air g.C.Clock.given) (lent c.args.disk.now c.args.air.now c.args.clock.now) (lent c.args.disk.now c.args.air.now c.args.clock.now) ran.result (λ session. session-make words only session make) in
     let no_serve = unasked-serve words (seen g.D.Disk g.A.Air g.C.Clock.given) (lent c.args.disk.now c.args.air.now c.args.clock.now) (lent c.args.disk.now c.args.air.now c.args.clock.now) ran.result (λ serve. serve-make words only serve make) in
-    let no_client = unasked-client words (seen g.D.Disk g.A.Air g.C.Clock.given) g.S.Shelf g.O.Out (outside (lent c.args.disk.now c.args.air.now c.args.clock.now) c.args.shelf.now c.args.out.now) (outside (lent c.args.disk.now c.args.air.now c.args.clock.now) ran.new.shelf c.show_line-in-Make.new.out) ran.result (make-client words only make) in
-    let no_file = unasked-file words g.S.Shelf g.O.Out c.args.shelf.now c.args.out.now c.show_line-in-Make.new.out ran.result (λ file. file-make words only file make) in
+    let no_client = unasked-client words (seen g.D.Disk g.A.Air g.C.Clock.given) g.S.Shelf g.O.Out (outside (lent c.args.disk.now c.args.air.now c.args.clock.now) c.args.shelf.now c.args.out.now) (outside (lent c.args.disk.now c.args.air.now c.args.clock.now) ran.new.shelf c.show_line-in-Making.new.out) ran.result (make-client words only make) in
+    let no_file = unasked-file words g.S.Shelf g.O.Out c.args.shelf.now c.args.out.now c.show_line-in-Making.new.out ran.result (λ file. file-make words only file make) in
     record {
       usage = λ e. absurd (isnt status.Usage refl e);
       usage_told = λ usage. absurd (usage-make words only usage make);
@@ -366,7 +367,7 @@ returns-in-Make g c =
       made = make-runs words g.S.Shelf.held c.args.shelf.now ran.new.shelf ran.result only determined command asks made;
       body = body-runs words g.S.Shelf.held c.args.shelf.now ran.new.shelf ran.result only determined command asks made;
       made_alone = λ _. (same c.args.air.now, same c.args.clock.now);
-      rehearsal = no-rehearsal words (seen_setting g.B.Disk (cuts_by g.B.CutDisk.restarts g.B.CutDisk.arming g.B.CutDisk.plain g.B.CutDisk.is_starved) g.S.Shelf g.O.Out) (setting c.args.bench.now.items c.args.shelf.now c.args.out.now) (setting c.args.bench.now.items ran.new.shelf c.show_line-in-Make.new.out) ran.result (make-rehearse words only make) refl;
+      rehearsal = no-rehearsal words (seen_setting g.B.Disk (cuts_by g.B.CutDisk.restarts g.B.CutDisk.arming g.B.CutDisk.plain g.B.CutDisk.is_starved) g.S.Shelf g.O.Out) (setting c.args.bench.now.items c.args.shelf.now c.args.out.now) (setting c.args.bench.now.items ran.new.shelf c.show_line-in-Making.new.out) ran.result (make-rehearse words only make) refl;
       rehearsal_alone = λ rehearse. absurd (make-rehearse words only make rehearse);
       air_read = record { rose = λ e. absurd (isnt status.AirRead refl e); same = λ _ _. same (g.A.Air.read_faults c.args.air.now) };
       air_write = record { rose = λ e. absurd (isnt status.AirWrite refl e); same = λ _ _ _ _. same (g.A.Air.write_faults c.args.air.now) };
@@ -389,13 +390,13 @@ returns-in-Make g c =
     }
 
 pub run_client-status-requires : goal.run_client-status-requires
-run_client-status-requires g c = may-run c.args.words.now c.in-Client.request.now (c.in-Client.ensures c.args.words.now c.in-Ok.ensures.asks)
+run_client-status-requires g c = may-run c.args.words.now c.in-Client.asked (rw c.in-Client.is at c.in-Ok.ensures.asks)
 
 pub returns-in-Client : goal.returns-in-Client
 returns-in-Client g c =
     let words = c.args.words.now in
-    let request = c.in-Client.request.now in
-    let asks = c.in-Client.ensures words c.in-Ok.ensures.asks in
+    let request = c.in-Client.asked in
+    let asks = rw c.in-Client.is at c.in-Ok.ensures.asks in
     let client : AsksClient words = asks-client words request asks in
     let only = c.one_meaning.ensures.only_one words in
     let determined = c.one_meaning.ensures.determined words in
@@ -461,9 +462,9 @@ returns-in-Client g c =
 
 pub returns-in-Rehearse : goal.returns-in-Rehearse
 returns-in-Rehearse g c =
-    let request = c.in-Rehearse.request.now in
+    let request = c.in-Rehearse.asked in
     let words = c.args.words.now in
-    let asks = c.in-Rehearse.ensures words c.in-Ok.ensures.asks in
+    let asks = rw c.in-Rehearse.is at c.in-Ok.ensures.asks in
     let only = c.one_meaning.ensures.only_one words in
     let determined = c.one_meaning.ensures.determined words in
     let rehearse : AsksRehearse words = asks-rehearse words request asks in

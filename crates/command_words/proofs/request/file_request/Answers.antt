@@ -3,7 +3,7 @@ use Rattle.std.proofs.Common.{◌∙◌, ap, not}
 use Rattle.std.proofs.lemmas.Result.{err_from_is_err_and}
 use Rattle.command_words.proofs.LineLemmas.{handed_on}
 use Rattle.command_words.proofs.Meanings.{air_read, air_unread, neither_from, neither_text}
-use Rattle.command_words.proofs.request.name_request.Goals as goal
+use Rattle.command_words.proofs.request.file_request.Goals as goal
 
 pub returns-then-is_none-clause-refused : goal.returns-then-is_none-clause-refused
 returns-then-is_none-clause-refused c = λ usage disk name asks.
@@ -16,5 +16,4 @@ returns-in_err-name-clause-refused c =
 
 pub returns-clause-asks : goal.returns-clause-asks
 returns-clause-asks c = λ disk.
-    c.request.ensures _
-    (neither_from disk _ _ (air_read c.args.air.now c.read_air.result c.read_air.ensures.some (c.is_none.ensures ∙ ap not c.if-is_none.false)) c.in_ok-name.ensures.name)
+    neither_from disk _ _ (air_read c.args.air.now c.read_air.result c.read_air.ensures.some (c.is_none.ensures ∙ ap not c.if-is_none.false)) c.in_ok-name.ensures.name
