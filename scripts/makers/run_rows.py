@@ -12,6 +12,8 @@ from servers import Server
 from sessions import FileStore, Session
 
 BLOCKS, POLLS = 65536, 10**12
+# So many octets at the end of a disk are shown.
+LAST = 32
 
 
 def options(words):
@@ -106,6 +108,8 @@ def content(name, octets):
         return "%d octets: %s" % (len(octets), words_of(octets[:]))
     if name == "length":
         return "%d octets, selector %d: %s" % (len(octets), octets[SELECTOR], standing(octets))
+    if name == "end":
+        return "%s at the end of %s" % (words_of(octets[-LAST:]), content("length", octets))
     return standing(octets)
 
 

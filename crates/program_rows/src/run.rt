@@ -8,8 +8,8 @@
 //! the disk's content then stands for: `next` and the number that the next file gets, and for each entry its number,
 //! call and length, and `held` and how many octets are held, or `complete` and the sum of its octets; or `no store`, or
 //! `damaged` and the place. `none` stands there where DISK is `none`, and the disk's octets where it is `octets`; where
-//! it is `length`, their number and the octet that selects a half stand before it. For each number that picks, it and
-//! what is left then stand behind a further ` | `.
+//! it is `length` or `end`, their number and the octet that selects a half stand before it, and where it is `end`,
+//! before that the last 32 octets. For each number that picks, it and what is left then stand behind a further ` | `.
 
 mod row;
 mod standing;

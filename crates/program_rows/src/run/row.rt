@@ -15,6 +15,9 @@ use std::alloc::Global;
 /// Where the octet of a store's header stands that selects one of its halves.
 const SELECTOR: usize = 15;
 
+/// How many octets are shown where those at the end of a disk are.
+const LAST: usize = 32;
+
 /// Plays rows, each of which may begin on what the row before left on its disk, or on what that one began on.
 #[derive(Drop)]
 pub struct RunRows {
@@ -108,6 +111,9 @@ fn content_text(alloc: Global, row: &str, octets: &[u8]) -> Result<String> {
     if row.starts_with("length ") {
         return length_text(alloc, octets);
     }
+    if row.starts_with("end ") {
+        return end_text(alloc, octets);
+    }
     standing_text(alloc, octets)
 }
 
@@ -120,6 +126,14 @@ fn length_text(alloc: Global, octets: &[u8]) -> Result<String> {
         alloc,
         format_args!("{len} octets, selector {selector}: {standing}"),
     )
+}
+
+/// The octets at the end of a disk, how long it is, the octet that selects a half, and what its content stands for.
+fn end_text(alloc: Global, octets: &[u8]) -> Result<String> {
+    let start = octets.len().saturating_sub(LAST);
+    let end = octet_words(alloc, octets.get(start..).unwrap_or(&[]))?;
+    let whole = length_text(alloc, octets)?;
+    text_of(alloc, format_args!("{end} at the end of {whole}"))
 }
 
 /// Plays a row over a disk, and gives the octets said in hexadecimal, the status's number, and the line that was shown.
