@@ -1,32 +1,11 @@
 -- What a record put behind the last gate makes of a store, and what a crash leaves of it.
-use Rattle.std.proofs.lemmas.Grind.{common_steps}
-use Rattle.std.proofs.Common.{◌≡◌, ◌≢◌, inl, inr, ℕ, ◌+◌, ◌<◌, ◌≤◌, true, false, List, [], ◌∷◌, ◌++◌, length, get_or, take, drop, Some, IfSome, Result, OnOk, refl, sym, ◌∙◌, ap, subst, arith, append_assoc, append-nil, length-append, length-drop, take-append-drop, take-take}
-use Rattle.std.proofs.lemmas.Bool.{cases_eq}
-use Rattle.std.proofs.lemmas.List.{take-append-le, take_at, drop_at, length-take-le}
-use Rattle.std.proofs.lemmas.List.Elements.{All-drop, All-from_get_or}
-use Rattle.std.proofs.lemmas.Result.{on_ok_weaker}
-use Rattle.std.specs.List.{AllByRecursion}
-use Rattle.px_base.specs.Octets.{IsOctets}
-use Rattle.disk_model.specs.Disk.{HasContent, Only, Torn}
-use Rattle.disk_model.specs.Moments.{LeavesSince}
-use Rattle.disk_model.specs.declared.disk.Disk.{Ghosts}
-use Rattle.file_journal.specs.Appending.{Appends, IsAppending, IsPutting, OpensGate, with_gate}
-use Rattle.file_journal.specs.Calls.{Leaves, Makes, images_now}
-use Rattle.file_journal.specs.Header.{HasHeader}
-use Rattle.file_journal.specs.Layout.{first_gate, half_end, half_gate, half_in, up_to}
-use Rattle.file_journal.specs.declared.layout.Half.{Half}
-use Rattle.file_journal.specs.declared.layout.Layout.{Layout}
-use Rattle.file_journal.specs.Records.{Record, IsRecord, record_of, record_text, records_text, StartsClosed, Reading, whole, StandsFrom, with_records, reading_from}
-use Rattle.file_journal.specs.Journal.{Standing, store, journal_of, store_of, with_last, IsBeforeOrAfter}
-use Rattle.file_journal.specs.Position.{HasRoom, Position, end_of, gate_of, left_to_read, store_in, IsAt, StandsOn}
-use Rattle.file_journal.proofs.CallLemmas.{on_ok_both}
+use Rattle.std.proofs.Common.{◌≡◌, ◌≢◌, inl, inr, ℕ, ◌+◌, ◌<◌, ◌≤◌, true, false, List, [], ◌∷◌, ◌++◌, length, take, drop, Some, IfSome, Result, OnOk, refl, sym, ◌∙◌, ap, subst, arith, append_assoc, append-nil, length-append, length-drop, take-append-drop, take-take}
+use Rattle.file_journal.proofs.Names.{common_steps, cases_eq, take-append-le, take_at, drop_at, length-take-le, All-drop, on_ok_weaker, AllByRecursion, IsOctets, HasContent, Only, Torn, LeavesSince, Ghosts, Appends, IsAppending, IsPutting, OpensGate, with_gate, Leaves, Makes, images_now, HasHeader, first_gate, half_end, half_gate, half_in, up_to, Half, Layout, Record, IsRecord, record_text, records_text, StartsClosed, Reading, whole, StandsFrom, with_records, reading_from, Standing, store, journal_of, store_of, with_last, IsBeforeOrAfter, HasRoom, Position, end_of, gate_of, left_to_read, store_in, IsAt, StandsOn, on_ok_both, weaker, at_told, content_now, if_told, told_weaker}
 use Rattle.file_journal.proofs.JournalLemmas.{same_header, of_full, store_parts}
 use Rattle.file_journal.proofs.LayoutLemmas.{gate_behind, half_behind, same_half, up_to_front, up_to_octets, up_to_split, up_to_whole}
-use Rattle.file_journal.proofs.MomentLemmas.{weaker}
 use Rattle.file_journal.proofs.OctetLemmas.{kept_back, torn_front, torn_wider}
 use Rattle.file_journal.proofs.PositionLemmas.{among_records, records_text-append, length-records_text-push, records-push}
 use Rattle.file_journal.proofs.ReadingLemmas.{stands_from_read, reading_none, reading_records, reading_closed, all_whole}
-use Rattle.file_journal.proofs.ToldLemmas.{at_told, content_now, if_told, told_weaker}
 
 -- the store's records, in this half, end at a gate at this place, which isn't open
 pub record Ends (magic : List ℕ) (layout : Layout) (blocks : ℕ) (chosen : Half) (entries : List Record) (place : ℕ) (octets : List ℕ) : Type 0 where
@@ -61,8 +40,7 @@ ends_from journal passed octets end at =
         let all = up_to (end_of journal) octets in
         let after : 16 ≤ first = omega (arith, gate_behind journal.layout journal.blocks, half_behind journal.layout journal.blocks journal.half) in
         let size : length (take first all) ≡ first = length-take-le first all (omega (arith, there)) in
-        let front : take first all ≡ take first octets = up_to_front (end_of journal) first octets (omega (arith, there)) in
-        let same : take first (take first all) ≡ take first octets = take-take first first all (omega arith) ∙ front in
+        let same : take first (take first all) ≡ take first octets = take-take first first all (omega arith) ∙ up_to_front (end_of journal) first octets (omega (arith, there)) in
         let whole =
         up_to_whole (end_of journal) (take first all ++ records_text passed) gate later octets
         (sym (take-append-drop first all) ∙ ap (λ (l : List ℕ). take first all ++ l) is ∙ sym (append_assoc (take first all) (records_text passed) (gate ∷ later))) in
@@ -125,20 +103,16 @@ module _ (magic : List ℕ) (layout : Layout) (blocks : ℕ) (chosen : Half) (en
   pub ends_store : journal_of magic layout octets ≡ store (Some blocks) (whole entries)
   ends_store =
       let part = read_part in
-      let split : up_to (half_end layout blocks chosen) octets ≡ ends.header ++ (records_text entries ++ ends.gate ∷ part.0) = part.1 ∙ append_assoc ends.header (records_text entries) (ends.gate ∷ part.0) in
-      let head = same_header 16 magic blocks ends.header octets (omega arith) front16 ends.head in
-      of_full magic layout octets blocks head chosen ends_half ends.long
+      of_full magic layout octets blocks (same_header 16 magic blocks ends.header octets (omega arith) front16 ends.head) chosen ends_half ends.long
       ∙ ap (store_of blocks)
-      (ap (reading_from first) (ap (λ (l : List ℕ). drop first l) split ∙ drop_at ends.header (records_text entries ++ ends.gate ∷ part.0) first ends.size)
+      (ap (reading_from first) (ap (λ (l : List ℕ). drop first l) (part.1 ∙ append_assoc ends.header (records_text entries) (ends.gate ∷ part.0)) ∙ drop_at ends.header (records_text entries ++ ends.gate ∷ part.0) first ends.size)
       ∙ reading_records entries first ends.gate part.0 ends.are
       ∙ ap (with_records entries) (reading_closed (first + length (records_text entries)) ends.gate part.0 ends.shut)
       ∙ all_whole entries)
 
   -- and nothing is read at that place
   pub ends_closed : reading_from place (drop place (up_to (half_end layout blocks chosen) octets)) ≡ whole []
-  ends_closed =
-      let part = read_part in
-      ap (reading_from place) (ap (λ (l : List ℕ). drop place l) part.1 ∙ drop_at (ends.header ++ records_text entries) (ends.gate ∷ part.0) place front_size) ∙ reading_closed place ends.gate part.0 ends.shut
+  ends_closed = grind (arith, common_steps, read_part, drop_at, front_size, reading_closed)
 
   -- so do octets that begin so, with a gate that isn't open
   with_rest : (gate : ℕ) (rest image : List ℕ) → gate ≢ 1 → length octets ≤ length image → image ≡ (ends.header ++ records_text entries) ++ gate ∷ rest → Ends magic layout blocks chosen entries place image
@@ -214,10 +188,6 @@ ends_at journal passed octets are ends =
       end,
     )
 
--- octets are the content of a record
-pub is_record : (kind : ℕ) (content : List ℕ) → kind < 256 → ((i : ℕ) → get_or content i 0 < 256) → length content ≤ 600 → IsRecord (record_of kind content)
-is_record kind content is_kind octet most = record { kind = is_kind; octets = All-from_get_or (λ octet. octet < 256) content 0 (λ i lt. octet i); most = most }
-
 -- A journal at its end, and a record that is put there.
 module _ {D : Type 0} (g : Ghosts D) (journal : Position) (old : D) (ok : journal.failed ≡ false) (end : journal.ended ≡ true) (stands : StandsOn g journal old) where
   -- the content's records and those of each image end at the journal's place
@@ -259,13 +229,12 @@ module _ {D : Type 0} (g : Ghosts D) (journal : Position) (old : D) (ok : journa
     putting counts_now octets told is_image image (inr put) =
         let all = all_end octets told in
         let text = record_text entry ++ 0 ∷ [] in
-        let torn = gated_torn _ _ _ _ _ _ octets all.content put.0 text (5 + length entry.content) (omega (arith, put_length)) in
         record {
           store = elim (cases_eq put.0 1) [
             | inl is_open ↦ inr (ap (store_in journal) (put.1 ∙ ap (λ (n : ℕ). with_gate journal.place n text octets) is_open) ∙ put_store octets all)
             | inr shut ↦ inl (ap (store_in journal) put.1 ∙ ends_store _ _ _ _ _ _ _ (gate_shut _ _ _ _ _ _ octets all.content put.0 text shut) ∙ sym (ends_store _ _ _ _ _ _ octets all.content))
           ];
-          beside = (octets, is_image, subst (λ (l : List ℕ). Torn journal.place (5 + length entry.content) octets l) (sym put.1) torn);
+          beside = (octets, is_image, subst (λ (l : List ℕ). Torn journal.place (5 + length entry.content) octets l) (sym put.1) (gated_torn _ _ _ _ _ _ octets all.content put.0 text (5 + length entry.content) (omega (arith, put_length))));
         }
 
     -- what it makes and leaves, where the journal is seen so
@@ -283,8 +252,7 @@ module _ {D : Type 0} (g : Ghosts D) (journal : Position) (old : D) (ok : journa
           let was = content_now _ _ (OpensGate journal.place (record_text entry ++ 0 ∷ [])) now makes.puts.told has told_now in
           let all = all_end was.0 was.1 in
           let entries = all.entries ++ entry ∷ [] in
-          let at_place : journal.place + 4 + length entry.content ≡ place = ap (λ (p : Position). p.place + 4 + length entry.content) (sym seen_is) ∙ sym is_place in
-          let ends = subst (λ (n : ℕ). Ends journal.magic journal.layout journal.blocks journal.half entries n now) at_place
+          let ends = subst (λ (n : ℕ). Ends journal.magic journal.layout journal.blocks journal.half entries n now) (ap (λ (p : Position). p.place + 4 + length entry.content) (sym seen_is) ∙ sym is_place)
           (subst (λ (l : List ℕ). Ends journal.magic journal.layout journal.blocks journal.half entries (journal.place + 4 + length entry.content) l) (sym was.2) (gate_open _ _ _ _ _ _ was.0 all.content entry is room)) in
           let at = ends_at (record journal { place = place }) entries now (at_told IsOctets now told_now are) ends in (
             entries,

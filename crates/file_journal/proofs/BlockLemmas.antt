@@ -1,29 +1,12 @@
 -- What a write of a block leaves of the records, and of what a crash leaves.
-use Rattle.std.proofs.lemmas.Grind.{common_steps}
 use Rattle.std.proofs.Common.{◌≡◌, inl, inr, ℕ, ◌+◌, ◌-◌, ◌≤◌, true, false, Bool, List, ◌∷◌, ◌++◌, length, take, drop, Some, IfSome, Result, Ok, Err, OnOk, refl, sym, ◌∙◌, ap, subst, arith, append_assoc, take-append-drop, take-take, drop-drop, take_all}
-use Rattle.std.proofs.lemmas.List.{drop_at, drop-take, length-take-le, take_at}
-use Rattle.std.proofs.lemmas.Result.{on_ok_weaker}
 use Rattle.std.specs.Result.{is_err}
-use Rattle.px_base.specs.Octets.{IsOctets}
-use Rattle.disk_model.specs.Disk.{HasContent, Only, Torn, Writes}
-use Rattle.disk_model.specs.Moments.{LeavesSince}
-use Rattle.disk_model.specs.declared.disk.Disk.{Ghosts}
-use Rattle.file_journal.specs.Appending.{IsTornFrom}
-use Rattle.file_journal.specs.Blocks.{HasBlock, IsWritingBlock, WritesBlock}
-use Rattle.file_journal.specs.Calls.{ChangesReads, Leaves, Makes, images_now}
-use Rattle.file_journal.specs.Layout.{block_in, block_place, first_gate, half_gate}
-use Rattle.file_journal.specs.Position.{IsAt, Position, StandsOn, gate_of, left_to_read, store_in}
-use Rattle.file_journal.specs.Records.{Record, records_text}
-use Rattle.file_journal.specs.declared.layout.Half.{Half}
-use Rattle.file_journal.specs.declared.layout.Layout.{Layout}
+use Rattle.file_journal.proofs.Names.{common_steps, drop_at, drop-take, length-take-le, take_at, on_ok_weaker, IsOctets, HasContent, Only, Torn, Writes, LeavesSince, Ghosts, IsTornFrom, HasBlock, IsWritingBlock, WritesBlock, Leaves, Makes, images_now, block_in, block_place, first_gate, half_gate, IsAt, Position, StandsOn, gate_of, left_to_read, store_in, Record, records_text, Half, Layout, on_ok_both, weaker, at_told, content_now, if_told, told_weaker}
 use Rattle.file_journal.proofs.AppendLemmas.{AllEnd, Ends, all_end, ends_at, ends_closed, ends_store, ends_there}
-use Rattle.file_journal.proofs.CallLemmas.{on_ok_both, reads_now}
 use Rattle.file_journal.proofs.JournalLemmas.{same_header}
 use Rattle.file_journal.proofs.LayoutLemmas.{gate_of_blocks, half_behind, same_half}
-use Rattle.file_journal.proofs.MomentLemmas.{weaker}
 use Rattle.file_journal.proofs.OctetLemmas.{kept_back, torn_front, torn_length}
 use Rattle.file_journal.proofs.PositionLemmas.{among_records}
-use Rattle.file_journal.proofs.ToldLemmas.{at_told, content_now, if_told, told_weaker}
 
 -- a write inside leaves what a torn one may leave
 pub writes_torn : (at : ℕ) (text old new : List ℕ) → at + length text ≤ length old → Writes at text old new → Torn at (length text) old new
@@ -87,10 +70,6 @@ block_within journal block count has most = omega (arith, gate_of_blocks journal
 pub block_before : (journal : Position) (block count : ℕ) → HasBlock journal block → count ≤ 512 → block_place block + count ≤ gate_of journal
 block_before journal block count has most = omega (arith, block_within journal block count has most, half_behind journal.layout journal.blocks journal.half)
 
--- what was written at the front of a block
-begins_with : (block : ℕ) (bytes before now : List ℕ) → length bytes ≤ 512 → Writes (block_place block) bytes before now → take (length bytes) (block_in now block) ≡ bytes
-begins_with block bytes before now most writes = take-take (length bytes) 512 (drop (block_place block) now) most ∙ writes.there
-
 -- A journal at its end, and a block of its store that is written.
 module _ {D : Type 0} (g : Ghosts D) (journal : Position) (old : D) (ok : journal.failed ≡ false) (end : journal.ended ≡ true) (stands : StandsOn g journal old)
     (block : ℕ) (has : HasBlock journal block) (bytes : List ℕ) (most : length bytes ≤ 512) where
@@ -111,8 +90,7 @@ module _ {D : Type 0} (g : Ghosts D) (journal : Position) (old : D) (ok : journa
       → IsTornFrom (g.images old) (block_place block) (length bytes) image → IsWritingBlock journal block (length bytes) (g.images old) octets image
   writing counts_now octets told image torn =
       let all = all_end g journal old ok end stands octets told in
-      let before = all.images torn.0 (counts_now (g.moment old) torn.0 (omega arith) torn.1) in
-      let same = ends_alike all.entries octets image all.content (beside all.entries torn.0 image before torn.2) in
+      let same = ends_alike all.entries octets image all.content (beside all.entries torn.0 image (all.images torn.0 (counts_now (g.moment old) torn.0 (omega arith) torn.1)) torn.2) in
       record { store = same.0; left = same.1; beside = torn }
 
   -- what it makes of the content
@@ -129,7 +107,7 @@ module _ {D : Type 0} (g : Ghosts D) (journal : Position) (old : D) (ok : journa
     writes_block =
         let ends = written_ends in
         let same = ends_alike ends.0.entries before now ends.0.content ends.1 in
-        record { octets = writes; begins = begins_with block bytes before now most writes; store = same.0; left = same.1 }
+        record { octets = writes; begins = (take-take (length bytes) 512 (drop (block_place block) now) most ∙ writes.there); store = same.0; left = same.1 }
 
   -- what it makes and leaves
   module _ {U E : Type 0} (result : Result U E) (new : D) (at : ℕ) (at_is : at ≡ block_place block)
@@ -171,11 +149,7 @@ module _ {D : Type 0} (g : Ghosts D) (journal : Position) (old : D) (ok : journa
 -- A block that is read.
 module _ {D : Type 0} (g : Ghosts D) (journal : Position) (old : D) (ok : journal.failed ≡ false) (stands : StandsOn g journal old) (block : ℕ) (has : HasBlock journal block) where
   pub block_there : (count : ℕ) → count ≤ 512 → IfSome (g.content old) (λ octets. block_place block + count ≤ length octets)
-  block_there count most = told_weaker (g.content old) _ _ (λ octets told at. omega (arith, at.1.formatted, block_within journal block count has most))
-      (among_records journal (g.content old) (images_now g old) ok stands)
-
-  pub reads_stand : (new : D) → ChangesReads g old new → StandsOn g journal new
-  reads_stand new only = grind (arith, common_steps, reads_now)
+  block_there count most = grind (arith, common_steps, told_weaker, block_within, among_records)
 
 -- what is read of a block
 pub block_part : (octets room : List ℕ) (block at count : ℕ) → at + count ≤ 512 → room ≡ take count (drop (block_place block + at) octets) → room ≡ take count (drop at (block_in octets block))

@@ -1,27 +1,7 @@
 -- How long a disk gets, and what stands behind its store.
-use Rattle.std.proofs.Common.{◌≡◌, inl, inr, ⊎_elim, ℕ, ◌+◌, ◌<◌, ◌≤◌, true≢false, List, length, drop, is_some, Option, None, Some, IfSome, refl, sym, ◌∙◌, ap, subst, arith}
-use Rattle.std.proofs.lemmas.Bool.{cases_lt}
-use Rattle.std.proofs.lemmas.List.{drop_all}
-use Rattle.disk_model.specs.Disk.{AreAmong, IsTold}
-use Rattle.disk_model.specs.Moments.{TimePasses}
-use Rattle.disk_model.specs.declared.disk.Disk.{Ghosts}
-use Rattle.file_journal.specs.Appending.{IsTornFrom, LeavesAppending}
-use Rattle.file_journal.specs.Blocks.{HasBlock, LeavesWritingBlock}
-use Rattle.file_journal.specs.Bounds.{EndsIn, HasBehind, RecoversInHalves, StaysInHalves, StaysWithin, longest}
-use Rattle.file_journal.specs.Calls.{ChangesReads, Leaves, TellsAlike, images_now}
-use Rattle.file_journal.specs.Layout.{block_place, first_gate, half_end, half_gate, half_size}
-use Rattle.file_journal.specs.Position.{HasRoom, Position}
-use Rattle.file_journal.specs.Records.{Record}
-use Rattle.file_journal.specs.Recovery.{IsRecovering, gate_in, number_in}
-use Rattle.file_journal.specs.Rewriting.{IsChoosing}
-use Rattle.file_journal.specs.declared.layout.Half.{Half}
-use Rattle.file_journal.specs.declared.layout.Half.TheVariants as half
-use Rattle.file_journal.specs.declared.layout.Layout.{Layout}
-use Rattle.file_journal.specs.declared.layout.Layout.TheVariants as variant
-use Rattle.file_journal.proofs.CallLemmas.{reads_now}
-use Rattle.file_journal.proofs.MomentLemmas.{joined, reads, weaker}
-use Rattle.file_journal.proofs.RangeLemmas.{kept_behind}
-use Rattle.file_journal.proofs.ToldLemmas.{alike_same, at_told, if_told, told_before, told_weaker}
+use Rattle.std.proofs.Common.{◌≡◌, inl, inr, ⊎_elim, ℕ, ◌+◌, ◌<◌, ◌≤◌, true≢false, List, length, drop, is_some, Option, None, Some, IfSome, refl, sym, ◌∙◌, ap, subst, arith, ◌*◌, ◌⊎◌, false, [], ◌∷◌, length-append, Result}
+use Rattle.file_journal.proofs.Names.{common_steps, cases_lt, drop_all, AreAmong, IsTold, TimePasses, Ghosts, IsTornFrom, LeavesAppending, HasBlock, LeavesWritingBlock, EndsIn, HasBehind, RecoversInHalves, StaysInHalves, StaysWithin, longest, ChangesReads, Leaves, TellsAlike, images_now, block_place, first_gate, half_end, half_gate, half_size, HasRoom, Position, Record, IsRecovering, gate_in, number_in, IsChoosing, Half, Layout, reads_now, joined, reads, weaker, alike_same, at_told, if_told, told_before, told_weaker, Halves, Form, StandsAt, Blocks, HasBlocks, rewriting_calls, MovesOn, end_of, room_in, record_text, records_text, MayRewrite, WritesAnew, IsSeenBy, Steps, Growing, InBlocks}
+use Rattle.file_journal.proofs.OctetLemmas.{kept_behind}
 
 -- what is told is something
 some_of : (o : Option (List ℕ)) → IsTold o → (x : List ℕ) × (o ≡ Some x)
@@ -143,28 +123,16 @@ module _ {D : Type 0} (g : Ghosts D) where
 -- ---- where a store in two halves has its records and its blocks
 
 -- each half ends within the most octets of the store
-pub half_longest : (blocks : ℕ) (chosen : Half) → half_gate variant.Halves blocks chosen + half_size blocks ≤ longest blocks
-half_longest blocks half.First = omega arith
-half_longest blocks half.Second = omega arith
+pub half_longest : (blocks : ℕ) (chosen : Half) → half_gate Halves blocks chosen + half_size blocks ≤ longest blocks
+half_longest blocks chosen = grind arith
 
 -- so does a record with the gates around it that there is room for
-pub room_longest : (journal : Position) (count : ℕ) → journal.layout ≡ variant.Halves → HasRoom journal count → journal.place + 1 + count ≤ longest journal.blocks
-room_longest journal count in_halves room =
-    let within : journal.place + 1 + count ≤ half_gate variant.Halves journal.blocks journal.half + half_size journal.blocks =
-    subst (λ (l : Layout). IfSome (half_end l journal.blocks journal.half) (λ end. journal.place + 1 + count ≤ end)) in_halves room in
-    omega (arith, within, half_longest journal.blocks journal.half)
-
--- and a block
-pub block_longest : (blocks block count : ℕ) → block < blocks → count ≤ 512 → block_place block + count ≤ longest blocks
-block_longest blocks block count there most = omega (arith, there, most)
+pub room_longest : (journal : Position) (count : ℕ) → journal.layout ≡ Halves → HasRoom journal count → journal.place + 1 + count ≤ longest journal.blocks
+room_longest journal count in_halves room = grind (arith, common_steps, half_longest)
 
 -- so does the header
 header_longest : (blocks : ℕ) → 16 ≤ longest blocks
 header_longest blocks = omega arith
-
--- and the first two gates
-pub gates_longest : (blocks : ℕ) → first_gate variant.Halves blocks + 2 ≤ longest blocks
-gates_longest blocks = omega arith
 
 some_same : (a b : List ℕ) → Some a ≡ Some b → a ≡ b
 some_same a b same = cc same
@@ -182,14 +150,13 @@ module _ {D : Type 0} (g : Ghosts D) (counts_now : (disk : D) (t : ℕ) (image :
 
   pub block_stays : (journal : Position) (block count : ℕ) → HasBlock journal block → count ≤ 512 → LeavesWritingBlock g journal block count old new → StaysInHalves g journal.layout journal.blocks old new
   block_stays journal block count has most leaves in_halves =
-      stays_torn g counts_now earlier is_image (longest journal.blocks) old new told (block_place block) count (block_longest journal.blocks block count has.there most)
+      stays_torn g counts_now earlier is_image (longest journal.blocks) old new told (block_place block) count (omega (arith, has.there, most))
       (told_weaker (g.content old) _ _ (λ before is left. weaker g.moment g.images_since old new _ _ (λ image there. there.beside) left) leaves)
 
-  pub rewrite_stays : (journal : Position) (text : List ℕ) (gate : ℕ) (chosen : Half) → journal.layout ≡ variant.Halves → gate ≡ half_gate journal.layout journal.blocks chosen → length text ≤ half_size journal.blocks
+  pub rewrite_stays : (journal : Position) (text : List ℕ) (gate : ℕ) (chosen : Half) → journal.layout ≡ Halves → gate ≡ half_gate journal.layout journal.blocks chosen → length text ≤ half_size journal.blocks
       → Leaves g old new (IsChoosing gate text) → StaysWithin g (longest journal.blocks) old new
   rewrite_stays journal text gate chosen in_halves gate_is fits leaves =
-      let at : gate ≡ half_gate variant.Halves journal.blocks chosen = subst (λ (l : Layout). gate ≡ half_gate l journal.blocks chosen) in_halves gate_is in
-      let ends : gate + length text ≤ longest journal.blocks = omega (arith, at, fits, half_longest journal.blocks chosen) in
+      let ends : gate + length text ≤ longest journal.blocks = omega (arith, subst (λ (l : Layout). gate ≡ half_gate l journal.blocks chosen) in_halves gate_is, fits, half_longest journal.blocks chosen) in
       stays_by g counts_now earlier is_image (longest journal.blocks) old new told (IsChoosing gate text) leaves
       (λ bound behind le had before is image left.
       let same = (at_told _ before is had).0 in
@@ -206,11 +173,84 @@ module _ {D : Type 0} (g : Ghosts D) (counts_now : (disk : D) (t : ℕ) (image :
       stays_by g counts_now earlier is_image (longest (number_in blocks before)) old new told (IsRecovering magic layout blocks) leaves
       (λ bound behind le had other is image left.
       let had_before = (at_told _ other is had).0 in
-      let same : other ≡ before = some_same other before (sym is ∙ told_before) in
       let gate : gate_in layout blocks other + 2 ≤ longest (number_in blocks before) =
       subst (λ (l : Layout). first_gate l (number_in blocks other) + 2 ≤ longest (number_in blocks before)) (sym in_halves)
-      (subst (λ (l : List ℕ). first_gate variant.Halves (number_in blocks other) + 2 ≤ longest (number_in blocks l)) same (gates_longest (number_in blocks other))) in
+      (subst (λ (l : List ℕ). first_gate Halves (number_in blocks other) + 2 ≤ longest (number_in blocks l)) (some_same other before (sym is ∙ told_before)) (omega arith)) in
       elim (cases_lt (length other) (gate_in layout blocks other + 2)) [
         | inl short ↦ drop_all bound image (omega (arith, left.no_longer short, gate, le)) ∙ sym (drop_all bound other (omega (arith, short, gate, le))) ∙ had_before
         | inr long ↦ ap (drop bound) (left.formatted long) ∙ had_before
       ]))
+
+-- ---- where a journal has no room for a record, and how room is made for it
+
+-- where there is room for so many octets, and where there isn't
+pub room_there : (journal : Position) (count : ℕ) → 1 ≤ count → count ≤ room_in journal.place (end_of journal) → HasRoom journal count
+room_there journal count some enough = by (end_of journal) enough
+  where
+    by : (end : Option ℕ) → count ≤ room_in journal.place end → IfSome end (λ e. journal.place + 1 + count ≤ e)
+    by None there = tt
+    by (Some end) there = omega (arith, there, some)
+
+pub no_room : (journal : Position) (count : ℕ) → count ≤ 604 → room_in journal.place (end_of journal) < count → HasRoom journal count → ⊥
+no_room journal count most less has = by (end_of journal) less has
+  where
+    by : (end : Option ℕ) → room_in journal.place end < count → IfSome end (λ e. journal.place + 1 + count ≤ e) → ⊥
+    by None few there = omega (arith, few, most)
+    by (Some end) few there = omega (arith, few, there)
+
+-- records have an end where there is no room, and so two halves
+pub halves_without : (journal : Position) (count : ℕ) → (HasRoom journal count → ⊥) → journal.layout ≡ Halves
+halves_without journal count none = by journal.layout none
+  where
+    by : (l : Layout) → (IfSome (half_end l journal.blocks journal.half) (λ end. journal.place + 1 + count ≤ end) → ⊥) → l ≡ Halves
+    by Growing full = absurd (full tt)
+    by InBlocks full = absurd (full tt)
+    by Halves full = refl
+
+-- and there is room, or there is none
+room_or : (journal : Position) (count : ℕ) → HasRoom journal count ⊎ (HasRoom journal count → ⊥)
+room_or journal count = by (end_of journal)
+  where
+    by : (end : Option ℕ) → IfSome end (λ e. journal.place + 1 + count ≤ e) ⊎ (IfSome end (λ e. journal.place + 1 + count ≤ e) → ⊥)
+    by None = inl tt
+    by (Some end) = elim (cases_lt end (journal.place + 1 + count)) [
+      | inl few ↦ inr (λ has. omega (arith, few, has))
+      | inr enough ↦ inl enough
+    ]
+
+-- a journal of which nothing but its failing changed goes on in its half behind a record
+pub moves_over : (first mid last : Position) (count len : ℕ) → mid ≡ record first { failed = mid.failed } → MovesOn len mid last → len ≡ count → MovesOn count first last
+moves_over first mid last count len failed moves is = record {
+  half = moves.half ∙ ap (λ (p : Position). p.half) failed;
+  place = omega (arith, moves.place, ap (λ (p : Position). p.place) failed, is);
+}
+
+-- each record has four octets at least, so a rewriting makes no more calls than that
+records_few : (entries : List Record) → 4 * length entries ≤ length (records_text entries)
+records_few [] = omega arith
+records_few (entry ∷ entries) = omega (arith, records_few entries, length-append (record_text entry) (records_text entries))
+
+rewriting_most : (blocks : ℕ) (entries : List Record) → length (records_text entries) + 1 ≤ half_size blocks → length entries + 4 ≤ rewriting_calls blocks
+rewriting_most blocks entries fits = omega (arith, records_few entries, fits)
+
+module _ {D S K V C : Type 0} (g : Ghosts D) (steps : Steps S K) (seen : Blocks → K → V) (form : Form V C) (law : IsSeenBy steps seen form) (position : Position) (now : K) (disk : D)
+    (at : StandsAt g form steps position now disk) (healthy : position.failed ≡ false) (in_halves : position.layout ≡ Halves) where
+  number : position.blocks ≡ steps.number now
+  number = at.holds.number (subst HasBlocks (sym in_halves) tt)
+
+  -- the records that make what is kept anew may be written
+  pub may_anew : MayRewrite position (steps.anew now)
+  may_anew =
+      let made = law.anew (sym at.layout_is ∙ in_halves) in
+      record {
+        in_halves = in_halves;
+        ended = at.holds.keeps.ended healthy;
+        records = made.are_records now at.holds.reached;
+        fits = omega (arith, made.fits now at.holds.reached, ap half_size number);
+      }
+
+-- room is made in so many calls of the disk at most
+pub made_few : {D S K V C T E : Type 0} (g : Ghosts D) (steps : Steps S K) (seen : Blocks → K → V) (form : Form V C) → IsSeenBy steps seen form → (position after : Position) (now : K) (old new : D) (count : ℕ) (result : Result T E)
+    → StandsAt g form steps position now old → position.failed ≡ false → (HasRoom position count → new ≡ old) → (¬ HasRoom position count → WritesAnew g (steps.anew now) position after old new result)
+    → g.moment new ≤ g.moment old + rewriting_calls position.blocks
+made_few g steps seen form law position after now old new count result at healthy same anew = grind (arith, common_steps, rewriting_most, may_anew, halves_without, room_or)

@@ -6,8 +6,7 @@ use Rattle.disk_model.specs.Disk.{Only}
 use Rattle.disk_model.specs.Moments.{SinceNow, TimePasses}
 use Rattle.disk_model.specs.declared.disk.Disk.{Ghosts}
 use Rattle.file_journal.specs.Calls.{ChangesReads, CountsFault, IsQuietNow, Makes, Puts, Reads, StopsAtFault, TellsAlike, images_now}
-use Rattle.file_journal.proofs.MomentLemmas.{reads, weaker}
-use Rattle.file_journal.proofs.ToldLemmas.{alike_on, alike_same, at_told, told_weaker}
+use Rattle.file_journal.proofs.ToldLemmas.{reads, weaker, alike_on, alike_same, at_told, told_weaker}
 
 -- from two facts of an `Ok`
 pub on_ok_both : {T E P Q R : Type 0} (result : Result T E) → (P → Q → R) → OnOk result P → OnOk result Q → OnOk result R

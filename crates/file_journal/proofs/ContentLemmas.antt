@@ -1,15 +1,9 @@
 -- Lemmas on the contents of records: their octets, and the numbers and calls in them.
-use Rattle.std.proofs.Common.{◌≡◌, ℕ, ◌+◌, ◌-◌, ◌*◌, ◌/◌, ◌%◌, ◌^◌, ◌<◌, ◌≤◌, Bool, true, false, List, [], ◌∷◌, ◌++◌, length, take, drop, Option, None, Some, refl, sym, ap, ◌∙◌, subst, arith, inl, inr, lit<, add-zero, length-drop}
-use Rattle.std.specs.Prelude.{if◌then◌else◌, replicate, slice_index}
-use Rattle.std.specs.Option.{option_map}
-use Rattle.std.proofs.lemmas.Bool.{cases_lt}
-use Rattle.std.proofs.lemmas.Bool.Decides.{nat_tests}
-use Rattle.std.proofs.lemmas.List.{get_or-drop, get_or_past}
-use Rattle.std.proofs.lemmas.List.Elements.{All-append, All-cons, All-drop, All-from_recursion, All-nil, All-replicate, All-take}
-use Rattle.px_base.specs.CallSign.{CallSign, IsCall, is_call_char}
+use Rattle.std.proofs.Common.{◌≡◌, ℕ, ◌+◌, ◌-◌, ◌*◌, ◌/◌, ◌%◌, ◌^◌, ◌<◌, ◌≤◌, Bool, true, false, List, [], ◌∷◌, ◌++◌, length, take, drop, Option, None, Some, refl, sym, ◌∙◌, subst, arith, lit<, add-zero, length-drop}
+use Rattle.std.specs.Prelude.{if◌then◌else◌}
+use Rattle.px_base.specs.CallSign.{CallSign, IsCall}
 use Rattle.px_base.specs.CallOctets.{call_octets}
-use Rattle.px_base.specs.Numbers.{le32, le32_octets}
-use Rattle.px_base.specs.Octets.{IsOctets}
+use Rattle.file_journal.proofs.Names.{common_steps, replicate, slice_index, option_map, cases_lt, nat_tests, get_or-drop, get_or_past, All-append, All-cons, All-drop, All-from_recursion, All-nil, All-replicate, All-take, le32, le32_octets, IsOctets}
 
 abbrev IsOctet : ℕ → Type 0
 IsOctet n = n < 256
@@ -34,13 +28,10 @@ pub octets_le32 : (n : ℕ) → IsOctets (le32_octets n)
 octets_le32 n =
     All-from_recursion IsOctet (le32_octets n) (omega arith, (omega arith, (omega arith, (omega arith, tt))))
 
-char_octet : (c : ℕ) → is_call_char c ≡ true → c < 256
-char_octet c h = grind (arith, nat_tests)
-
 pub octets_call : (call : CallSign) → IsCall call → IsOctets (call_octets call)
 octets_call call is =
     let base : List ℕ = is.spelled.0 in
-    let base_octets : IsOctets base = λ k d below. char_octet _ (is.spelled.1.2 k d below) in
+    let base_octets : IsOctets base = λ k d below. grind (arith, nat_tests) in
     octets_joined call.chars (call.ssid ∷ [])
     (subst IsOctets (sym is.spelled.2)
     (octets_joined base (replicate (6 - length base) 32) base_octets
@@ -49,35 +40,21 @@ octets_call call is =
 
 -- the octet at any place, 0 past the end
 pub octet_at : (octets : List ℕ) → IsOctets octets → (i : ℕ) → slice_index octets i < 256
-octet_at octets h i =
-    elim (cases_lt i (length octets)) [
-      | inl below ↦ h i 0 below
-      | inr past ↦ rw (get_or_past octets i 0 past) (lit< tt)
-    ]
+octet_at octets h i = grind (arith, common_steps, cases_lt, get_or_past)
 
 -- ---- numbers
 
 pub le32_below : (octets : List ℕ) (at : ℕ) → IsOctets octets → le32 octets at < 2 ^ 32
-le32_below octets at h =
-    let octet = octet_at octets h in omega (arith, octet at, octet (at + 1), octet (at + 2), octet (at + 3))
+le32_below octets at h = grind (arith, common_steps, octet_at)
 
 four_octets : (a b c d : ℕ) → a < 256 → b < 256 → c < 256 → d < 256
     → le32_octets (a + 256 * b + 65536 * c + 16777216 * d) ≡ a ∷ b ∷ c ∷ d ∷ []
-four_octets a b c d ha hb hc hd =
-    let n : ℕ = a + 256 * b + 65536 * c + 16777216 * d in
-    let first : n % 256 ≡ a = omega arith in
-    let second : n / 256 % 256 ≡ b = omega arith in
-    let third : n / 65536 % 256 ≡ c = omega arith in
-    let fourth : n / 16777216 % 256 ≡ d = omega arith in
-    rw (first, second, third, fourth) refl
+four_octets a b c d ha hb hc hd = grind (arith, common_steps)
 
 -- the octets of a number that stands at the front are the first four
 pub number_front : (octets : List ℕ) → IsOctets octets → 4 ≤ length octets
     → le32_octets (le32 octets 0) ≡ take 4 octets
-number_front (a ∷ b ∷ c ∷ d ∷ rest) h some =
-    let octet = octet_at (a ∷ b ∷ c ∷ d ∷ rest) h in
-    four_octets a b c d (octet 0) (octet 1) (octet 2) (octet 3)
-number_front octets h some = absurd (omega arith)
+number_front octets h some = grind (arith, common_steps, octet_at, four_octets)
 
 le32_drop : (octets : List ℕ) (at : ℕ) → le32 (drop at octets) 0 ≡ le32 octets at
 le32_drop octets at = simp (get_or-drop, add-zero)
@@ -85,19 +62,15 @@ le32_drop octets at = simp (get_or-drop, add-zero)
 -- and of one that stands further on
 pub number_at : (octets : List ℕ) (at : ℕ) → IsOctets octets → at + 4 ≤ length octets
     → le32_octets (le32 octets at) ≡ take 4 (drop at octets)
-number_at octets at h some =
-    ap le32_octets (sym (le32_drop octets at))
-    ∙ number_front (drop at octets) (octets_drop octets at h) (let left = length-drop at octets in omega (arith, left))
+number_at octets at h some = grind (arith, common_steps, le32_drop, number_front, octets_drop, length-drop)
 
 -- ---- contents by their parts
 
 pub four : (octets : List ℕ) → length octets ≡ 4 → octets ≡ take 4 octets
-four (a ∷ b ∷ c ∷ d ∷ []) same = refl
-four octets same = absurd (omega arith)
+four octets same = grind (arith, common_steps)
 
 pub eight : (octets : List ℕ) → length octets ≡ 8 → octets ≡ take 4 octets ++ take 4 (drop 4 octets)
-eight (a ∷ b ∷ c ∷ d ∷ e ∷ f ∷ g ∷ h ∷ []) same = refl
-eight octets same = absurd (omega arith)
+eight octets same = grind (arith, common_steps)
 
 -- ---- what is read where it passes a test
 

@@ -1,16 +1,8 @@
 -- How a run of writes that aren't synced goes on, and is synced.
 use Rattle.std.proofs.Common.{◌≡◌, inl, inr, ℕ, ◌+◌, ◌≤◌, true≢false, List, [], ◌∷◌, ◌++◌, length, Some, IfSome, Result, Ok, Err, IsErr, OnOk, sym, ◌∙◌, subst, arith, length-append}
-use Rattle.disk_model.specs.Disk.{AreAmong, Follows, HasContent, Only, Torn, Writes}
-use Rattle.disk_model.specs.Moments.{SinceNow, TakesOneMoment, TimePasses}
-use Rattle.disk_model.specs.declared.disk.Disk.{Ghosts}
-use Rattle.file_journal.specs.Appending.{IsTornFrom, TakesCalls}
-use Rattle.file_journal.specs.Calls.{IsQuietNow, Makes, Puts}
-use Rattle.file_journal.specs.Rewriting.{Chooses, Covers, IsChoosing, Lays}
-use Rattle.file_journal.proofs.CallLemmas.{makes_failed, makes_on, on_ok_both, puts_none, puts_on, puts_same, quiet_by_sync}
+use Rattle.file_journal.proofs.Names.{AreAmong, Follows, HasContent, Only, Torn, Writes, SinceNow, TakesOneMoment, TimePasses, Ghosts, IsTornFrom, TakesCalls, IsQuietNow, Makes, Puts, Chooses, Covers, IsChoosing, Lays, makes_failed, makes_on, on_ok_both, puts_none, puts_on, puts_same, quiet_by_sync, goes_on, started, weaker, at_told, if_told, told_weaker}
 use Rattle.file_journal.proofs.FormatLemmas.{torn_quiet}
-use Rattle.file_journal.proofs.MomentLemmas.{goes_on, started, weaker}
-use Rattle.file_journal.proofs.RangeLemmas.{lays_more, lays_none, torn_on, torn_within}
-use Rattle.file_journal.proofs.ToldLemmas.{at_told, if_told, told_weaker}
+use Rattle.file_journal.proofs.OctetLemmas.{lays_more, lays_none, torn_on, torn_within}
 
 -- a fact of what was answered
 pub with_ok : {T E P Q : Type 0} (result : Result T E) → (P → Q) → OnOk result P → OnOk result Q

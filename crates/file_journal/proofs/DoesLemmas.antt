@@ -1,21 +1,8 @@
 -- What the commands of a call do to a state that is kept, one list of them after another.
 use Rattle.std.proofs.Common.{◌≡◌, ℕ, zero, suc, ◌+◌, ◌-◌, ◌<◌, ◌≤◌, Bool, true, false, nat_le, List, [], ◌∷◌, ◌++◌, length, take, Some, IfSome, refl, sym, ◌∙◌, ap, ap₂, subst, arith, length-append}
-use Rattle.std.proofs.lemmas.Bool.{leb-true}
-use Rattle.disk_model.specs.declared.disk.Disk.{Ghosts}
-use Rattle.file_journal.specs.Bounds.{StaysInHalves}
-use Rattle.file_journal.specs.Calls.{EachImage, Leaves, TellsAlike}
-use Rattle.file_journal.specs.Commands.{AreAllowed, MakesBetween, MakesFirst, StayDone, after_all, after_first, calls_of, done_at, done_within}
-use Rattle.file_journal.specs.Form.{Form}
-use Rattle.file_journal.specs.Kept.{Course, Does, DoesInTurn, HasRoomFor, IsCut, IsKept, KeptOn, Paces, alone, kept_on}
-use Rattle.file_journal.specs.Layout.{rewriting_calls}
-use Rattle.file_journal.specs.Position.{IsSameJournal, Position}
-use Rattle.file_journal.specs.Steps.{Knows}
+use Rattle.file_journal.proofs.Names.{leb-true, Ghosts, StaysInHalves, EachImage, Leaves, TellsAlike, AreAllowed, MakesBetween, MakesFirst, StayDone, after_all, after_first, calls_of, done_at, done_within, Form, Course, Does, DoesInTurn, HasRoomFor, IsCut, IsKept, KeptOn, Paces, alone, kept_on, rewriting_calls, IsSameJournal, Position, Knows, puts_none, puts_on, puts_same, joined, started, weaker, alike_on, at_told, if_told, knew, known_told, knows_on, told_before, told_weaker}
 use Rattle.file_journal.proofs.BoundLemmas.{halves_on, halves_same}
-use Rattle.file_journal.proofs.CallLemmas.{puts_none, puts_on, puts_same}
-use Rattle.file_journal.proofs.CommandLemmas.{after_all_append, allowed_append, at_first, first_append, first_then, makes_first, makes_later, makes_longer, makes_second, makes_within, nothing, stay_by_longer, stay_by_then, stay_none}
-use Rattle.file_journal.proofs.MomentLemmas.{joined, started, weaker}
-use Rattle.file_journal.proofs.TimeLemmas.{TakesNoMore, octets_append, paces_exactly, rises_all, rises_from, room_behind, room_first, room_some, then_early, then_late, then_paces, then_time}
-use Rattle.file_journal.proofs.ToldLemmas.{alike_on, at_told, if_told, knew, known_told, knows_on, told_before, told_weaker}
+use Rattle.file_journal.proofs.CommandLemmas.{after_all_append, allowed_append, at_first, first_append, first_then, makes_first, makes_later, makes_longer, makes_second, makes_within, nothing, stay_by_longer, stay_by_then, stay_none, TakesNoMore, octets_append, paces_exactly, rises_all, rises_from, room_behind, room_first, room_some, then_early, then_late, then_paces, then_time}
 
 -- the same state and the same journal, on the same disk
 pub same_on : {D S : Type 0} (now other : S) (journal else_journal : Position) (disk : D) → now ≡ other → journal ≡ else_journal → kept_on now journal disk ≡ kept_on other else_journal disk
@@ -51,8 +38,7 @@ module _ {S C : Type 0} (form : Form S C) where
       by : (b : Bool) → nat_le (form.calls command) calls ≡ b → (calls - form.calls command < calls_of form (take (suc count) commands) → done_within form commands (calls - form.calls command) ≤ count)
           → done_within form (command ∷ commands) calls ≤ suc count
       by true is then = rw is (
-          let le = leb-true (form.calls command) calls is in
-          let rest = then (omega (arith, few, le)) in omega (arith, rest))
+          let rest = then (omega (arith, few, leb-true (form.calls command) calls is)) in omega (arith, rest))
       by false is then = rw is (omega arith)
 
 module _ {D S C : Type 0} (g : Ghosts D) (form : Form S C) where
@@ -62,7 +48,6 @@ module _ {D S C : Type 0} (g : Ghosts D) (form : Form S C) where
       → g.moment old.disk + calls < g.moment new.disk
       → IfSome (g.content old.disk) (λ _. EachImage g new.disk (MakesBetween form (done_within form (a ++ b) calls) (length (a ++ b)) old.now (a ++ b)))
   cut_makes course P a b old new calls failed room does passed =
-      let sum : length (a ++ b) ≡ length a + length b = length-append a b in
       let some = does.cut failed in
       let next : some.count + 1 ≤ length a = omega (arith, some.fewer) in
       told_weaker (g.content old.disk) _ _ (λ before told soon.
@@ -70,7 +55,7 @@ module _ {D S C : Type 0} (g : Ghosts D) (form : Form S C) where
       let one : calls_of form (take (some.count + 1) (a ++ b)) ≡ calls_of form (take (suc some.count) (a ++ b)) = ap (λ (n : ℕ). calls_of form (take n (a ++ b))) (let same : some.count + 1 ≡ suc some.count = omega arith in same) in
       within_done form (a ++ b) some.count calls (omega (arith, one, soon, passed, does.paces.exact (some.count + 1) next (room_some form old.journal a (some.count + 1) room), at_first form (g.moment old.disk) (some.count + 1) a b next)) in
       told_weaker (g.content new.disk) _ _ (λ now here stands image left.
-      makes_within form some.count (some.count + 1) (done_within form (a ++ b) calls) (length (a ++ b)) old.now (a ++ b) image done (omega (arith, sum, next))
+      makes_within form some.count (some.count + 1) (done_within form (a ++ b) calls) (length (a ++ b)) old.now (a ++ b) image done (omega (arith, length-append a b, next))
       (makes_first form some.count (some.count + 1) old.now a b image next (stands image left))) some.images) some.at_most
 
   -- what comes to the same, by calls that are said otherwise
@@ -133,7 +118,6 @@ module _ {D S C : Type 0} (g : Ghosts D) (form : Form S C) where
       let time = then_time once again (length a) 0 in
       let none : again 0 ≡ 0 = omega arith in
       let early = then_early form a b once again 0 none in
-      let all : time (length (a ++ b)) ≡ time (length a + length b) = ap time sum in
       record {
         time = time;
         paces =
@@ -146,7 +130,7 @@ module _ {D S C : Type 0} (g : Ghosts D) (form : Form S C) where
             weaker g.moment g.images_since old.disk new.disk (MakesFirst form old.now a) (MakesFirst form old.now (a ++ b)) (λ image here. makes_longer form old.now a b image here) left) does.since;
         stay = λ fine. absurd (fine failed);
         calls = λ fine. absurd (fine failed);
-        at_most = omega (arith, does.at_most, all, then_late form a b once again 0 none (length b));
+        at_most = omega (arith, does.at_most, ap time sum, then_late form a b once again 0 none (length b));
         none = λ is. let empty : length (a ++ b) ≡ 0 = ap length is in absurd (omega (arith, sum, few, empty));
         puts = does.puts;
         reads = does.reads;
@@ -199,9 +183,8 @@ module _ {D S C : Type 0} (g : Ghosts D) (form : Form S C) where
 
     both_pace : Paces form old.journal (g.moment old.disk) (a ++ b) time
     both_pace =
-        let blocks : mid.journal.blocks ≡ old.journal.blocks = ap (λ (p : Position). p.blocks) first.journal.same in
         then_paces form a b once again (g.moment mid.disk) second.paces.starts old.journal (g.moment old.disk) first.paces second.paces.rises
-        (subst (λ (n : ℕ). TakesNoMore form (rewriting_calls n) again b) blocks second.paces.most) (λ count few room. second.paces.exact count few (room_b (take count b) room))
+        (subst (λ (n : ℕ). TakesNoMore form (rewriting_calls n) again b) (ap (λ (p : Position). p.blocks) first.journal.same) second.paces.most) (λ count few room. second.paces.exact count few (room_b (take count b) room))
 
     at : Knows form (g.content old.disk) → mid.now ≡ after_all form.after old.now a
     at known = (first.done fine).0 known
@@ -214,8 +197,7 @@ module _ {D S C : Type 0} (g : Ghosts D) (form : Form S C) where
 
     behind : (before : List ℕ) → g.content old.disk ≡ Some before → (count : ℕ) → count ≤ length b → time (length a + count) ≡ again count
     behind before told count few =
-        let rise = rises_all form b again second.paces.rises 0 count (omega arith) few in
-        omega (arith, late count, then before told, rise, second.paces.starts)
+        omega (arith, late count, then before told, rises_all form b again second.paces.rises 0 count (omega arith) few, second.paces.starts)
 
     since_both : Leaves g old.disk new.disk (λ _. MakesFirst form old.now (a ++ b))
     since_both = if_told (g.content old.disk) _ (λ before told.
@@ -244,13 +226,11 @@ module _ {D S C : Type 0} (g : Ghosts D) (form : Form S C) where
         stay = stay_both some.count (let few = some.fewer in omega (arith, few)) some.stay;
         calls = if_told (g.content old.disk) _ (λ before told.
             let begun : again some.count ≤ g.moment new.disk = at_told (λ (_ : List ℕ). _) (middle before told).0 (middle before told).1 some.calls in
-            let there = behind before told some.count (let few = some.fewer in omega (arith, few)) in
-            omega (arith, there, begun));
+            omega (arith, behind before told some.count (let few = some.fewer in omega (arith, few)), begun));
         at_most = if_told (g.content old.disk) _ (λ before told.
             let soon : g.moment new.disk ≤ again (some.count + 1) = at_told (λ (_ : List ℕ). _) (middle before told).0 (middle before told).1 some.at_most in
             let same : time (length a + some.count + 1) ≡ time (length a + (some.count + 1)) = ap time (omega arith) in
-            let there = behind before told (some.count + 1) (let few = some.fewer in omega (arith, few)) in
-            omega (arith, same, there, soon));
+            omega (arith, same, behind before told (some.count + 1) (let few = some.fewer in omega (arith, few)), soon));
       },
       omega arith,
     )
@@ -272,9 +252,7 @@ module _ {D S C : Type 0} (g : Ghosts D) (form : Form S C) where
             let all : g.moment new.disk ≡ again (length b) = at_told (λ (_ : List ℕ). _) (middle before told).0 (middle before told).1 (second.calls still) in
             all ∙ sym (behind before told (length b) (omega arith)) ∙ ap time (sym sum));
         at_most =
-            let all : time (length (a ++ b)) ≡ time (length a + length b) = ap time sum in
-            let rise = rises_from form b again second.paces.rises (length b) (omega arith) in
-            omega (arith, all, late (length b), first.at_most, second.at_most, rise, second.paces.starts);
+            omega (arith, ap time sum, late (length b), first.at_most, second.at_most, rises_from form b again second.paces.rises (length b) (omega arith), second.paces.starts);
         none = λ is.
             let empty : length (a ++ b) ≡ 0 = ap length is in
             idle (first.none (nothing a (omega (arith, sum, empty)))) (second.none (nothing b (omega (arith, sum, empty))));

@@ -1,26 +1,12 @@
 -- What formatting makes of octets, and what a crash in it leaves.
-use Rattle.std.proofs.lemmas.Grind.{common_steps}
-use Rattle.std.proofs.Common.{◌≡◌, ℕ, ◌+◌, ◌-◌, ◌%◌, ◌==◌, ◌<◌, ◌≤◌, List, [], ◌∷◌, ◌++◌, length, get_or, take, drop, Some, refl, sym, ◌∙◌, ap, subst, arith, append_assoc, length-append, length-drop, take-take, get_or-drop, get_or-take, eq-eqb}
-use Rattle.std.proofs.lemmas.List.{drop_all, drop_more, take_at, length-take-le, get_or_at}
-use Rattle.std.proofs.lemmas.Bool.Decides.{nat_tests}
-use Rattle.std.proofs.lemmas.Bool.{cond-true}
-use Rattle.file_journal.specs.Journal.{HasGates, IsAfterFinishing, even_header, even_selector}
-use Rattle.disk_model.specs.Disk.{Only, Torn, Writes}
-use Rattle.file_journal.specs.Appending.{IsTornFrom}
-use Rattle.file_journal.specs.Formatting.{IsFinishing, IsMakingEven, IsMakingGates, MakesEven, MakesGates}
-use Rattle.disk_model.specs.declared.disk.Disk.{Ghosts}
-use Rattle.file_journal.specs.Calls.{IsQuietNow}
-use Rattle.file_journal.proofs.CallLemmas.{quiet_images}
+use Rattle.std.proofs.Common.{◌≡◌, ℕ, ◌+◌, ◌-◌, ◌%◌, ◌==◌, ◌<◌, ◌≤◌, List, [], ◌∷◌, ◌++◌, length, get_or, take, drop, Some, sym, ◌∙◌, ap, subst, arith, append_assoc, length-append, length-drop, take-take, get_or-drop, get_or-take, eq-eqb}
+use Rattle.file_journal.proofs.Names.{common_steps, drop_all, drop_more, take_at, length-take-le, get_or_at, nat_tests, cond-true, HasGates, IsAfterFinishing, even_header, even_selector, Torn, Writes, IsTornFrom, IsFinishing, IsMakingEven, IsMakingGates, MakesEven, MakesGates, Ghosts, IsQuietNow, quiet_images}
 use Rattle.file_journal.proofs.OctetLemmas.{written, three_parts, torn_front, torn_length}
-
--- what is torn from the one image that there was
-torn_only : (at n : ℕ) (before : List ℕ) (images : List ℕ → Type 0) → Only images before → (image : List ℕ) → IsTornFrom images at n image → Torn at n before image
-torn_only at n before images only image torn = subst (λ (l : List ℕ). Torn at n l image) (only torn.0 torn.1) torn.2
 
 -- the same of a quiet disk
 pub torn_quiet : {D : Type 0} (g : Ghosts D) (disk : D) → ((t : ℕ) (image : List ℕ) → t ≤ g.moment disk → g.images disk image → g.images_since disk t image) → IsQuietNow g disk
     → (at n : ℕ) (before : List ℕ) → g.content disk ≡ Some before → (image : List ℕ) → IsTornFrom (g.images disk) at n image → Torn at n before image
-torn_quiet g disk counts_now rest at n before told image torn = torn_only at n before (g.images disk) (quiet_images g disk counts_now rest before told) image torn
+torn_quiet g disk counts_now rest at n before told image torn = subst (λ (l : List ℕ). Torn at n l image) ((quiet_images g disk counts_now rest before told) torn.0 torn.1) torn.2
 
 -- at most as many octets give way to these
 pub all_by : (text before new : List ℕ) → length before ≤ length text → Writes 0 text before new → new ≡ text
@@ -36,9 +22,7 @@ even_by before new long odd writes =
 
 -- an octet that was written
 pub octet_there : (at octet : ℕ) (new : List ℕ) → take 1 (drop at new) ≡ octet ∷ [] → get_or new at 0 ≡ octet
-octet_there at octet new is =
-    ap (λ (i : ℕ). get_or new i 0) (let same : at ≡ at + 0 = omega arith in same) ∙ sym (get_or-drop at new 0 0) ∙ sym (get_or-take 1 (drop at new) 0 0 (omega arith))
-    ∙ ap (λ (l : List ℕ). get_or l 0 0) is
+octet_there at octet new is = grind (arith, common_steps, get_or, get_or-drop, get_or-take)
 
 -- What stays before a place, where a write is whole or torn.
 module _ (at : ℕ) (old new : List ℕ) (same : take at (take (length old) new) ≡ take at old) where
@@ -47,16 +31,11 @@ module _ (at : ℕ) (old new : List ℕ) (same : take at (take (length old) new)
       sym (take-take 16 (length old) new long) ∙ sym (take-take 16 at (take (length old) new) le) ∙ ap (λ (l : List ℕ). take 16 l) same ∙ take-take 16 at old le
 
   octet_kept : (i : ℕ) → i < at → i < length old → get_or new i 0 ≡ get_or old i 0
-  octet_kept i lt inside =
-      sym (get_or-take (length old) new i 0 inside) ∙ sym (get_or-take at (take (length old) new) i 0 lt) ∙ ap (λ (l : List ℕ). get_or l i 0) same ∙ get_or-take at old i 0 lt
+  octet_kept i lt inside = grind (arith, common_steps, get_or-take, get_or)
 
 -- two octets 00 at the end
 two_left : (gate : ℕ) (new : List ℕ) → length new ≡ gate + 2 → get_or new gate 0 ≡ 0 → get_or new (gate + 1) 0 ≡ 0 → drop gate new ≡ 0 ∷ 0 ∷ []
-two_left gate new size first second =
-    drop_more new gate 0 (omega (arith, size)) ∙ ap (λ (n : ℕ). n ∷ drop (gate + 1) new) first
-    ∙ ap (λ (l : List ℕ). 0 ∷ l)
-    (drop_more new (gate + 1) 0 (omega (arith, size)) ∙ ap (λ (n : ℕ). n ∷ drop (gate + 1 + 1) new) second
-    ∙ ap (λ (l : List ℕ). 0 ∷ l) (drop_all (gate + 1 + 1) new (omega (arith, size))))
+two_left gate new size first second = grind (arith, common_steps, drop_more, drop_all)
 
 module _ (gate : ℕ) (before : List ℕ) (behind : 16 ≤ gate) (low : 16 ≤ length before) (high : length before ≤ gate + 1) where
   -- the header and one gate, which is the last octet
@@ -76,7 +55,6 @@ module _ (gate : ℕ) (before : List ℕ) (behind : 16 ≤ gate) (low : 16 ≤ l
   gates_by mid new first writes =
       let one = one_gate_by mid first in
       let size : length new ≡ gate + 2 = omega (arith, writes.size, one.size) in
-      let header : take 16 new ≡ take 16 before = header_kept (gate + 1) mid new writes.before (omega (arith, behind)) (omega (arith, one.size, behind)) ∙ one.header in
       let closed : get_or new gate 0 ≡ 0 = octet_kept (gate + 1) mid new writes.before gate (omega arith) (omega (arith, one.size)) ∙ one.closed in
       let last : drop (16 + (gate - 16)) new ≡ 0 ∷ 0 ∷ [] =
       ap (λ (i : ℕ). drop i new) (let same : 16 + (gate - 16) ≡ gate = omega (arith, behind) in same) ∙ two_left gate new size closed (octet_there (gate + 1) 0 new writes.there) in
@@ -84,7 +62,7 @@ module _ (gate : ℕ) (before : List ℕ) (behind : 16 ≤ gate) (low : 16 ≤ l
         gap = take (gate - 16) (drop 16 new);
         size = omega (arith, behind, size, length-drop 16 new, length-take-le (gate - 16) (drop 16 new) (omega (arith, size, length-drop 16 new)));
         octets =
-            three_parts 16 (gate - 16) new ∙ ap (λ (l : List ℕ). l ++ take (gate - 16) (drop 16 new) ++ drop (16 + (gate - 16)) new) header
+            three_parts 16 (gate - 16) new ∙ ap (λ (l : List ℕ). l ++ take (gate - 16) (drop 16 new) ++ drop (16 + (gate - 16)) new) (header_kept (gate + 1) mid new writes.before (omega (arith, behind)) (omega (arith, one.size, behind)) ∙ one.header)
             ∙ ap (λ (l : List ℕ). take 16 before ++ take (gate - 16) (drop 16 new) ++ l) last;
       }
 
@@ -156,7 +134,3 @@ module _ (before : List ℕ) (long : 16 < length before) where
       finished = λ less. subst (λ (header : List ℕ). HasGates gate header new) evened_header is;
       same = λ full. absurd (omega (arith, short, full));
     }
-
--- what is formatted stays
-pub finished_before : (gate : ℕ) (before : List ℕ) → gate + 2 ≤ length before → IsAfterFinishing gate before before
-finished_before gate before full = record { finished = λ short. absurd (omega (arith, short, full)); same = λ _. refl }

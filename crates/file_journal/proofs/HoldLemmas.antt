@@ -1,38 +1,12 @@
 -- What a journal holds of a state on its disk, and how it stays or turns into the next one.
-use Rattle.std.proofs.lemmas.Bool.{cases_lt}
-use Rattle.std.proofs.lemmas.List.{length-take}
-use Rattle.std.proofs.Common.{◌≡◌, ◌≢◌, ◌⊎◌, inl, inr, ⊎_elim, ℕ, ◌+◌, ◌<◌, ◌≤◌, Bool, true, false, List, [], length, take, Option, None, Some, IfSome, is_some, Result, IsErr, refl, sym, ◌∙◌, ap, subst, arith}
-use Rattle.disk_model.specs.Disk.{IsTold, Only, Torn}
-use Rattle.disk_model.specs.Moments.{LeavesOnly}
-use Rattle.disk_model.specs.declared.disk.Disk.{Ghosts}
-use Rattle.file_journal.specs.Appending.{Appends, IsAppending, IsTornFrom, LeavesAppending}
-use Rattle.file_journal.specs.Blocks.{IsWritingBlock, WritesBlock}
-use Rattle.file_journal.specs.Calls.{IsQuietNow, Leaves, Puts, Reads, TakesStep, TellsAlike, images_now}
-use Rattle.file_journal.specs.Form.{Form, StandsFor, standing_of}
+use Rattle.std.proofs.Common.{◌≡◌, ◌≢◌, ◌⊎◌, inl, inr, ⊎_elim, ℕ, ◌+◌, ◌<◌, ◌≤◌, Bool, true, false, List, [], length, Option, None, Some, IfSome, is_some, Result, IsErr, refl, sym, ◌∙◌, ap, subst, arith}
 use Rattle.file_journal.specs.Journal as journal
-use Rattle.file_journal.specs.Journal.{Standing, store_of, with_last}
-use Rattle.file_journal.specs.Kept.{IsKept, StandsAt, kept_on}
-use Rattle.file_journal.specs.Layout.{Blocks, HasBlocks, HoldSame, block_in, block_place, blocks_on, half_gate, half_in, other_half, up_to}
-use Rattle.file_journal.specs.Ledger.{Takes}
-use Rattle.file_journal.specs.Position.{IsSameJournal, Position, StandsOn, end_of, gate_of, left_to_read, store_in}
-use Rattle.file_journal.specs.Putting.{StandsForEither, StaysKept, TurnsInto}
-use Rattle.file_journal.specs.Records.{Reading, Record, reading_at, records_text, whole}
-use Rattle.file_journal.specs.Rewriting.{IsRewriting, KeepsBlocks, LeavesRewriting, Rewrites, WritesAnew, other_gate, rewritten}
-use Rattle.file_journal.specs.Steps.{HasPut, Holds, IsSeenBy, Knows, MayPut, PutBlock, StandsAs, Steps, Turn, WritesTurn, growing_steps, walked}
-use Rattle.file_journal.specs.Walk.{number_or, stands_for, stands_of, state}
-use Rattle.file_journal.specs.declared.layout.Half.{Half}
-use Rattle.file_journal.specs.declared.layout.Half.TheVariants as half
-use Rattle.file_journal.specs.declared.layout.Layout.{Layout}
-use Rattle.file_journal.specs.declared.layout.Layout.TheVariants as layout
-use Rattle.file_journal.proofs.BlockOctetLemmas.{torn_behind, torn_other}
-use Rattle.file_journal.proofs.CallLemmas.{either_way, err_there, ok_there, on_err, on_ok_both, reads_now}
-use Rattle.file_journal.proofs.MomentLemmas.{weaker}
+use Rattle.file_journal.proofs.Names.{common_steps, cases_lt, length-take, Only, Torn, LeavesOnly, Ghosts, Appends, IsAppending, IsTornFrom, LeavesAppending, IsWritingBlock, WritesBlock, IsQuietNow, Leaves, Puts, Reads, TakesStep, TellsAlike, images_now, Form, StandsFor, standing_of, Standing, store_of, with_last, IsKept, StandsAt, kept_on, Blocks, HasBlocks, HoldSame, block_in, block_place, blocks_on, half_gate, half_in, other_half, up_to, Takes, IsSameJournal, Position, StandsOn, end_of, gate_of, left_to_read, store_in, StandsForEither, StaysKept, TurnsInto, Record, reading_at, records_text, whole, IsRewriting, KeepsBlocks, LeavesRewriting, Rewrites, WritesAnew, other_gate, rewritten, HasPut, Holds, IsSeenBy, Knows, MayPut, PutBlock, StandsAs, Steps, Turn, WritesTurn, growing_steps, walked, number_or, stands_for, stands_of, state, Half, Layout, either_way, err_there, ok_there, on_err, on_ok_both, reads_now, weaker, at_told, content_now, if_told, told_before, told_weaker, Halves, Growing, InBlocks}
+use Rattle.file_journal.proofs.OctetLemmas.{torn_behind, torn_other}
 use Rattle.file_journal.proofs.PositionLemmas.{among_records}
 use Rattle.file_journal.proofs.ReadingLemmas.{read_past}
 use Rattle.file_journal.proofs.StandingLemmas.{journal_records}
-use Rattle.file_journal.proofs.StepsLemmas.{made_there, reached_there, seen_standing, stands_made, store_same}
-use Rattle.file_journal.proofs.ToldLemmas.{at_told, content_now, if_told, told_before, told_weaker}
-use Rattle.file_journal.proofs.WalkLemmas.{one_step}
+use Rattle.file_journal.proofs.WalkLemmas.{made_there, reached_there, seen_standing, stands_made, store_same, one_step}
 
 -- blocks hold the same, where they do on a disk that tells
 same_on : (used : ℕ → Type 0) (before now : Option (List ℕ)) → TellsAlike before now → ((was is : List ℕ) → before ≡ Some was → now ≡ Some is → HoldSame used (block_in was) (block_in is))
@@ -41,14 +15,6 @@ same_on used None None alike same block uses = refl
 same_on used None (Some is) alike same block uses = absurd (let was = told_before None (Some is) is alike refl in cc was.1)
 same_on used (Some was) None alike same block uses = absurd (let is = told_before None (Some was) was (alike.1, alike.0) refl in cc is.1)
 same_on used (Some was) (Some is) alike same block uses = same was is refl refl block uses
-
--- stores that are the same have the same block number
-store_number : (one other : Option ℕ) (read left : Reading) → journal.store one read ≡ journal.store other left → one ≡ other
-store_number one other read left same = cc same
-
-some_told : (o : Option (List ℕ)) → IsTold o → (x : List ℕ) × (o ≡ Some x)
-some_told None told = absurd (cc told)
-some_told (Some x) told = (x, refl)
 
 -- a disk that is quiet leaves its content alone
 quiet_image : {D : Type 0} (g : Ghosts D) (disk : D) (before : List ℕ) → g.content disk ≡ Some before → IsQuietNow g disk → (image : List ℕ) → images_now g disk image → image ≡ before
@@ -75,7 +41,7 @@ read_stands g steps form old new position now run at stands = record {
 
 -- a journal that goes on elsewhere is the same one
 pub same_journal : (before after : Position) (there : Half) (place : ℕ) (failed : Bool) → after ≡ record before { half = there; place = place; failed = failed }
-    → (before.layout ≢ layout.Halves → there ≡ before.half) → IsSameJournal before after
+    → (before.layout ≢ Halves → there ≡ before.half) → IsSameJournal before after
 same_journal before after there place failed is stays = subst (IsSameJournal before) (sym is) (record { same = refl; half = stays })
 
 -- and so is one that goes on in its half
@@ -83,7 +49,7 @@ pub moved_journal : (before after : Position) (place : ℕ) (failed : Bool) → 
 moved_journal before after place failed is = same_journal before after before.half place failed is (λ one. refl)
 
 -- and one whose records are written anew
-same_rewritten : (before after : Position) (entries : List Record) → before.layout ≡ layout.Halves → after ≡ rewritten before entries → IsSameJournal before after
+same_rewritten : (before after : Position) (entries : List Record) → before.layout ≡ Halves → after ≡ rewritten before entries → IsSameJournal before after
 same_rewritten before after entries in_halves is =
     same_journal before after (other_half before.half) (other_gate before + length (records_text entries)) false is (λ one. absurd (one in_halves))
 
@@ -103,16 +69,13 @@ gate_there position octets is = by (end_of position) is
 
 -- the blocks of a store stand before each half
 blocks_before : (layout : Layout) (blocks : ℕ) (chosen : Half) → HasBlocks layout → block_place blocks ≤ half_gate layout blocks chosen
-blocks_before layout.Growing blocks chosen has = absurd has
-blocks_before layout.Blocks blocks chosen has = omega arith
-blocks_before layout.Halves blocks half.First has = omega arith
-blocks_before layout.Halves blocks half.Second has = omega arith
+blocks_before layout blocks chosen has = grind arith
 
 -- a layout has blocks or has none
-growing_or : (l : Layout) → (l ≡ layout.Growing) ⊎ HasBlocks l
-growing_or layout.Growing = inl refl
-growing_or layout.Blocks = inr tt
-growing_or layout.Halves = inr tt
+growing_or : (l : Layout) → (l ≡ Growing) ⊎ HasBlocks l
+growing_or Growing = inl refl
+growing_or InBlocks = inr tt
+growing_or Halves = inr tt
 
 module _ {D S K V C : Type 0} (g : Ghosts D) (steps : Steps S K) (seen : Blocks → K → V) (form : Form V C) (law : IsSeenBy steps seen form) where
   -- with what blocks hold, a record takes each state of which this is kept to one of which that is
@@ -222,10 +185,6 @@ module _ {D S K V C : Type 0} (g : Ghosts D) (steps : Steps S K) (seen : Blocks 
     quiet_there : (before : List ℕ) → g.content old ≡ Some before → (image : List ℕ) → images_now g old image → image ≡ before
     quiet_there before told image left = quiet_image g old before told (at.holds.keeps.quiet healthy) image left
 
-    -- an image from before is the content
-    image_before : (before : List ℕ) → g.content old ≡ Some before → (image : List ℕ) → g.images old image → image ≡ before
-    image_before before told image left = quiet_there before told image (counts_now old (g.moment old) image (omega arith) left)
-
     -- the content stands for the state
     stood : (before : List ℕ) → g.content old ≡ Some before → ComesTo position (block_in before) (store_in position before) now
     stood before told = store_comes position before now (at_told (StandsAs steps position now) before told (at.holds.keeps.content healthy))
@@ -240,19 +199,11 @@ module _ {D S K V C : Type 0} (g : Ghosts D) (steps : Steps S K) (seen : Blocks 
 
     -- a block of the store stands before it
     block_there : (before : List ℕ) → g.content old ≡ Some before → HasBlocks form.layout → (block : ℕ) → block < steps.number now → block_place block + 512 ≤ position.place
-    block_there before told has block below =
-        let place = place_there before told in
-        let blocks : HasBlocks position.layout = subst HasBlocks (sym at.layout_is) has in
-        let number = at.holds.number blocks in
-        let gate = blocks_before position.layout position.blocks position.half blocks in
-        omega (arith, place.0, gate, number, below)
+    block_there before told has block below = grind (arith, common_steps, place_there, blocks_before)
 
     -- so does one that is used
     used_there : (before : List ℕ) → g.content old ≡ Some before → (other : K) → steps.is_kept other → steps.number other ≡ steps.number now → (block : ℕ) → steps.uses other block → block_place block + 512 ≤ position.place
-    used_there before told other reached same block uses = ⊎_elim
-        (λ is. absurd (law.growing is other block uses))
-        (λ has. block_there before told has block (let within = law.within other block reached uses in omega (arith, within, same)))
-        (growing_or form.layout)
+    used_there before told other reached same block uses = grind (arith, common_steps, block_there, growing_or)
 
     -- what is left now was left before, or since
     left_since : (P : List ℕ → List ℕ → Type 0) → Leaves g old new P → (before : List ℕ) → g.content old ≡ Some before → (image : List ℕ) → images_now g new image → (image ≡ before) ⊎ P before image
@@ -267,7 +218,7 @@ module _ {D S K V C : Type 0} (g : Ghosts D) (steps : Steps S K) (seen : Blocks 
 
     -- torn from an image from before it is torn from the content
     torn_there : (place count : ℕ) (before image : List ℕ) → g.content old ≡ Some before → IsTornFrom (g.images old) place count image → Torn place count before image
-    torn_there place count before image told torn = subst (λ (l : List ℕ). Torn place count l image) (image_before before told torn.0 torn.1) torn.2
+    torn_there place count before image told torn = subst (λ (l : List ℕ). Torn place count l image) (quiet_there before told torn.0 (counts_now old (g.moment old) torn.0 (omega arith) torn.1)) torn.2
 
     -- the same journal, of which the same blocks are said, holds a state
     same_holds : (after : Position) (next : K) → IsSameJournal position after → steps.number next ≡ steps.number now → ((HasBlocks after.layout → after.blocks ≡ steps.number next) → Holds g steps after next new)
@@ -293,8 +244,7 @@ module _ {D S K V C : Type 0} (g : Ghosts D) (steps : Steps S K) (seen : Blocks 
       record_same : (other : K) → steps.is_kept other → steps.number other ≡ steps.number now → (before image : List ℕ) → g.content old ≡ Some before → IsTornFrom (g.images old) position.place (5 + length entry.content) image
           → HoldSame (steps.uses other) (block_in before) (block_in image)
       record_same other is_state same before image told torn block uses =
-          let place = place_there before told in
-          torn_behind position.place (5 + length entry.content) block before image (used_there before told other is_state same block uses) (omega (arith, place.1))
+          torn_behind position.place (5 + length entry.content) block before image (used_there before told other is_state same block uses) (omega (arith, (place_there before told).1))
           (torn_there position.place (5 + length entry.content) before image told torn)
 
       pub put_same : (other : K) → steps.is_kept other → steps.number other ≡ steps.number now → HoldSame (steps.uses other) (blocks_on (g.content old)) (blocks_on (g.content new))
@@ -306,8 +256,7 @@ module _ {D S K V C : Type 0} (g : Ghosts D) (steps : Steps S K) (seen : Blocks 
         next_there : (before : List ℕ) → g.content old ≡ Some before → (more : Standing) → more ≡ with_last (store_in position before) entry → ComesTo position (block_in before) more next
         next_there before told more is =
             let stands = stood before told in
-            let reached = reached_there steps seen form law (block_in before) position.layout position.half position.blocks (store_in position before) stands.0 stands.1 in
-            let on = steps_on before told stands.0 reached stands.2 in (
+            let on = steps_on before told stands.0 (reached_there steps seen form law (block_in before) position.layout position.half position.blocks (store_in position before) stands.0 stands.1) stands.2 in (
               on.0,
               ap (stands_of steps.fresh (steps.step (block_in before)) position.layout position.half position.blocks) is
                   ∙ one_step (steps.step (block_in before)) steps.fresh position.layout position.half position.blocks (store_in position before) stands.0 on.0 entry stands.1 on.1,
@@ -355,9 +304,7 @@ module _ {D S K V C : Type 0} (g : Ghosts D) (steps : Steps S K) (seen : Blocks 
         (since : Leaves g old new (IsWritingBlock position put.number (length put.octets) (g.images old))) where
       block_same : (before image : List ℕ) → g.content old ≡ Some before → IsTornFrom (g.images old) (block_place put.number) (length put.octets) image → HoldSame (steps.uses now) (block_in before) (block_in image)
       block_same before image told torn block uses =
-          let there = block_there before told may.has_blocks put.number may.there in
-          let place = place_there before told in
-          torn_other put.number block (length put.octets) before image (λ same. may.unused (subst (steps.uses now) (sym same) uses)) may.most (omega (arith, there, place.1))
+          torn_other put.number block (length put.octets) before image (λ same. may.unused (subst (steps.uses now) (sym same) uses)) may.most (omega (arith, block_there before told may.has_blocks put.number may.there, (place_there before told).1))
           (torn_there (block_place put.number) (length put.octets) before image told torn)
 
       pub block_put_same : HoldSame (steps.uses now) (blocks_on (g.content old)) (blocks_on (g.content new))
@@ -370,13 +317,6 @@ module _ {D S K V C : Type 0} (g : Ghosts D) (steps : Steps S K) (seen : Blocks 
           image_stands_for position at.magic_is at.layout_is before now image (subst (λ (t : Standing). ComesTo position (block_in before) t now) (sym is.store) (stood before told))
           (block_same before image told is.beside))
           (at_told (λ (octets : List ℕ). LeavesOnly g.moment g.images_since old new (IsWritingBlock position put.number (length put.octets) (g.images old) octets)) before told since))
-
-      pub block_put_there : TakesStep g old new (WritesBlock position put.number put.octets) → Knows form (g.content old) → HasPut (Some put) (blocks_on (g.content new))
-      block_put_there ok (inl growing) = absurd (subst HasBlocks growing may.has_blocks)
-      block_put_there ok (inr told) =
-          let before = some_told (g.content old) told in
-          let is = at_told (λ (octets : List ℕ). (now : List ℕ) × (g.content new ≡ Some now) × WritesBlock position put.number put.octets octets now) before.0 before.1 ok in
-          subst (λ (o : Option (List ℕ)). take (length put.octets) (blocks_on o put.number) ≡ put.octets) (sym is.1) is.2.begins
 
       pub block_put_holds : StandsOn g after new → TakesStep g old new (WritesBlock position put.number put.octets) → IsQuietNow g new → StandsAt g form steps after now new
       block_put_holds stands ok quiet =
@@ -394,7 +334,7 @@ module _ {D S K V C : Type 0} (g : Ghosts D) (steps : Steps S K) (seen : Blocks 
 
     -- ---- records that make what is kept anew, in place of all others
 
-    module _ (after : Position) (in_halves : form.layout ≡ layout.Halves) (leaves : LeavesRewriting g position (steps.anew now) old new) where
+    module _ (after : Position) (in_halves : form.layout ≡ Halves) (leaves : LeavesRewriting g position (steps.anew now) old new) where
       since_anew : Leaves g old new (IsRewriting position (steps.anew now))
       since_anew = leaves healthy
 
@@ -411,10 +351,8 @@ module _ {D S K V C : Type 0} (g : Ghosts D) (steps : Steps S K) (seen : Blocks 
           let stands = stood before told in
           let among = at_told _ before told (among_records position (g.content old) (images_now g old) healthy at.holds.keeps.stands_on) in
           let was = made_there steps seen form law held position.layout position.half position.blocks (store_in position before) stands.0 stands.1 in
-          let number : was.0 ≡ Some position.blocks = store_number was.0 (Some position.blocks) _ _ (sym was.2 ∙ among.1.records) in
-          let takes = subst (λ (n : Option ℕ). Takes (steps.step held) (steps.fresh (number_or position.blocks n)) was.1 stands.0) number was.3 in
-          let are = journal_records position.magic position.layout before was.0 was.1 among.1.are_octets was.2 in
-          let anew = (law.anew in_halves).makes held position.blocks was.1 stands.0 are takes in (
+          let takes = subst (λ (n : Option ℕ). Takes (steps.step held) (steps.fresh (number_or position.blocks n)) was.1 stands.0) (let number : was.0 ≡ Some position.blocks = cc (sym was.2 ∙ among.1.records) in number) was.3 in
+          let anew = (law.anew in_halves).makes held position.blocks was.1 stands.0 (journal_records position.magic position.layout before was.0 was.1 among.1.are_octets was.2) takes in (
             anew.0,
             ap (stands_of steps.fresh (steps.step held) position.layout position.half position.blocks) is
                 ∙ stands_made steps seen form law held position.layout position.half position.blocks (Some position.blocks) (steps.anew now) anew.0
@@ -467,7 +405,7 @@ module _ {D S K V C : Type 0} (g : Ghosts D) (steps : Steps S K) (seen : Blocks 
           }
 
 -- What keeps a state that is seen as it is holds it.
-module _ {D S C : Type 0} (g : Ghosts D) (fresh : ℕ → S) (number : S → ℕ) (step : S → Record → Option S) (form : Form S C) (layout_is : form.layout ≡ layout.Growing)
+module _ {D S C : Type 0} (g : Ghosts D) (fresh : ℕ → S) (number : S → ℕ) (step : S → Record → Option S) (form : Form S C) (layout_is : form.layout ≡ Growing)
     (standing : (blocks : ℕ) (octets : List ℕ) → form.standing blocks octets ≡ stands_for fresh step form.magic form.layout blocks octets) where
   pub kept_stands : (journal : Position) (now : S) (disk : D) → journal.magic ≡ form.magic → journal.layout ≡ form.layout → IsKept g form (kept_on now journal disk)
       → StandsAt g form (growing_steps fresh number step) journal now disk

@@ -1,21 +1,9 @@
 -- What the octets of a disk stand for, by their header and their length.
 use Rattle.std.proofs.Common.{◌≡◌, ◌≢◌, ℕ, ◌+◌, ◌%◌, ◌<◌, ◌≤◌, false, cond, not, nat_le, nat_lt, List, [], ◌∷◌, ◌++◌, length, get_or, take, None, Some, IfSome, refl, sym, ◌∙◌, ap, subst, arith, append_assoc, append-nil, length-append, take-take, get_or-take, inl, inr}
-use Rattle.std.proofs.lemmas.Bool.{cond-true, cond-false, cases_Bool, cases_lt, and_from, false_from_ne_true, both_ways, not_from_true, not_from_false, le-leb, lt-leb, lt-ltb, le-ltb}
 use Rattle.std.proofs.lemmas.Slice.Eq.{bytes_eq-Decides}
-use Rattle.std.proofs.lemmas.List.{take_at, get_or-append-add}
-use Rattle.std.specs.Str.{bytes_eq}
-use Rattle.px_base.specs.Numbers.{le32, le32_octets}
-use Rattle.file_journal.specs.Layout.{first_gate, half_end, half_in, up_to}
-use Rattle.file_journal.specs.Records.{Record, whole, reading_at}
-use Rattle.file_journal.specs.declared.layout.Half.{Half}
-use Rattle.file_journal.specs.declared.layout.Half.TheVariants as half
-use Rattle.file_journal.specs.declared.layout.Layout.{Layout}
-use Rattle.file_journal.specs.Journal.{Standing, store, bad_number, no_store, is_block_number, store_of, journal_of, read_half, header_text, IsSameStore, HasGoodHeader}
-use Rattle.file_journal.specs.Formatting.{IsMakingGates}
-use Rattle.file_journal.specs.Header.{HasHeader}
+use Rattle.file_journal.proofs.Names.{common_steps, cond-true, cond-false, cases_Bool, cases_lt, and_from, false_from_ne_true, both_ways, not_from_true, not_from_false, le-leb, lt-leb, lt-ltb, le-ltb, take_at, get_or-append-add, bytes_eq, le32, le32_octets, first_gate, half_end, half_in, up_to, Record, whole, reading_at, Half, Layout, Standing, store, bad_number, no_store, is_block_number, store_of, journal_of, read_half, header_text, IsSameStore, HasGoodHeader, IsMakingGates, HasHeader, told_weaker, First}
 use Rattle.file_journal.proofs.LayoutLemmas.{even_half, first_half, gate_behind, half_long, same_half, up_to_long, up_to_octet}
 use Rattle.file_journal.proofs.ReadingLemmas.{read_closed}
-use Rattle.file_journal.proofs.ToldLemmas.{told_weaker}
 
 module _ (magic : List ℕ) (layout : Layout) (octets : List ℕ) where
   pub of_short : length octets ≤ 16 → journal_of magic layout octets ≡ store None (whole [])
@@ -45,9 +33,7 @@ module _ (magic : List ℕ) (layout : Layout) (octets : List ℕ) where
     -- the right block number
     good : (short more : ℕ → Standing) → cond (not (is_block_number (le32 octets 8))) bad_number (cond (nat_lt (length octets) (first_gate layout (le32 octets 8) + 2)) (short (le32 octets 8)) (more (le32 octets 8)))
         ≡ cond (nat_lt (length octets) (first_gate layout blocks + 2)) (short blocks) (more blocks)
-    good short more =
-        cond-false (not (is_block_number (le32 octets 8))) _ _ (not_from_true _ (ap is_block_number head.blocks_are ∙ head.is_number))
-        ∙ ap (λ (n : ℕ). cond (nat_lt (length octets) (first_gate layout n + 2)) (short n) (more n)) head.blocks_are
+    good short more = grind (arith, common_steps, cond-false, not_from_true, nat_lt)
 
     numbered : 16 < length octets
         → journal_of magic layout octets
@@ -62,27 +48,23 @@ module _ (magic : List ℕ) (layout : Layout) (octets : List ℕ) where
 
     -- the first two gates are there: what is read is that of the half that octet 15 says
     pub of_full : (chosen : Half) → half_in layout octets ≡ chosen → first_gate layout blocks + 2 ≤ length octets → journal_of magic layout octets ≡ store_of blocks (read_half layout blocks chosen octets)
-    of_full chosen half_is size =
-        numbered (omega (arith, size, gate_behind layout blocks))
-        ∙ cond-false (nat_lt (length octets) (first_gate layout blocks + 2)) _ _ (le-ltb (length octets) (first_gate layout blocks + 2) size)
-        ∙ ap (λ (h : Half). store_of blocks (read_half layout blocks h octets)) half_is
+    of_full chosen half_is size = grind (arith, common_steps, numbered, gate_behind, cond-false, nat_lt, le-ltb)
 
     -- a store whose first gate isn't there yet, or isn't open, in its first half
-    pub of_empty : 16 < length octets → (first_gate layout blocks + 1 < length octets → (half_in layout octets ≡ half.First) × (get_or octets (first_gate layout blocks) 0 ≢ 1))
+    pub of_empty : 16 < length octets → (first_gate layout blocks + 1 < length octets → (half_in layout octets ≡ First) × (get_or octets (first_gate layout blocks) 0 ≢ 1))
         → journal_of magic layout octets ≡ store (Some blocks) (whole [])
     of_empty long shut = elim (cases_lt (first_gate layout blocks + 1) (length octets)) [
       | inr short ↦ of_interrupted long (omega (arith, short))
       | inl more ↦
           let gate = first_gate layout blocks in
-          let end = half_end layout blocks half.First in
+          let end = half_end layout blocks First in
           let first = first_half layout blocks in
-          let far : IfSome end (λ place. gate + 2 ≤ place) = subst (λ (n : ℕ). IfSome end (λ place. n + 2 ≤ place)) first (half_long layout blocks half.First) in
-          let inside : IfSome end (λ place. gate < place) = told_weaker end _ _ (λ place told le. omega (arith, le)) far in
+          let far : IfSome end (λ place. gate + 2 ≤ place) = subst (λ (n : ℕ). IfSome end (λ place. n + 2 ≤ place)) first (half_long layout blocks First) in
           let there : gate < length (up_to end octets) = let l = up_to_long end (gate + 2) octets far (omega (arith, more)) in omega (arith, l) in
-          of_full half.First (shut more).0 (omega (arith, more))
+          of_full First (shut more).0 (omega (arith, more))
           ∙ ap (store_of blocks)
           (ap (λ (n : ℕ). reading_at n (up_to end octets)) first
-          ∙ read_closed gate (up_to end octets) there (λ is_open. (shut more).1 (sym (up_to_octet end gate octets inside) ∙ is_open)))
+          ∙ read_closed gate (up_to end octets) there (λ is_open. (shut more).1 (sym (up_to_octet end gate octets (told_weaker end _ _ (λ place told le. omega (arith, le)) far)) ∙ is_open)))
     ]
 
 -- such octets aren't refused
@@ -105,8 +87,7 @@ same_header n magic blocks octets image le same head =
 
 -- a header that is written
 pub header_length : (magic : List ℕ) (blocks : ℕ) → length magic ≡ 8 → length (header_text magic blocks) ≡ 16
-header_length magic blocks eight =
-    omega (arith, eight, length-append magic (le32_octets blocks), length-append (magic ++ le32_octets blocks) (0 ∷ 0 ∷ 0 ∷ 0 ∷ []))
+header_length magic blocks eight = grind (arith, common_steps, length-append)
 
 pub header_written : (magic : List ℕ) (blocks : ℕ) (rest : List ℕ) → length magic ≡ 8 → 1 ≤ blocks → blocks ≤ 65536 → HasHeader magic blocks (header_text magic blocks ++ rest)
 header_written magic blocks rest eight some most =
@@ -125,12 +106,10 @@ header_written magic blocks rest eight some most =
 
 -- its selector is even
 pub header_even : (magic : List ℕ) (blocks : ℕ) → length magic ≡ 8 → get_or (header_text magic blocks) 15 0 ≡ 0
-header_even magic blocks eight =
-    ap (λ (n : ℕ). get_or (header_text magic blocks) n 0) (let at : 15 ≡ length (magic ++ le32_octets blocks) + 3 = omega (arith, eight, length-append magic (le32_octets blocks)) in at)
-    ∙ get_or-append-add (magic ++ le32_octets blocks) (0 ∷ 0 ∷ 0 ∷ 0 ∷ []) 3 0
+header_even magic blocks eight = grind (arith, common_steps, get_or, length-append, get_or-append-add)
 
 -- so a store with it has its records in the first half
-pub half_of_header : (n : ℕ) (layout : Layout) (header image : List ℕ) → 16 ≤ n → take n image ≡ take n header → get_or header 15 0 % 2 ≡ 0 → half_in layout image ≡ half.First
+pub half_of_header : (n : ℕ) (layout : Layout) (header image : List ℕ) → 16 ≤ n → take n image ≡ take n header → get_or header 15 0 % 2 ≡ 0 → half_in layout image ≡ First
 half_of_header n layout header image le same even = same_half n layout header image le same ∙ even_half layout (get_or header 15 0) even
 
 -- while the gates of a new store are written

@@ -1,18 +1,7 @@
 -- What a state that a journal keeps stands for, and what putting one command does to it.
 use Rattle.std.proofs.Common.{◌≡◌, ◌⊎◌, inl, inr, ℕ, ◌≤◌, true, false, List, [], ◌∷◌, IfSome, refl, sym, ◌∙◌, ap, subst, arith}
-use Rattle.disk_model.specs.Disk.{Only}
-use Rattle.disk_model.specs.declared.disk.Disk.{Ghosts}
-use Rattle.file_journal.specs.Bounds.{StaysInHalves}
-use Rattle.file_journal.specs.Calls.{EachImage, Leaves, Puts, TellsAlike, images_now}
-use Rattle.file_journal.specs.Commands.{MakesBetween, MakesFirst, StayDone, octets_of}
-use Rattle.file_journal.specs.Form.{Form, StandsFor, TellsItsNumber}
-use Rattle.file_journal.specs.Kept.{Does, HasRoomFor, IsCut, IsKept, KeptOn, Paces, kept_on}
-use Rattle.file_journal.specs.Position.{IsSameJournal, MovesOn, Position}
-use Rattle.file_journal.specs.Steps.{Knows}
-use Rattle.file_journal.specs.Walk.{state}
+use Rattle.file_journal.proofs.Names.{Only, Ghosts, StaysInHalves, EachImage, Leaves, Puts, TellsAlike, images_now, MakesBetween, MakesFirst, StayDone, octets_of, Form, StandsFor, TellsItsNumber, Does, HasRoomFor, IsCut, IsKept, KeptOn, Paces, kept_on, IsSameJournal, MovesOn, Position, Knows, state, weaker, at_told, if_told, knew, known_told, told_before, told_weaker}
 use Rattle.file_journal.proofs.CommandLemmas.{makes_one, stay_none}
-use Rattle.file_journal.proofs.MomentLemmas.{weaker}
-use Rattle.file_journal.proofs.ToldLemmas.{at_told, if_told, knew, known_told, told_before, told_weaker}
 
 module _ {S C : Type 0} (form : Form S C) where
   module _ {D : Type 0} (g : Ghosts D) where
@@ -77,9 +66,8 @@ module _ {S C : Type 0} (form : Form S C) where
                 let there = told_before (g.content new) (g.content old) before (told.1, told.0) told_old in
                 let done : g.moment new ≡ time 1 = at_told (λ (_ : List ℕ). g.moment new ≡ time 1) before told_old calls in
                 let first : count ≡ 1 = omega (arith, some, most) in
-                let end : time count ≡ g.moment new = ap time first ∙ sym done in
                 let each = at_told (λ (_ : List ℕ). (image : List ℕ) → images_now g new image → StandsFor form next image) there.0 there.1 here in
-                (1, omega (arith, most), omega arith, subst (λ (s : S). StandsFor form s image) (next_is (known_told form before told_old)) (each image (subst (λ (t : ℕ). g.images_since new t image) end left)))),
+                (1, omega (arith, most), omega arith, subst (λ (s : S). StandsFor form s image) (next_is (known_told form before told_old)) (each image (subst (λ (t : ℕ). g.images_since new t image) (ap time first ∙ sym done) left)))),
             refl,
             fine,
           ))

@@ -1,27 +1,11 @@
 -- What a change does that has room made for it, puts something in a block, and its record behind that.
 use Rattle.std.proofs.Common.{◌≡◌, inl, ⊎_elim, ℕ, zero, suc, ◌+◌, ◌-◌, ◌≤◌, false, List, [], ◌∷◌, length, take, Option, Some, IfSome, refl, sym, ◌∙◌, ap, subst, arith}
-use Rattle.std.specs.Prelude.{slice_get}
-use Rattle.disk_model.specs.Moments.{LeavesOnly}
-use Rattle.disk_model.specs.declared.disk.Disk.{Ghosts}
-use Rattle.file_journal.specs.Bounds.{StaysInHalves}
-use Rattle.file_journal.specs.Calls.{EachImage, Leaves, Puts, TellsAlike, images_now}
-use Rattle.file_journal.specs.Commands.{AreAllowed, MakesBetween, MakesFirst, after_first, done_at, octets_of}
-use Rattle.file_journal.specs.Form.{Form, StandsFor, record_calls}
-use Rattle.file_journal.specs.Kept.{Does, HasRoomFor, IsCut, IsKept, KeptOn, Paces, StandsAt, kept_on}
-use Rattle.file_journal.specs.Layout.{Blocks, HoldSame, block_in, blocks_on, rewriting_calls}
-use Rattle.file_journal.specs.declared.layout.Layout.{Layout}
-use Rattle.file_journal.specs.Position.{IsSameJournal, MovesOn, Position}
-use Rattle.file_journal.specs.Putting.{GoesOn, StandsForEither, StaysKept, TurnsInto, seen_on}
-use Rattle.file_journal.specs.Records.{Record}
-use Rattle.file_journal.specs.Steps.{HasPut, IsSeenBy, Knows, Steps, Turn, WritesTurn}
-use Rattle.file_journal.proofs.BoundLemmas.{halves_on, halves_same}
-use Rattle.file_journal.proofs.CallLemmas.{puts_none, puts_on, puts_same}
+use Rattle.file_journal.proofs.Names.{common_steps, slice_get, LeavesOnly, Ghosts, StaysInHalves, EachImage, Leaves, Puts, TellsAlike, images_now, AreAllowed, MakesBetween, MakesFirst, after_first, done_at, octets_of, Form, StandsFor, record_calls, Does, HasRoomFor, IsCut, IsKept, KeptOn, Paces, StandsAt, kept_on, Blocks, HoldSame, block_in, blocks_on, rewriting_calls, Layout, IsSameJournal, MovesOn, Position, GoesOn, StandsForEither, StaysKept, TurnsInto, seen_on, Record, HasPut, IsSeenBy, Knows, Steps, Turn, WritesTurn, puts_on, puts_same, joined, weaker, at_told, if_told, knows_on, told_before, told_weaker}
+use Rattle.file_journal.proofs.BoundLemmas.{halves_on}
 use Rattle.file_journal.proofs.CommandLemmas.{makes_none}
 use Rattle.file_journal.proofs.DoesLemmas.{same_then}
 use Rattle.file_journal.proofs.HoldLemmas.{held_kept}
 use Rattle.file_journal.proofs.KeptLemmas.{images_here, put_cut, put_done}
-use Rattle.file_journal.proofs.MomentLemmas.{joined, started, weaker}
-use Rattle.file_journal.proofs.ToldLemmas.{at_told, if_told, knows_on, told_before, told_weaker}
 
 -- what a crash left before, or since, is what each image is now
 each_since : {D : Type 0} (g : Ghosts D) (earlier : (disk : D) (t u : ℕ) (image : List ℕ) → t ≤ u → g.images_since disk u image → g.images_since disk t image)
@@ -52,17 +36,13 @@ one_paces {C = C} form journal start ready command few room = record {
     time = paced start ready (form.calls command)
 
     rises : (count : ℕ) (other : C) → slice_get (command ∷ []) count ≡ Some other → time count + form.calls other ≤ time (count + 1)
-    rises zero other is = let same : command ≡ other = cc is in omega (arith, ap form.calls same)
-    rises (suc count) other is = absurd (cc is)
+    rises x0 other is = grind (arith, common_steps)
 
     most : (count : ℕ) (other : C) → slice_get (command ∷ []) count ≡ Some other → time (count + 1) ≤ time count + form.calls other + rewriting_calls journal.blocks
-    most zero other is = let same : command ≡ other = cc is in omega (arith, few, ap form.calls same)
-    most (suc count) other is = absurd (cc is)
+    most x0 other is = grind (arith, common_steps)
 
     exact : (count : ℕ) → count ≤ length (command ∷ []) → HasRoomFor form journal (take count (command ∷ [])) → time count ≡ done_at form start (command ∷ []) count
-    exact zero within has = omega arith
-    exact (suc zero) within has = omega (arith, room has)
-    exact (suc (suc count)) within has = absurd (omega (arith, within))
+    exact x0 within has = grind (arith, common_steps)
 
 module _ {D : Type 0} (g : Ghosts D) where
   -- the journal goes on, and then another time
@@ -91,11 +71,7 @@ module _ {D : Type 0} (g : Ghosts D) where
   -- the moment behind a block that is written, and a record
   pub calls_both : (old mid new : D) (block calls : ℕ) → TellsAlike (g.content old) (g.content mid) → IfSome (g.content old) (λ _. g.moment mid ≡ g.moment old + block)
       → IfSome (g.content mid) (λ _. g.moment new ≡ g.moment mid + record_calls) → calls ≡ block + record_calls → IfSome (g.content old) (λ _. g.moment new ≡ g.moment old + (calls + 0))
-  calls_both old mid new block calls alike first second all = if_told (g.content old) _ (λ octets told.
-      let there = told_before (g.content mid) (g.content old) octets (alike.1, alike.0) told in
-      let one : g.moment mid ≡ g.moment old + block = at_told _ octets told first in
-      let two : g.moment new ≡ g.moment mid + record_calls = at_told _ there.0 there.1 second in
-      omega (arith, one, two, all))
+  calls_both old mid new block calls alike first second all = grind (arith, common_steps, if_told, told_before, at_told)
 
 module _ {D S K V C : Type 0} (g : Ghosts D) (steps : Steps S K) (seen : Blocks → K → V) (form : Form V C) (law : IsSeenBy steps seen form)
     (earlier : (disk : D) (t u : ℕ) (image : List ℕ) → t ≤ u → g.images_since disk u image → g.images_since disk t image)
@@ -103,23 +79,6 @@ module _ {D S K V C : Type 0} (g : Ghosts D) (steps : Steps S K) (seen : Blocks 
   -- what is kept is seen as it was
   seen_same : (P : Type 0) (old new : KeptOn D K) → StaysKept g form steps seen P old new → seen (blocks_on (g.content new.disk)) old.now ≡ seen (blocks_on (g.content old.disk)) old.now
   seen_same P old new stays = law.same_seen (blocks_on (g.content old.disk)) (blocks_on (g.content new.disk)) old.now (subst steps.is_kept stays.kept stays.stands_at.holds.reached) stays.same
-
-  -- it stays where nothing is done
-  pub stays_still : (P : Type 0) (now : K) (journal : Position) (disk : D) → ¬ P → g.lasts disk disk → StandsAt g form steps journal now disk → journal.failed ≡ false
-      → StaysKept g form steps seen P (kept_on now journal disk) (kept_on now journal disk)
-  stays_still P now journal disk fine same at healthy = record {
-    kept = refl;
-    stands_at = at;
-    same = λ block uses. refl;
-    since = if_told (g.content disk) _ (λ octets told. started g.moment g.images_since disk _);
-    goes = record {
-      journal = record { same = refl; half = λ one. refl };
-      fails = λ bad. absurd (fine bad);
-      goes_on = λ good. healthy;
-      puts = puts_none g disk P fine same;
-      within = halves_same g journal.layout journal.blocks disk;
-    };
-  }
 
   -- however a failure is named
   pub stays_other : (P Q : Type 0) (old new : KeptOn D K) → (P → Q) → (Q → P) → StaysKept g form steps seen P old new → StaysKept g form steps seen Q old new
@@ -202,13 +161,9 @@ module _ {D S K V C : Type 0} (g : Ghosts D) (steps : Steps S K) (seen : Blocks 
               images = subst (λ (v : V). EachImage g new.disk (MakesBetween form cut.count (cut.count + 1) v (command ∷ []))) start_is cut.images;
               stay = if_told (g.content old.disk) _ (λ octets told count some most. absurd (omega (arith, some, most, none)));
               calls = since_mid (λ later least.
-                  let at = ap time none in
-                  let there = ap does.time none in
-                  omega (arith, at, there, least, later, does.paces.starts)) cut.calls;
+                  omega (arith, ap time none, ap does.time none, least, later, does.paces.starts)) cut.calls;
               at_most = since_mid (λ later most.
-                  let at : time (cut.count + 1) ≡ time 1 = ap (λ (n : ℕ). time (n + 1)) none in
-                  let there : does.time (cut.count + 1) ≡ does.time 1 = ap (λ (n : ℕ). does.time (n + 1)) none in
-                  omega (arith, at, there, most, one, later)) cut.at_most;
+                  omega (arith, ap (λ (n : ℕ). time (n + 1)) none, ap (λ (n : ℕ). does.time (n + 1)) none, most, one, later)) cut.at_most;
             }
 
   module _ (old mid : D) (before between : Position) (now there_now : K) (turn : Turn K C) (entry : Record) (writes : WritesTurn form steps seen now turn entry)

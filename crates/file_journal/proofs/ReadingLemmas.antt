@@ -1,14 +1,8 @@
 -- What is read from a gate on.
-use Rattle.std.proofs.lemmas.Grind.{common_steps}
-use Rattle.std.proofs.Common.{◌≡◌, ◌≢◌, ◌↔◌, min, inl, inr, ⊎_elim, ℕ, zero, suc, ◌+◌, ◌-◌, ◌*◌, ◌<◌, ◌≤◌, true, false, ◌==◌, if◌then◌else◌, List, [], ◌∷◌, ◌++◌, length, get_or, take, drop, refl, sym, ◌∙◌, ap, subst, arith, append_assoc, length-append, length-drop, take-append-drop, drop-drop, get_or-drop, get_or-take, ne_eqb}
-use Rattle.std.proofs.lemmas.Bool.{cond-true, cond-false, cases_Bool, cases_eq, cases_lt, both_ways}
-use Rattle.std.proofs.lemmas.List.{drop_at, drop_more, drop_all, drop-take, length-take-le, take-take}
-use Rattle.std.proofs.lemmas.List.Elements.{All-take, All-drop, All-head, All-tail}
-use Rattle.std.specs.List.{AllByRecursion}
-use Rattle.px_base.specs.Numbers.{le16}
-use Rattle.px_base.specs.Octets.{IsOctets}
-use Rattle.file_journal.specs.Finding.{BeginsRecord}
-use Rattle.file_journal.specs.Records.{HasRecord, Record, IsRecord, record_of, record_text, records_text, StartsClosed, StartsCut, Reading, whole, broken, StandsFrom, record_len, starts_whole, record_in, with_record, with_records, reading_within, reading_from}
+use Rattle.std.proofs.Common.{◌≡◌, ◌≢◌, ◌↔◌, min, inl, inr, ⊎_elim, ℕ, zero, suc, ◌+◌, ◌-◌, ◌*◌, ◌<◌, ◌≤◌, true, false, ◌==◌, if◌then◌else◌, List, [], ◌∷◌, ◌++◌, length, get_or, take, drop, refl, sym, ◌∙◌, ap, subst, arith, append_assoc, length-append, length-drop, take-append-drop, drop-drop, get_or-drop, get_or-take, ne_eqb, ◌^◌, Option, IfSome, Err, length-take, take-take}
+use Rattle.file_journal.specs.declared.faults.RecoverFault.TheVariants as fault
+use Rattle.file_journal.proofs.Names.{common_steps, cond-true, cond-false, cases_Bool, cases_eq, cases_lt, both_ways, drop_at, drop_more, drop_all, drop-take, length-take-le, All-take, All-drop, All-head, All-tail, AllByRecursion, le16, IsOctets, BeginsRecord, HasRecord, Record, IsRecord, record_of, record_text, records_text, StartsClosed, StartsCut, Reading, whole, broken, StandsFrom, record_len, starts_whole, record_in, with_record, with_records, reading_within, reading_from, Ghosts, up_to, IsReadable, RefusesAt, Position, end_of, readable, reading_at, told_weaker}
+use Rattle.file_journal.proofs.LayoutLemmas.{readable_is, readable_less}
 
 -- what is made of what follows a gate's record
 abbrev step_of : ℕ → ℕ → List ℕ → Reading → Reading
@@ -84,15 +78,13 @@ whole_text (kind ∷ low ∷ high ∷ rest) are is_whole =
     let most : n ≤ 600 = omega (arith, parts.0) in
     let long : n < length rest = omega (arith, parts.1) in
     let size : length (take n rest) ≡ n = length-take-le n rest (omega (arith, long)) in
-    let are_rest : IsOctets rest = All-tail P high rest (All-tail P low (high ∷ rest) (All-tail P kind (low ∷ high ∷ rest) are)) in
     let low_octet : low < 256 = All-head P low (high ∷ rest) (All-tail P kind (low ∷ high ∷ rest) are) in
-    let high_octet : high < 256 = All-head P high rest (All-tail P low (high ∷ rest) (All-tail P kind (low ∷ high ∷ rest) are)) in
     let split : rest ≡ take n rest ++ get_or rest n 0 ∷ drop (n + 1) rest = sym (take-append-drop n rest) ∙ ap (λ (l : List ℕ). take n rest ++ l) (drop_more rest n 0 long) in (
       get_or rest n 0,
       drop (n + 1) rest,
-      record { kind = All-head P kind (low ∷ high ∷ rest) are; octets = All-take P n rest are_rest; most = omega (arith, size, most) },
+      record { kind = All-head P kind (low ∷ high ∷ rest) are; octets = All-take P n rest (All-tail P high rest (All-tail P low (high ∷ rest) (All-tail P kind (low ∷ high ∷ rest) are))); most = omega (arith, size, most) },
       ap (λ (l : List ℕ). kind ∷ low ∷ high ∷ l) split
-          ∙ ap (λ (l : List ℕ). l ++ get_or rest n 0 ∷ drop (n + 1) rest) (three_octets kind low high n (take n rest) low_octet high_octet size),
+          ∙ ap (λ (l : List ℕ). l ++ get_or rest n 0 ∷ drop (n + 1) rest) (three_octets kind low high n (take n rest) low_octet (All-head P high rest (All-tail P low (high ∷ rest) (All-tail P kind (low ∷ high ∷ rest) are))) size),
     )
 
 -- Where no record with a gate stands at the front, none is read.
@@ -153,9 +145,8 @@ read_from_stands place octets (whole entries) are stands = closed_end stands.0 s
         ∙ all_whole entries)
 read_from_stands place octets (broken entries at) are stands =
     let rest = stands.0 in
-    let cut = cut_text rest (are_behind (records_text entries ++ 1 ∷ []) rest octets (stands.2 ∙ sym (append_assoc (records_text entries) (1 ∷ []) rest)) are) stands.3 in
     sym (ap (reading_from place) stands.2 ∙ reading_records entries place 1 rest stands.1
-    ∙ ap (with_records entries) (reading_broken (place + length (records_text entries)) rest cut)
+    ∙ ap (with_records entries) (reading_broken (place + length (records_text entries)) rest (cut_text rest (are_behind (records_text entries ++ 1 ∷ []) rest octets (stands.2 ∙ sym (append_assoc (records_text entries) (1 ∷ []) rest)) are) stands.3))
     ∙ all_broken entries (place + length (records_text entries)) ∙ ap (broken entries) (sym stands.4))
 
 -- one record more in front
@@ -238,11 +229,8 @@ starts_whole-front octets n is = grind (arith, common_steps)
 -- What is read from a gate on, in which the record is seen.
 module _ (place count : ℕ) (octets front : List ℕ) (there : place < length octets) (is_count : count ≡ min 605 (length octets - place))
     (is_front : front ≡ take count (drop place octets)) where
-  front-at : (i : ℕ) → i < count → get_or front i 0 ≡ get_or octets (place + i) 0
-  front-at i lt = ap (λ (l : List ℕ). get_or l i 0) is_front ∙ get_or-take count (drop place octets) i 0 lt ∙ get_or-drop place octets i 0
-
   front-gate : get_or front 0 0 ≡ get_or octets place 0
-  front-gate = front-at 0 (omega (arith, is_count)) ∙ ap (λ (i : ℕ). get_or octets i 0) (let same : place + 0 ≡ place = omega arith in same)
+  front-gate = (ap (λ (l : List ℕ). get_or l 0 0) is_front ∙ get_or-take count (drop place octets) 0 0 (omega (arith, is_count)) ∙ get_or-drop place octets 0 0) ∙ ap (λ (i : ℕ). get_or octets i 0) (let same : place + 0 ≡ place = omega arith in same)
 
   front-size : length front ≡ count
   front-size = ap length is_front ∙ length-take-le count (drop place octets) (omega (arith, is_count, length-drop place octets))
@@ -270,18 +258,13 @@ module _ (place count : ℕ) (octets front : List ℕ) (there : place < length o
 
 -- a reading that begins with a record isn't one without, and begins with no other
 pub no_record : (entry : Record) (reading : Reading) → with_record entry reading ≡ whole [] → ⊥
-no_record entry (whole entries) is = cc
-no_record entry (broken entries at) is = cc
+no_record entry reading is = grind arith
 
 no_record_broken : (entry : Record) (reading : Reading) (at : ℕ) → with_record entry reading ≡ broken [] at → ⊥
-no_record_broken entry (whole entries) at is = cc
-no_record_broken entry (broken entries where_) at is = cc
+no_record_broken entry reading at is = grind arith
 
 same_record : (a b : Record) (x y : Reading) → with_record a x ≡ with_record b y → (a ≡ b) × (x ≡ y)
-same_record a b (whole x) (whole y) is = (cc, cc)
-same_record a b (whole x) (broken y at) is = (cc, cc)
-same_record a b (broken x at) (whole y) is = (cc, cc)
-same_record a b (broken x at) (broken y where_) is = (cc, cc)
+same_record a b x y is = grind arith
 
 -- Where a record is read, what is behind it is read there.
 pub read_on : (place : ℕ) (octets : List ℕ) (entry : Record) (next : Reading) → reading_from place (drop place octets) ≡ with_record entry next
@@ -305,3 +288,60 @@ read_on place octets entry next is = elim (cases_lt place (length octets)) [
     ]
   ]
 ]
+
+-- ---- what is answered of the record at a place
+
+-- damage at this place
+pub refuses_at : {T : Type 0} (place end : ℕ) (content : Option (List ℕ)) → IfSome content (λ octets. reading_at place (take end octets) ≡ broken [] place)
+    → RefusesAt {T = T} place end content (Err (fault.Damaged place))
+refuses_at place end content cut = record { damaged = λ at same. (cc same, cut); is_store = λ found same. cc same }
+
+-- nothing is read where the octets end
+pub past_end : (place end : ℕ) (octets : List ℕ) → end ≤ place → reading_at place (take end octets) ≡ broken [] place
+past_end place end octets past = read_past place (take end octets) (omega (arith, past, length-take end octets))
+
+-- What is read from a gate on, up to this end.
+module _ (place count end : ℕ) (octets front : List ℕ) (there : place < end) (is_end : end ≤ length octets) (is_count : count ≡ min (end - place) 605) (is_front : front ≡ take count (drop place octets)) where
+  size : length (take end octets) ≡ end
+  size = length-take-le end octets is_end
+
+  count_there : count ≡ min 605 (length (take end octets) - place)
+  count_there = omega (arith, size, is_count)
+
+  front_there : front ≡ take count (drop place (take end octets))
+  front_there =
+      is_front ∙ sym (take-take count (end - place) (drop place octets) (omega (arith, is_count)))
+      ∙ ap (take count)
+      (sym (ap (λ (n : ℕ). drop place (take n octets)) (let parts : end ≡ place + (end - place) = omega (arith, there) in parts) ∙ drop-take place (end - place) octets))
+
+  pub closed_there : get_or front 0 0 ≢ 1 → reading_at place (take end octets) ≡ whole []
+  closed_there shut = found-closed place count (take end octets) front (omega (arith, size, there)) count_there front_there shut
+
+  pub damaged_there : get_or front 0 0 ≡ 1 → starts_whole (drop 1 front) ≡ false → reading_at place (take end octets) ≡ broken [] place
+  damaged_there is_open cut = found-damaged place count (take end octets) front (omega (arith, size, there)) count_there front_there is_open cut
+
+  pub record_there : (kind n : ℕ) → BeginsRecord front kind n → HasRecord place (record_of kind (take n (drop 4 front))) (take end octets)
+  record_there kind n is = found-record place count (take end octets) front (omega (arith, size, there)) count_there front_there kind n is
+
+-- what is read of a disk of so many octets ends where the journal's half ends, or the disk
+pub readable_of : {D : Type 0} (g : Ghosts D) (journal : Position) (disk : D) (len end : ℕ) → end ≡ readable (end_of journal) len → IfSome (g.content disk) (λ octets. len ≡ length octets) → len ≤ 2 ^ 63
+    → IsReadable g journal disk end
+readable_of g journal disk len end is told most =
+    let less = readable_less (end_of journal) len in
+    record {
+      octets = record { told = told_weaker (g.content disk) _ _ (λ octets is_told size. omega (arith, is, less.0, size)) told; most = omega (arith, is, less.0, most) };
+      within = told_weaker (end_of journal) _ _ (λ place is_end le. omega (arith, is, le)) less.1;
+      told = told_weaker (g.content disk) _ _ (λ octets is_told size. readable_is (end_of journal) len octets size ∙ ap (λ (n : ℕ). take n octets) (sym is)) told;
+    }
+
+-- it stays so where the journal moves on in its half, and the disk's octets stay
+pub readable_on : {D : Type 0} (g : Ghosts D) (journal after : Position) (disk now : D) (end : ℕ) → end_of after ≡ end_of journal → g.content now ≡ g.content disk → IsReadable g journal disk end
+    → IsReadable g after now end
+readable_on g journal after disk now end same told is =
+    record {
+      octets = record { told = subst (λ (o : Option (List ℕ)). IfSome o (λ octets. end ≤ length octets)) (sym told) is.octets.told; most = is.octets.most };
+      within = subst (λ (o : Option ℕ). IfSome o (λ place. end ≤ place)) (sym same) is.within;
+      told =
+          subst (λ (o : Option (List ℕ)). IfSome o (λ octets. up_to (end_of after) octets ≡ take end octets)) (sym told)
+          (subst (λ (e : Option ℕ). IfSome (g.content disk) (λ octets. up_to e octets ≡ take end octets)) (sym same) is.told);
+    }

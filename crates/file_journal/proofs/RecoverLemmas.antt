@@ -1,31 +1,11 @@
 -- What a recovery leaves of a content, what it answers, and where its journal stands.
-use Rattle.std.proofs.lemmas.Grind.{common_steps}
 use Rattle.std.specs.Prelude.{if◌then◌else◌}
-use Rattle.std.proofs.Common.{◌≡◌, ◌↔◌, inl, inr, ℕ, ◌+◌, ◌%◌, ◌<◌, ◌≤◌, nat_le, List, [], ◌∷◌, ◌++◌, length, get_or, take, Some, IfSome, Result, Ok, Err, refl, sym, ◌∙◌, ap, subst, arith, append_assoc, append-nil, length-append, get_or-take, take-take}
-use Rattle.std.proofs.lemmas.List.{get_or_at, take-append-le, take_at, length-take-le}
-use Rattle.std.proofs.lemmas.Bool.{cases_lt, cond-false, cond-true, le-leb, lt-leb}
-use Rattle.px_base.specs.Numbers.{le32}
-use Rattle.px_base.specs.Octets.{IsOctets}
-use Rattle.disk_model.specs.Disk.{HasContent, Only}
-use Rattle.disk_model.specs.declared.disk.Disk.{Ghosts}
-use Rattle.file_journal.specs.declared.layout.Half.{Half}
-use Rattle.file_journal.specs.declared.layout.Half.TheVariants as half
-use Rattle.file_journal.specs.declared.layout.Layout.{Layout}
-use Rattle.file_journal.specs.declared.faults.RecoverFault.{RecoverFault}
+use Rattle.std.proofs.Common.{◌≡◌, ◌↔◌, inl, inr, ℕ, ◌+◌, ◌%◌, ◌<◌, ◌≤◌, nat_le, List, [], ◌∷◌, ◌++◌, length, get_or, take, Option, Some, IfSome, Result, Ok, Err, refl, sym, ◌∙◌, ap, subst, arith, append_assoc, append-nil, length-append, get_or-take, take-take}
 use Rattle.file_journal.specs.declared.faults.RecoverFault.TheVariants as fault
-use Rattle.file_journal.specs.Calls.{ChangesReads, IsQuietNow, Leaves, TellsAlike, images_now}
-use Rattle.file_journal.specs.Formatting.{IsFinishing, IsMakingGates}
-use Rattle.file_journal.specs.Header.{HasHeader}
-use Rattle.file_journal.specs.Journal.{Standing, store, no_store, bad_number, journal_of, header_text, even_header, even_selector, HasGates, HasGoodHeader, IsAfterFinishing, IsAfterRecovery, IsSameStore, store_of}
-use Rattle.file_journal.specs.Layout.{first_gate, half_in}
-use Rattle.file_journal.specs.Position.{Position, gate_of, left_to_read, position_at_first, IsAt, StandsOn}
-use Rattle.file_journal.specs.Records.{whole}
-use Rattle.file_journal.specs.Recovery.{IsRecovered, IsRecovering, RefusesExactly, gate_in, number_in}
+use Rattle.file_journal.proofs.Names.{common_steps, get_or_at, take-append-le, take_at, length-take-le, cases_lt, cond-false, cond-true, le-leb, lt-leb, le32, IsOctets, HasContent, Only, Ghosts, Half, Layout, RecoverFault, ChangesReads, IsQuietNow, Leaves, TellsAlike, images_now, IsFinishing, IsMakingGates, HasHeader, Standing, store, no_store, bad_number, journal_of, header_text, even_header, even_selector, HasGates, HasGoodHeader, IsAfterFinishing, IsAfterRecovery, IsSameStore, store_of, first_gate, half_in, Position, gate_of, left_to_read, position_at_first, IsAt, StandsOn, whole, IsRecovered, IsRecovering, RefusesExactly, gate_in, number_in, at_told, content_now, if_told, told_weaker, reads, First, Reading}
 use Rattle.file_journal.proofs.FormatLemmas.{even_selector_even}
 use Rattle.file_journal.proofs.JournalLemmas.{half_of_header, header_even, header_length, header_written, new_gates, of_empty, of_full, of_interrupted, of_short, same_header}
 use Rattle.file_journal.proofs.LayoutLemmas.{even_half, gate_behind}
-use Rattle.file_journal.proofs.ToldLemmas.{at_told, content_now, if_told, told_weaker}
-use Rattle.file_journal.proofs.MomentLemmas.{reads}
 
 -- Refusals.
 module _ (magic : List ℕ) (layout : Layout) (before : List ℕ) where
@@ -54,7 +34,7 @@ refusal_of magic layout octets (Err fault.Disk) good foreign bad healthy = absur
 
 -- two closed gates behind a header of 16 octets
 two_gates : (magic : List ℕ) (layout : Layout) (blocks : ℕ) (front now : List ℕ) → length front ≡ 16 → HasHeader magic blocks front → get_or front 15 0 % 2 ≡ 0 → HasGates (first_gate layout blocks) front now
-    → HasHeader magic blocks now × (first_gate layout blocks + 2 ≤ length now) × (half_in layout now ≡ half.First) × (journal_of magic layout now ≡ store (Some blocks) (whole []))
+    → HasHeader magic blocks now × (first_gate layout blocks + 2 ≤ length now) × (half_in layout now ≡ First) × (journal_of magic layout now ≡ store (Some blocks) (whole []))
 two_gates magic layout blocks front now size head even gates =
     let gate = first_gate layout blocks in
     let parts : length (front ++ gates.gap) ≡ gate = omega (arith, size, gates.size, length-append front gates.gap) in
@@ -62,7 +42,7 @@ two_gates magic layout blocks front now size head even gates =
     let same : take 16 now ≡ take 16 front =
     ap (λ (l : List ℕ). take 16 l) (gates.octets ∙ append_assoc front gates.gap (0 ∷ 0 ∷ [])) ∙ take-append-le 16 front (gates.gap ++ 0 ∷ 0 ∷ []) (omega (arith, size)) in
     let has : HasHeader magic blocks now = same_header 16 magic blocks front now (omega arith) same head in
-    let first : half_in layout now ≡ half.First = half_of_header 16 layout front now (omega arith) same even in
+    let first : half_in layout now ≡ First = half_of_header 16 layout front now (omega arith) same even in
     let closed : get_or now gate 0 ≡ 0 = ap (λ (l : List ℕ). get_or l gate 0) gates.octets ∙ get_or_at (front ++ gates.gap) 0 (0 ∷ []) 0 gate parts in
     (has, omega (arith, long), first, of_empty magic layout now blocks has (omega (arith, long, gate_behind layout blocks)) (λ more. (first, λ is_open. absurd (omega (arith, closed, is_open)))))
 
@@ -77,7 +57,7 @@ finishing magic layout blocks before image long head making =
 -- the half in which a recovery of these octets finds the records: the first one where their formatting was interrupted
 abbrev pub IsHalfOf : Layout → ℕ → Half → List ℕ → Type 0
 IsHalfOf layout blocks chosen before =
-    (length before < first_gate layout blocks + 2 → chosen ≡ half.First) × (first_gate layout blocks + 2 ≤ length before → chosen ≡ half_in layout before)
+    (length before < first_gate layout blocks + 2 → chosen ≡ First) × (first_gate layout blocks + 2 ≤ length before → chosen ≡ half_in layout before)
 
 finished_store : (magic : List ℕ) (layout : Layout) (blocks : ℕ) (chosen : Half) (before now : List ℕ) → 16 < length before → HasHeader magic blocks before → IsHalfOf layout blocks chosen before
     → IsAfterFinishing (first_gate layout blocks) before now
@@ -94,6 +74,10 @@ finished_store magic layout blocks chosen before now long head half_is is = elim
       (ap (λ (n : ℕ). n % 2) (get_or_at (take 15 before) (even_selector before) [] 0 15 front) ∙ even_selector_even before) (is.finished short) in
       (made.0, made.1, made.2 ∙ sym (half_is.0 short), made.3 ∙ sym (of_interrupted magic layout before blocks head long short))
 ]
+
+-- a standing with a store has a good header
+good-header : (standing : Standing) (number : Option ℕ) (reading : Reading) → standing ≡ store number reading → HasGoodHeader standing
+good-header standing number reading is = (λ found other. cc (sym is ∙ other), λ other. cc (sym is ∙ other))
 
 -- What a recovery leaves of a content.
 module _ (magic : List ℕ) (layout : Layout) (blocks : ℕ) (before : List ℕ) where
@@ -119,6 +103,7 @@ module _ (magic : List ℕ) (layout : Layout) (blocks : ℕ) (before : List ℕ)
   recovering_same = record {
     same = inl refl;
     formatted = λ _. refl;
+    refused = λ _. refl;
     no_longer = λ short. omega (arith, short);
     header = λ long. sym (known_front long);
     even = λ short more. absurd (omega (arith, short, more));
@@ -128,11 +113,11 @@ module _ (magic : List ℕ) (layout : Layout) (blocks : ℕ) (before : List ℕ)
   -- an interrupted formatting
   pub recovering_finishing : (number : ℕ) (image : List ℕ) → 16 < length before → HasHeader magic number before → IsFinishing (first_gate layout number) before image → IsRecovering magic layout blocks before image
   recovering_finishing number image long head making =
-      let gate : first_gate layout number ≡ gate_in layout blocks before = ap (first_gate layout) (sym head.blocks_are) ∙ sym (known_gate long) in
-      let here : IsFinishing (gate_in layout blocks before) before image = subst (λ (n : ℕ). IsFinishing n before image) gate making in
+      let here : IsFinishing (gate_in layout blocks before) before image = subst (λ (n : ℕ). IsFinishing n before image) (ap (first_gate layout) (sym head.blocks_are) ∙ sym (known_gate long)) making in
       record {
         same = inl (finishing magic layout number before image long head making);
         formatted = λ full. absurd (omega (arith, here.interrupted, full));
+        refused = λ bad. absurd (bad (good-header _ _ _ (of_interrupted magic layout before number head long making.interrupted)));
         no_longer = λ short. here.no_longer;
         header = λ more. here.header ∙ sym (known_front long);
         even = λ short more. here.even more;
@@ -157,6 +142,7 @@ module _ (magic : List ℕ) (layout : Layout) (blocks : ℕ) (before : List ℕ)
     recovering_short image short_now = record {
       same = inl (of_short magic layout image short_now ∙ sym (of_short magic layout before short));
       formatted = λ full. absurd (omega (arith, full, short, new_behind));
+      refused = λ bad. absurd (bad (good-header _ _ _ (of_short magic layout before short)));
       no_longer = λ less. omega (arith, short_now, new_behind);
       header = λ long. absurd (omega (arith, long, short_now));
       even = λ less more. absurd (omega (arith, more, short_now, new_behind));
@@ -165,11 +151,11 @@ module _ (magic : List ℕ) (layout : Layout) (blocks : ℕ) (before : List ℕ)
 
     pub recovering_gates : (image : List ℕ) → length magic ≡ 8 → 1 ≤ blocks → blocks ≤ 65536 → IsMakingGates (first_gate layout blocks) (header_text magic blocks) image → IsRecovering magic layout blocks before image
     recovering_gates image eight some most making =
-        let gate : first_gate layout blocks ≡ gate_in layout blocks before = sym new_gate in
-        let here : IsMakingGates (gate_in layout blocks before) (header_text magic blocks) image = subst (λ (n : ℕ). IsMakingGates n (header_text magic blocks) image) gate making in
+        let here : IsMakingGates (gate_in layout blocks before) (header_text magic blocks) image = subst (λ (n : ℕ). IsMakingGates n (header_text magic blocks) image) (sym new_gate) making in
         record {
           same = subst (λ (s : Standing). IsSameStore blocks s (journal_of magic layout image)) (sym (of_short magic layout before short)) (new_gates magic layout blocks image eight some most making);
           formatted = λ full. absurd (omega (arith, full, short, new_behind));
+          refused = λ bad. absurd (bad (good-header _ _ _ (of_short magic layout before short)));
           no_longer = λ less. here.no_longer;
           header = λ long.
               sym (take-take 15 16 image (omega arith)) ∙ ap (λ (l : List ℕ). take 15 l) making.header ∙ take-take 15 16 (header_text magic blocks) (omega arith) ∙ sym new_front;
@@ -236,7 +222,7 @@ module _ {D : Type 0} (g : Ghosts D) (magic : List ℕ) (layout : Layout) (block
 
   -- of at most 16 octets
   pub new_formatted : (old new : D) → length magic ≡ 8 → 1 ≤ blocks → blocks ≤ 65536 → IfSome (g.content old) (λ before. length before ≤ 16)
-      → HasContent (g.content old) (g.content new) (IsAfterRecovery magic layout blocks) → HasContent (g.content old) (g.content new) (IsFormatted blocks half.First)
+      → HasContent (g.content old) (g.content new) (IsAfterRecovery magic layout blocks) → HasContent (g.content old) (g.content new) (IsFormatted blocks First)
   new_formatted old new eight some most short has = told_weaker (g.content old) _ _ (λ before told now.
       let less = at_told _ before told short in
       let head = subst (λ (l : List ℕ). HasHeader magic blocks l) (append-nil (header_text magic blocks)) (header_written magic blocks [] eight some most) in

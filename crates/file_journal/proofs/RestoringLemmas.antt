@@ -1,45 +1,22 @@
 -- The recovery of a state that is kept.
-use Rattle.std.proofs.lemmas.Grind.{common_steps}
 use Rattle.std.proofs.Common.{◌≡◌, ◌↔◌, inl, inr, ⊎_elim, ℕ, ◌+◌, ◌<◌, ◌≤◌, Bool, true, false, not, nat_le, nat_lt, List, [], length, take, Option, None, Some, IfSome, Result, Ok, Err, IsErrOf, refl, sym, ◌∙◌, ap, subst, arith}
 use Rattle.std.specs.Prelude.{if◌then◌else◌}
-use Rattle.std.specs.Str.{bytes_eq}
-use Rattle.std.proofs.lemmas.Bool.{cases_lt, lt-ltb}
-use Rattle.px_base.specs.Numbers.{le32}
 use Rattle.px_base.specs.Outside.{Rose}
-use Rattle.disk_model.specs.Disk.{Only}
-use Rattle.disk_model.specs.declared.disk.Disk.{Ghosts}
-use Rattle.file_journal.specs.Bounds.{RecoversInHalves}
-use Rattle.file_journal.specs.Calls.{ChangesReads, IsQuietNow, Leaves, Reads, Runs, TellsAlike, images_now}
-use Rattle.file_journal.specs.Form.{Form, standing_of}
 use Rattle.file_journal.specs.Journal as journal
-use Rattle.file_journal.specs.Journal.{IsAfterRecovery, IsSameStore, Standing, is_block_number, journal_of, read_half}
-use Rattle.file_journal.specs.Kept.{StandsAt, kept_on}
-use Rattle.file_journal.specs.Layout.{Blocks, HasBlocks, block_in, blocks_on, first_gate, half_gate, half_in}
-use Rattle.file_journal.specs.Ledger.{AnswersAll, AppliesAll}
-use Rattle.file_journal.specs.Position.{Position, StandsOn, left_to_read}
-use Rattle.file_journal.specs.Records.{Reading, Record, whole}
 use Rattle.file_journal.specs.Recovery as recovering
-use Rattle.file_journal.specs.Recovery.{IsFailedSync, IsRecovering, IsSyncedFirst, Recovers, gate_in}
 use Rattle.file_journal.specs.Refusals.{fault_of_read, fault_of_recovery}
-use Rattle.file_journal.specs.Restoring.{AnswersRecovery, IsRestored, RefusesExactly, StandsAlike}
-use Rattle.file_journal.specs.Steps.{IsSeenBy, Steps, walked}
-use Rattle.file_journal.specs.Walk.{Stands, damaged_at, no_store, number_or, see, stands_of, state, walk, walk_left}
-use Rattle.file_journal.specs.declared.layout.Half.{Half}
-use Rattle.file_journal.specs.declared.layout.Layout.{Layout}
-use Rattle.file_journal.specs.declared.faults.RecoverFault.{RecoverFault}
+use Rattle.file_journal.specs.Restoring.{RefusesExactly}
+use Rattle.file_journal.specs.Walk.{no_store}
 use Rattle.file_journal.specs.declared.faults.RecoverFault.TheVariants as recovery
-use Rattle.file_journal.specs.declared.faults.ReadFault.{ReadFault}
 use Rattle.file_journal.specs.declared.faults.ReadFault.TheVariants as read
 use Rattle.file_journal.specs.declared.faults.StoreFault.{StoreFault}
 use Rattle.file_journal.specs.declared.faults.StoreFault.TheVariants as fault
+use Rattle.file_journal.proofs.Names.{common_steps, bytes_eq, cases_lt, lt-ltb, le32, Only, Ghosts, RecoversInHalves, ChangesReads, IsQuietNow, Leaves, Reads, Runs, TellsAlike, images_now, Form, standing_of, IsAfterRecovery, IsSameStore, Standing, is_block_number, journal_of, read_half, StandsAt, kept_on, Blocks, HasBlocks, block_in, blocks_on, first_gate, half_gate, half_in, AnswersAll, AppliesAll, Position, StandsOn, left_to_read, Reading, Record, whole, IsRecovering, IsSyncedFirst, Recovers, gate_in, AnswersRecovery, IsRestored, StandsAlike, IsSeenBy, Steps, walked, Stands, damaged_at, number_or, see, stands_of, state, walk, walk_left, Half, Layout, RecoverFault, ReadFault, changes_none, reads_now, stops_on, stops_reads, joined, reads, weaker, alike_on, alike_same, at_told, content_now, if_told, told_before, told_weaker}
 use Rattle.file_journal.proofs.BoundLemmas.{recovers_reads}
-use Rattle.file_journal.proofs.CallLemmas.{changes_none, reads_now, stops_on, stops_reads}
 use Rattle.file_journal.proofs.HoldLemmas.{held_kept, quiet_holds}
 use Rattle.file_journal.proofs.LayoutLemmas.{gate_behind}
-use Rattle.file_journal.proofs.MomentLemmas.{joined, reads, weaker}
 use Rattle.file_journal.proofs.PositionLemmas.{among_records}
-use Rattle.file_journal.proofs.StepsLemmas.{fresh_same}
-use Rattle.file_journal.proofs.ToldLemmas.{alike_on, alike_same, at_told, content_now, if_told, told_before, told_weaker}
+use Rattle.file_journal.proofs.WalkLemmas.{fresh_same}
 
 -- ---- what is refused
 
@@ -84,9 +61,7 @@ tests_short false false false true found n reading short = refl
 tests_short false false false false found n reading short = cc short
 
 see_damaged : {S V : Type 0} (seen : S → V) (stands : Stands S) (at : ℕ) → see seen stands ≡ damaged_at at → stands ≡ damaged_at at
-see_damaged seen (no_store found) at is = absurd (cc is)
-see_damaged seen (damaged_at place) at is = ap (λ (n : ℕ). damaged_at n) (let same : place ≡ at = cc is in same)
-see_damaged seen (state now) at is = absurd (cc is)
+see_damaged seen stands at is = grind arith
 
 module _ {S K V C : Type 0} (steps : Steps S K) (seen : Blocks → K → V) (form : Form V C) (law : IsSeenBy steps seen form) (blocks : ℕ) where
   -- a state as what is kept of it is seen
@@ -115,12 +90,7 @@ module _ {S K V C : Type 0} (steps : Steps S K) (seen : Blocks → K → V) (for
       cc damage
 
   formatted : (octets : List ℕ) (at : ℕ) → (journal_of form.magic form.layout octets ≡ journal.bad_number → ⊥) → standing_of form blocks octets ≡ damaged_at at → gate_at octets + 2 ≤ length octets
-  formatted octets at good is = elim (cases_lt (length octets) (gate_at octets + 2)) [
-    | inl short ↦
-        absurd (short_sound (block_in octets) (half_in form.layout octets) (journal_of form.magic form.layout octets) at (short_store octets short) good
-        (see_damaged (sees (block_in octets)) (walked steps form.magic form.layout blocks octets) at (sym (law.standing blocks octets) ∙ is)))
-    | inr long ↦ long
-  ]
+  formatted octets at good is = grind (arith, common_steps, cases_lt, short_sound, short_store, see_damaged)
 
   stays : (octets now : List ℕ) → gate_at octets + 2 ≤ length octets → IsAfterRecovery form.magic form.layout blocks octets now → now ≡ octets
   stays octets now full after = (after.known (omega (arith, full, gate_behind form.layout (le32 octets 8)))).same full
@@ -128,13 +98,7 @@ module _ {S K V C : Type 0} (steps : Steps S K) (seen : Blocks → K → V) (for
   -- without records it stands for the same, whatever the blocks hold
   fresh_seen : (one other : Blocks) (chosen half_now : Half) (store : Standing) → HasNoRecords store
       → see (sees other) (stands_of steps.fresh (steps.step other) form.layout half_now blocks store) ≡ see (sees one) (stands_of steps.fresh (steps.step one) form.layout chosen blocks store)
-  fresh_seen one other chosen half_now (journal.no_store found) none = refl
-  fresh_seen one other chosen half_now journal.bad_number none = refl
-  fresh_seen one other chosen half_now (journal.store number reading) none =
-      let n = number_or blocks number in
-      let at : (held : Blocks) (h : Half) → see (sees held) (walk (steps.step held) (steps.fresh n) (half_gate form.layout n h) reading) ≡ state (sees held (steps.fresh n)) =
-      λ held h. ap (λ (r : Reading). see (sees held) (walk (steps.step held) (steps.fresh n) (half_gate form.layout n h) r)) none in
-      at other half_now ∙ ap (λ (v : V). state v) (fresh_same steps seen form law one other n) ∙ sym (at one chosen)
+  fresh_seen one other chosen half_now x4 none = grind (arith, common_steps, fresh_same)
 
   -- Octets that are the same store stand for the same, where a store that is formatted whole is left as it is.
   same_standing : (before image : List ℕ) → IsSameStore blocks (journal_of form.magic form.layout before) (journal_of form.magic form.layout image) → (gate_at before + 2 ≤ length before → image ≡ before)
@@ -152,13 +116,7 @@ module _ {S K V C : Type 0} (steps : Steps S K) (seen : Blocks → K → V) (for
 
       by : HasNoRecords (journal_of form.magic form.layout before) → IsSameStore blocks (journal_of form.magic form.layout before) (journal_of form.magic form.layout image)
           → see (sees (block_in image)) (walked steps form.magic form.layout blocks image) ≡ see (sees (block_in before)) (walked steps form.magic form.layout blocks before)
-      by none (inl is) =
-          ap (λ (s : Standing). see (sees (block_in image)) (stands_of steps.fresh (steps.step (block_in image)) form.layout is_now blocks s)) is
-          ∙ fresh_seen (block_in before) (block_in image) was is_now (journal_of form.magic form.layout before) none
-      by none (inr is) =
-          ap (λ (s : Standing). see (sees (block_in image)) (stands_of steps.fresh (steps.step (block_in image)) form.layout is_now blocks s)) is.1
-          ∙ ap (λ (v : V). state v) (fresh_same steps seen form law (block_in before) (block_in image) blocks)
-          ∙ sym (ap (λ (s : Standing). see (sees (block_in before)) (stands_of steps.fresh (steps.step (block_in before)) form.layout was blocks s)) is.0)
+      by none x1 = grind (arith, common_steps, is_now, fresh_seen, fresh_same)
 
   stands_alike : (before image : List ℕ) → IsRecovering form.magic form.layout blocks before image → StandsAlike form blocks before image
   stands_alike before image left = record { same = same_standing before image left.same (λ full. left.formatted (full_in before full)); octets = left }
@@ -177,8 +135,7 @@ module _ {S K V C : Type 0} (steps : Steps S K) (seen : Blocks → K → V) (for
     }
 
 untold : (before now : Option (List ℕ)) → TellsAlike before now → before ≡ None → now ≡ None
-untold before None alike none = refl
-untold before (Some x) alike none = let was = told_before before (Some x) x alike refl in absurd (cc (sym was.1 ∙ none))
+untold before x1 alike none = grind (arith, common_steps, told_before)
 
 -- ---- the calls of both
 
@@ -214,9 +171,7 @@ runs_same g P Q old new there back runs = record {
 -- ---- the faults of both
 
 recovery_disk : (e : RecoverFault) → fault_of_recovery e ≡ fault.Disk → e ≡ recovery.Disk
-recovery_disk (recovery.NotAStore found) is = cc
-recovery_disk (recovery.Damaged at) is = cc
-recovery_disk recovery.Disk is = refl
+recovery_disk e is = grind arith
 
 -- what the answer of a recovery tells of its reading's
 reads_fault : {U T : Type 0} (reading : Result U ReadFault) (result : Result T StoreFault) → IsAnswerOf reading result
@@ -232,9 +187,7 @@ reads_fault (Err read.OutOfMemory) result is = ((λ was. cc, λ was. cc), λ was
 module _ {D S K V C : Type 0} (g : Ghosts D) (steps : Steps S K) (seen : Blocks → K → V) (form : Form V C) (law : IsSeenBy steps seen form) (blocks : ℕ) where
   refused_as : (before : List ℕ) (stands : Standing) → journal_of form.magic form.layout before ≡ stands
       → standing_of form blocks before ≡ see (sees steps seen form law blocks (block_in before)) (stands_of steps.fresh (steps.step (block_in before)) form.layout (half_in form.layout before) blocks stands)
-  refused_as before stands is =
-      law.standing blocks before
-      ∙ ap (λ (s : Standing). see (sees steps seen form law blocks (block_in before)) (stands_of steps.fresh (steps.step (block_in before)) form.layout (half_in form.layout before) blocks s)) is
+  refused_as before stands is = grind (arith, common_steps)
 
   -- a refusal of the journal
   refused_recovery : {T U : Type 0} (before : List ℕ) (result : Result T StoreFault) (e : RecoverFault) → recovering.RefusesExactly {T = U} form.magic form.layout before (Err e) → result ≡ Err (fault_of_recovery e)
@@ -266,19 +219,12 @@ module _ {D S K V C : Type 0} (g : Ghosts D) (steps : Steps S K) (seen : Blocks 
       (fresh : start ≡ steps.fresh first.blocks) (run : Reads g Q mid new) where
     -- the journal stands in the half that the octets say
     half_there : (octets : List ℕ) → g.content mid ≡ Some octets → half_in form.layout octets ≡ first.half
-    half_there octets told =
-        let among = at_told _ octets told (among_records first (g.content mid) (images_now g mid) recovered.healthy recovered.stands_on) in
-        ap (λ (l : Layout). half_in l octets) (sym recovered.layout_is) ∙ among.1.half
+    half_there octets told = grind (arith, common_steps, at_told, among_records)
 
     -- what is read of the store is what is left
     walked_left : (octets : List ℕ) → g.content mid ≡ Some octets → journal_of form.magic form.layout octets ≡ journal.store_of first.blocks (left_to_read first octets) → (n : ℕ)
         → walked steps form.magic form.layout n octets ≡ walk_left (steps.step (block_in octets)) first start octets
-    walked_left octets told stands n =
-        let step = steps.step (block_in octets) in
-        ap (stands_of steps.fresh step form.layout (half_in form.layout octets) n) stands
-        ∙ ap (λ (s : S). walk step s (half_gate form.layout first.blocks (half_in form.layout octets)) (left_to_read first octets)) (sym fresh)
-        ∙ ap (λ (h : Half). walk step start (half_gate form.layout first.blocks h) (left_to_read first octets)) (half_there octets told)
-        ∙ ap (λ (place : ℕ). walk step start place (left_to_read first octets)) (sym (recovered.place ∙ ap (λ (l : Layout). half_gate l first.blocks first.half) recovered.layout_is))
+    walked_left octets told stands n = grind (arith, common_steps, half_there)
 
     -- all is left to read
     all_left : (before : List ℕ) → g.content old ≡ Some before

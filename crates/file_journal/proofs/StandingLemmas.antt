@@ -1,24 +1,11 @@
 -- What octets stand for where commands are records: the state after the commands that their records are.
 use Rattle.std.proofs.Common.{◌≡◌, ℕ, ◌<◌, Bool, true, false, List, [], ◌∷◌, length, map, Option, None, Some, refl, sym, ◌∙◌, ap, subst, arith}
-use Rattle.std.specs.Prelude.{IsTrue, if◌then◌else◌}
-use Rattle.std.specs.List.{AllByRecursion}
-use Rattle.std.specs.Option.{option_and_then}
-use Rattle.std.proofs.lemmas.List.Elements.{All-drop}
-use Rattle.px_base.specs.Numbers.{le32}
-use Rattle.px_base.specs.Octets.{IsOctets}
-use Rattle.file_journal.specs.Commands.{AreAllowed, after_all}
-use Rattle.file_journal.specs.Form.{Form, StandsFor}
+use Rattle.std.specs.Prelude.{if◌then◌else◌}
 use Rattle.file_journal.specs.Journal as journal
-use Rattle.file_journal.specs.Journal.{Standing, is_block_number, journal_of}
-use Rattle.file_journal.specs.Layout.{half_end, half_gate, half_in, up_to}
-use Rattle.file_journal.specs.Laws.{ComesTo}
-use Rattle.file_journal.specs.Ledger.{Takes}
-use Rattle.file_journal.specs.Records.{IsRecord, Reading, Record, StandsFrom, reading_from, whole}
-use Rattle.file_journal.specs.Walk.{number_or, stands_for, stands_of, state}
-use Rattle.file_journal.specs.declared.layout.Layout.{Layout}
+use Rattle.file_journal.proofs.Names.{common_steps, IsTrue, AllByRecursion, option_and_then, All-drop, le32, IsOctets, AreAllowed, after_all, Form, StandsFor, Standing, journal_of, half_end, half_gate, half_in, up_to, ComesTo, Takes, IsRecord, Reading, Record, StandsFrom, reading_from, whole, number_or, stands_for, stands_of, state, Layout}
 use Rattle.file_journal.proofs.LayoutLemmas.{up_to_octets}
 use Rattle.file_journal.proofs.ReadingLemmas.{reading_none, stands_from_read}
-use Rattle.file_journal.proofs.WalkLawLemmas.{one_walk}
+use Rattle.file_journal.proofs.WalkLemmas.{one_walk}
 
 -- ---- a record as a command
 
@@ -43,9 +30,7 @@ module _ {S C : Type 0} (is_allowed : S → C → Bool) (after : S → C → S) 
   -- and a command whose condition holds is a step
   pub steps : (command : C) (read : Option C) → read ≡ Some command → IsTrue (is_allowed before command)
       → option_and_then next read ≡ Some (after before command)
-  steps command read is allowed =
-      ap (λ (o : Option C). option_and_then next o) is
-      ∙ ap (λ (b : Bool). if b then Some (after before command) else None) allowed
+  steps command read is allowed = grind (arith, common_steps)
 
 -- How the commands of a form are written as records: which of them can be, the record of one, and the command that a
 -- record is. A step is a command that the state before it allows.
@@ -129,8 +114,7 @@ module _ {S C : Type 0} (form : Form S C) (written : Written form) where
   pub written_step : (before : S) (command : C) (entry : Record) → entry ≡ written.record_of command
       → written.IsWritable command → form.allowed before command
       → written.step before entry ≡ Some (form.after before command)
-  written_step before command entry same writable allowed =
-      written.steps before command entry (ap written.command_of same ∙ written.reads command writable) allowed
+  written_step before command entry same writable allowed = grind (arith, common_steps)
 
   -- records that take a state to another are commands that do
   record AreTaken (before now : S) (entries : List Record) : Type 0 where

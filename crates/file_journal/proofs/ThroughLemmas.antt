@@ -1,24 +1,109 @@
 -- What stands on the disk from the recovery of a state on, through commands.
-use Rattle.std.proofs.Common.{◌≡◌, ◌≢◌, ◌⊎◌, inl, inr, ⊎_elim, ℕ, ◌+◌, ◌≤◌, List, ◌++◌, length, Some, IfSome, refl, ◌∙◌, ap, subst, arith, length-append}
-use Rattle.std.specs.Prelude.{⊤}
-use Rattle.disk_model.specs.declared.disk.Disk.{Ghosts}
-use Rattle.file_journal.specs.AmongReads.{CountsSome, PutsAmongReads}
-use Rattle.file_journal.specs.Calls.{Leaves, Runs, TellsAlike}
-use Rattle.file_journal.specs.Commands.{MakesFirst, StayDone, calls_of, done_at}
-use Rattle.file_journal.specs.Form.{Form, StandsFor, TellsItsNumber, standing_of}
-use Rattle.file_journal.specs.Kept.{Course, DoesInTurn, IsCut, KeptOn}
-use Rattle.file_journal.specs.Recovery.{IsSyncedFirst}
-use Rattle.file_journal.specs.Restoring.{StandsAlike}
+use Rattle.std.proofs.Common.{◌≡◌, ◌≢◌, ◌⊎◌, inl, inr, ⊎_elim, ℕ, ◌+◌, ◌≤◌, List, ◌++◌, length, Some, IfSome, refl, ◌∙◌, ap, subst, arith, length-append, ◌<◌, Bool, true, false, [], sym}
 use Rattle.file_journal.specs.Through.{HadRoom, StandsThrough}
-use Rattle.file_journal.specs.Walk.{state}
-use Rattle.file_journal.specs.declared.layout.Layout.TheVariants as layout
-use Rattle.file_journal.proofs.AmongLemmas.{among_on}
-use Rattle.file_journal.proofs.CommandLemmas.{at_all, at_first, makes_none}
-use Rattle.file_journal.proofs.DoesLemmas.{turn_both}
+use Rattle.file_journal.proofs.Names.{⊤, Ghosts, CountsSome, PutsAmongReads, Leaves, Runs, TellsAlike, MakesFirst, StayDone, calls_of, done_at, Form, StandsFor, TellsItsNumber, standing_of, Course, DoesInTurn, IsCut, KeptOn, IsSyncedFirst, StandsAlike, state, joined, weaker, alike_on, at_told, if_told, knew, known_told, knows_on, told_before, told_weaker, Halves, common_steps, DoesAmongReads, among_reads, one_if, ChangesReads, CountsFault, Puts, Reads, Does, IsKept, alone, kept_on, Position, changes_none, changes_on, counts_on, counts_same, reads, alike_same}
+use Rattle.file_journal.proofs.BoundLemmas.{halves_reads}
+use Rattle.file_journal.proofs.CommandLemmas.{at_all, at_first, makes_none, paced_always, rises_all, rises_calls, room_some}
+use Rattle.file_journal.proofs.DoesLemmas.{turn_both, turn_course, turn_none, turn_then}
 use Rattle.file_journal.proofs.KeptLemmas.{images_here}
-use Rattle.file_journal.proofs.MomentLemmas.{joined, weaker}
-use Rattle.file_journal.proofs.TimeLemmas.{paced_always, rises_all, rises_calls, room_some}
-use Rattle.file_journal.proofs.ToldLemmas.{alike_on, at_told, if_told, knew, known_told, knows_on, told_before, told_weaker}
+
+-- ---- what commands do to a state that is kept where reads come among them
+
+-- ---- a count of failed reads
+
+-- none failed
+pub some_still : (before now : ℕ) → now ≡ before → CountsSome before now 0
+some_still before now same = record { no_less = omega (arith, same); rose = inl (omega (arith, same)); same = λ none. same }
+
+-- one run, of which a call failed or none did
+pub some_one : (before now : ℕ) (failed : Bool) → CountsFault before now (failed ≡ true) → CountsSome before now (one_if failed)
+some_one before now true counts =
+    let rose : before < 18446744073709551615 → before < now = counts.rose refl in
+    record { no_less = counts.no_less; rose = rises before now counts.no_less rose; same = λ none. absurd (cc none) }
+  where
+    rises : (before now : ℕ) → before ≤ now → (before < 18446744073709551615 → before < now) → (before + 1 ≤ now) ⊎ (18446744073709551615 ≤ now)
+    rises before now le rose = grind arith
+some_one before now false counts = some_still before now (counts.same (λ e. cc e))
+
+module _ {D : Type 0} (g : Ghosts D) where
+  -- ---- writes and syncs, with reads among them
+
+  -- reads alone, and no write that failed
+  pub puts_among_reads : (P Q : Type 0) (old new : D) → ¬ Q → Reads g P old new → PutsAmongReads g Q old new
+  puts_among_reads P Q old new fine run = record {
+    told = alike_same _ _ run.only.same_content;
+    reads = run.faults.no_less;
+    faults = record { no_less = omega (arith, run.only.same_write_faults); rose = λ failed. absurd (fine failed); same = λ still. run.only.same_write_faults };
+    stops = record { last = new; lasts = run.lasts; writes = run.only.same_write_faults; since = inr (changes_none g new) };
+    lasts = run.lasts;
+  }
+
+  pub puts_among : (P : Type 0) (old new : D) → Puts g P old new → PutsAmongReads g P old new
+  puts_among P old new puts = record {
+    told = puts.told;
+    reads = omega (arith, puts.reads);
+    faults = puts.faults;
+    stops = record {
+      last = puts.stops.last;
+      lasts = puts.stops.lasts;
+      writes = puts.stops.writes;
+      since = ⊎_elim (λ one. inl (one.1, one.2)) (λ only. inr only) puts.stops.since;
+    };
+    lasts = puts.lasts;
+  }
+
+  pub puts_among_same : (P Q : Type 0) (old new : D) → (P → Q) → (Q → P) → PutsAmongReads g P old new → PutsAmongReads g Q old new
+  puts_among_same P Q old new there back puts = record {
+    told = puts.told;
+    reads = puts.reads;
+    faults = counts_same _ _ P Q there back puts.faults;
+    stops = puts.stops;
+    lasts = puts.lasts;
+  }
+
+  -- behind calls of which no write and no sync failed
+  pub among_on : ((first second third : D) → g.lasts first second → g.lasts second third → g.lasts first third) → (Q : Type 0) (old mid new : D) → g.lasts old mid → TellsAlike (g.content old) (g.content mid)
+      → g.read_faults old ≤ g.read_faults mid → g.write_faults mid ≡ g.write_faults old → PutsAmongReads g Q mid new → PutsAmongReads g Q old new
+  among_on on Q old mid new lasts told reads writes second = record {
+    told = alike_on _ _ _ told second.told;
+    reads = omega (arith, reads, second.reads);
+    faults = counts_on _ _ _ Q writes second.faults;
+    stops = record { last = second.stops.last; lasts = on old mid second.stops.last lasts second.stops.lasts; writes = second.stops.writes ∙ writes; since = second.stops.since };
+    lasts = on old mid new lasts second.lasts;
+  }
+
+  pub puts_among_then : ((first second third : D) → g.lasts first second → g.lasts second third → g.lasts first third) → (P Q : Type 0) (old mid new : D) → ¬ P
+      → PutsAmongReads g P old mid → PutsAmongReads g Q mid new → PutsAmongReads g Q old new
+  puts_among_then on P Q old mid new fine first second = among_on on Q old mid new first.lasts first.told first.reads (first.faults.same fine) second
+
+  module _ {S C : Type 0} (form : Form S C) where
+    -- one run of reads, which failed or didn't
+    pub reads_only : (failed : Bool) (now : S) (journal : Position) (old new : D) → Reads g (failed ≡ true) old new → journal.failed ≡ false → IsKept g form (kept_on now journal old)
+        → DoesAmongReads g form ⊥ (one_if failed) [] (kept_on now journal old) (kept_on now journal new)
+    reads_only failed now journal old new run healthy stands =
+        turn_none g form (among_reads g ⊥ (one_if failed)) ⊥ now journal old new (λ never. never) (grind (arith, common_steps)) healthy (grind (arith, common_steps)) run.only.same_moment run.only
+        (grind (arith, common_steps)) (some_one _ _ failed run.faults) (halves_reads g form.layout journal.blocks old new run.only)
+
+    -- commands alone
+    pub among_does : (P : Type 0) (commands : List C) (old new : KeptOn D S) → Does g form P commands old new → DoesAmongReads g form P 0 commands old new
+    among_does P commands old new does =
+        turn_course g form (alone g P) (among_reads g P 0) P P commands old new (λ p. p) (λ p. p) (λ same. subst (λ (d : D). ChangesReads g old.disk d) (sym same) (changes_none g old.disk))
+        (puts_among P old.disk new.disk) (λ _. some_still _ _ does.puts.reads) does
+
+    pub among_same : (P Q : Type 0) (missed other : ℕ) (commands : List C) (old new : KeptOn D S) → (P → Q) → (Q → P) → missed ≡ other → DoesAmongReads g form P missed commands old new
+        → DoesAmongReads g form Q other commands old new
+    among_same P Q missed other commands old new there back same does =
+        turn_course g form (among_reads g P missed) (among_reads g Q other) P Q commands old new there back (λ i. i) (puts_among_same P Q old.disk new.disk there back)
+        (subst (λ (n : ℕ). CountsSome (g.read_faults old.disk) (g.read_faults new.disk) n) same) does
+
+    -- one part, and then another
+    pub among_then : ((first second third : D) → g.lasts first second → g.lasts second third → g.lasts first third) → (P Q : Type 0) (missed other : ℕ) (a b : List C) (old mid new : KeptOn D S) → ¬ P
+        → DoesAmongReads g form P missed a old mid → DoesAmongReads g form Q other b mid new → DoesAmongReads g form Q (missed + other) (a ++ b) old new
+    among_then on P Q missed other a b old mid new fine first second =
+        turn_then g form (among_reads g P missed) (among_reads g Q other) (among_reads g Q (missed + other)) P Q a b old mid new fine first.puts.told second.puts.told first second
+        (changes_on g old.disk mid.disk new.disk) (puts_among_then on P Q old.disk mid.disk new.disk fine first.puts second.puts) (grind (arith, common_steps))
+
+-- ---- from the recovery on, through commands
 
 -- A recovery that gave a state, and then commands, of which the disk may have cut off the last: all of them together, and
 -- the two parts.
@@ -102,10 +187,9 @@ module _ {D S C : Type 0} (g : Ghosts D) (form : Form S C) (own : TellsItsNumber
   )
 
 -- Each of the commands took exactly its calls of the disk, where the form's layout has no two halves.
-pub through_exactly : {D S C : Type 0} (g : Ghosts D) (form : Form S C) (failed : Type 0) (start : S) (done cut : List C) (disk disk_now : D) → form.layout ≢ layout.Halves
+pub through_exactly : {D S C : Type 0} (g : Ghosts D) (form : Form S C) (failed : Type 0) (start : S) (done cut : List C) (disk disk_now : D) → form.layout ≢ Halves
     → (stands : StandsThrough g form failed start done cut disk disk_now) → (count : ℕ) → count ≤ length (done ++ cut) → stands.time count ≡ done_at form stands.ready (done ++ cut) count
-through_exactly g form failed start done cut disk disk_now one stands =
-    paced_always form stands.journal stands.ready (done ++ cut) stands.time one stands.paces
+through_exactly g form failed start done cut disk disk_now one stands = grind (arith, common_steps, paced_always)
 
 module _ {D S C : Type 0} (g : Ghosts D) (form : Form S C) (failed : Type 0) (start : S) (done cut : List C) (disk disk_now : D) (stands : StandsThrough g form failed start done cut disk disk_now) where
   -- the commands of the calls before the last one stay done, and were done by the end
@@ -113,10 +197,9 @@ module _ {D S C : Type 0} (g : Ghosts D) (form : Form S C) (failed : Type 0) (st
   done_stay (inl stopped) = if_told (g.content disk) _ (λ before told.
       let end = stands.interrupted stopped in
       let least = end.no_less in
-      let fewer = end.fewer in
       let stay : StayDone g form stands.time end.count start (done ++ cut) disk_now = at_told (λ (_ : List ℕ). _) before told end.stay in
       let calls : stands.time end.count ≤ g.moment disk_now = at_told (λ (_ : List ℕ). _) before told end.calls in
-      (λ count some most. stay count some (omega (arith, most, least)), omega (arith, calls, rises_all form (done ++ cut) stands.time stands.paces.rises (length done) end.count least (omega (arith, fewer)))))
+      (λ count some most. stay count some (omega (arith, most, least)), omega (arith, calls, rises_all form (done ++ cut) stands.time stands.paces.rises (length done) end.count least (omega (arith, end.fewer)))))
   done_stay (inr fine) = if_told (g.content disk) _ (λ before told.
       let both = length-append done cut in
       let stay : StayDone g form stands.time (length (done ++ cut)) start (done ++ cut) disk_now = at_told (λ (_ : List ℕ). _) before told (stands.stay fine) in
@@ -127,13 +210,11 @@ module _ {D S C : Type 0} (g : Ghosts D) (form : Form S C) (failed : Type 0) (st
   pub front_done : (before others : List C) → done ++ cut ≡ before ++ others
       → (stands.time 0 + calls_of form before ≤ stands.time (length before)) × (HadRoom stands → stands.time (length before) ≡ stands.time 0 + calls_of form before)
   front_done before others all =
-      let sum : length (done ++ cut) ≡ length before + length others = ap length all ∙ length-append before others in
-      let within : length before ≤ length (done ++ cut) = omega (arith, sum) in
-      let begins = stands.paces.starts in
+      let within : length before ≤ length (done ++ cut) = omega (arith, ap length all ∙ length-append before others) in
       let moment : (first : ℕ) → done_at form first (done ++ cut) (length before) ≡ first + calls_of form before = λ first.
       ap (λ (cs : List C). done_at form first cs (length before)) all ∙ at_first form first (length before) before others (omega arith) ∙ at_all form first before in (
         omega (arith, moment (stands.time 0), rises_calls form (done ++ cut) stands.time stands.paces.rises (length before) within),
-        λ room. let exact = stands.paces.exact (length before) within (room_some form stands.journal (done ++ cut) (length before) room) in omega (arith, exact, begins, moment stands.ready),
+        λ room. let exact = stands.paces.exact (length before) within (room_some form stands.journal (done ++ cut) (length before) room) in omega (arith, exact, stands.paces.starts, moment stands.ready),
       )
 
 -- ---- all calls of the disk of both

@@ -5,7 +5,7 @@ use Rattle.px_base.specs.Outside.{Rose}
 use Rattle.disk_model.specs.Moments.{LeavesSince}
 use Rattle.disk_model.specs.declared.disk.Disk.{Ghosts}
 use Rattle.file_journal.specs.Calls.{IsQuietNow, TakesStep}
-use Rattle.file_journal.specs.Journal.{IsAfterRecovery, IsSameStore, header_text}
+use Rattle.file_journal.specs.Journal.{HasGoodHeader, IsAfterRecovery, IsSameStore, header_text}
 use Rattle.file_journal.specs.Journal.{bad_number, journal_of, no_store, store_of}
 use Rattle.file_journal.specs.Layout.{first_gate, half_in}
 use Rattle.file_journal.specs.Position.{Position, StandsOn, gate_of, left_to_read}
@@ -58,12 +58,13 @@ Refuses magic layout content result =
 abbrev pub gate_in : Layout → ℕ → List ℕ → ℕ
 gate_in layout blocks octets = first_gate layout (number_in blocks octets)
 
--- What a crash leaves of a recovery of this content: the same store. A formatted content stays as it is. Of another
--- there are no octets behind the second gate; where they are more than 16, the first 15 are those of the header; where
--- the second gate is there, octet 15 is even and the first gate closed.
+-- What a crash leaves of a recovery of this content: the same store. A formatted content stays as it is, and so does
+-- one that is refused. Of another there are no octets behind the second gate; where they are more than 16, the first 15
+-- are those of the header; where the second gate is there, octet 15 is even and the first gate closed.
 pub record IsRecovering (magic : List ℕ) (layout : Layout) (blocks : ℕ) (before image : List ℕ) : Type 0 where
   pub same : IsSameStore blocks (journal_of magic layout before) (journal_of magic layout image)
   pub formatted : gate_in layout blocks before + 2 ≤ length before → image ≡ before
+  pub refused : ¬ HasGoodHeader (journal_of magic layout before) → image ≡ before
   pub no_longer : length before < gate_in layout blocks before + 2 → length image ≤ gate_in layout blocks before + 2
   pub header :
       16 < length image

@@ -38,9 +38,9 @@ pub record IsInterrupted {D S C : Type 0} (g : Ghosts D) (form : Form S C) (star
 -- each image stands for the state after the first of these commands, for some number of them; since the start, for
 -- that, or for what a crash might have left before. They come one behind another from the moment `ready` on, at
 -- which the recovery was done: the first so many are done at the moment that `time` has of that number. Each takes
--- the calls of the disk that its form says, and more only where the journal, as the recovery left it, has no room for
--- the records up to its own; and no other call is a write or a sync. Since the first so many are done, no crash leaves
--- fewer of them. At the end each image stands for the state after all of them, but where the disk failed.
+-- the calls of the disk that its form says, and more only where the journal has no room for the records up to its own:
+-- which journal that is, the crate above says. No other call is a write or a sync. Since the first so many are done, no
+-- crash leaves fewer of them. At the end each image stands for the state after all of them, but where the disk failed.
 pub record StandsThrough {D S C : Type 0} (g : Ghosts D) (form : Form S C) (failed : Type 0) (start : S)
     (done cut : List C) (disk disk_now : D) : Type 0 where
   pub allowed : Knows form (g.content disk) → AreAllowed form.allowed form.after start (done ++ cut)
@@ -58,7 +58,7 @@ pub record StandsThrough {D S C : Type 0} (g : Ghosts D) (form : Form S C) (fail
   pub all_done : ¬ failed → EachImage g disk_now (StandsFor form (after_all form.after start (done ++ cut)))
   pub interrupted : failed → IsInterrupted g form start (done ++ cut) (length done) time disk disk_now
 
--- the journal, as the recovery left it, had room for the records of all commands
+-- that journal had room for the records of all commands
 abbrev pub HadRoom :
     {D S C : Type 0} {g : Ghosts D} {form : Form S C} {failed : Type 0} {start : S} {done cut : List C} {old new : D}
     → StandsThrough g form failed start done cut old new → Type 0

@@ -1,6 +1,5 @@
 use Rattle.std.proofs.Common.{◌≤◌, ℕ, ◌<◌, List, length, take, arith}
-use Rattle.std.proofs.lemmas.Grind.{common_steps}
-use Rattle.std.proofs.lemmas.List.Elements.{All-take, All-drop, All-from_get_or}
+use Rattle.file_journal.proofs.Names.{common_steps, All-take, All-drop, All-from_get_or}
 use Rattle.file_journal.proofs.content.close_text.Goals as goal
 
 -- a part of so many octets has no more

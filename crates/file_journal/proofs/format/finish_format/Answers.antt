@@ -1,9 +1,6 @@
 use Rattle.std.proofs.Common.{◌≡◌, ℕ, ◌+◌, ◌<◌, List, length, Some, subst, arith}
-use Rattle.file_journal.specs.Formatting.{IsFinishing, IsMakingGates, MakesGates}
-use Rattle.file_journal.specs.Journal.{IsAfterFinishing}
-use Rattle.file_journal.proofs.CallLemmas.{makes_on}
+use Rattle.file_journal.proofs.Names.{IsFinishing, IsMakingGates, MakesGates, IsAfterFinishing, makes_on, at_told}
 use Rattle.file_journal.proofs.FormatLemmas.{even_finishing, finished_by, gates_finishing}
-use Rattle.file_journal.proofs.ToldLemmas.{at_told}
 use Rattle.file_journal.proofs.format.finish_format.Goals as goal
 
 pub returns : goal.returns

@@ -1,8 +1,6 @@
 use Rattle.std.proofs.Common.{◌+◌, rules}
-use Rattle.file_journal.specs.Formatting.{IsMakingGates, MakesGates}
-use Rattle.file_journal.proofs.CallLemmas.{makes_failed, makes_on}
+use Rattle.file_journal.proofs.Names.{IsMakingGates, MakesGates, makes_failed, makes_on, at_told}
 use Rattle.file_journal.proofs.FormatLemmas.{first_gate_crash, gates_by, second_gate_crash, torn_quiet}
-use Rattle.file_journal.proofs.ToldLemmas.{at_told}
 use Rattle.file_journal.proofs.format.format_gates.Goals as goal
 
 pub returns-in_err-write_synced : goal.returns-in_err-write_synced

@@ -1,8 +1,6 @@
 use Rattle.std.proofs.Common.{arith}
-use Rattle.file_journal.specs.Formatting.{IsMakingEven, MakesEven}
-use Rattle.file_journal.proofs.CallLemmas.{makes_weaker}
+use Rattle.file_journal.proofs.Names.{IsMakingEven, MakesEven, makes_weaker, at_told}
 use Rattle.file_journal.proofs.FormatLemmas.{even_by, even_crash, torn_quiet}
-use Rattle.file_journal.proofs.ToldLemmas.{at_told}
 use Rattle.file_journal.proofs.format.make_selector_even.Goals as goal
 
 pub returns : goal.returns

@@ -1,27 +1,21 @@
 use Rattle.std.proofs.Common.{sym, ◌∙◌, ap}
-use Rattle.std.proofs.lemmas.Result.{IfOk-weaker}
-use Rattle.file_journal.specs.Header.{HasHeader}
-use Rattle.file_journal.specs.Journal.{is_block_number, no_store}
-use Rattle.file_journal.specs.declared.header.Header.{Header}
+use Rattle.file_journal.proofs.Names.{IfOk-weaker, HasHeader, is_block_number, no_store, Header, at_ok, at_told, if_told}
 use Rattle.file_journal.proofs.JournalLemmas.{is_store, of_bad_number, of_foreign}
 use Rattle.file_journal.proofs.OctetLemmas.{front16}
 use Rattle.file_journal.proofs.RecoverLemmas.{refusal_of}
-use Rattle.file_journal.proofs.ToldLemmas.{at_ok, at_told, if_told}
 use Rattle.file_journal.proofs.header.read_header.Goals as goal
 
 pub returns-clause-selector : goal.returns-clause-selector
 returns-clause-selector g c =
     IfOk-weaker c.parse_header.result _ _ (λ header says. if_told (g.D.Disk.content c.args.disk.now) _ (λ octets told.
-    let front = front16 octets c.read.new.room (at_told _ octets told c.in_ok-read.ensures.room) in
-    says ∙ front.1))
+    says ∙ (front16 octets c.read.new.room (at_told _ octets told c.in_ok-read.ensures.room)).1))
     c.parse_header.ensures.selector
 
 pub returns-clause-refuses : goal.returns-clause-refuses
 returns-clause-refuses g c layout healthy =
-    let disk = c.args.disk.now in
     let says = c.parse_header.ensures in
     let magic = c.args.magic in
-    if_told (g.D.Disk.content disk) _ (λ octets told.
+    if_told (g.D.Disk.content c.args.disk.now) _ (λ octets told.
     let front = front16 octets c.read.new.room (at_told _ octets told c.in_ok-read.ensures.room) in
     let long = at_told _ octets told c.requires in
     refusal_of magic layout octets c.parse_header.result

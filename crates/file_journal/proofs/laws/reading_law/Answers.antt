@@ -1,5 +1,5 @@
 use Rattle.std.proofs.Common.{arith}
-use Rattle.std.proofs.lemmas.Grind.{common_steps}
+use Rattle.file_journal.proofs.Names.{common_steps}
 use Rattle.file_journal.proofs.ReadingLemmas.{read_from_stands, stands_from_read}
 use Rattle.file_journal.proofs.laws.reading_law.Goals as goal
 

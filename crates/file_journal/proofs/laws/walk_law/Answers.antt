@@ -1,4 +1,4 @@
-use Rattle.file_journal.proofs.WalkLawLemmas.{one_walk}
+use Rattle.file_journal.proofs.WalkLemmas.{one_walk}
 use Rattle.file_journal.proofs.laws.walk_law.Goals as goal
 
 pub returns : goal.returns

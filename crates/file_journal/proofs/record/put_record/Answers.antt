@@ -1,11 +1,7 @@
 use Rattle.std.proofs.Common.{arith, [], ◌∷◌, List, ℕ, inl, subst}
-use Rattle.std.proofs.lemmas.Grind.{common_steps}
-use Rattle.disk_model.specs.Disk.{Torn, Writes}
-use Rattle.file_journal.specs.Appending.{IsPutting, OpensGate}
-use Rattle.file_journal.proofs.CallLemmas.{makes_failed, makes_on}
+use Rattle.file_journal.proofs.Names.{common_steps, Torn, Writes, IsPutting, OpensGate, makes_failed, makes_on, at_told}
 use Rattle.file_journal.proofs.FormatLemmas.{torn_quiet}
-use Rattle.file_journal.proofs.PutLemmas.{gate_crash, opened_by, staged_by}
-use Rattle.file_journal.proofs.ToldLemmas.{at_told}
+use Rattle.file_journal.proofs.OctetLemmas.{gate_crash, opened_by, staged_by}
 use Rattle.file_journal.proofs.record.put_record.Goals as goal
 
 pub returns-in_err-write_synced-clause-makes : goal.returns-in_err-write_synced-clause-makes

@@ -1,11 +1,6 @@
 use Rattle.std.proofs.Common.{rules, ◌+◌, [], ◌∷◌, length, Ok, refl, arith, length-append}
-use Rattle.std.specs.Prelude.{Result}
-use Rattle.disk_model.specs.declared.disk.DiskFault.{DiskFault}
-use Rattle.file_journal.specs.Records.{records_text}
-use Rattle.file_journal.specs.Rewriting.{Lays, anew_text}
-use Rattle.file_journal.proofs.CallLemmas.{makes_failed, puts_once}
+use Rattle.file_journal.proofs.Names.{Result, DiskFault, records_text, Lays, anew_text, makes_failed, puts_once, alike_same}
 use Rattle.file_journal.proofs.CoverLemmas.{covers_failed, covers_makes, covers_next, covers_synced, makes_ok}
-use Rattle.file_journal.proofs.ToldLemmas.{alike_same}
 use Rattle.file_journal.proofs.rewriting.stage_records.Goals as goal
 
 pub returns-in_err-end-clause-makes : goal.returns-in_err-end-clause-makes

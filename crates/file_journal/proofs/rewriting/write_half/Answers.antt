@@ -1,12 +1,5 @@
 use Rattle.std.proofs.Common.{rules, [], ◌∷◌, ℕ, Ok, subst}
-use Rattle.std.specs.Prelude.{Result}
-use Rattle.disk_model.specs.Disk.{Writes}
-use Rattle.disk_model.specs.declared.disk.DiskFault.{DiskFault}
-use Rattle.file_journal.specs.Appending.{IsTornFrom}
-use Rattle.file_journal.specs.Calls.{Makes}
-use Rattle.file_journal.specs.Layout.{selector_of}
-use Rattle.file_journal.specs.Rewriting.{Chooses, IsChoosing, Lays, anew_text}
-use Rattle.file_journal.proofs.CallLemmas.{makes_failed}
+use Rattle.file_journal.proofs.Names.{Result, Writes, DiskFault, IsTornFrom, Makes, selector_of, Chooses, IsChoosing, Lays, anew_text, makes_failed}
 use Rattle.file_journal.proofs.CoverLemmas.{chooses_failed, chooses_on, makes_ok}
 use Rattle.file_journal.proofs.rewriting.write_half.Goals as goal
 

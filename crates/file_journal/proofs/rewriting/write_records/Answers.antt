@@ -1,9 +1,5 @@
 use Rattle.std.proofs.Common.{rules, List, ◌≡◌, ◌+◌, ◌≤◌, [], ◌∷◌, ◌++◌, length, take, drop, ℕ, Ok, refl, sym, ◌∙◌, ap, subst, arith, append_assoc, append-nil, length-append, take-take}
-use Rattle.std.proofs.lemmas.List.{take_at}
-use Rattle.disk_model.specs.declared.disk.DiskFault.{DiskFault}
-use Rattle.file_journal.specs.Records.{Record, record_of, record_text, records_text}
-use Rattle.file_journal.specs.Rewriting.{Covers}
-use Rattle.file_journal.proofs.CallLemmas.{puts_once}
+use Rattle.file_journal.proofs.Names.{take_at, DiskFault, Record, record_of, record_text, records_text, Covers, puts_once}
 use Rattle.file_journal.proofs.CoverLemmas.{covers_failed, covers_next, covers_none, covers_ok}
 use Rattle.file_journal.proofs.PositionLemmas.{records_text-append}
 use Rattle.file_journal.proofs.rewriting.write_records.Goals as goal
@@ -36,8 +32,7 @@ returns-clause-covers g c =
 
 pub loop-kind-smaller : goal.loop-kind-smaller
 loop-kind-smaller g c =
-    let first : g.R.Records.left c.loop-kind.records ≡ _ = c.in-Some.ensures.some in
-    omega (arith, ap length first)
+    omega (arith, ap length c.in-Some.ensures.some)
 
 -- the octets of one record more
 text_more : (done : List Record) (entry : Record) (text : List ℕ) → text ≡ records_text (entry ∷ []) → records_text (done ++ entry ∷ []) ≡ records_text done ++ text
@@ -56,15 +51,13 @@ returns-in_err-write_at-clause-covers g c =
     let done = c.loop-kind.invariant in
     let len = c.content.inside.len in
     let entry = record_of c.in-Some.kind (take len (drop 4 c.content.inside.text)) in
-    let text = text_of entry len c.close_text.new.text c.close_text.ensures.text c.close_text.ensures.size in
     let first : g.R.Records.left c.loop-kind.records ≡ entry ∷ g.R.Records.left c.next.new.self =
     c.in-Some.ensures.some ∙ ap (λ (l : List ℕ). record_of c.in-Some.kind l ∷ g.R.Records.left c.next.new.self) (sym c.content.view_is) in
-    let all = done_more _ done.0 _ (g.R.Records.left c.next.new.self) entry done.1 first in
-    let within = done_within _ (done.0 ++ entry ∷ []) _ all in
+    let within = done_within _ (done.0 ++ entry ∷ []) _ (done_more _ done.0 _ (g.R.Records.left c.next.new.self) entry done.1 first) in
     covers_failed D c.write_at.result c.from_residual.result (length (done.0 ++ entry ∷ [])) (length (g.R.Records.left c.args.records.now)) c.args.gate (records_text (done.0 ++ entry ∷ []))
     (records_text (g.R.Records.left c.args.records.now)) c.args.disk.now c.write_at.new.self within.0 within.1 (search rules) (search rules)
     (covers_next D g.met.D.Disk.lasts_on c.loop-kind.place c.write_at.result (length done.0) c.args.gate (records_text done.0) (take (4 + len) c.close_text.new.text) c.args.disk.now c.loop-kind.disk c.write_at.new.self
-    c.loop-kind.place (length (done.0 ++ entry ∷ [])) (records_text (done.0 ++ entry ∷ [])) done.2 (length-append done.0 (entry ∷ [])) (text_more done.0 entry _ text)
+    c.loop-kind.place (length (done.0 ++ entry ∷ [])) (records_text (done.0 ++ entry ∷ [])) done.2 (length-append done.0 (entry ∷ [])) (text_more done.0 entry _ (text_of entry len c.close_text.new.text c.close_text.ensures.text c.close_text.ensures.size))
     done.3 c.write_at.ensures.written c.write_at.ensures.torn c.write_at.ensures.moment c.write_at.ensures.past
     (puts_once D c.write_at.result c.loop-kind.disk c.write_at.new.self (g.met.D.Disk.lasts_same c.loop-kind.disk) (c.write_at.ensures.untold, c.write_at.ensures.told) c.write_at.ensures.read_faults
     c.write_at.ensures.write_faults c.write_at.ensures.moment.at_most c.write_at.ensures.past c.write_at.ensures.lasts))

@@ -1,6 +1,5 @@
 use Rattle.std.proofs.Common.{ℕ, List, ◌≡◌, ◌+◌, ◌++◌, length, Ok}
-use Rattle.file_journal.specs.Records.{Record, records_text}
-use Rattle.file_journal.specs.Rewriting.{Covers}
+use Rattle.file_journal.proofs.Names.{Record, records_text, Covers}
 use Rattle.file_journal.proofs.rewriting.write_records.Given as goal
 
 abbrev pub invariant-loop-kind : goal.invariant-loop-kind

@@ -1,9 +1,5 @@
 use Rattle.std.proofs.Common.{ℕ, List, length, Ok, sym, ◌∙◌, true≢false}
-use Rattle.std.proofs.lemmas.Result.{on_ok_weaker}
-use Rattle.file_journal.specs.Appending.{IsTornFrom}
-use Rattle.file_journal.proofs.CallLemmas.{on_ok_both, puts_on, puts_once, quiet_by_sync}
-use Rattle.file_journal.proofs.MomentLemmas.{goes_on, once}
-use Rattle.file_journal.proofs.ToldLemmas.{alike_same, if_told, told_weaker}
+use Rattle.file_journal.proofs.Names.{on_ok_weaker, IsTornFrom, on_ok_both, puts_on, puts_once, quiet_by_sync, goes_on, once, alike_same, if_told, told_weaker}
 use Rattle.file_journal.proofs.write.write_synced.Goals as goal
 
 pub returns-clause-makes : goal.returns-clause-makes

@@ -1,4 +1,4 @@
-use Rattle.file_journal.proofs.CallLemmas.{puts_none}
+use Rattle.file_journal.proofs.Names.{puts_none}
 use Rattle.file_journal.proofs.BoundLemmas.{stays_same}
 use Rattle.file_journal.proofs.journal.Journal.append.Goals as goal
 

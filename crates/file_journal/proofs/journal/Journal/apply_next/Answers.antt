@@ -1,9 +1,5 @@
-use Rattle.std.proofs.lemmas.Grind.{common_steps}
 use Rattle.std.proofs.Common.{arith, ◌≡◌, List, ℕ, Option, None, ◌∙◌, ap, subst}
-use Rattle.file_journal.specs.Layout.{block_in, blocks_on}
-use Rattle.file_journal.specs.Records.{Reading, record_of}
-use Rattle.file_journal.specs.Walk.{damaged_at, walk}
-use Rattle.file_journal.proofs.ToldLemmas.{at_told, known_told, told_weaker}
+use Rattle.file_journal.proofs.Names.{common_steps, block_in, blocks_on, Reading, record_of, damaged_at, walk, at_told, known_told, told_weaker}
 use Rattle.file_journal.proofs.WalkLemmas.{walk_refused}
 use Rattle.file_journal.proofs.journal.Journal.apply_next.Goals as goal
 
@@ -13,8 +9,7 @@ returns-in-Err-clause-next g c healthy memory =
       some = λ is. absurd (cc is);
       none = λ is. absurd (cc is);
       damaged = λ at is.
-          let found = (answers.damaged at).0 (cc (c.reading_fault.ensures.damaged at (cc is))) in
-          ap (λ (r : Reading). walk (g.L.Ledger.steps.step (block_in octets)) (g.L.Ledger.state c.args.ledger.now) c.args.self.now.place r) found.1;
+          ap (λ (r : Reading). walk (g.L.Ledger.steps.step (block_in octets)) (g.L.Ledger.state c.args.ledger.now) c.args.self.now.place r) ((answers.damaged at).0 (cc (c.reading_fault.ensures.damaged at (cc is)))).1;
     }) (c.in-Err.ensures.next (λ is. healthy (cc (c.reading_fault.ensures.disk (cc is)))))
 
 pub returns-then-not-branch-clause-next : goal.returns-then-not-branch-clause-next

@@ -1,7 +1,6 @@
 use Rattle.std.proofs.Common.{◌≡◌, List, ℕ, length, IfSome, Option, Err, sym, subst}
-use Rattle.file_journal.specs.Next.{ReadsNext}
-use Rattle.file_journal.proofs.NextLemmas.{readable_of}
-use Rattle.file_journal.proofs.ToldLemmas.{told_weaker}
+use Rattle.file_journal.proofs.Names.{ReadsNext, told_weaker}
+use Rattle.file_journal.proofs.ReadingLemmas.{readable_of}
 use Rattle.file_journal.proofs.journal.Journal.next.Goals as goal
 
 -- what the room holds makes no difference to a refusal

@@ -1,8 +1,5 @@
 use Rattle.std.proofs.Common.{rules, ◌≡◌, ◌+◌, ◌-◌, ◌++◌, ℕ, List, [], ◌∷◌, length, take, drop, sym, ◌∙◌, ap, subst, arith}
-use Rattle.std.proofs.lemmas.List.{drop-take, places, same_lists}
-use Rattle.file_journal.specs.Appending.{LeavesAppending}
-use Rattle.file_journal.specs.Position.{HasRoom}
-use Rattle.file_journal.specs.Records.{IsRecord, record_of, record_text}
+use Rattle.file_journal.proofs.Names.{drop-take, places, same_lists, LeavesAppending, HasRoom, IsRecord, record_of, record_text}
 use Rattle.file_journal.proofs.journal.Journal.put.Goals as goal
 
 -- A record's text stands behind its gate, and its content in that behind its kind and its length.

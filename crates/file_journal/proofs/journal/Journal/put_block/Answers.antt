@@ -1,6 +1,6 @@
 use Rattle.std.proofs.Common.{length}
+use Rattle.file_journal.proofs.Names.{told_weaker}
 use Rattle.file_journal.proofs.BlockLemmas.{block_any_moment, block_leaves, block_stands, block_written}
-use Rattle.file_journal.proofs.ToldLemmas.{told_weaker}
 use Rattle.file_journal.proofs.BoundLemmas.{block_stays}
 use Rattle.file_journal.proofs.journal.Journal.put_block.Goals as goal
 

@@ -1,7 +1,6 @@
 use Rattle.std.proofs.Common.{ℕ, Err, Ok, Result, arith}
-use Rattle.disk_model.specs.declared.disk.DiskFault.{DiskFault}
+use Rattle.file_journal.proofs.Names.{DiskFault, told_weaker}
 use Rattle.file_journal.proofs.RewriteLemmas.{anew_other, rewritten_is, writes_anew}
-use Rattle.file_journal.proofs.ToldLemmas.{told_weaker}
 use Rattle.file_journal.proofs.journal.Journal.put_records.Goals as goal
 
 pub write_half-requires-clause-fits : goal.write_half-requires-clause-fits

@@ -1,8 +1,6 @@
 use Rattle.std.proofs.Common.{◌≡◌, ◌+◌, [], ◌∷◌, length, Ok, sym, ◌∙◌, ap, subst, arith, length-append}
-use Rattle.file_journal.specs.Position.{Position, StandsOn}
-use Rattle.file_journal.specs.Records.{record_of}
+use Rattle.file_journal.proofs.Names.{Position, StandsOn, record_of, told_weaker}
 use Rattle.file_journal.proofs.AppendLemmas.{any_moment, appends, gate_there, leaves, stands_after}
-use Rattle.file_journal.proofs.ToldLemmas.{told_weaker}
 use Rattle.file_journal.proofs.BoundLemmas.{append_stays}
 use Rattle.file_journal.proofs.journal.Journal.put_text.Goals as goal
 

@@ -1,8 +1,6 @@
 use Rattle.std.proofs.Common.{◌≡◌, ◌+◌, ℕ, length, take, drop, ◌∙◌, ap, arith}
-use Rattle.std.proofs.lemmas.Result.{on_ok_weaker}
-use Rattle.file_journal.specs.Layout.{block_place}
+use Rattle.file_journal.proofs.Names.{on_ok_weaker, block_place, told_weaker}
 use Rattle.file_journal.proofs.BlockLemmas.{block_part}
-use Rattle.file_journal.proofs.ToldLemmas.{told_weaker}
 use Rattle.file_journal.proofs.journal.Journal.read_block.Goals as goal
 
 pub returns-clause-room : goal.returns-clause-room

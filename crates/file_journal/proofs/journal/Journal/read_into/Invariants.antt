@@ -1,9 +1,6 @@
 use Rattle.std.proofs.Common.{◌≡◌, ◌-◌, ◌^◌, IfSome}
-use Rattle.file_journal.specs.Calls.{Reads}
-use Rattle.file_journal.specs.Layout.{block_in}
-use Rattle.file_journal.specs.Next.{IsReadable}
-use Rattle.file_journal.specs.Position.{StandsOn}
-use Rattle.file_journal.proofs.LedgerLemmas.{IsOn}
+use Rattle.file_journal.proofs.Names.{Reads, block_in, IsReadable, StandsOn}
+use Rattle.file_journal.proofs.PositionLemmas.{IsOn}
 use Rattle.file_journal.proofs.journal.Journal.read_into.Given as goal
 
 abbrev pub invariant-loop : goal.invariant-loop

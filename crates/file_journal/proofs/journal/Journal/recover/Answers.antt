@@ -1,10 +1,6 @@
 use Rattle.std.proofs.Common.{◌≡◌, inl, ⊎_elim, ℕ, ◌+◌, sym, ◌∙◌, subst, arith}
-use Rattle.file_journal.specs.Calls.{images_now}
-use Rattle.file_journal.specs.Recovery.{IsRecovering}
-use Rattle.disk_model.specs.Disk.{Only}
-use Rattle.file_journal.proofs.CallLemmas.{reads_now, quiet_by_sync}
+use Rattle.file_journal.proofs.Names.{images_now, IsRecovering, Only, reads_now, quiet_by_sync, alike_same, at_told, if_told}
 use Rattle.file_journal.proofs.RecoverLemmas.{recovering_same}
-use Rattle.file_journal.proofs.ToldLemmas.{alike_same, at_told, if_told}
 use Rattle.file_journal.proofs.BoundLemmas.{recovers_behind, recovers_none, recovery_stays, stays_on, stays_reads, stays_sync}
 use Rattle.file_journal.proofs.journal.Journal.recover.Goals as goal
 
@@ -20,11 +16,10 @@ returns-clause-since_sync g c =
     let P = IsRecovering c.args.magic c.args.layout c.args.blocks before in
     let first : D.moment old + 1 ≡ D.moment mid = sym (at_told _ before told c.in_ok-sync.ensures.moment.one) ∙ sym only.same_moment in
     let leaves = at_told _ before (only.same_content ∙ c.sync.ensures.content ∙ told) c.recover_synced.ensures.since in
-    let quiet = at_told (Only (images_now D synced)) before (c.sync.ensures.content ∙ told) rest in
     inl (record {
       later = omega (arith, first, leaves.later);
       each = λ image since. ⊎_elim
-          (λ past. subst P (sym (quiet image (reads_now D synced mid only image past))) (recovering_same c.args.magic c.args.layout c.args.blocks before))
+          (λ past. subst P (sym ((at_told (Only (images_now D synced)) before (c.sync.ensures.content ∙ told) rest) image (reads_now D synced mid only image past))) (recovering_same c.args.magic c.args.layout c.args.blocks before))
           (λ here. here)
           (leaves.each (D.moment mid) image (omega arith) (subst (λ (t : ℕ). D.images_since c.recover_synced.new.disk t image) first since));
     }))

@@ -1,17 +1,8 @@
-use Rattle.std.proofs.Common.{◌≡◌, ℕ, length, get_or, IfSome, Ok, Err, rules, ◌∙◌, ap, arith, subst}
-use Rattle.std.proofs.lemmas.Grind.{common_steps}
-use Rattle.std.proofs.lemmas.Result.{err_from_is_err_and}
-use Rattle.disk_model.specs.Disk.{HasContent}
-use Rattle.file_journal.specs.Calls.{Leaves}
-use Rattle.file_journal.specs.Formatting.{IsFinishing}
-use Rattle.file_journal.specs.Journal.{IsAfterFinishing}
-use Rattle.file_journal.specs.Layout.{first_gate, half_by}
+use Rattle.std.proofs.Common.{◌≡◌, ℕ, length, IfSome, Ok, Err, rules, ◌∙◌, ap, arith, subst}
 use Rattle.file_journal.specs.declared.faults.RecoverFault.TheVariants as fault
-use Rattle.file_journal.specs.declared.header.Header.{Header}
-use Rattle.file_journal.specs.declared.layout.Half.TheVariants as half
+use Rattle.file_journal.proofs.Names.{common_steps, err_from_is_err_and, HasContent, Leaves, IsFinishing, IsAfterFinishing, first_gate, half_by, Header, alike_on, alike_same, at_told, if_told, told_weaker, First}
 use Rattle.file_journal.proofs.JournalLemmas.{of_short}
 use Rattle.file_journal.proofs.RecoverLemmas.{IsHalfOf, known_formatted, known_leaves, new_formatted, recovered, refuses_alike, refuses_none}
-use Rattle.file_journal.proofs.ToldLemmas.{alike_on, alike_same, at_told, if_told, told_weaker}
 use Rattle.file_journal.proofs.journal.Journal.recover_synced.Goals as goal
 use Rattle.file_journal.proofs.journal.Journal.recover_synced.Goals.{else-len-gate, then-len-gate}
 
@@ -21,7 +12,7 @@ returns-then-len-le-HEADER-clause-recovered g c =
     let old = c.args.disk.now in
     let new = c.format_new.new.disk in
     let eight : length c.args.magic ≡ 8 = search rules in
-    recovered D c.args.magic c.args.layout c.args.blocks old new c.args.blocks half.First c.at_first_gate.result c.at_first_gate.ensures c.format_new.ensures.puts.told c.in_ok-format_new.ensures.quiet
+    recovered D c.args.magic c.args.layout c.args.blocks old new c.args.blocks First c.at_first_gate.result c.at_first_gate.ensures c.format_new.ensures.puts.told c.in_ok-format_new.ensures.quiet
     (told_weaker (D.content new) _ _ (λ now told image. (g.met.D.Disk.images_fit new now image).0) (g.met.D.Disk.content_is_image new))
     (new_formatted D c.args.magic c.args.layout c.args.blocks old new eight c.requires.blocks.some c.requires.blocks.most
     (if_told (D.content old) _ (λ before told. omega (arith, at_told _ before told c.requires.len, c.if-len-le-HEADER.true))) c.in_ok-format_new.ensures.ok)
@@ -69,10 +60,9 @@ returns-clause-recovered g c =
     let half_is : IfSome (D.content old) (IsHalfOf c.args.layout number c.if-len-gate.half) =
     if_told (D.content old) _ (λ before told.
     let len : c.args.len ≡ length before = at_told _ before told c.requires.len in
-    let selector : c.in_ok-header.header.selector ≡ get_or before 15 0 = at_told _ before told c.in_ok-header.ensures.selector in
     elim c.if-len-gate.branch [
       | then-len-gate w ↦ (λ short. w.half-is, λ full. absurd (omega (arith, w.if-len-gate.true, gate, len, full)))
-      | else-len-gate w ↦ (λ short. absurd (omega (arith, w.if-len-gate.false, gate, len, short)), λ full. w.half-is ∙ w.half-half.ensures ∙ ap (half_by c.args.layout) selector)
+      | else-len-gate w ↦ (λ short. absurd (omega (arith, w.if-len-gate.false, gate, len, short)), λ full. w.half-is ∙ w.half-half.ensures ∙ ap (half_by c.args.layout) (at_told _ before told c.in_ok-header.ensures.selector))
     ]) in
     recovered D c.args.magic c.args.layout c.args.blocks old new number c.if-len-gate.half c.at_first_gate-2.result c.at_first_gate-2.ensures
     (alike_on _ _ _ (alike_same _ _ only.same_content) c.finish_format.ensures.puts.told) c.in_ok-finish_format.ensures.quiet

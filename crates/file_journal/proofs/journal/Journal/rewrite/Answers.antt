@@ -1,5 +1,5 @@
 use Rattle.std.proofs.Common.{refl, sym, ◌∙◌}
-use Rattle.file_journal.proofs.CallLemmas.{puts_none}
+use Rattle.file_journal.proofs.Names.{puts_none}
 use Rattle.file_journal.proofs.RewriteLemmas.{anew_none, anew_other}
 use Rattle.file_journal.proofs.journal.Journal.rewrite.Goals as goal
 

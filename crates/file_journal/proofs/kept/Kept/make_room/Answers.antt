@@ -1,9 +1,8 @@
-use Rattle.std.proofs.Common.{rules, ◌+◌, length, Ok, Result, refl, arith}
-use Rattle.disk_model.specs.declared.disk.DiskFault.{DiskFault}
-use Rattle.file_journal.specs.Kept.{kept_on}
+use Rattle.std.proofs.Common.{rules, ◌+◌, length, Ok, refl, arith}
+use Rattle.file_journal.proofs.Names.{kept_on}
 use Rattle.file_journal.proofs.PuttingLemmas.{stays_other}
 use Rattle.file_journal.proofs.RewriteLemmas.{anew_other}
-use Rattle.file_journal.proofs.RoomLemmas.{halves_without, no_room, room_there}
+use Rattle.file_journal.proofs.BoundLemmas.{halves_without, no_room, room_there}
 use Rattle.file_journal.proofs.kept.Kept.make_room.Goals as goal
 
 pub write_anew-requires-clause-in_halves : goal.write_anew-requires-clause-in_halves
@@ -31,5 +30,4 @@ returns-in_err-write_anew-clause-anew g c none =
 
 pub returns-clause-anew : goal.returns-clause-anew
 returns-clause-anew g c none =
-    let done : Result (Unit {0}) DiskFault = Ok c.in_ok-write_anew.field-0 in
-    anew_other g.D.Disk _ c.args.self.now.journal c.write_anew.new.self.journal c.args.disk.now c.write_anew.new.disk done _ (λ bad. bad) (λ bad. bad) c.in_ok-write_anew.ensures.anew
+    anew_other g.D.Disk _ c.args.self.now.journal c.write_anew.new.self.journal c.args.disk.now c.write_anew.new.disk (Ok c.in_ok-write_anew.field-0) _ (λ bad. bad) (λ bad. bad) c.in_ok-write_anew.ensures.anew

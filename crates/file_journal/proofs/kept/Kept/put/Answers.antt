@@ -1,14 +1,8 @@
 use Rattle.std.proofs.Common.{◌≡◌, ◌+◌, ◌∷◌, [], length, inl, inr, refl, sym, ap, subst, arith}
-use Rattle.file_journal.specs.Commands.{octets_of}
-use Rattle.file_journal.specs.Kept.{kept_on}
-use Rattle.file_journal.specs.Layout.{blocks_on}
-use Rattle.file_journal.specs.Position.{HasRoom}
-use Rattle.file_journal.specs.declared.layout.Layout.{Layout}
-use Rattle.file_journal.proofs.CallLemmas.{puts_same}
+use Rattle.file_journal.proofs.Names.{octets_of, kept_on, blocks_on, HasRoom, Layout, puts_same, knew}
 use Rattle.file_journal.proofs.PuttingLemmas.{does_behind, goes_then, one_paces, paced, stays_other, turn_cut_first}
-use Rattle.file_journal.proofs.RoomLemmas.{made_few}
-use Rattle.file_journal.proofs.TimeLemmas.{room_of}
-use Rattle.file_journal.proofs.ToldLemmas.{knew}
+use Rattle.file_journal.proofs.BoundLemmas.{made_few}
+use Rattle.file_journal.proofs.CommandLemmas.{room_of}
 use Rattle.file_journal.proofs.kept.Kept.put.Goals as goal
 
 pub returns-in_err-kind-clause-does : goal.returns-in_err-kind-clause-does

@@ -1,5 +1,5 @@
 use Rattle.std.proofs.Common.{IfSome, refl, ap, subst, sym}
-use Rattle.file_journal.specs.Steps.{MayPut, put_of}
+use Rattle.file_journal.proofs.Names.{MayPut, put_of}
 use Rattle.file_journal.proofs.HoldLemmas.{block_cut_holds, block_put_holds, block_put_same, block_put_since, moved_journal}
 use Rattle.file_journal.proofs.kept.Kept.put_block.Goals as goal
 

@@ -1,6 +1,5 @@
 use Rattle.std.proofs.Common.{refl, subst, sym}
-use Rattle.file_journal.specs.Kept.{StandsAt}
-use Rattle.file_journal.specs.Layout.{HoldSame, blocks_on}
+use Rattle.file_journal.proofs.Names.{StandsAt, HoldSame, blocks_on}
 use Rattle.file_journal.proofs.HoldLemmas.{put_holds, put_same, put_turns, turn_step}
 use Rattle.file_journal.proofs.kept.Kept.put_record.Goals as goal
 

@@ -1,11 +1,8 @@
 use Rattle.std.proofs.Common.{◌+◌, ◌∷◌, [], length, refl, sym, ◌∙◌, ap, subst, arith}
-use Rattle.file_journal.specs.Commands.{done_at, octets_of}
-use Rattle.file_journal.specs.Layout.{blocks_on}
-use Rattle.file_journal.proofs.CallLemmas.{puts_same}
+use Rattle.file_journal.proofs.Names.{done_at, octets_of, blocks_on, puts_same, knew}
 use Rattle.file_journal.proofs.PuttingLemmas.{calls_both, goes_other, goes_then, turn_cut, turn_cut_first, turn_done}
-use Rattle.file_journal.proofs.RoomLemmas.{moves_over}
-use Rattle.file_journal.proofs.TimeLemmas.{paces_exactly}
-use Rattle.file_journal.proofs.ToldLemmas.{knew}
+use Rattle.file_journal.proofs.BoundLemmas.{moves_over}
+use Rattle.file_journal.proofs.CommandLemmas.{paces_exactly}
 use Rattle.file_journal.proofs.kept.Kept.put_there.Goals as goal
 
 pub returns-in_err-put_block-clause-does : goal.returns-in_err-put_block-clause-does

@@ -1,11 +1,7 @@
-use Rattle.std.specs.Bool.{⊤}
 use Rattle.std.proofs.Common.{Result, Err, Ok, refl, ◌∙◌, ap}
-use Rattle.std.proofs.lemmas.Result.{err_from_is_err_and}
-use Rattle.file_journal.specs.declared.faults.ReadFault.{ReadFault}
 use Rattle.file_journal.specs.declared.faults.ReadFault.TheVariants as read
-use Rattle.file_journal.proofs.CallLemmas.{reads_none}
+use Rattle.file_journal.proofs.Names.{⊤, ReadFault, err_from_is_err_and, reads_none, told_weaker}
 use Rattle.file_journal.proofs.RestoringLemmas.{answers_read, answers_refused, restored, restored_at}
-use Rattle.file_journal.proofs.ToldLemmas.{told_weaker}
 use Rattle.file_journal.proofs.kept.Kept.recover.Goals as goal
 
 pub returns-in_err-journal-clause-answers : goal.returns-in_err-journal-clause-answers

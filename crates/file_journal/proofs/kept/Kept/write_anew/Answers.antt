@@ -1,7 +1,7 @@
 use Rattle.std.proofs.Common.{sym, ◌∙◌, subst}
-use Rattle.file_journal.specs.Rewriting.{MayRewrite, WritesAnew}
+use Rattle.file_journal.proofs.Names.{MayRewrite, WritesAnew}
 use Rattle.file_journal.proofs.HoldLemmas.{anew_stays}
-use Rattle.file_journal.proofs.RoomLemmas.{may_anew}
+use Rattle.file_journal.proofs.BoundLemmas.{may_anew}
 use Rattle.file_journal.proofs.kept.Kept.write_anew.Goals as goal
 
 pub put_records-requires-clause-may : goal.put_records-requires-clause-may
