@@ -1,20 +1,8 @@
 -- The file at a place, and the commands that make it anew.
 use Rattle.std.proofs.Common.{◌≡◌, ℕ, zero, suc, ◌+◌, ◌-◌, ◌*◌, ◌≤◌, ◌<◌, min, List, [], ◌∷◌, ◌++◌, length, drop, get_or, Option, None, Some, refl, ap, sym, ◌∙◌, subst, arith}
-use Rattle.std.specs.Prelude.{IfSome, slice_get}
-use Rattle.std.specs.Option.{option_and_then, option_map}
-use Rattle.std.proofs.lemmas.List.{length-map}
-use Rattle.std.proofs.lemmas.Option.{slice_get-get_or}
-use Rattle.block_entries.specs.Anew.{IsAt, command_in, commands_in, commands_of, grows_in, left_from, left_in, seals_in, written}
-use Rattle.block_entries.specs.IsPlaced.{ArePlaced, IsPlaced, IsPlacedFile}
-use Rattle.block_entries.specs.Placed.{Placed, PlacedStore, Seal, run_of, runs_of, with_next}
-use Rattle.block_entries.specs.PlacedCommand.{PlacedCommand, begin, grow, seal}
-use Rattle.block_entries.specs.PlacedFiles.{AreKept, PlacedFile, PlacedFiles, entries_of, files_from, in_runs, placed_info, store_of, with_run}
-use Rattle.block_entries.specs.PlacedRecords.{record_of_placed}
-use Rattle.block_entries.specs.ReadLaws.{next_placed}
+use Rattle.block_entries.proofs.Names.{IfSome, slice_get, option_and_then, option_map, length-map, slice_get-get_or, IsAt, command_in, commands_in, commands_of, grows_in, left_from, left_in, seals_in, written, ArePlaced, IsPlaced, IsPlacedFile, Placed, PlacedStore, Seal, run_of, runs_of, with_next, PlacedCommand, begin, grow, seal, AreKept, PlacedFile, PlacedFiles, entries_of, files_from, in_runs, placed_info, store_of, with_run, record_of_placed, next_placed, Run, new_run, Info}
 use Rattle.block_entries.proofs.ChangeLemmas.{own_runs}
 use Rattle.block_entries.proofs.RunsLemmas.{length_in_runs}
-use Rattle.block_table.specs.Table.{Run, new_run}
-use Rattle.file_entries.specs.declared.info.Info.{Info}
 
 -- ---- the file at a place
 

@@ -1,32 +1,10 @@
 -- What the answer to a command says.
 use Rattle.std.proofs.Common.{◌≡◌, ℕ, ◌+◌, ◌==◌, ◌≤◌, ◌&&◌, nat_le, nat_lt, length, Bool, true, false, List, [], Option, None, Some, refl, ap, ap₂, sym, ◌∙◌, subst, arith}
-use Rattle.std.proofs.Math.Nat.{le-max_right}
-use Rattle.std.proofs.lemmas.Bool.{and_parts, eq-eqb, le-leb, leb-true, lt-ltb}
-use Rattle.std.specs.Option.{option_map}
-use Rattle.std.specs.Prelude.{IfNone, IfSome, IsTrue, is_some}
-use Rattle.std.proofs.lemmas.Bool.Decides.{nat_tests}
-use Rattle.block_entries.specs.Applied.{Applied, AppliesRecord, TakesNext}
-use Rattle.block_entries.specs.Checking.{IsSealable}
-use Rattle.block_entries.specs.IsPlaced.{IsPlaced}
-use Rattle.block_entries.specs.KeptLaws.{after_placed, blocks_seen, drop_placed, grow_placed, seal_placed}
-use Rattle.block_entries.specs.Placed.{Placed, PlacedStore, new_placed, placed_of, with_next}
-use Rattle.block_entries.specs.PlacedCommand.{PlacedCommand, begin, can_seal, drop_entry, grow, header_at, is_allowed, is_partial, is_whole, passes_at, seal, seal_with, with_grown, with_sealed, without_file}
-use Rattle.block_entries.specs.PlacedFiles.{EntriesState, KeepsReading, placed_info, read_of, store_of}
-use Rattle.block_entries.specs.ReadLaws.{may_number, next_placed}
-use Rattle.block_entries.specs.ReadStore.{IsReadStore, ReadStore, change, may_change, may_have, next_is, with_later}
-use Rattle.block_entries.specs.Seen.{octets_in, seen, stamp_at}
-use Rattle.block_entries.specs.TestLaws.{Grows, Passes, TakesSeal, passes_found}
-use Rattle.disk_model.specs.Disk.{IsTold}
 use Rattle.file_entries.specs.Bars.{Bars}
-use Rattle.file_entries.specs.Command.{MayBegin, can_begin}
-use Rattle.file_entries.specs.Limits.{last_next, longest_file, most_entries}
-use Rattle.file_entries.specs.Store.{Store, blocks_for, blocks_of}
+use Rattle.file_entries.specs.Store.{blocks_of}
 use Rattle.file_entries.specs.declared.begin_bar.BeginBar.{BeginBar}
 use Rattle.file_entries.specs.declared.begin_bar.BeginBar.TheVariants.{TooLong, TooMany, NumbersGone, NoRoom}
-use Rattle.file_entries.specs.declared.info.Info.{Info}
-use Rattle.file_journal.specs.Layout.{Blocks, blocks_on}
-use Rattle.px_base.specs.CallSign.{CallSign, IsCall}
-use Rattle.pfh_items.specs.Faults.{fault_code}
+use Rattle.block_entries.proofs.Names.{le-max_right, and_parts, eq-eqb, le-leb, leb-true, lt-ltb, option_map, IfNone, IfSome, IsTrue, is_some, nat_tests, Applied, AppliesRecord, TakesNext, IsSealable, IsPlaced, after_placed, blocks_seen, drop_placed, grow_placed, seal_placed, Placed, PlacedStore, new_placed, placed_of, with_next, PlacedCommand, begin, can_seal, drop_entry, grow, header_at, is_allowed, is_partial, is_whole, passes_at, seal, seal_with, with_grown, with_sealed, without_file, EntriesState, KeepsReading, placed_info, read_of, store_of, may_number, next_placed, IsReadStore, ReadStore, change, may_change, may_have, next_is, with_later, octets_in, seen, stamp_at, Grows, Passes, TakesSeal, passes_found, IsTold, MayBegin, can_begin, last_next, longest_file, most_entries, Store, blocks_for, Info, Blocks, blocks_on, CallSign, IsCall, fault_code}
 
 -- a command whose condition doesn't hold
 pub refused_is : (content : Option (List ℕ)) (before now : EntriesState) (command : PlacedCommand) → IsReadStore (read_of before)

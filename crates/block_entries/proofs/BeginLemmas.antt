@@ -1,25 +1,9 @@
 -- What one more file does to all.
 use Rattle.std.proofs.Common.{◌≡◌, ℕ, max, ◌+◌, ◌≤◌, ◌<◌, List, [], ◌∷◌, ◌++◌, length, refl, ap, sym, ◌∙◌, subst, arith, None, Some, length-append}
-use Rattle.std.specs.Option.{option_and_then}
-use Rattle.std.proofs.Math.Nat.{le-max_right}
-use Rattle.std.proofs.lemmas.List.{length-map}
-use Rattle.block_entries.specs.IsPlaced.{IsPlaced}
-use Rattle.block_entries.specs.KeptLaws.{begin_placed, blocks_seen}
-use Rattle.block_entries.specs.Placed.{Placed, PlacedStore, new_placed, placed_from, run_of, runs_of, with_next}
-use Rattle.block_entries.specs.PlacedCommand.{with_new}
-use Rattle.block_entries.specs.PlacedFiles.{AreKept, Becomes, PlacedFile, PlacedFiles, entries_of, file_of, files_from, in_runs, store_of, with_run}
-use Rattle.block_entries.specs.ReadLaws.{next_placed}
-use Rattle.block_entries.specs.ReadStore.{with_later}
-use Rattle.block_entries.specs.Seen.{seen, seen_entry}
+use Rattle.block_entries.proofs.Names.{option_and_then, le-max_right, length-map, IsPlaced, begin_placed, blocks_seen, Placed, PlacedStore, new_placed, placed_from, run_of, runs_of, with_next, with_new, AreKept, Becomes, PlacedFile, PlacedFiles, entries_of, file_of, files_from, in_runs, store_of, with_run, next_placed, with_later, seen, seen_entry, Run, new_run, rooms_of, MayBegin, most_entries, blocks_for, Blocks, CallSign, IsCall}
 use Rattle.block_entries.proofs.ChangeLemmas.{rest_of_file}
 use Rattle.block_entries.proofs.PlacesLemmas.{entries_push, file_next, push_here, push_other}
 use Rattle.block_entries.proofs.RunsLemmas.{in_runs_push, runs_push}
-use Rattle.block_table.specs.Table.{Run, new_run, rooms_of}
-use Rattle.file_entries.specs.Command.{MayBegin}
-use Rattle.file_entries.specs.Limits.{most_entries}
-use Rattle.file_entries.specs.Store.{blocks_for}
-use Rattle.file_journal.specs.Layout.{Blocks}
-use Rattle.px_base.specs.CallSign.{CallSign, IsCall}
 
 module _ (runs : List Run) (items : List PlacedFile) (next blocks : ℕ) (kept : AreKept runs items next blocks) (now : PlacedFiles) (view : files_from (in_runs runs items) next blocks ≡ now)
     (number : ℕ) (under : IsPlaced (with_next number (store_of now)))
@@ -45,6 +29,9 @@ module _ (runs : List Run) (items : List PlacedFile) (next blocks : ℕ) (kept :
 
   few : length (entries_of zs) < most_entries
   few = subst (λ (n : ℕ). n < most_entries) (length-map (entries_of zs) (seen_entry may.0)) may_inside.few
+
+  pub few_runs : length runs < most_entries
+  few_runs = omega (arith, few, ap (λ (rs : List Run). length rs) kept.runs_are, length-map (entries_of zs) run_of)
 
   begun : IsPlaced (with_later (store_of inside) (new_placed number caller file_length moment))
   begun =

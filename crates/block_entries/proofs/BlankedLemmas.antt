@@ -1,29 +1,15 @@
 -- The sum that a header has with its stamp, by what a stamper gives that puts zeros in the place of the sum.
-use Rattle.std.proofs.Common.{◌≡◌, ℕ, ◌+◌, ◌-◌, ◌%◌, ◌==◌, ◌&&◌, List, [], ◌∷◌, ◌++◌, length, map, take, drop, Bool, true, false, cond, sum, Option, Some, None, refl, sym, ap, ◌∙◌, subst, arith}
-use Rattle.std.specs.List.{AllByRecursion}
-use Rattle.std.specs.Option.{unwrap_or}
-use Rattle.std.proofs.lemmas.Bool.{eq-eqb, false≢true}
-use Rattle.std.proofs.lemmas.Bool.Decides.{nat_tests}
-use Rattle.std.proofs.lemmas.List.{append_cancel_left, take_at, drop_at}
-use Rattle.std.proofs.lemmas.List.Sums.{sum_by-append}
+use Rattle.std.proofs.Common.{◌≡◌, ℕ, ◌+◌, ◌-◌, ◌%◌, ◌≤◌, ◌==◌, ◌&&◌, List, [], ◌∷◌, ◌++◌, length, map, take, drop, Bool, true, false, cond, sum, Option, Some, None, refl, sym, ap, ◌∙◌, subst, arith}
 use Rattle.px_base.specs.Numbers.{le16_octets, le32_octets, sum16}
-use Rattle.std.specs.Option.{option_map}
 use Rattle.pfh_items.specs.declared.fault.FileFault.{FileFault}
-use Rattle.pfh_items.specs.Faults.{IsFaultless, code_of, fault_code, first_fault, items_with, with_content}
-use Rattle.pfh_items.specs.Layout.{AreItems, HeaderValue, ItemValue, end_item, header_start, header_text, items_text}
-use Rattle.pfh_items.specs.Stamp.{StampValue, is_number_item, is_uploader_item, is_upload_time_item, stamped_item}
 use Rattle.pfh_items.specs.Walk.{ItemList, items_from, starts_whole}
 use Rattle.pfh_items.specs.declared.items.Stop.TheVariants.{EndItem, Ran}
-use Rattle.pfh_items.proofs.Offered.{after_start, file_parts-text, item_at, items_from-ran, items_from-whole}
-use Rattle.block_entries.specs.Checking.{HasChecked, IsFaultCode}
-use Rattle.block_entries.specs.declared.file_check.FileCheck.{FileCheck}
-use Rattle.file_entries.specs.Headers.{header_items, header_octets, parts_or_none}
 use Rattle.pfh_items.specs.declared.sums.Sums.{Sums}
 use Rattle.pfh_reader.specs.Check.{HasSums}
-use Rattle.pfh_writer.specs.Given.{stamped_sum}
-use Rattle.pfh_writer.specs.Stamping.{IsCutData, PassesItems, StandsAt, given_item}
+use Rattle.pfh_writer.specs.Stamping.{StandsAt}
 use Rattle.pfh_writer.specs.declared.stamper.Stage.{Stage}
 use Rattle.pfh_writer.specs.declared.stamper.Stage.TheVariants.{Start, Begun, ItemStart, IdCut, IdRead, InData, Body}
+use Rattle.block_entries.proofs.Names.{AllByRecursion, unwrap_or, eq-eqb, false≢true, nat_tests, append_cancel_left, take_at, drop_at, sum_by-append, option_map, IsFaultless, code_of, fault_code, first_fault, items_with, with_content, AreItems, HeaderText, HeaderValue, ItemValue, end_item, header_start, header_text, items_text, StampValue, is_number_item, is_uploader_item, is_upload_time_item, stamped_item, after_start, file_parts-text, item_at, items_from-ran, items_from-whole, HasChecked, IsFaultCode, FileCheck, header_items, header_octets, parts_or_none, header-of, stamped_sum, IsCutData, PassesItems, given_item}
 
 -- ---- the items that are given
 
@@ -216,6 +202,12 @@ pub sealed_len : (fed : List ℕ) (sums : Sums) → HasSums fed sums → sums.he
 sealed_len fed sums (items, body, is, are) =
     are.header_len
     ∙ ap (λ (p : Option HeaderValue). length (header_text (parts_or_none p).items)) (sym (file_parts-text items body fed is.file_text))
+
+-- that length stands in two octets
+pub sealed_short : (fed : List ℕ) (sums : Sums) → HasSums fed sums → sums.header_len ≤ 65535
+sealed_short fed sums (items, body, is, are) =
+    let text : HeaderText items (header_text items) = record { are_items = is.file_text.are_items; text = refl } in
+    omega (arith, are.header_len, (header-of items body fed (header_text items) is text).short)
 
 -- a code that is found is one of a fault
 pub code_found : (octets : List ℕ) (code : ℕ) → fault_code octets ≡ Some code → IsFaultCode code

@@ -1,9 +1,8 @@
 -- A part of the octets of blocks, one behind another, that lies in one of them.
 use Rattle.std.proofs.Common.{◌≡◌, ℕ, zero, suc, ◌+◌, ◌-◌, ◌*◌, ◌/◌, ◌%◌, ◌<◌, ◌≤◌, List, [], ◌∷◌, ◌++◌, length, take, drop, get_or, refl, sym, ap, ◌∙◌, arith, length-drop, length-append}
-use Rattle.std.specs.List.{flat_map}
 use borrow.Rule.Slice.PartMut.{put_mid}
 use Rattle.std.proofs.lemmas.Slice.{take-put_mid}
-use Rattle.std.proofs.lemmas.List.{drop-take, take-append-drop, drop-append-le, drop-drop, drop_at, take-append-le, take-take}
+use Rattle.block_entries.proofs.Names.{flat_map, drop-take, take-append-drop, drop-append-le, drop-drop, drop_at, take-append-le, take-take}
 
 module _ (whole : ℕ → List ℕ) (size : (block : ℕ) → length (whole block) ≡ 512) where
   -- so many blocks have 512 times as many octets

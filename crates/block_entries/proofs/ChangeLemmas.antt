@@ -1,28 +1,10 @@
 -- What a change of one file does to all.
 use Rattle.std.proofs.Common.{◌≡◌, ℕ, suc, ◌+◌, ◌*◌, ◌^◌, ◌≤◌, ◌<◌, ◌⊎◌, ◌==◌, ◌&&◌, inl, inr, Bool, true, false, true≢false, List, [], ◌∷◌, length, get_or, set, refl, ap, sym, ◌∙◌, subst, arith, Option, None, Some}
-use Rattle.std.specs.Prelude.{IsSome, IsTrue, IfNone, IfSome, find, nat_lt, slice_get}
-use Rattle.std.proofs.lemmas.Bool.{and_parts, eq-eqb, eqb-true, lt-ltb, ltb-true}
-use Rattle.std.proofs.lemmas.Bool.Decides.{eqb_tells}
-use Rattle.std.specs.List.{remove}
-use Rattle.std.proofs.lemmas.List.{length-set, set-get_or}
 use Rattle.std.proofs.lemmas.List.Edits.{length-remove}
-use Rattle.std.specs.Option.{option_and_then, option_map}
-use Rattle.block_entries.specs.FilesLaws.{found_holds}
-use Rattle.block_entries.specs.IsPlaced.{IsPlaced, IsPlacedFile}
-use Rattle.block_entries.specs.KeptLaws.{drop_placed, grow_placed, grows_full, seal_placed}
-use Rattle.block_entries.specs.Placed.{Placed, Seal, has_number, placed_from, placed_of, run_of, runs_of}
-use Rattle.block_entries.specs.PlacedCommand.{can_grow, grown, is_free, is_partial, sealed, with_changed, with_grown, with_sealed, without_file}
-use Rattle.block_entries.specs.PlacedFiles.{AreKept, Becomes, ChangesRest, IsLowest, IsPlace, KeepsRests, PlacedFile, PlacedFiles, Waits, entries_of, file_of, files_from, in_runs, lacks_octets, rest_of, seal_of, store_of, with_run}
-use Rattle.block_entries.specs.Reading.{StandsIn}
-use Rattle.block_entries.specs.Sealed.{HasRuns, ReadsSealed, Sealed, sealed_file}
-use Rattle.block_entries.specs.TestLaws.{Grows, MayGrow, Passes, TakesSeal, may_grow}
+use Rattle.block_entries.proofs.Names.{IsSome, IsTrue, IfNone, IfSome, find, nat_lt, slice_get, and_parts, eq-eqb, eqb-true, lt-ltb, ltb-true, eqb_tells, remove, length-set, set-get_or, option_and_then, option_map, found_holds, IsPlaced, IsPlacedFile, drop_placed, grow_placed, grows_full, seal_placed, Placed, Seal, has_number, placed_from, placed_of, run_of, runs_of, can_grow, grown, is_free, is_partial, sealed, with_changed, with_grown, with_sealed, without_file, AreKept, Becomes, ChangesRest, IsLowest, IsPlace, KeepsRests, PlacedFile, PlacedFiles, Waits, entries_of, file_of, files_from, in_runs, lacks_octets, rest_of, seal_of, store_of, with_run, StandsIn, HasRuns, ReadsSealed, Sealed, sealed_file, Grows, MayGrow, Passes, TakesSeal, may_grow, SealMark, Run, Table, new_run, times_of, with_block, blocks_for, both-true}
 use Rattle.block_entries.proofs.PlacesLemmas.{at_place, find_entries, found_at, remove_entries, remove_here, remove_other, set_entries_changed, set_entries_same, set_here, set_other}
 use Rattle.block_entries.proofs.RunsLemmas.{in_runs_at, in_runs_both, in_runs_file, in_runs_remove, length_in_runs, runs_at, runs_remove, runs_set}
 use Rattle.block_entries.proofs.SealedLemmas.{reads_sealed}
-use Rattle.block_entries.specs.declared.stored_file.SealMark.{SealMark}
-use Rattle.block_table.specs.Table.{Run, Table, new_run, times_of, with_block}
-use Rattle.file_entries.specs.Store.{blocks_for}
-use Rattle.file_entries.proofs.Offered.{both-true}
 
 -- ---- whether a file is there
 

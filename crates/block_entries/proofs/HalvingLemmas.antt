@@ -1,15 +1,7 @@
 -- What a search by halving finds among files whose numbers rise.
 use Rattle.std.proofs.Common.{◌≡◌, ℕ, ◌≤◌, ◌<◌, List, [], ◌∷◌, length, get_or, sym, subst, arith, None, Result, Ok, Err, Equal, inl, inr}
-use Rattle.std.specs.Prelude.{IfNone, IfSome}
-use Rattle.std.specs.List.Sorted.{IsBinarySearchResult, IsNonDecreasingBy, IsSearchInRange}
-use Rattle.std.specs.Ordering.{nat_cmp, ordering_index}
-use Rattle.std.specs.Result.{result_ok}
-use Rattle.std.proofs.lemmas.Bool.{cases_lt}
-use Rattle.std.proofs.lemmas.Bool.Decides.{nat_tests}
 use Rattle.std.proofs.lemmas.Cmp.{ranked}
-use Rattle.std.proofs.lemmas.Option.{slice_get-get_or}
-use Rattle.block_entries.specs.IsPlaced.{Rise}
-use Rattle.block_entries.specs.PlacedFiles.{IsPlace, PlacedFile, entries_of, file_of}
+use Rattle.block_entries.proofs.Names.{IfNone, IfSome, IsBinarySearchResult, IsNonDecreasingBy, IsSearchInRange, nat_cmp, ordering_index, result_ok, cases_lt, nat_tests, slice_get-get_or, Rise, IsPlace, PlacedFile, entries_of, file_of}
 use Rattle.block_entries.proofs.PlacesLemmas.{found_none, rises}
 
 -- the number of the file at a place

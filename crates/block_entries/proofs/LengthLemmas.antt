@@ -1,25 +1,10 @@
 -- How long the header of a sealed file is, and what is given of the file.
 use Rattle.std.proofs.Common.{◌≡◌, ◌≤◌, inl, inr, ℕ, false, List, length, Option, None, Some, sym, ◌∙◌, arith}
-use Rattle.std.specs.Prelude.{IfSome}
-use Rattle.disk_model.specs.Disk.{IsTold}
-use Rattle.disk_model.specs.declared.disk.Disk.{Ghosts}
-use Rattle.block_entries.specs.FilesLaws.{found_holds}
-use Rattle.block_entries.specs.IsPlaced.{IsPlaced, IsPlacedFile, KeepsSeals}
-use Rattle.block_entries.specs.Placed.{Placed, PlacedStore, placed_of}
-use Rattle.block_entries.specs.PlacedForm.{placed_form, placed_steps}
-use Rattle.block_entries.specs.Sealed.{Sealed, octets_given}
-use Rattle.block_entries.specs.Seen.{octets_in, stamp_at}
+use Rattle.block_entries.proofs.Names.{IfSome, IsTold, Ghosts, found_holds, IsPlaced, IsPlacedFile, KeepsSeals, Placed, PlacedStore, placed_of, placed_form, placed_steps, Sealed, octets_given, octets_in, stamp_at, header_short, images_now, StandsAt, Blocks, blocks_on, Position, StandsAmong, length-stamped, IsOctets}
 use Rattle.block_entries.proofs.RulesLemmas.{sealed_keeps}
 use Rattle.block_entries.proofs.SeenLemmas.{length_octets}
 use Rattle.block_entries.proofs.StampedPartLemmas.{told_octets}
 use Rattle.block_entries.proofs.StandingLemmas.{kept_seals}
-use Rattle.file_entries.proofs.Offered.{header_short}
-use Rattle.file_journal.specs.Calls.{images_now}
-use Rattle.file_journal.specs.Kept.{StandsAt}
-use Rattle.file_journal.specs.Layout.{Blocks, blocks_on}
-use Rattle.file_journal.specs.Position.{Position, StandsAmong}
-use Rattle.pfh_writer.proofs.StampedLemmas.{length-stamped}
-use Rattle.px_base.specs.Octets.{IsOctets}
 
 -- as many octets of a file are held as its entry says
 pub found_length : (held : Blocks) (store : PlacedStore) (number : ℕ) (f : Placed) → IsPlaced store → placed_of store number ≡ Some f → length (octets_in held f) ≡ f.held

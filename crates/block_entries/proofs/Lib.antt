@@ -6,6 +6,7 @@ mod BlockRunLemmas
 mod ChangeLemmas
 mod HalvingLemmas
 mod LengthLemmas
+mod Names
 mod NextLemmas
 mod NumberLemmas
 pub mod Offered

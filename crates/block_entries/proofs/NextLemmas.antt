@@ -1,16 +1,8 @@
 -- Which file is the next one that is sealed.
 use Rattle.std.proofs.Common.{◌≡◌, ℕ, zero, suc, ◌+◌, ◌≤◌, ◌<◌, Bool, true, false, List, [], ◌∷◌, length, get_or, drop, refl, ap, sym, subst, arith, Option, None, Some, inl, inr}
-use Rattle.std.specs.Prelude.{IsTrue, find, nat_le}
-use Rattle.std.specs.List.Sorted.{IsPartitionPoint, IsPartitionedBy}
-use Rattle.std.specs.Option.{option_map}
-use Rattle.std.proofs.lemmas.Bool.{cases_lt}
-use Rattle.std.proofs.lemmas.Bool.Decides.{nat_tests, eqb_tells}
-use Rattle.block_entries.specs.IsPlaced.{Rise}
-use Rattle.block_entries.specs.Placed.{Placed, has_number, is_sealed, placed_from}
-use Rattle.block_entries.specs.PlacedFiles.{IsNextSealed, IsSealedIn, PlacedFile, entries_of, in_runs, is_sealed_file, with_run}
+use Rattle.block_entries.proofs.Names.{IsTrue, find, nat_le, IsPartitionPoint, IsPartitionedBy, option_map, cases_lt, nat_tests, eqb_tells, Rise, Placed, has_number, is_sealed, placed_from, IsNextSealed, IsSealedIn, PlacedFile, entries_of, in_runs, is_sealed_file, with_run, Run, new_run}
 use Rattle.block_entries.proofs.PlacesLemmas.{rises}
 use Rattle.block_entries.proofs.RunsLemmas.{in_runs_at, length_in_runs}
-use Rattle.block_table.specs.Table.{Run, new_run}
 
 -- the number of the file at a place
 abbrev number_at : List PlacedFile → ℕ → PlacedFile → ℕ

@@ -1,10 +1,7 @@
 -- What a change of the file of one number leaves of each other one, and what it makes of that one.
 use Rattle.std.proofs.Common.{◌≡◌, ◌≢◌, ℕ, ◌+◌, ◌≤◌, ◌<◌, not, List, [], ◌∷◌, ◌++◌, map, filter, Option, None, Some, refl, arith}
-use Rattle.std.specs.Prelude.{find, option_map}
-use Rattle.std.proofs.lemmas.Bool.Decides.{nat_tests}
-use Rattle.block_entries.specs.IsPlaced.{IsPlaced, Rise}
-use Rattle.block_entries.specs.Placed.{Placed, PlacedStore, has_number, placed_of}
-use Rattle.block_entries.specs.PlacedCommand.{changed, with_changed, with_new, without_file}
+use Rattle.std.specs.Prelude.{option_map}
+use Rattle.block_entries.proofs.Names.{find, nat_tests, IsPlaced, Rise, Placed, PlacedStore, has_number, placed_of, changed, with_changed, with_new, without_file}
 
 -- ---- one file changed
 

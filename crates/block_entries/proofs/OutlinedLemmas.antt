@@ -1,30 +1,14 @@
 -- The store as far as memory tells: it keeps the rules of a store, and tells of each file what the store does.
 use Rattle.std.proofs.Common.{◌≡◌, ℕ, ◌+◌, ◌≤◌, Bool, List, [], ◌∷◌, length, map, replicate, Option, None, Some, refl, ap, ap₂, sym, ◌∙◌, subst, arith}
-use Rattle.std.specs.Prelude.{IfSome, IsSome, IsTrue, is_some, option_map}
-use Rattle.std.specs.List.{AllByRecursion}
-use Rattle.std.proofs.lemmas.List.{length-map, length-replicate, map-append, replicate-append-replicate}
-use Rattle.block_entries.specs.IsPlaced.{ArePlaced, IsPlaced, IsPlacedFile, KeepsSeal, KeepsSeals, Rise}
-use Rattle.block_entries.specs.KeptLaws.{rooms_files, sum_map}
+use Rattle.std.specs.Prelude.{option_map}
 use Rattle.block_entries.specs.Outlined.{outlined, outlined_entry}
-use Rattle.block_entries.specs.Placed.{Placed, PlacedStore, Seal, new_placed, placed_of, runs_of}
-use Rattle.block_entries.specs.PlacedCommand.{grown, with_grown, with_new}
-use Rattle.block_entries.specs.PlacedFiles.{IsNextSealed, IsSealedIn, placed_info}
-use Rattle.block_entries.specs.Seen.{entry_with, holding_with, octets_in, seen, seen_entry, stamp_at}
-use Rattle.block_entries.specs.TestLaws.{Grows, may_grow}
+use Rattle.block_entries.proofs.Names.{IfSome, IsSome, IsTrue, is_some, AllByRecursion, length-map, length-replicate, map-append, replicate-append-replicate, ArePlaced, IsPlaced, IsPlacedFile, KeepsSeal, KeepsSeals, Rise, rooms_files, sum_map, Placed, PlacedStore, Seal, new_placed, placed_of, runs_of, grown, with_grown, with_new, IsNextSealed, IsSealedIn, placed_info, entry_with, holding_with, octets_in, seen, seen_entry, stamp_at, Grows, may_grow, rooms_of, AreEntries, FitsLength, HaveCallers, IsStore, most_entries, Entry, Holding, blocks_for, entry_of, holding_of, octets_of, partial, store_from, Info, Blocks, fault_code, length-stamped, CallSign}
 use Rattle.block_entries.proofs.RulesLemmas.{seal_faultless}
 use Rattle.block_entries.proofs.SeenLemmas.{changed_shown, find_shown, length_octets}
-use Rattle.block_table.specs.Table.{rooms_of}
 use Rattle.file_entries.specs.Like.{AreLike, IsAsFar, IsEntryLike, IsStoreLike}
 use Rattle.file_entries.specs.Command as file
 use Rattle.file_entries.specs.Info.{IsCompleteIn, IsNextComplete, info_of, is_complete}
-use Rattle.file_entries.specs.IsStore.{AreEntries, FitsLength, HaveCallers, IsStore}
-use Rattle.file_entries.specs.Limits.{most_entries}
-use Rattle.file_entries.specs.Store.{Entry, Holding, blocks_for, blocks_of, entry_of, holding_of, octets_of, partial, store_from}
-use Rattle.file_entries.specs.declared.info.Info.{Info}
-use Rattle.file_journal.specs.Layout.{Blocks}
-use Rattle.pfh_items.specs.Faults.{fault_code}
-use Rattle.pfh_writer.proofs.StampedLemmas.{length-stamped}
-use Rattle.px_base.specs.CallSign.{CallSign}
+use Rattle.file_entries.specs.Store.{blocks_of}
 
 -- how far a file with this seal has come, with zeros for its octets
 abbrev holding_at : ℕ → Option Seal → Holding

@@ -1,15 +1,7 @@
 -- Lemmas on lists of files: an entry, and beside it what came of an upload of it.
 use Rattle.std.proofs.Common.{◌≡◌, ◌≢◌, ℕ, zero, suc, ◌+◌, ◌≤◌, ◌<◌, Bool, true, false, not, List, [], ◌∷◌, ◌++◌, length, get_or, set, map, filter, refl, ap, sym, ◌∙◌, subst, arith, inl, inr, None, Some, ◌==◌}
-use Rattle.std.specs.Prelude.{find, slice_get}
-use Rattle.std.specs.List.{remove}
-use Rattle.std.specs.Option.{option_map}
-use Rattle.std.proofs.lemmas.Bool.Decides.{nat_tests, eqb_tells}
 use Rattle.std.proofs.lemmas.List.Folds.{find-append}
-use Rattle.block_entries.specs.FilesLaws.{changed_past}
-use Rattle.block_entries.specs.IsPlaced.{Rise}
-use Rattle.block_entries.specs.Placed.{Placed, has_number}
-use Rattle.block_entries.specs.PlacedCommand.{changed}
-use Rattle.block_entries.specs.PlacedFiles.{PlacedFile, entries_of, file_of}
+use Rattle.block_entries.proofs.Names.{find, slice_get, remove, option_map, nat_tests, eqb_tells, changed_past, Rise, Placed, has_number, changed, PlacedFile, entries_of, file_of}
 
 -- whether the file has this number
 abbrev pub is_of : ℕ → PlacedFile → Bool

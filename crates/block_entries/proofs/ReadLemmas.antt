@@ -1,17 +1,7 @@
 -- Runs of reads.
 use Rattle.std.proofs.Common.{◌≡◌, ◌+◌, ℕ, List, ◌++◌, Option, Result, Ok, IsErr, length, take, drop, sym, ap, ◌∙◌, subst, arith, length-append}
-use Rattle.std.specs.Result.{is_err}
-use Rattle.std.proofs.lemmas.Bool.{false≢true}
-use Rattle.block_entries.specs.Reading.{octets_on}
-use Rattle.block_entries.specs.Taking.{TookFront}
-use Rattle.block_entries.specs.declared.file_blocks.FileBlocks.{FileBlocks}
+use Rattle.block_entries.proofs.Names.{is_err, false≢true, octets_on, TookFront, FileBlocks, Table, take-take, FillsRoom, IsTold, Ghosts, Reads, reads_on, reads_same}
 use Rattle.block_entries.proofs.BlockRunLemmas.{take_then}
-use Rattle.block_table.specs.Table.{Table}
-use Rattle.std.proofs.lemmas.List.{take-take}
-use Rattle.disk_model.specs.Disk.{FillsRoom, IsTold}
-use Rattle.disk_model.specs.declared.disk.Disk.{Ghosts}
-use Rattle.file_journal.specs.Calls.{Reads}
-use Rattle.file_journal.proofs.Offered.{reads_on, reads_same}
 
 ok_no_err : {T E : Type 0} (result : Result T E) (x : T) → result ≡ Ok x → IsErr result → ⊥
 ok_no_err {T} {E} result x ok err = false≢true (sym (ap (λ (r : Result T E). is_err r) ok) ∙ err)

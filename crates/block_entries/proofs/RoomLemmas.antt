@@ -1,24 +1,9 @@
 -- Where each number that was given is that of an entry, and stays so, there is room behind the records of a journal.
 use Rattle.std.proofs.Common.{◌≡◌, inl, inr, ℕ, ◌+◌, ◌≤◌, false, List, [], ◌∷◌, length, map, Option, None, Some, sym, ◌∙◌, ap, subst, arith}
-use Rattle.std.proofs.lemmas.List.{length-map}
-use Rattle.disk_model.specs.declared.disk.Disk.{Ghosts}
-use Rattle.block_entries.specs.IsPlaced.{ArePlaced, IsPlaced, IsPlacedFile, Rise}
-use Rattle.block_entries.specs.KeptLaws.{blocks_seen, rooms_files}
-use Rattle.block_entries.specs.Placed.{Placed, PlacedStore, Seal}
-use Rattle.block_entries.specs.PlacedForm.{placed_form, placed_steps}
-use Rattle.block_entries.specs.PlacedLaws.{placed_seen}
-use Rattle.block_entries.specs.Seen.{holding_with, octets_in, seen, seen_entry}
-use Rattle.block_entries.specs.Sizes.{FillBlocks, FillsBlocks, IsSized, size_of_store}
+use Rattle.block_entries.proofs.Names.{length-map, Ghosts, ArePlaced, IsPlaced, IsPlacedFile, Rise, blocks_seen, rooms_files, Placed, PlacedStore, Seal, placed_form, placed_steps, placed_seen, holding_with, octets_in, seen, seen_entry, FillBlocks, FillsBlocks, IsSized, size_of_store, AreAllowed, Command, DropsNothing, after_all, most_entries, Store, HasRoomFor, StandsAt, Blocks, HasBlocks, block_in, half_size, Position, are_made, room_within}
 use Rattle.block_entries.proofs.SeenLemmas.{length_octets}
 use Rattle.block_entries.proofs.SizeLemmas.{all_sized, same_blocks, size_fits, sizes_after}
 use Rattle.block_entries.proofs.SpentLemmas.{records_most}
-use Rattle.file_entries.specs.Command.{AreAllowed, Command, DropsNothing, after_all}
-use Rattle.file_entries.specs.Limits.{most_entries}
-use Rattle.file_entries.specs.Store.{Store}
-use Rattle.file_journal.specs.Kept.{HasRoomFor, StandsAt}
-use Rattle.file_journal.specs.Layout.{Blocks, HasBlocks, block_in, half_size}
-use Rattle.file_journal.specs.Position.{Position}
-use Rattle.file_journal.proofs.Offered.{are_made, room_within}
 
 -- ---- what bounds the size of a store
 

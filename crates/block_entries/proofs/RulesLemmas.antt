@@ -1,26 +1,9 @@
 -- What a store of placed files is seen as keeps the rules of a store.
 use Rattle.std.proofs.Common.{◌≡◌, ℕ, ◌+◌, ◌≤◌, List, [], ◌∷◌, length, map, Option, None, Some, refl, ap, sym, ◌∙◌, subst, arith}
-use Rattle.std.specs.Prelude.{IfSome, IsSome, if◌then◌else◌, is_some, sum_by}
-use Rattle.std.specs.List.{AllByRecursion}
-use Rattle.std.proofs.lemmas.List.{length-map}
-use Rattle.std.proofs.lemmas.List.Sums.{sum_by-cons}
-use Rattle.block_entries.specs.FilesLaws.{found_holds}
-use Rattle.block_entries.specs.Checking.{IsSealable}
-use Rattle.block_entries.specs.IsPlaced.{ArePlaced, IsPlaced, IsPlacedFile, KeepsSeal, KeepsSeals, Rise}
-use Rattle.block_entries.specs.KeptLaws.{blocks_seen, times_at}
-use Rattle.block_entries.specs.Placed.{Decides, Placed, PlacedStore, Seal, times_sealed}
-use Rattle.block_entries.specs.PlacedCommand.{sealed}
+use Rattle.std.specs.Prelude.{if◌then◌else◌}
 use Rattle.block_entries.specs.SameLaws.{octets_same}
-use Rattle.block_entries.specs.Sealed.{Sealed}
-use Rattle.block_entries.specs.Seen.{holding_with, octets_in, seen, seen_entry, stamp_at, sum_with}
-use Rattle.block_entries.specs.SealLaws.{SaysIn}
+use Rattle.block_entries.proofs.Names.{IfSome, IsSome, is_some, sum_by, AllByRecursion, length-map, sum_by-cons, found_holds, IsSealable, ArePlaced, IsPlaced, IsPlacedFile, KeepsSeal, KeepsSeals, Rise, blocks_seen, times_at, Decides, Placed, PlacedStore, Seal, times_sealed, sealed, Sealed, holding_with, octets_in, seen, seen_entry, stamp_at, sum_with, SaysIn, header_octets, AreEntries, FitsLength, HaveCallers, IsStore, most_entries, Blocks, HoldSame, fault_code, length-stamped}
 use Rattle.block_entries.proofs.SeenLemmas.{length_octets}
-use Rattle.file_entries.specs.Headers.{header_octets}
-use Rattle.file_entries.specs.IsStore.{AreEntries, FitsLength, HaveCallers, IsStore}
-use Rattle.file_entries.specs.Limits.{most_entries}
-use Rattle.file_journal.specs.Layout.{Blocks, HoldSame}
-use Rattle.pfh_items.specs.Faults.{fault_code}
-use Rattle.pfh_writer.proofs.StampedLemmas.{length-stamped}
 
 -- ---- seals
 

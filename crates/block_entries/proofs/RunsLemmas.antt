@@ -1,12 +1,6 @@
 -- Lemmas on files that have the blocks of the runs at their places.
 use Rattle.std.proofs.Common.{◌≡◌, ℕ, zero, suc, ◌+◌, ◌<◌, List, [], ◌∷◌, ◌++◌, length, get_or, set, refl, ap, arith, inl, inr, Option, None, Some}
-use Rattle.std.specs.List.{remove}
-use Rattle.std.specs.Prelude.{IfNone, IfSome, slice_get}
-use Rattle.std.proofs.lemmas.Bool.Decides.{eqb_tells}
-use Rattle.block_entries.specs.IsPlaced.{Rise}
-use Rattle.block_entries.specs.Placed.{run_of, runs_of}
-use Rattle.block_entries.specs.PlacedFiles.{IsPlace, PlacedFile, entries_of, file_of, in_runs, with_run}
-use Rattle.block_table.specs.Table.{Run, new_run}
+use Rattle.block_entries.proofs.Names.{remove, IfNone, IfSome, slice_get, eqb_tells, Rise, run_of, runs_of, IsPlace, PlacedFile, entries_of, file_of, in_runs, with_run, Run, new_run}
 
 -- another file at a place, with the same run
 pub in_runs_file : (runs : List Run) (files : List PlacedFile) (k : ℕ) (d : Run) (y : PlacedFile)

@@ -1,21 +1,8 @@
 -- What is read of a sealed file, where a table has its run.
 use Rattle.std.proofs.Common.{◌≡◌, ℕ, ◌*◌, ◌≤◌, ◌<◌, List, length, take, Option, Some, ap, sym, ◌∙◌, subst, arith}
-use Rattle.std.specs.Prelude.{All}
-use Rattle.std.specs.List.{flat_map}
-use Rattle.block_entries.specs.Checking.{IsSealable}
-use Rattle.block_entries.specs.FilesLaws.{found_holds}
-use Rattle.block_entries.specs.IsPlaced.{IsPlaced, IsPlacedFile}
-use Rattle.block_entries.specs.Placed.{Placed, PlacedStore, Seal, placed_of, run_of}
-use Rattle.block_entries.specs.PlacedFiles.{seal_value}
-use Rattle.block_entries.specs.Reading.{octets_on}
-use Rattle.block_entries.specs.Sealed.{ReadsSealed, Sealed, sealed_file}
-use Rattle.block_entries.specs.Seen.{octets_in, stamp_at, whole_block}
 use Rattle.block_entries.specs.declared.sealed_file.SealedFile.{SealedFile}
-use Rattle.block_entries.specs.declared.stored_file.SealMark.{SealMark}
+use Rattle.block_entries.proofs.Names.{All, flat_map, IsSealable, found_holds, IsPlaced, IsPlacedFile, Placed, PlacedStore, Seal, placed_of, run_of, seal_value, octets_on, ReadsSealed, Sealed, sealed_file, octets_in, stamp_at, whole_block, SealMark, Run, Table, run_at, blocks_on, stamped}
 use Rattle.block_entries.proofs.RulesLemmas.{sealed_inside, sealed_keeps}
-use Rattle.block_table.specs.Table.{Run, Table, run_at}
-use Rattle.file_journal.specs.Layout.{blocks_on}
-use Rattle.pfh_items.specs.Stamp.{stamped}
 
 module _ (table : Table) (store : PlacedStore) (number : ℕ) (rules : IsPlaced store) (run : ℕ) (mark : SealMark) (f : Placed) (found : placed_of store number ≡ Some f)
     (is : f.seal ≡ Some (seal_value mark)) (inside : run < length table.runs) (there : run_at table run ≡ run_of f) where

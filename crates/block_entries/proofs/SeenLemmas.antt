@@ -2,26 +2,9 @@
 use Rattle.std.proofs.Common.{◌≡◌, ℕ, ◌+◌, ◌*◌, ◌≤◌, ◌<◌, ◌==◌, Bool, not, List, [], ◌∷◌, ◌++◌}
 use Rattle.std.proofs.Common.{length, map, filter, take, replicate, Option, None, Some, refl, ap, ap₂, sym, ◌∙◌, subst, arith, inl, inr}
 use Rattle.std.proofs.Common.{length-append}
-use Rattle.std.specs.Prelude.{IsTrue, find, is_none, option_map}
-use Rattle.std.specs.List.{flat_map}
-use Rattle.std.proofs.Math.Seq.{take-append-add, take-length}
-use Rattle.std.proofs.lemmas.Bool.{eq-eqb}
-use Rattle.std.proofs.lemmas.Bool.Decides.{eqb_tells}
-use Rattle.std.proofs.lemmas.Grind.{flat_map-append}
-use Rattle.std.proofs.lemmas.List.{append-nil, length-replicate, length-take-le, map-append}
-use Rattle.block_entries.specs.FilesLaws.{changed_past, found_holds}
-use Rattle.block_entries.specs.IsPlaced.{IsPlaced, IsPlacedFile, Rise}
-use Rattle.block_entries.specs.KeptLaws.{grows_full}
-use Rattle.block_entries.specs.Placed.{Placed, PlacedStore, Seal, has_number, new_placed, placed_of}
-use Rattle.block_entries.specs.PlacedCommand.{PlacedCommand, after, begin, can_seal, changed, drop_entry, grow, grown, header_at, is_allowed, is_partial, is_whole, seal, seal_with, sealed, seen_command, with_grown, with_sealed}
-use Rattle.block_entries.specs.Seen.{entry_with, holding_with, octets_in, seen, seen_entry, stamp_at, whole_block}
-use Rattle.block_entries.specs.TestLaws.{Grows, Passes, may_grow, may_seal, may_take, partial_none, passed, seals_whole, whole_is}
+use Rattle.std.specs.Prelude.{option_map}
 use Rattle.file_entries.specs.Command as file
-use Rattle.file_entries.specs.Command.{kept_with, passes, with_more}
-use Rattle.file_entries.specs.Store.{Entry, Holding, entry_of, partial, store_from}
-use Rattle.file_entries.proofs.Offered.{both-true, grow-is_allowed}
-use Rattle.file_journal.specs.Layout.{Blocks}
-use Rattle.pfh_items.specs.Faults.{fault_code}
+use Rattle.block_entries.proofs.Names.{IsTrue, find, is_none, flat_map, take-append-add, take-length, eq-eqb, eqb_tells, flat_map-append, append-nil, length-replicate, length-take-le, map-append, changed_past, found_holds, IsPlaced, IsPlacedFile, Rise, grows_full, Placed, PlacedStore, Seal, has_number, new_placed, placed_of, PlacedCommand, after, begin, can_seal, changed, drop_entry, grow, grown, header_at, is_allowed, is_partial, is_whole, seal, seal_with, sealed, seen_command, with_grown, with_sealed, entry_with, holding_with, octets_in, seen, seen_entry, stamp_at, whole_block, Grows, Passes, may_grow, may_seal, may_take, partial_none, passed, seals_whole, whole_is, kept_with, passes, with_more, Entry, Holding, entry_of, partial, store_from, both-true, grow-is_allowed, Blocks, fault_code}
 
 -- ---- the octets of a file
 

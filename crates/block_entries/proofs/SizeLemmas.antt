@@ -1,19 +1,9 @@
 -- How many octets the records have that make a store of files, command by command.
 use Rattle.std.proofs.Common.{◌≡◌, ◌⊎◌, inl, inr, ℕ, ◌+◌, ◌*◌, ◌≤◌, ◌<◌, ◌==◌, true, false, ◌&&◌, ◌||◌, ◌%◌, List, [], ◌∷◌, ◌++◌, length, map, Some, refl, ap, sym, ◌∙◌, subst, arith, length-append}
-use Rattle.std.specs.Prelude.{IsTrue, find, nat_le, sum_by}
-use Rattle.std.proofs.lemmas.Bool.{and_parts, leb-true}
-use Rattle.std.proofs.lemmas.Bool.Decides.{eqb_tells, nat_tests}
-use Rattle.std.proofs.lemmas.List.{length-map}
-use Rattle.std.proofs.lemmas.List.Sums.{sum_by-cons, sum_by_push}
-use Rattle.file_entries.specs.Command.{AreAllowed, Command, DropsNothing, KeepsFile, after, after_all, begin, can_take, changed, drop_entry, grow, grown, is_allowed, is_good, kept_with, seal, sealed, stamp_of, with_holding, with_more}
-use Rattle.file_entries.specs.Limits.{most_entries}
-use Rattle.file_entries.specs.Store.{Entry, Holding, Store, blocks_for, complete, entry_of, new_entry, partial}
-use Rattle.file_entries.proofs.Offered.{begin-allowed, blocks-map-changed, good-partial, grow-takes, has_number, passes-entry}
+use Rattle.file_entries.specs.Command.{after, begin, changed, drop_entry, grow, grown, is_allowed, seal, sealed, stamp_of}
+use Rattle.file_entries.proofs.Offered.{has_number}
 use Rattle.file_journal.specs.Commands.{octets_of}
-use Rattle.file_journal.specs.Layout.{half_size}
-use Rattle.block_entries.specs.PlacedForm.{placed_form}
-use Rattle.block_entries.specs.PlacedRecords.{octets_for}
-use Rattle.block_entries.specs.Sizes.{FillBlocks, FillsBlocks, IsSized, entry_octets, held_octets, size_of_store}
+use Rattle.block_entries.proofs.Names.{IsTrue, find, nat_le, sum_by, and_parts, leb-true, eqb_tells, nat_tests, length-map, sum_by-cons, sum_by_push, AreAllowed, Command, DropsNothing, KeepsFile, after_all, can_take, is_good, kept_with, with_holding, with_more, most_entries, Entry, Holding, Store, blocks_for, complete, entry_of, new_entry, partial, begin-allowed, blocks-map-changed, good-partial, grow-takes, passes-entry, half_size, placed_form, octets_for, FillBlocks, FillsBlocks, IsSized, entry_octets, held_octets, size_of_store}
 
 -- ---- one entry changed
 

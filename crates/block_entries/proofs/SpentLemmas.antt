@@ -1,29 +1,9 @@
 -- How many octets the records of a half have, where no file was given up whose number came in them.
 use Rattle.std.proofs.Common.{◌≡◌, ℕ, ◌+◌, ◌*◌, ◌≤◌, ◌∷◌, List, [], length, map, not, filter, true, Option, None, Some, refl, ap, sym, subst, arith, length-append}
-use Rattle.std.specs.Prelude.{IsSome, IsTrue, nat_le, sum_by}
-use Rattle.std.specs.List.{AllByRecursion}
-use Rattle.std.proofs.lemmas.Bool.{and_parts}
-use Rattle.std.proofs.lemmas.List.{length-map}
-use Rattle.std.proofs.lemmas.List.Sums.{sum_by-cons, sum_by_push}
 use Rattle.block_entries.specs.AnewLaws.{block_count, length_record}
-use Rattle.block_entries.specs.FilesLaws.{sum_changed, sum_without}
-use Rattle.block_entries.specs.IsPlaced.{ArePlaced, IsPlacedFile}
-use Rattle.block_entries.specs.MadeLaws.{IsMade, all_made, nothing_made, step_made}
-use Rattle.block_entries.specs.Placed.{Placed, Seal, has_number, new_placed}
-use Rattle.block_entries.specs.PlacedCommand.{begin, can_seal, changed, drop_entry, grow, grown, header_at, is_partial, seal, seal_with, sealed}
-use Rattle.block_entries.specs.PlacedRecords.{CanRecord, read_step, record_of_recorded, recorded_in}
-use Rattle.block_entries.specs.ReadLaws.{may_number}
-use Rattle.block_entries.specs.ReadStore.{ReadStore, Recorded, after_recorded, change, is_recordable, may_have, next_is, nothing_read}
-use Rattle.block_entries.specs.RecordLaws.{begin_len, recorded_says}
-use Rattle.block_entries.specs.Seen.{holding_with, octets_in, seen, seen_entry}
-use Rattle.block_entries.specs.Sizes.{entry_octets, held_octets, size_of_store}
-use Rattle.block_entries.specs.TestLaws.{may_seal, may_take, passed}
+use Rattle.block_entries.proofs.Names.{IsSome, IsTrue, nat_le, sum_by, AllByRecursion, and_parts, length-map, sum_by-cons, sum_by_push, sum_changed, sum_without, ArePlaced, IsPlacedFile, IsMade, all_made, nothing_made, step_made, Placed, Seal, has_number, new_placed, begin, can_seal, changed, drop_entry, grow, grown, header_at, is_partial, seal, seal_with, sealed, CanRecord, read_step, record_of_recorded, recorded_in, may_number, ReadStore, Recorded, after_recorded, change, is_recordable, may_have, next_is, nothing_read, begin_len, recorded_says, holding_with, octets_in, seen, seen_entry, entry_octets, held_octets, size_of_store, may_seal, may_take, passed, blocks_for, Blocks, IsRecord, Record, records_text, stepped}
 use Rattle.block_entries.proofs.SeenLemmas.{length_octets}
-use Rattle.file_entries.specs.Store.{blocks_for}
-use Rattle.file_journal.specs.Layout.{Blocks}
 use Rattle.file_journal.specs.Ledger.{Takes}
-use Rattle.file_journal.specs.Records.{IsRecord, Record, records_text}
-use Rattle.file_journal.proofs.Offered.{stepped}
 
 -- how many octets the records of a file have had so far: 23, and 14 for each block and for its seal
 abbrev seal_octets : Option Seal → ℕ

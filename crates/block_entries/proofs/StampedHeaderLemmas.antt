@@ -1,16 +1,7 @@
 -- The header of a sealed file, by what is read of its blocks.
 use Rattle.std.proofs.Common.{◌≡◌, List, None, length, take, ap, ◌∙◌, ℕ, arith, length-append}
-use Rattle.std.proofs.lemmas.List.{take_at}
-use Rattle.block_entries.specs.Sealed.{IsSealedHeader}
-use Rattle.file_entries.specs.Headers.{header_octets}
-use Rattle.file_entries.proofs.Offered.{faultless-code, header-of, items-text, whole-of}
-use Rattle.pfh_items.specs.Faults.{fault_code}
-use Rattle.pfh_items.specs.Layout.{FileText, HeaderText, ItemValue, header_text}
-use Rattle.pfh_items.specs.Stamp.{StampValue, stamped}
 use Rattle.pfh_writer.proofs.ClientLemmas.{kept_file}
-use Rattle.pfh_writer.proofs.StampedLemmas.{length-stamped}
-use Rattle.px_base.specs.CallSign.{IsCall}
-use Rattle.px_base.specs.Octets.{IsOctets}
+use Rattle.block_entries.proofs.Names.{take_at, IsSealedHeader, header_octets, faultless-code, header-of, items-text, whole-of, fault_code, FileText, HeaderText, ItemValue, header_text, StampValue, stamped, length-stamped, IsCall, IsOctets}
 
 -- ---- what stands before the body of a file without fault is its header
 

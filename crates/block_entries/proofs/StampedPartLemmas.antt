@@ -1,27 +1,7 @@
 -- A part of a sealed file, by what is read of its blocks.
 use Rattle.std.proofs.Common.{◌≡◌, ℕ, ◌+◌, ◌-◌, ◌*◌, ◌<◌, ◌≤◌, List, [], ◌∷◌, ◌++◌, Option, None, Some, length, take, drop, replicate, refl, sym, ap, ◌∙◌, subst, arith, lit<, length-append}
-use Rattle.std.specs.Prelude.{IfSome}
-use Rattle.std.specs.List.{flat_map}
-use Rattle.std.proofs.lemmas.Bool.{false≢true}
-use Rattle.std.proofs.lemmas.List.{drop-drop, drop-take, drop_at, length-take-le, take-append-drop}
 use Rattle.std.proofs.lemmas.List.Elements.{All-nil, All-replicate, All-take}
-use Rattle.disk_model.specs.Disk.{IsTold}
-use Rattle.file_entries.specs.Headers.{header_items, header_octets, parts_or_none}
-use Rattle.file_journal.specs.Layout.{Blocks, blocks_on}
-use Rattle.file_journal.proofs.Offered.{octets_joined, octets_part}
-use Rattle.pfh_items.specs.Faults.{IsFaultless, fault_code}
-use Rattle.pfh_items.specs.Layout.{HeaderValue, ItemValue, header_text}
-use Rattle.pfh_items.specs.Stamp.{StampValue, stamped, stamped_items}
-use Rattle.pfh_items.proofs.Offered.{file_parts-text, no_fault, stamped-text}
-use Rattle.pfh_writer.specs.Given.{IsFaultlessFile, stamped_sum}
-use Rattle.pfh_writer.specs.Stamping.{HasStamped, StamperValue}
-use Rattle.pfh_writer.proofs.StampedLemmas.{length-stamped, no_fault-code}
-use Rattle.px_base.specs.CallSign.{IsCall}
-use Rattle.px_base.specs.Octets.{IsOctets}
-use Rattle.block_table.specs.Table.{Table}
-use Rattle.block_entries.specs.Reading.{StandsIn, blocks_of, octets_on}
-use Rattle.block_entries.specs.Seen.{whole_block}
-use Rattle.block_entries.specs.declared.file_blocks.FileBlocks.{FileBlocks}
+use Rattle.block_entries.proofs.Names.{IfSome, flat_map, false≢true, drop-drop, drop-take, drop_at, length-take-le, take-append-drop, IsTold, header_items, header_octets, parts_or_none, Blocks, blocks_on, octets_joined, octets_part, IsFaultless, fault_code, HeaderValue, ItemValue, header_text, StampValue, stamped, stamped_items, file_parts-text, no_fault, stamped-text, IsFaultlessFile, stamped_sum, HasStamped, StamperValue, length-stamped, no_fault-code, IsCall, IsOctets, Table, StandsIn, blocks_of, octets_on, whole_block, FileBlocks}
 use Rattle.block_entries.proofs.BlockRunLemmas.{length-blocks, take_then}
 use Rattle.block_entries.proofs.WholeBlockLemmas.{length-whole}
 

@@ -1,33 +1,13 @@
 -- What holds of each store for which octets stand.
 use Rattle.std.proofs.Common.{◌≡◌, ◌⊎◌, inl, inr, ℕ, ◌+◌, false, List, [], ◌∷◌, length, Option, None, Some, refl, ap, sym, ◌∙◌, subst}
-use Rattle.std.specs.Prelude.{IfSome, IsTrue}
-use Rattle.disk_model.specs.Disk.{IsTold}
-use Rattle.disk_model.specs.declared.disk.Disk.{Ghosts}
-use Rattle.file_entries.specs.Store.{Store}
-use Rattle.px_base.specs.Octets.{IsOctets}
-use Rattle.block_entries.specs.IsPlaced.{IsPlaced, KeepsSeals}
 use Rattle.block_entries.specs.Laws.{AreAllowed, IsPlacedAfter, after_all}
-use Rattle.block_entries.specs.MadeLaws.{recorded_seals}
-use Rattle.block_entries.specs.Placed.{PlacedStore}
-use Rattle.block_entries.specs.PlacedForm.{placed_form, placed_steps}
-use Rattle.block_entries.specs.PlacedLaws.{nothing_is, step_state}
-use Rattle.block_entries.specs.PlacedRecords.{CanRecord, placed_magic, read_step, record_of_recorded, recorded_in}
-use Rattle.block_entries.specs.ReadLaws.{read_placed, recorded_blocks}
-use Rattle.block_entries.specs.ReadStore.{IsReadStore, ReadStore, Recorded, after_recorded, is_recordable, nothing_read}
-use Rattle.block_entries.specs.RecordLaws.{recorded_says, recorded_written}
-use Rattle.block_entries.specs.Seen.{seen}
 use Rattle.file_journal.specs.Journal as journal
 use Rattle.file_journal.specs.Journal.{Standing, journal_of}
 use Rattle.file_journal.specs.Form.{Form, StandsFor}
-use Rattle.file_journal.specs.Kept.{StandsAt}
-use Rattle.file_journal.specs.Layout.{Blocks, block_in, blocks_on, half_in}
-use Rattle.file_journal.specs.Position.{Position}
-use Rattle.file_journal.specs.Records.{Reading, Record, broken, whole}
-use Rattle.file_journal.specs.Steps.{StandsAs, walked}
 use Rattle.file_journal.specs.Walk.{Stands, damaged_at, no_store, number_or, on_from, see, stands_for, stands_of, state, walk, walk_over}
 use Rattle.file_journal.specs.declared.layout.Layout.{Layout}
 use Rattle.file_journal.specs.declared.layout.Layout.TheVariants as layout
-use Rattle.file_journal.proofs.Offered.{Written, after_stands, stands_after, stepped, steps}
+use Rattle.block_entries.proofs.Names.{IfSome, IsTrue, IsTold, Ghosts, Store, IsOctets, IsPlaced, KeepsSeals, recorded_seals, PlacedStore, placed_form, placed_steps, nothing_is, step_state, CanRecord, placed_magic, read_step, record_of_recorded, recorded_in, read_placed, recorded_blocks, IsReadStore, ReadStore, Recorded, after_recorded, is_recordable, nothing_read, recorded_says, recorded_written, seen, StandsAt, Blocks, block_in, blocks_on, half_in, Position, Reading, Record, broken, whole, StandsAs, walked, Written, after_stands, stands_after, stepped, steps}
 
 -- ---- what each step keeps holds of the state to which octets come
 

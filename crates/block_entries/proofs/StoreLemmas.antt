@@ -1,29 +1,10 @@
 -- What changes of the entries are of the store of files that they are seen as.
 use Rattle.std.proofs.Common.{◌≡◌, ℕ, List, ◌++◌, length, take, drop, replicate, nat_le, nat_lt, Bool, true, false, None, Some, refl, ap, sym, ◌∙◌, arith, inl, inr, ◌+◌}
-use Rattle.std.specs.Prelude.{IsTrue, ◌&&◌, if◌then◌else◌}
-use Rattle.std.proofs.lemmas.Bool.{eq-eqb}
-use Rattle.std.proofs.lemmas.Bool.Decides.{nat_tests}
-use Rattle.std.proofs.lemmas.List.{append_assoc, take-append-drop, take-take, take_at}
-use Rattle.block_entries.specs.Checking.{IsSealable}
-use Rattle.block_entries.specs.FilesLaws.{found_holds}
-use Rattle.block_entries.specs.KeptLaws.{header_found}
-use Rattle.block_entries.specs.IsPlaced.{IsPlaced, IsPlacedFile}
-use Rattle.block_entries.specs.Placed.{PlacedStore}
-use Rattle.block_entries.specs.PlacedCommand.{PlacedCommand, after, begin, can_grow, drop_entry, grow, header_at, is_allowed, is_free, is_whole, seal, seal_with, seen_command, with_grown, with_sealed}
-use Rattle.block_entries.specs.PlacedRecords.{IsWritable, octets_for, placed_after, read_step, record_of_placed, recorded_in}
-use Rattle.block_entries.specs.ReadLaws.{kept_after, kept_allowed}
-use Rattle.block_entries.specs.ReadStore.{IsReadStore, ReadStore, after_recorded, change, is_recordable}
-use Rattle.block_entries.specs.RecordLaws.{begin_len, recorded_written}
-use Rattle.block_entries.specs.Seen.{octets_in, seen, seen_entry, stamp_at, whole_block}
-use Rattle.block_entries.specs.TestLaws.{Grows, Passes, may_grow, passes_found}
+use Rattle.std.specs.Prelude.{◌&&◌, if◌then◌else◌}
+use Rattle.block_entries.proofs.Names.{IsTrue, eq-eqb, nat_tests, append_assoc, take-append-drop, take-take, take_at, IsSealable, found_holds, header_found, IsPlaced, IsPlacedFile, PlacedStore, PlacedCommand, after, begin, can_grow, drop_entry, grow, header_at, is_allowed, is_free, is_whole, seal, seal_with, seen_command, with_grown, with_sealed, IsWritable, octets_for, placed_after, read_step, record_of_placed, recorded_in, kept_after, kept_allowed, IsReadStore, ReadStore, after_recorded, change, is_recordable, begin_len, recorded_written, octets_in, seen, seen_entry, stamp_at, whole_block, Grows, Passes, may_grow, passes_found, both-true, grow-is_allowed, Blocks, Record, HasPut, steps}
 use Rattle.block_entries.proofs.AppliedLemmas.{sum_decides}
 use Rattle.block_entries.proofs.SeenLemmas.{entry_seen, length_octets, partial_seen, seen_grown}
 use Rattle.file_entries.specs.Command as file
-use Rattle.file_entries.proofs.Offered.{both-true, grow-is_allowed}
-use Rattle.file_journal.specs.Layout.{Blocks}
-use Rattle.file_journal.specs.Records.{Record}
-use Rattle.file_journal.specs.Steps.{HasPut}
-use Rattle.file_journal.proofs.Offered.{steps}
 
 -- ---- further octets of a file
 

@@ -1,12 +1,6 @@
 -- What is read of a block is read of its 512 octets.
 use Rattle.std.proofs.Common.{◌≡◌, ℕ, ◌+◌, ◌-◌, ◌≤◌, List, ◌++◌, length, take, drop, replicate, get_or, Option, None, Some, sym, ap, ◌∙◌, arith, length-drop, length-append}
-use Rattle.std.specs.Prelude.{IfSome}
-use Rattle.std.proofs.lemmas.Bool.{false≢true}
-use Rattle.std.proofs.lemmas.List.{get_or_append_left, get_or-drop, get_or-take, length-replicate, length-take, length-take-le, same_lists}
-use Rattle.disk_model.specs.Disk.{FillsRoom, IsTold}
-use Rattle.file_journal.specs.Layout.{Blocks, block_in}
-use Rattle.block_entries.specs.Reading.{block_octets}
-use Rattle.block_entries.specs.Seen.{whole_block}
+use Rattle.block_entries.proofs.Names.{IfSome, false≢true, get_or_append_left, get_or-drop, get_or-take, length-replicate, length-take, length-take-le, same_lists, FillsRoom, IsTold, Blocks, block_in, block_octets, whole_block}
 
 -- the octets with zeros behind them, 512 in all
 abbrev padded : List ℕ → List ℕ

@@ -1,8 +1,6 @@
 -- The placed files as the code has them: beside each one, what came of an upload of it that is out and isn't held yet.
-use Rattle.std.specs.Prelude.{◌≡◌, ◌≢◌, ℕ, ◌≤◌, ◌<◌, ◌==◌, List, [], ◌∷◌, ◌++◌, length, map, find, drop}
+use Rattle.std.specs.Prelude.{◌≡◌, ◌≢◌, ℕ, ◌≤◌, ◌<◌, ◌==◌, List, [], ◌∷◌, ◌++◌, length, map, find}
 use Rattle.std.specs.Prelude.{slice_get, Option, None, Some, Bool, IsSome, IsTrue, nat_lt, if◌then◌else◌}
-use Rattle.std.specs.Prelude.{◌-◌, vec_capacity, vec_len}
-use Rattle.std.specs.declared.vec.Vec.{Vec}
 use Rattle.std.specs.Option.{option_and_then, option_map}
 use Rattle.block_entries.specs.IsPlaced.{IsPlaced}
 use Rattle.block_entries.specs.Placed.{Placed, PlacedStore, Seal, Uses, is_sealed, placed_from, placed_of, runs_of}
@@ -23,21 +21,16 @@ pub record PlacedFiles : Type 0 where
   pub next : ℕ
   pub blocks : ℕ
 
--- the same, and for how many further entries there is memory; and by the records that were read, the least number
--- that a further file may have, and whether none was read yet
+-- the same; and by the records that were read, the least number that a further file may have, and whether none was read
+-- yet
 pub record EntriesState : Type 0 where
   pub files : PlacedFiles
-  pub spare : ℕ
   pub least : ℕ
   pub first : Bool
 
 -- these files, by their parts
 abbrev pub files_from : List PlacedFile → ℕ → ℕ → PlacedFiles
 files_from files next blocks = record { files = files; next = next; blocks = blocks }
-
--- for how many further elements there is memory
-abbrev pub spare_of : {X Z : Type 0} → Vec X Z → ℕ
-spare_of items = vec_capacity items - vec_len items
 
 -- the entries of these files
 abbrev pub entries_of : List PlacedFile → List Placed
@@ -91,13 +84,9 @@ abbrev pub octets_or_none : Option (List ℕ) → List ℕ
 octets_or_none None = []
 octets_or_none (Some octets) = octets
 
--- so many octets wait of the upload of this number that is out
+-- so many octets wait of the upload of this number that is out, and no more
 abbrev pub Waits : PlacedFiles → ℕ → ℕ → Type 0
-Waits files number count = (rest : List ℕ) × (rest_of files number ≡ Some rest) × (count ≤ length rest)
-
--- the octets of this number that wait still once so many are held
-abbrev pub rest_without : PlacedFiles → ℕ → ℕ → Option (List ℕ)
-rest_without files number count = option_map (drop count) (rest_of files number)
+Waits files number count = (rest : List ℕ) × (rest_of files number ≡ Some rest) × (length rest ≡ count)
 
 -- the octets of this number that wait once these came too
 abbrev pub rest_with : PlacedFiles → ℕ → List ℕ → Option (List ℕ)

@@ -1,6 +1,6 @@
 //! What was read from a journal's records, applied to the entries.
 
-ghost use Rattle.std.specs.Prelude.{◌≡◌, ◌==◌, List, ℕ, Option, is_some, IfOk, IfSome, IsErr, IsErrOf, OnErr};
+ghost use Rattle.std.specs.Prelude.{◌≡◌, ◌==◌, List, ℕ, Option, is_some, IfOk, IfSome, IsErr, OnErr};
 ghost use Rattle.block_entries.specs.Applied.{Applied, AppliesRecord, TellsSeal};
 ghost use Rattle.block_entries.specs.Placed.{Placed};
 ghost use Rattle.block_entries.specs.PlacedCommand.{begin, can_grow, drop_entry, grow, is_allowed, is_partial};
@@ -18,18 +18,17 @@ use crate::recorded::Recorded;
 use crate::{BlockReader, CheckFault, CheckedHeader, Entries, PlacedCommand};
 use disk_model::{Disk, DiskFault};
 use file_entries::Info;
-use file_journal::ApplyFault;
-use px_base::{Call, OutOfMemory};
+use px_base::Call;
 
 impl Entries {
     /// Applies what a record says: whether the entries allow it, with what the blocks hold. What they don't allow
-    /// changes nothing, and so does a read that failed. No upload is out. Takes memory.
+    /// changes nothing, and so does a read that failed. No upload is out. Takes no memory.
     pub(crate) fn apply_recorded<D: Disk, R: BlockReader<D>>(
         &mut self,
         reader: &R,
         disk: &mut D,
         recorded: Recorded,
-    ) -> Result<bool, ApplyFault>
+    ) -> Result<bool, DiskFault>
         requires may_read { R.may_read reader.now disk.old }
         requires blocks { R.block_count reader.now ≡ self.old.files.blocks }
         requires out { NothingOut self.old.files }
@@ -37,9 +36,9 @@ impl Entries {
         requires writable { CanRecord (recorded_value recorded) }
         ensures applied { IfOk result
             (λ done. AppliesRecord (D.content disk.old) done self.old self.new (recorded_value recorded)) }
-        ensures untouched { IsErrOf result ApplyFault.Disk → self.new ≡ self.old }
+        ensures untouched { OnErr result (self.new ≡ self.old) }
         ensures out { NothingOut self.new.files }
-        ensures reads { Reads D.Disk (IsErrOf result ApplyFault.Disk) disk.old disk.new }
+        ensures reads { Reads D.Disk (IsErr result) disk.old disk.new }
     {
         let done = match recorded {
             Recorded::Next { number } => self.take_next(number),
@@ -52,22 +51,22 @@ impl Entries {
     }
 
     /// Applies a command that was read from a record: whether its condition holds, with what the blocks hold. One whose
-    /// condition doesn't hold changes nothing, and so does a read that failed. No upload is out. Takes memory.
+    /// condition doesn't hold changes nothing, and so does a read that failed. No upload is out. Takes no memory.
     fn apply_command<D: Disk, R: BlockReader<D>>(
         &mut self,
         reader: &R,
         disk: &mut D,
         command: PlacedCommand,
-    ) -> Result<bool, ApplyFault>
+    ) -> Result<bool, DiskFault>
         requires may_read { R.may_read reader.now disk.old }
         requires blocks { R.block_count reader.now ≡ self.old.files.blocks }
         requires out { NothingOut self.old.files }
         requires rules { IsReadStore (read_of self.old) }
         ensures applied { IfOk result
             (λ done. Applied (D.content disk.old) done self.old self.new (placed_value command)) }
-        ensures untouched { IsErrOf result ApplyFault.Disk → self.new ≡ self.old }
+        ensures untouched { OnErr result (self.new ≡ self.old) }
         ensures out { NothingOut self.new.files }
-        ensures reads { Reads D.Disk (IsErrOf result ApplyFault.Disk) disk.old disk.new }
+        ensures reads { Reads D.Disk (IsErr result) disk.old disk.new }
     {
         match command {
             PlacedCommand::Begin {
@@ -75,7 +74,7 @@ impl Entries {
                 caller,
                 length,
                 moment,
-            } => Ok(self.apply_begin(number, caller, length, moment)?),
+            } => Ok(self.apply_begin(number, caller, length, moment)),
             PlacedCommand::Grow {
                 number,
                 block,
@@ -85,33 +84,26 @@ impl Entries {
                 number,
                 moment,
                 sum,
-            } => Ok(self.apply_seal(reader, disk, number, moment, sum)?),
+            } => self.apply_seal(reader, disk, number, moment, sum),
             PlacedCommand::Drop { number } => Ok(self.apply_drop(number)),
         }
     }
 
-    fn apply_begin(
-        &mut self,
-        number: u32,
-        caller: Call,
-        length: u32,
-        moment: u32,
-    ) -> Result<bool, OutOfMemory>
+    fn apply_begin(&mut self, number: u32, caller: Call, length: u32, moment: u32) -> bool
         requires out { NothingOut self.old.files }
         requires rules { IsReadStore (read_of self.old) }
-        ensures applied { IfOk result (λ done. (content : Option (List ℕ))
-            → Applied content done self.old self.new (begin number caller length moment)) }
+        ensures applied { (content : Option (List ℕ))
+            → Applied content result self.old self.new (begin number caller length moment) }
         ensures out { NothingOut self.new.files }
     {
         if !self.may_have(number) {
-            return Ok(false);
+            return false;
         }
         if self.begin_bar_as(number, length).is_some() {
-            return Ok(false);
+            return false;
         }
-        self.reserve()?;
         self.begin_as(number, caller, length, moment);
-        Ok(true)
+        true
     }
 
     fn apply_grow(&mut self, number: u32, block: u32, used: u16) -> bool
@@ -175,7 +167,7 @@ impl Entries {
         number: u32,
         moment: u32,
         sum: u16,
-    ) -> Result<Option<u32>, DiskFault>
+    ) -> Result<Option<u16>, DiskFault>
         requires may_read { R.may_read reader.now disk.old }
         requires blocks { R.block_count reader.now ≡ self.now.files.blocks }
         ensures may { IfOk result (TellsSeal (D.content disk.old) (store_of self.now.files) number moment sum) }
@@ -231,7 +223,7 @@ impl Entries {
 }
 
 /// The length of a header, where it has this sum.
-fn of_sum(header: CheckedHeader, sum: u16) -> Option<u32>
+fn of_sum(header: CheckedHeader, sum: u16) -> Option<u16>
     ensures sum { is_some result ≡ (sum == header.sum) }
     ensures len { IfSome result (λ len. len ≡ header.len) }
 {

@@ -2,7 +2,7 @@
 
 ghost use Rattle.std.specs.Prelude.{◌≡◌, ◌↔◌, ℕ, ◌≤◌, [], find, slice_get, false, None, Some, IsSome, IsTrue, IfSome};
 ghost use Rattle.std.specs.Prelude.{IfNone};
-ghost use Rattle.std.specs.Prelude.{◌+◌, ◌<◌, length, vec_capacity, IfOk, IsErr, IsErrOf, OnErr, OnOk};
+ghost use Rattle.std.specs.Prelude.{◌+◌, ◌<◌, length, vec_capacity, IfOk, IsErr, IsErrOf, OnOk};
 ghost use Rattle.std.specs.Option.{option_copied, option_map};
 ghost use Rattle.block_entries.specs.Checking.{ChecksFile, HasFault, IsFaultCode};
 ghost use Rattle.block_entries.specs.IsPlaced.{IsPlaced, KeepsSeals};
@@ -13,7 +13,7 @@ ghost use Rattle.block_entries.specs.PlacedFiles.{Becomes, ChangesRest, IsLowest
 ghost use Rattle.block_entries.specs.PlacedFiles.{KeepsReading, read_of, seal_of};
 ghost use Rattle.block_entries.specs.Anew.{IsAt};
 ghost use Rattle.block_entries.specs.PlacedFiles.{NothingOut, Waits, file_of, is_sealed_file, lacks_octets};
-ghost use Rattle.block_entries.specs.PlacedFiles.{octets_or_none, placed_info, rest_of, rest_with, rest_without};
+ghost use Rattle.block_entries.specs.PlacedFiles.{octets_or_none, placed_info, rest_of, rest_with};
 ghost use Rattle.block_entries.specs.PlacedFiles.{store_of};
 ghost use Rattle.block_entries.specs.ReadStore.{IsReadStore, may_have, nothing_read, with_later};
 ghost use Rattle.block_entries.specs.Applied.{TakesNext};
@@ -30,8 +30,8 @@ ghost use Rattle.file_journal.specs.Layout.{Blocks, blocks_on};
 use crate::limits::blocks_of_length;
 use crate::stored_file::{SealMark, StoredFile};
 use crate::{
-    BlockReader, CheckFault, CheckedHeader, FileBlocks, ReadHeaderFault, SealedFile, Stamp,
-    check_file, read_header, read_stamped,
+    BlockReader, CheckFault, CheckedHeader, FileBlocks, SealedFile, Stamp, check_file, read_header,
+    read_stamped,
 };
 use block_table::BlockTable;
 use disk_model::{Disk, DiskFault};
@@ -40,10 +40,10 @@ use px_base::{Call, OutOfMemory};
 use std::alloc::Global;
 use std::marker::Model;
 
-/// The entries of a store, in rising number. Contracts see them as an `EntriesState`.
+/// The entries of a store, in rising number, with the memory of all that there may be. Contracts see them as an
+/// `EntriesState`.
 #[derive(Drop)]
 pub struct Entries {
-    alloc: Global,
     files: Vec<StoredFile>,
     /// The blocks of each file: the run at its place.
     table: BlockTable,
@@ -56,23 +56,25 @@ pub struct Entries {
 }
 
 impl Model for Entries {
-    ghost use Rattle.std.specs.Prelude.{min};
-    ghost use Rattle.block_entries.specs.PlacedFiles.{AreKept, EntriesState, files_from, in_runs, spare_of};
+    ghost use Rattle.std.specs.Prelude.{◌≡◌, ◌≤◌, vec_capacity};
+    ghost use Rattle.block_entries.specs.PlacedFiles.{AreKept, EntriesState, files_from, in_runs};
+    ghost use Rattle.file_entries.specs.Limits.{most_entries};
 
     ghost Value = { EntriesState };
 
     ghost view = { λ a. record {
       files = files_from (in_runs a.table.runs a.files.items) a.next a.table.limit;
-      spare = min (spare_of a.files) a.table.spare;
       least = a.least;
       first = a.first;
     } };
 
-    ghost invariant = { λ a. AreKept a.table.runs a.files.items a.next a.table.limit };
+    ghost invariant = { λ a. AreKept a.table.runs a.files.items a.next a.table.limit
+        × (most_entries ≤ vec_capacity a.files) × (a.table.most ≡ most_entries) };
 }
 
 impl Entries {
-    /// No entries, of so many blocks. Takes memory: 3 octets for each block.
+    /// No entries, of so many blocks. Takes memory, all that the entries ever do: 3 octets for each block, and some 600
+    /// for each of the 1,024 entries that there may be.
     pub fn new(alloc: Global, blocks: u32) -> Result<Entries, OutOfMemory>
         requires some { 1 ≤ blocks }
         requires most { blocks ≤ 65536 }
@@ -80,10 +82,9 @@ impl Entries {
         ensures out { IfOk result (λ entries. NothingOut entries.files) }
         ensures read { IfOk result (λ entries. read_of entries ≡ nothing_read blocks) }
     {
-        let table = BlockTable::new(alloc, blocks)?;
+        let table = BlockTable::new(alloc, blocks, MOST_ENTRIES)?;
         Ok(Entries {
-            alloc,
-            files: Vec::new(alloc),
+            files: Vec::with_capacity(alloc, MOST_ENTRIES)?,
             table,
             next: 1,
             least: 1,
@@ -134,46 +135,28 @@ impl Entries {
         None
     }
 
-    /// Makes room in memory for one more entry; the entries stay as they are, and so does what room there was. Takes
-    /// memory.
-    pub fn reserve(&mut self) -> Result<(), OutOfMemory>
-        ensures files { self.new.files ≡ self.old.files }
-        ensures ok { OnOk result (1 ≤ self.new.spare) }
-        ensures spare { self.old.spare ≤ self.new.spare }
-        ensures reading { KeepsReading self.old self.new }
-    {
-        self.files.reserve(1)?;
-        self.table.reserve(1)?;
-        Ok(())
-    }
-
-    /// Begins a file, of which no upload is out. There is room for it in memory. Takes no memory.
+    /// Begins a file, of which no upload is out. Takes no memory.
     pub fn begin(&mut self, caller: Call, length: u32, moment: u32)
-        requires may { (held : Blocks) × MayBegin (seen held (store_of self.old.files)) length }
-        requires room { 1 ≤ self.old.spare }
-        ensures becomes { let number = self.old.files.next in
+        requires { (held : Blocks) × MayBegin (seen held (store_of self.old.files)) length }
+        ensures { let number = self.old.files.next in
             Becomes self.old.files self.new.files
             (with_new (store_of self.old.files) (new_placed number caller length moment)) number None }
-        ensures spare { self.old.spare ≤ self.new.spare + 1 }
     {
         self.begin_as(self.next, caller, length, moment);
     }
 
-    /// Begins a file of this number, which no entry has reached, and of which no upload is out. There is room for it in
-    /// memory.
+    /// Begins a file of this number, which no entry has reached, and of which no upload is out.
     pub(crate) fn begin_as(&mut self, number: u32, caller: Call, length: u32, moment: u32)
         requires rules { IsPlaced (with_next number (store_of self.old.files)) }
         requires may { (held : Blocks) × MayBegin (seen held (with_next number (store_of self.old.files))) length }
-        requires room { 1 ≤ self.old.spare }
         ensures becomes { Becomes self.old.files self.new.files
             (with_later (store_of self.old.files) (new_placed number caller length moment)) number None }
-        ensures spare { self.old.spare ≤ self.new.spare + 1 }
         ensures least { self.new.least ≡ number + 1 }
         ensures first { self.new.first ≡ self.old.first }
     {
-        let file = StoredFile::new(self.alloc, number, caller, length, moment);
+        let file = StoredFile::new(number, caller, length, moment);
         self.table.begin(blocks_of_length(length));
-        self.files.push(file).unwrap();
+        self.files.push_reserved(file);
         self.least = number + 1;
         self.next = self.next.max(self.least);
     }
@@ -215,28 +198,25 @@ impl Entries {
         self.files[place].take_out();
     }
 
-    /// The upload of this entry that is out, if there is one, is given up; the octets that wait are lost, and their
-    /// memory is given back. Takes no memory.
+    /// The upload of this entry that is out, if there is one, is given up; the octets that wait are lost. Takes no
+    /// memory.
     pub fn park(&mut self, number: u32)
         ensures { ChangesRest self.old.files self.new.files number None }
     {
         if let Some(place) = self.place_of(number) {
-            self.files[place].park(self.alloc);
+            self.files[place].park();
         }
     }
 
-    /// Octets come of the upload of this entry that is out, behind those that wait; or nothing changes where there is
-    /// no memory. Takes memory. The work is that of the octets that come, and of finding the entry; and that of those
-    /// that wait, where others became held since the last ones came.
-    pub fn bring(&mut self, number: u32, bytes: &[u8]) -> Result<(), OutOfMemory>
-        requires { IsOut self.old.files number }
-        ensures ok { OnOk result
-            (ChangesRest self.old.files self.new.files number (rest_with self.old.files number bytes.now)) }
-        ensures err { OnErr result (self.new ≡ self.old) }
+    /// Octets come of the upload of this entry that is out, behind those that wait: with these at most 512. Takes no
+    /// memory. The work is that of the octets that come, and of finding the entry.
+    pub fn bring(&mut self, number: u32, bytes: &[u8])
+        requires out { IsOut self.old.files number }
+        requires room { length (octets_or_none (rest_of self.old.files number)) + length bytes.now ≤ 512 }
+        ensures { ChangesRest self.old.files self.new.files number (rest_with self.old.files number bytes.now) }
     {
         let place = self.place_of(number).unwrap();
-        self.files[place].bring(bytes)?;
-        Ok(())
+        self.files[place].bring(bytes);
     }
 
     /// Whether there is this block, and no file has it. Takes no memory.
@@ -256,16 +236,15 @@ impl Entries {
         self.table.lowest_free()
     }
 
-    /// The first octets that wait become held, in the lowest block that no file has: a Grow, whose condition holds.
-    /// Takes no memory. The work is that of finding the entry, however many octets wait.
+    /// The octets that wait, all of them, become held, in the lowest block that no file has: a Grow, whose condition
+    /// holds. Takes no memory. The work is that of finding the entry, however many octets wait.
     pub fn hold(&mut self, number: u32, block: u32, count: usize)
         requires waits { Waits self.old.files number count }
         requires allowed { Grows (store_of self.old.files) number block count }
         requires lowest { IsLowest (store_of self.old.files) block }
-        ensures becomes { Becomes self.old.files self.new.files
+        ensures { Becomes self.old.files self.new.files
             (with_grown (store_of self.old.files) number block count)
-            number (rest_without self.old.files number count) }
-        ensures spare { self.old.spare ≤ self.new.spare }
+            number (Some []) }
     {
         let place = self.place_of(number).unwrap();
         self.files[place].hold(count);
@@ -288,7 +267,7 @@ impl Entries {
 
     /// Seals a file that is under way and whole, and of which no upload is out, whatever its blocks hold: at this
     /// moment, with the sum and the length of its header, which a check of it found. Takes no memory.
-    pub fn seal(&mut self, number: u32, moment: u32, sum: u16, header_len: u32)
+    pub fn seal(&mut self, number: u32, moment: u32, sum: u16, header_len: u16)
         requires takes { TakesSeal (store_of self.old.files) number header_len }
         requires in_ { rest_of self.old.files number ≡ None }
         ensures becomes { Becomes self.old.files self.new.files
@@ -366,31 +345,30 @@ impl Entries {
         read_stamped(reader, disk, &self.table, &file, offset, room)
     }
 
-    /// Puts the header of a sealed file, with its stamp, into `header`, in the place of what stands there. It reads the
-    /// header's octets once, with one read for each block. Takes memory only where `header` has no room for it.
+    /// Puts the header of a sealed file, with its stamp, into `header`, in the place of what stands there; it has room
+    /// for the longest one. It reads the header's octets once, with one read for each block. Takes no memory.
     ///
-    /// `OutOfMemory`: nothing was read. After an error `header` holds any octets, or none.
+    /// After an error `header` holds any octets, or none.
     pub fn read_header<D: Disk, R: BlockReader<D>>(
         &self,
         reader: &R,
         disk: &mut D,
         number: u32,
         header: &mut Vec<u8>,
-    ) -> Result<(), ReadHeaderFault>
+    ) -> Result<(), DiskFault>
         requires may_read { R.may_read reader.now disk.old }
         requires blocks { R.block_count reader.now ≡ self.now.files.blocks }
         requires there { Sealed (store_of self.now.files) number }
         requires seals { IsTold (D.content disk.old)
             → KeepsSeals (blocks_on (D.content disk.old)) (store_of self.now.files) }
+        requires room { 65535 ≤ vec_capacity header.old }
         ensures may_read { R.may_read reader.now disk.new }
         ensures header { OnOk result (IsTold (D.content disk.old)
             → (sealed : Sealed (store_of self.now.files) number)
             → IsSealedHeader (octets_given (blocks_on (D.content disk.old)) sealed) header.new.items) }
-        ensures memory { IsErrOf result ReadHeaderFault.OutOfMemory
-            → (sealed : Sealed (store_of self.now.files) number)
-            → vec_capacity header.old < sealed.mark.header }
+        ensures short { length header.new.items ≤ 65535 }
         ensures capacity { vec_capacity header.old ≤ vec_capacity header.new }
-        ensures reads { Reads D.Disk (IsErrOf result ReadHeaderFault.Disk) disk.old disk.new }
+        ensures reads { Reads D.Disk (IsErr result) disk.old disk.new }
     {
         let file = self.sealed_file(number);
         read_header(reader, disk, &self.table, &file, header)
@@ -401,7 +379,6 @@ impl Entries {
         requires { Passes (store_of self.old.files) number is_partial }
         ensures becomes { Becomes self.old.files self.new.files
             (without_file (store_of self.old.files) number) number None }
-        ensures spare { self.old.spare ≤ self.new.spare }
         ensures reading { KeepsReading self.old self.new }
     {
         let place = self.place_of(number).unwrap();
@@ -419,9 +396,10 @@ impl Entries {
         }
     }
 
-    /// The octets that wait of the upload of this number; none where none is out. Takes no memory.
+    /// The octets that wait of the upload of this number, at most 512; none where none is out. Takes no memory.
     pub fn waiting(&self, number: u32) -> &[u8]
-        ensures { result.now ≡ octets_or_none (rest_of self.now.files number) }
+        ensures octets { result.now ≡ octets_or_none (rest_of self.now.files number) }
+        ensures most { length result.now ≤ 512 }
     {
         match self.place_of(number) {
             Some(place) => self.files[place].rest(),

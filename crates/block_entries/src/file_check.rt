@@ -15,8 +15,8 @@ use px_base::Call;
 pub struct CheckedHeader {
     /// The sum that it has with the stamp.
     pub sum: u16,
-    /// Its length in octets.
-    pub len: u32,
+    /// Its length in octets, which stands in two octets of it (PFH 1990, body_offset).
+    pub len: u16,
 }
 
 /// The check of a file that comes in pieces of any lengths, and the sum that its header has with a stamp. It keeps what
@@ -60,12 +60,13 @@ impl FileCheck {
     /// The answer for all octets that were taken: the sum and the length of the header of a file that keeps all rules
     /// of headers, or the first rule that it breaks. Takes no memory.
     pub(crate) fn end(&self) -> Result<CheckedHeader, HeaderFault>
+        requires { (stamp : StampValue) × (fed : List ℕ) × HasChecked stamp self.now fed }
         ensures { (stamp : StampValue) (fed : List ℕ) → HasChecked stamp self.now fed → AnswersCheck stamp fed result }
     {
         match self.checker.end() {
             Ok(sums) => Ok(CheckedHeader {
                 sum: self.sum.wrapping_sub(sums.body_sum),
-                len: sums.header_len,
+                len: sums.header_len as u16,
             }),
             Err(fault) => Err(fault),
         }

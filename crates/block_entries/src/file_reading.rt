@@ -69,7 +69,7 @@ pub fn read_stamped<D: Disk, R: BlockReader<D>>(
         → FillsRoom (sealed_octets (D.content disk.old) table.now file.now) offset (length room.old) room.new) }
     ensures reads { Reads D.Disk (IsErr result) disk.old disk.new }
 {
-    if offset < file.header_len {
+    if offset < u32::from(file.header_len) {
         read_through_header(reader, disk, table, file, offset, room)
     } else {
         read_behind_header(reader, disk, table, file, offset, room)

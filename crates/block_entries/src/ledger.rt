@@ -61,7 +61,7 @@ impl Ledger for Entries {
         let Some(recorded) = Recorded::read(kind, content) else {
             return Ok(false);
         };
-        self.apply_recorded(journal, disk, recorded)
+        Ok(self.apply_recorded(journal, disk, recorded)?)
     }
 
     fn next_record(&self, place: &mut RecordPlace, content: &mut RecordContent) -> Option<u8> {

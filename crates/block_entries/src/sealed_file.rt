@@ -13,5 +13,5 @@ pub struct SealedFile {
     /// The sum of its header with the stamp.
     pub sum: u16,
     /// The length of its header in octets.
-    pub header_len: u32,
+    pub header_len: u16,
 }

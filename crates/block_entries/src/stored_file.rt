@@ -1,17 +1,14 @@
 //! A file of the store, without the blocks that its octets stand in.
 
-ghost use Rattle.std.specs.Prelude.{◌≡◌, ◌+◌, ◌≤◌, ◌^◌, ◌<◌, length, drop, [], Some, None, is_some, OnOk, OnErr};
-ghost use Rattle.std.specs.Option.{option_map};
+ghost use Rattle.std.specs.Prelude.{◌≡◌, ◌+◌, ◌≤◌, ◌^◌, ◌<◌, length, [], Some, None, is_some, IsSome};
 ghost use Rattle.block_entries.specs.Placed.{is_sealed, new_placed};
 ghost use Rattle.block_entries.specs.PlacedCommand.{seal_with, sealed};
 ghost use Rattle.block_entries.specs.PlacedFiles.{brought, octets_or_none, placed_info, seal_of};
 ghost use Rattle.block_entries.specs.Sealed.{sealed_file};
 
-use crate::waiting_octets::WaitingOctets;
 use crate::{FileBlocks, SealedFile, Stamp};
 use file_entries::Info;
-use px_base::{Call, OutOfMemory};
-use std::alloc::Global;
+use px_base::{Call, OctetBuffer};
 use std::marker::Model;
 
 /// When a file was sealed, and what its seal says of its header.
@@ -22,7 +19,7 @@ pub(crate) struct SealMark {
     /// The sum of the header with the stamp.
     pub(crate) sum: u16,
     /// The length of the header in octets.
-    pub(crate) header_len: u32,
+    pub(crate) header_len: u16,
 }
 
 /// A file, without its blocks. Contracts see it as a `PlacedFile` without blocks.
@@ -34,8 +31,8 @@ pub(crate) struct StoredFile {
     begun: u32,
     /// How many octets are held.
     held: u32,
-    /// The octets that came of an upload that is out and aren't held yet.
-    waiting: WaitingOctets,
+    /// The octets that came of an upload that is out and aren't held yet: at most those of one block.
+    waiting: OctetBuffer<512>,
     /// Whether an upload of the file is out.
     out: bool,
     /// The file's seal.
@@ -64,13 +61,7 @@ impl Model for StoredFile {
 
 impl StoredFile {
     /// A file of which no octet is held, and no upload is out. Takes no memory.
-    pub(crate) fn new(
-        alloc: Global,
-        number: u32,
-        caller: Call,
-        file_length: u32,
-        moment: u32,
-    ) -> StoredFile
+    pub(crate) fn new(number: u32, caller: Call, file_length: u32, moment: u32) -> StoredFile
         ensures { result ≡ record { entry = new_placed number caller file_length moment; rest = None } }
     {
         StoredFile {
@@ -79,7 +70,7 @@ impl StoredFile {
             length: file_length,
             begun: moment,
             held: 0,
-            waiting: WaitingOctets::new(alloc),
+            waiting: OctetBuffer::new(),
             out: false,
             mark: None,
         }
@@ -134,7 +125,8 @@ impl StoredFile {
 
     /// The octets that came of the upload that is out and aren't held yet; none where none is out.
     pub(crate) fn rest(&self) -> &[u8]
-        ensures { result.now ≡ octets_or_none self.now.rest }
+        ensures octets { result.now ≡ octets_or_none self.now.rest }
+        ensures most { length result.now ≤ 512 }
     {
         if self.out {
             self.waiting.as_slice()
@@ -165,35 +157,34 @@ impl StoredFile {
         self.out = true;
     }
 
-    /// The upload that is out is given up, if there is one; the octets that aren't held yet are lost, and their memory
-    /// is given back.
-    pub(crate) fn park(&mut self, alloc: Global)
+    /// The upload that is out is given up, if there is one; the octets that aren't held yet are lost.
+    pub(crate) fn park(&mut self)
         ensures { self.new ≡ record self.old { rest = None } }
     {
-        self.waiting = WaitingOctets::new(alloc);
+        self.waiting.clear();
         self.out = false;
     }
 
-    /// Octets come of the upload that is out, behind those that wait; or nothing changes where there is no memory.
-    /// Takes memory.
-    pub(crate) fn bring(&mut self, bytes: &[u8]) -> Result<(), OutOfMemory>
-        ensures ok { OnOk result (self.new ≡ brought self.old bytes.now) }
-        ensures err { OnErr result (self.new ≡ self.old) }
+    /// Octets come of the upload that is out, behind those that wait.
+    pub(crate) fn bring(&mut self, bytes: &[u8])
+        requires out { IsSome self.old.rest }
+        requires room { length (octets_or_none self.old.rest) + length bytes.now ≤ 512 }
+        ensures { self.new ≡ brought self.old bytes.now }
     {
-        self.waiting.push(bytes)?;
-        Ok(())
+        self.waiting.put(bytes);
     }
 
-    /// The first octets that wait become held.
+    /// The octets that wait of the upload that is out, so many, become held.
     pub(crate) fn hold(&mut self, count: usize)
-        requires there { count ≤ length (octets_or_none self.old.rest) }
+        requires out { IsSome self.old.rest }
+        requires all { length (octets_or_none self.old.rest) ≡ count }
         requires fits { self.old.entry.held + count < 2 ^ 32 }
         ensures { self.new ≡ record self.old {
           entry = record self.old.entry { held = self.old.entry.held + count };
-          rest = option_map (drop count) self.old.rest;
+          rest = Some [];
         } }
     {
-        self.waiting.pass(count);
+        self.waiting.clear();
         self.held += count as u32;
     }
 
@@ -207,7 +198,7 @@ impl StoredFile {
     }
 
     /// The file is kept with this seal.
-    pub(crate) fn seal(&mut self, moment: u32, sum: u16, header_len: u32)
+    pub(crate) fn seal(&mut self, moment: u32, sum: u16, header_len: u16)
         ensures { self.new ≡ record self.old { entry = sealed (seal_with moment sum header_len) self.old.entry } }
     {
         self.mark = Some(SealMark {

@@ -1,17 +1,10 @@
 -- A block that isn't taken: there is one, and it is found.
 use Rattle.std.proofs.Common.{◌≡◌, ℕ, suc, ◌+◌, ◌<◌, ◌≤◌, ◌==◌, true, false, List, [], ◌∷◌, length, take}
 use Rattle.std.proofs.Common.{get_or, inl, inr, refl, arith}
-use Rattle.std.specs.List.{All, list_any, remove}
-use Rattle.std.specs.Prelude.{IfNone, IsSome, None, Option, Some, flat_map, sum_by}
-use Rattle.std.proofs.lemmas.Bool.Decides.{eqb_tells, leb_tells}
 use Rattle.std.proofs.lemmas.List.Concat.{get_or-flat_map, length-flat_map}
-use Rattle.std.proofs.lemmas.List.Elements.{All-tail}
 use Rattle.std.proofs.lemmas.List.Folds.{length-flat_map-take, list_any_at}
-use Rattle.std.proofs.lemmas.List.Sums.{sum_by-cons, sum_by-remove}
 use Rattle.std.proofs.lemmas.Map.Steps.{le-length_from_below}
-use Rattle.block_table.specs.Kept.{AllMarked, IsFirstFree, IsKept, Parts, runs_of}
-use Rattle.block_table.specs.Table.{HasRoom, IsLowestFree, IsRun, IsTable, IsTaken, Run, Table, new_run, rooms_of}
-use Rattle.block_table.specs.Table.{times_of}
+use Rattle.block_table.proofs.Names.{All, list_any, remove, IfNone, IsSome, None, Option, Some, flat_map, sum_by, eqb_tells, leb_tells, All-tail, sum_by-cons, sum_by-remove, AllMarked, IsFirstFree, IsKept, Parts, runs_of, HasRoom, IsLowestFree, IsRun, IsTable, IsTaken, Run, Table, new_run, rooms_of, times_of}
 use Rattle.block_table.proofs.PlaceLemmas.{taken-stands}
 use Rattle.block_table.proofs.RunLemmas.{All-remove}
 
@@ -49,7 +42,7 @@ some-free table k rules room all =
     omega (arith, many, length-flat_map blocks table.runs, rules.rooms, room.room, rest, sums, rooms)
 
 abbrev pub table_of : Parts → ℕ → Table
-table_of parts spare = record { runs = runs_of parts; limit = parts.limit; spare = spare }
+table_of parts most = record { runs = runs_of parts; limit = parts.limit; most = most }
 
 -- each block is taken whose mark is set, and each one below `lowest`
 all-taken : {p : Parts} → IsKept p → (n : ℕ)
@@ -61,17 +54,17 @@ all-taken {p = p} kept n all b h =
     ]
 
 -- it finds one
-pub finds-some : {p : Parts} → IsKept p → (spare k : ℕ) → HasRoom (table_of p spare) k → (found : Option ℕ)
+pub finds-some : {p : Parts} → IsKept p → (most k : ℕ) → HasRoom (table_of p most) k → (found : Option ℕ)
     → IfNone found (AllMarked p.taken p.lowest) → IsSome found
-finds-some {p = p} kept spare k room (Some first) none = refl
-finds-some {p = p} kept spare k room None none =
-    absurd (some-free (table_of p spare) k kept.shown.rules room
+finds-some {p = p} kept most k room (Some first) none = refl
+finds-some {p = p} kept most k room None none =
+    absurd (some-free (table_of p most) k kept.shown.rules room
     (all-taken kept p.limit (λ b low h. none b low (omega (arith, h, kept.taken_length)))))
 
 -- and the lowest
-pub finds-lowest : {p : Parts} → IsKept p → (spare first : ℕ) → IsFirstFree p.taken p.lowest first
-    → IsLowestFree (table_of p spare) first
-finds-lowest {p = p} kept spare first found = record {
+pub finds-lowest : {p : Parts} → IsKept p → (most first : ℕ) → IsFirstFree p.taken p.lowest first
+    → IsLowestFree (table_of p most) first
+finds-lowest {p = p} kept most first found = record {
   here = record {
     below = omega (arith, found.there, kept.taken_length);
     free = grind (arith, eqb_tells (times_of first (runs_of p)) 0, (kept.shown.marked first).1, found.free);

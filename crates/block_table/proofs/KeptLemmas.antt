@@ -1,16 +1,7 @@
 -- How the code keeps a table at each step.
 use Rattle.std.proofs.Common.{◌≡◌, ◌∙◌, ℕ, suc, ◌+◌, ◌-◌, ◌<◌, ◌≤◌, ◌==◌, Bool, true, List, [], ◌∷◌, ◌++◌, length, map, take}
 use Rattle.std.proofs.Common.{drop, get_or, refl, ap, sym, subst, arith}
-use Rattle.std.proofs.Math.ListN.{set}
-use Rattle.std.specs.Int.{from_bool}
-use Rattle.std.specs.List.{All, copy_within, remove}
-use Rattle.std.proofs.lemmas.List.{drop-take, drop_at, get_or-map, length-drop, length-map, length-set, length-take-le, map-append}
-use Rattle.std.proofs.lemmas.List.{drop-set-add, drop-set-lt, set_split, take-set-le, take-take, take_at, take_more_set}
-use Rattle.std.proofs.lemmas.List.Edits.{take-paste}
-use Rattle.std.proofs.lemmas.List.Elements.{All-cons}
-use Rattle.block_table.specs.Kept.{AreFreed, AreInLine, AreShown, IsKept, Parts, earlier, run_in, runs_in, runs_of}
-use Rattle.block_table.specs.Table.{HasRoom, IsFree, IsRun, Run, Table, new_run, rooms_of, with_block}
-use Rattle.block_table.specs.declared.marks.RunMark.{RunMark}
+use Rattle.block_table.proofs.Names.{set, from_bool, All, copy_within, remove, drop-take, drop_at, get_or-map, length-drop, length-map, length-set, length-take-le, map-append, drop-set-add, drop-set-lt, set_split, take-set-le, take-take, take_at, take_more_set, take-paste, All-cons, AreFreed, AreInLine, AreShown, IsKept, Parts, earlier, run_in, runs_in, runs_of, HasRoom, IsFree, IsRun, Run, Table, new_run, rooms_of, with_block, RunMark}
 use Rattle.block_table.proofs.FreeLemmas.{table_of}
 use Rattle.block_table.proofs.LineLemmas.{At, changed, earlier-none, line-at, line-join, line-rooms}
 use Rattle.block_table.proofs.RunLemmas.{shown-beginning, shown-taking, shown-without}
@@ -55,15 +46,15 @@ mark-at {p = p} kept k mark run is =
     }
 
 -- that of a run that has room
-pub room-at : {p : Parts} → IsKept p → (spare k : ℕ) (mark : RunMark) → HasRoom (table_of p spare) k
+pub room-at : {p : Parts} → IsKept p → (most k : ℕ) (mark : RunMark) → HasRoom (table_of p most) k
     → mark ≡ get_or p.marks k mark → IsMark p.marks p.numbers p.rooms p.limit k mark × (mark.count < mark.room)
-room-at {p = p} kept spare k mark room is =
+room-at {p = p} kept most k mark room is =
     let at = mark-at kept k mark room.there is in
     (at, omega (arith, room.room, at.count, ap (λ (r : Run). length r.blocks) at.is, ap (λ (r : Run). r.room) at.is))
 
-pub same-table : (one other : Table) → one.runs ≡ other.runs → one.limit ≡ other.limit → one.spare ≡ other.spare
+pub same-table : (one other : Table) → one.runs ≡ other.runs → one.limit ≡ other.limit → one.most ≡ other.most
     → one ≡ other
-same-table one other runs limit spare = λ i. record { runs = runs i; limit = limit i; spare = spare i }
+same-table one other runs limit most = λ i. record { runs = runs i; limit = limit i; most = most i }
 
 -- a run without blocks comes behind the others
 pub kept-beginning : {p : Parts} → IsKept p → (room : ℕ) → room ≤ p.limit - rooms_of (runs_of p)
@@ -116,8 +107,8 @@ line-taking {marks = marks} {numbers = numbers} {rooms = rooms} {k = k} {mark = 
           ∙ sym (set_split (runs_in numbers marks) k (with_block (get_or (runs_in numbers marks) k (new_run 0)) block) at.run),
     )
 
-pub kept-taking : {p : Parts} → IsKept p → (spare k : ℕ) (mark : RunMark) (block more : ℕ)
-    → HasRoom (table_of p spare) k → mark ≡ get_or p.marks k mark → IsFree (table_of p spare) block
+pub kept-taking : {p : Parts} → IsKept p → (most k : ℕ) (mark : RunMark) (block more : ℕ)
+    → HasRoom (table_of p most) k → mark ≡ get_or p.marks k mark → IsFree (table_of p most) block
     → more ≡ from_bool (block == p.lowest)
     → IsKept (record p {
       marks = set p.marks k (counting mark);
@@ -125,15 +116,15 @@ pub kept-taking : {p : Parts} → IsKept p → (spare k : ℕ) (mark : RunMark) 
       taken = set p.taken block true;
       lowest = p.lowest + more;
     })
-kept-taking {p = p} kept spare k mark block more room is free passed =
-    let at = room-at kept spare k mark room is in
+kept-taking {p = p} kept most k mark block more room is free passed =
+    let at = room-at kept most k mark room is in
     let both = line-taking at.0 at.1 block in
     record {
       line = both.0;
       numbers_length = length-set p.numbers (mark.first + mark.count) block ∙ kept.numbers_length;
       taken_length = length-set p.taken block true ∙ kept.taken_length;
       shown = subst (λ (rs : List Run). AreShown rs p.limit (set p.taken block true) (p.lowest + more)) (sym both.1)
-          (shown-taking (table_of p spare) p.taken p.lowest k block more kept.shown room free kept.taken_length passed);
+          (shown-taking (table_of p most) p.taken p.lowest k block more kept.shown room free kept.taken_length passed);
     }
 
 -- the marks without this one, those behind it by its places earlier

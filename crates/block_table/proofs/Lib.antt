@@ -1,5 +1,6 @@
 mod FreeLemmas
 mod KeptLemmas
 mod LineLemmas
+mod Names
 mod PlaceLemmas
 mod RunLemmas

@@ -1,11 +1,7 @@
 -- Marks in line, and the runs that they stand for, as numbers and marks change.
 use Rattle.std.proofs.Common.{◌≡◌, ◌∙◌, ℕ, zero, suc, ◌+◌, ◌-◌, ◌<◌, ◌≤◌, List, [], ◌∷◌, ◌++◌, length, map, take, drop}
 use Rattle.std.proofs.Common.{get_or, refl, ap, sym, subst, arith}
-use Rattle.std.proofs.lemmas.List.{drop-drop, drop-map, drop-take, map-append, take-map, take-take}
-use Rattle.std.proofs.lemmas.List.Sums.{sum_by-cons}
-use Rattle.block_table.specs.Kept.{AreInLine, earlier, run_in, runs_in}
-use Rattle.block_table.specs.Table.{Run, rooms_of}
-use Rattle.block_table.specs.declared.marks.RunMark.{RunMark}
+use Rattle.block_table.proofs.Names.{drop-drop, drop-map, drop-take, map-append, take-map, take-take, sum_by-cons, AreInLine, earlier, run_in, runs_in, Run, rooms_of, RunMark}
 
 -- runs in line have so many places together as from the first to the end
 pub line-rooms : (numbers : List ℕ) (from : ℕ) (marks : List RunMark) (end : ℕ) → AreInLine from marks end

@@ -1,12 +1,8 @@
 -- Where a block stands: a block that is taken stands at one place of one run.
 use Rattle.std.proofs.Common.{◌≡◌, ℕ, suc, ◌+◌, ◌<◌, ◌≤◌, ◌==◌, cond, List, [], ◌∷◌, length, take}
 use Rattle.std.proofs.Common.{get_or, inl, inr, ap, sym, subst, arith}
-use Rattle.std.specs.Prelude.{sum_by}
-use Rattle.std.proofs.lemmas.Bool.Decides.{eqb_tells}
-use Rattle.std.proofs.lemmas.List.{get_or-take, length-take-le}
-use Rattle.std.proofs.lemmas.List.Sums.{get_or-le-sum_by, sum_by-cons, sum_by_more_le}
 use Rattle.block_table.specs.Laws.{Stands, StandsAt}
-use Rattle.block_table.specs.Table.{IsTable, IsTaken, Table, new_run, run_at, times_in}
+use Rattle.block_table.proofs.Names.{sum_by, eqb_tells, get_or-take, length-take-le, get_or-le-sum_by, sum_by-cons, sum_by_more_le, IsTable, IsTaken, Table, new_run, run_at, times_in}
 
 -- a sum that isn't 0 has a term that isn't
 pub some-at : {X : Type 0} (f : X → ℕ) (xs : List X) (d : X) → 1 ≤ sum_by f xs

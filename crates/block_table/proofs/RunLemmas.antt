@@ -1,17 +1,7 @@
 -- What the steps of a table make of its runs: they keep its rules, and the marks of blocks go with them.
 use Rattle.std.proofs.Common.{◌≡◌, ℕ, suc, ◌+◌, ◌<◌, ◌≤◌, ◌==◌, Bool, true, cond, List, [], ◌∷◌, ◌++◌, length, take, drop}
-use Rattle.std.proofs.Common.{◌-◌, get_or, inl, inr, refl, arith}
-use Rattle.std.proofs.Math.ListN.{set}
-use Rattle.std.specs.Int.{from_bool}
-use Rattle.std.specs.List.{All, remove}
-use Rattle.std.proofs.lemmas.Bool.Decides.{eqb_tells}
-use Rattle.std.proofs.lemmas.Grind.{common_steps}
-use Rattle.std.proofs.lemmas.List.Elements.{All-append, All-drop, All-push, All-set, All-take}
-use Rattle.std.proofs.lemmas.List.Sums.{sum_by-remove, sum_by-set, sum_by_push}
-use Rattle.std.proofs.lemmas.List.{length_push}
-use Rattle.block_table.specs.Kept.{AreFreed, AreShown}
-use Rattle.block_table.specs.Table.{AreRuns, Begins, HasRoom, IsFree, IsRun, IsTable, Run, Table, after_taking}
-use Rattle.block_table.specs.Table.{left_in, new_run, new_table, rooms_of, run_at, times_in, times_of, with_block, without}
+use Rattle.std.proofs.Common.{◌-◌, get_or, inl, inr, arith}
+use Rattle.block_table.proofs.Names.{set, from_bool, All, remove, eqb_tells, common_steps, All-append, All-drop, All-push, All-set, All-take, sum_by-remove, sum_by-set, sum_by_push, length_push, AreFreed, AreShown, AreRuns, HasRoom, IsFree, IsRun, IsTable, Run, Table, after_beginning, after_taking, left_in, new_run, new_table, rooms_of, run_at, times_in, times_of, with_block, without}
 use Rattle.block_table.proofs.PlaceLemmas.{some-at}
 
 pub All-remove : {X : Type 0} (P : X → Type 0) (xs : List X) (k : ℕ) → All P xs → All P (remove xs k)
@@ -35,18 +25,18 @@ still-runs rules each rooms once =
     record { each = each; rooms = rooms; once = once; some = rules.some; most = rules.most }
 
 -- the rules, at first and after each step
-pub runs-none : (limit : ℕ) → 1 ≤ limit → limit ≤ 65536 → IsTable (new_table limit)
-runs-none limit some most =
+pub runs-none : (limit runs : ℕ) → 1 ≤ limit → limit ≤ 65536 → IsTable (new_table limit runs)
+runs-none limit runs some most =
     record { each = λ i d h. omega (arith, h); rooms = omega arith; once = λ b. omega arith; some = some; most = most }
 
-pub runs-beginning : (before now : Table) (room : ℕ) → IsTable before → room ≤ left_in before
-    → Begins before room now → IsTable now
-runs-beginning before now room rules fits begins =
+pub runs-beginning : (table : Table) (room : ℕ) → IsTable table → room ≤ left_in table
+    → IsTable (after_beginning table room)
+runs-beginning table room rules fits =
     let run = new_run room in
-    let new : IsRun before.limit run = record { fits = omega arith; below = λ i d h. omega (arith, h) } in
-    rw (begins.runs, begins.limit) (still-runs rules (All-push (IsRun before.limit) before.runs run rules.each new)
-    (omega (arith, sum_by_push (λ (r : Run). r.room) before.runs run, rules.rooms, fits))
-    (λ b. omega (arith, sum_by_push (times_in b) before.runs run, rules.once b)))
+    let new : IsRun table.limit run = record { fits = omega arith; below = λ i d h. omega (arith, h) } in
+    still-runs rules (All-push (IsRun table.limit) table.runs run rules.each new)
+    (omega (arith, sum_by_push (λ (r : Run). r.room) table.runs run, rules.rooms, fits))
+    (λ b. omega (arith, sum_by_push (times_in b) table.runs run, rules.once b))
 
 pub runs-taking : (table : Table) (run block : ℕ) → IsTable table → HasRoom table run → IsFree table block
     → IsTable (after_taking table run block)
@@ -72,11 +62,10 @@ pub shown-beginning : (runs : List Run) (limit room : ℕ) (taken : List Bool) (
     → AreShown runs limit taken lowest → room ≤ limit - rooms_of runs
     → AreShown (runs ++ new_run room ∷ []) limit taken lowest
 shown-beginning runs limit room taken lowest shown fits =
-    let before : Table = record { runs = runs; limit = limit; spare = 0 } in
-    let now : Table = record { runs = runs ++ new_run room ∷ []; limit = limit; spare = 0 } in
+    let before : Table = record { runs = runs; limit = limit; most = 0 } in
     let times = λ (b : ℕ). sum_by_push (times_in b) runs (new_run room) in
     record {
-      rules = runs-beginning before now room shown.rules fits (record { runs = refl; limit = refl; spare = omega arith });
+      rules = runs-beginning before room shown.rules fits;
       marked = λ b. grind (arith, times b, shown.marked b);
       lower = λ b h. omega (arith, times b, shown.lower b h);
     }

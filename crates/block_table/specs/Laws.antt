@@ -1,7 +1,7 @@
 -- Laws of every table.
 use Rattle.std.specs.Prelude.{◌≡◌, ◌↔◌, ℕ, ◌≤◌, ◌<◌, length, slice_index}
-use Rattle.block_table.specs.Table.{Begins, HasRoom, IsFree, IsTable, IsTaken, Table, after_taking, left_in, new_table}
-use Rattle.block_table.specs.Table.{run_at, without}
+use Rattle.block_table.specs.Table.{HasRoom, IsFree, IsTable, IsTaken, Table, after_beginning, after_taking, left_in}
+use Rattle.block_table.specs.Table.{new_table, run_at, without}
 
 -- the block at this place of this run, where both are there
 pub record StandsAt (table : Table) (run at block : ℕ) : Type 0 where
@@ -23,9 +23,8 @@ PlacesLaw =
 -- A table without runs keeps the rules of a table, and so does each call that changes one.
 abbrev pub RulesLaw : Type 0
 RulesLaw =
-    ((limit : ℕ) → 1 ≤ limit → limit ≤ 65536 → IsTable (new_table limit))
-    × ((before now : Table) (room : ℕ) → IsTable before → room ≤ left_in before → Begins before room now
-    → IsTable now)
+    ((limit most : ℕ) → 1 ≤ limit → limit ≤ 65536 → IsTable (new_table limit most))
+    × ((table : Table) (room : ℕ) → IsTable table → room ≤ left_in table → IsTable (after_beginning table room))
     × ((table : Table) (run block : ℕ) → IsTable table → HasRoom table run → IsFree table block
     → IsTable (after_taking table run block))
     × ((table : Table) (run : ℕ) → IsTable table → run < length table.runs → IsTable (without table run))

@@ -1,5 +1,5 @@
 -- Which blocks of a store its files take: for each file a run of blocks.
-use Rattle.std.specs.Prelude.{◌≡◌, ℕ, ◌+◌, ◌-◌, ◌<◌, ◌≤◌, ◌==◌, List, [], ◌∷◌, ◌++◌, length, count_by, sum_by}
+use Rattle.std.specs.Prelude.{◌≡◌, ℕ, ◌-◌, ◌<◌, ◌≤◌, ◌==◌, List, [], ◌∷◌, ◌++◌, length, count_by, sum_by}
 use Rattle.std.specs.Prelude.{slice_index_or, slice_set}
 use Rattle.std.specs.List.{All, remove}
 
@@ -8,19 +8,19 @@ pub record Run : Type 0 where
   pub blocks : List ℕ
   pub room : ℕ
 
--- the runs, how many blocks there are, and for how many further runs there is memory
+-- the runs, how many blocks there are, and how many runs there may be
 pub record Table : Type 0 where
   pub runs : List Run
   pub limit : ℕ
-  pub spare : ℕ
+  pub most : ℕ
 
 -- a run that was just begun
 abbrev pub new_run : ℕ → Run
 new_run room = record { blocks = []; room = room }
 
--- no run yet, and no memory for one
-abbrev pub new_table : ℕ → Table
-new_table limit = record { runs = []; limit = limit; spare = 0 }
+-- no run yet
+abbrev pub new_table : ℕ → ℕ → Table
+new_table limit most = record { runs = []; limit = limit; most = most }
 
 -- the run at this place; one that may have no block where there is none
 abbrev pub run_at : Table → ℕ → Run
@@ -84,17 +84,14 @@ abbrev pub with_block : Run → ℕ → Run
 with_block run block = record { blocks = run.blocks ++ block ∷ []; room = run.room }
 
 -- a run without blocks, which may have so many, came behind the others
-pub record Begins (before : Table) (room : ℕ) (now : Table) : Type 0 where
-  pub runs : now.runs ≡ before.runs ++ new_run room ∷ []
-  pub limit : now.limit ≡ before.limit
-  pub spare : before.spare ≤ now.spare + 1
+abbrev pub after_beginning : Table → ℕ → Table
+after_beginning table room = record table { runs = table.runs ++ new_run room ∷ [] }
 
 -- this run has this block behind its others
 abbrev pub after_taking : Table → ℕ → ℕ → Table
 after_taking table run block =
-    let now = slice_set table.runs run (with_block (run_at table run) block) in
-    record { runs = now; limit = table.limit; spare = table.spare }
+    record table { runs = slice_set table.runs run (with_block (run_at table run) block) }
 
 -- this run is gone, and the later ones moved up
 abbrev pub without : Table → ℕ → Table
-without table run = record { runs = remove table.runs run; limit = table.limit; spare = table.spare + 1 }
+without table run = record table { runs = remove table.runs run }

@@ -1,9 +1,9 @@
 //! The table of runs.
 
-ghost use Rattle.std.specs.Prelude.{◌≡◌, ◌↔◌, ℕ, ◌≤◌, ◌<◌, length, IsTrue, IfOk, OnOk, OnErr};
+ghost use Rattle.std.specs.Prelude.{◌≡◌, ◌↔◌, ℕ, ◌≤◌, ◌<◌, length, IsTrue, IfOk};
 ghost use Rattle.std.specs.Prelude.{slice_index};
-ghost use Rattle.block_table.specs.Table.{Begins, HasRoom, IsFree, IsLowestFree, IsTable, IsTaken};
-ghost use Rattle.block_table.specs.Table.{after_taking, left_in, new_table, run_at, without};
+ghost use Rattle.block_table.specs.Table.{HasRoom, IsFree, IsLowestFree, IsTable, IsTaken};
+ghost use Rattle.block_table.specs.Table.{after_beginning, after_taking, left_in, new_table, run_at, without};
 
 use crate::marks::{RunMark, first_free, free_blocks, move_up};
 use px_base::OutOfMemory;
@@ -26,7 +26,7 @@ pub struct BlockTable {
 }
 
 impl Model for BlockTable {
-    ghost use Rattle.std.specs.Prelude.{◌-◌, vec_capacity, vec_len};
+    ghost use Rattle.std.specs.Prelude.{vec_capacity};
     ghost use Rattle.block_table.specs.Table.{Table};
 
     ghost Value = { Table };
@@ -36,7 +36,7 @@ impl Model for BlockTable {
     ghost view = { λ a. record {
       runs = runs_in a.numbers.items a.runs.items;
       limit = a.limit;
-      spare = vec_capacity a.runs - vec_len a.runs;
+      most = vec_capacity a.runs;
     } };
 
     ghost invariant = { λ a. IsKept (record {
@@ -50,33 +50,22 @@ impl Model for BlockTable {
 }
 
 impl BlockTable {
-    /// A table without runs, of so many blocks. Takes memory: 3 octets for each block.
-    pub fn new(alloc: Global, limit: u32) -> Result<BlockTable, OutOfMemory>
+    /// A table without runs, of so many blocks, which may have so many runs. Takes memory, all that it ever does:
+    /// 3 octets for each block, and 12 for each run.
+    pub fn new(alloc: Global, limit: u32, runs: usize) -> Result<BlockTable, OutOfMemory>
         requires some { 1 ≤ limit }
         requires most { limit ≤ 65536 }
-        ensures { IfOk result (λ table. table ≡ new_table limit) }
+        ensures { IfOk result (λ table. table ≡ new_table limit runs) }
     {
         let blocks = limit as usize;
         Ok(BlockTable {
             numbers: vec![in alloc; 0; blocks]?,
             taken: vec![in alloc; false; blocks]?,
             lowest: 0,
-            runs: Vec::new(alloc),
+            runs: Vec::with_capacity(alloc, runs)?,
             rooms: 0,
             limit,
         })
-    }
-
-    /// Makes room in memory for so many more runs, or changes nothing. What room there was stays. Takes memory.
-    pub fn reserve(&mut self, runs: usize) -> Result<(), OutOfMemory>
-        ensures runs { self.new.runs ≡ self.old.runs }
-        ensures limit { self.new.limit ≡ self.old.limit }
-        ensures ok { OnOk result (runs ≤ self.new.spare) }
-        ensures spare { self.old.spare ≤ self.new.spare }
-        ensures err { OnErr result (self.new ≡ self.old) }
-    {
-        self.runs.reserve(runs)?;
-        Ok(())
     }
 
     /// How many blocks a run that is begun next may have at most. Takes no memory.
@@ -87,18 +76,18 @@ impl BlockTable {
         self.limit - self.rooms
     }
 
-    /// Begins a run, which has no block yet, and may have so many. There is room for it in memory. Takes no memory.
+    /// Begins a run, which has no block yet, and may have so many. Takes no memory.
     pub fn begin(&mut self, room: u32)
         requires room { room ≤ left_in self.old }
-        requires memory { 1 ≤ self.old.spare }
-        ensures { Begins self.old room self.new }
+        requires few { length self.old.runs < self.old.most }
+        ensures { self.new ≡ after_beginning self.old room }
     {
         let mark = RunMark {
             first: self.rooms,
             count: 0,
             room,
         };
-        self.runs.push(mark).unwrap();
+        self.runs.push_reserved(mark);
         self.rooms += room;
     }
 

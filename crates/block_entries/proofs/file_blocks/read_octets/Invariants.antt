@@ -1,7 +1,5 @@
 use Rattle.std.proofs.Common.{◌≡◌, ◌-◌, ◌≤◌, length, take, drop}
-use Rattle.block_entries.specs.Reading.{octets_on}
-use Rattle.disk_model.specs.Disk.{IsTold}
-use Rattle.file_journal.specs.Calls.{Reads}
+use Rattle.block_entries.proofs.Names.{octets_on, IsTold, Reads}
 use Rattle.block_entries.proofs.file_blocks.read_octets.Given as goal
 
 -- so many octets were read

@@ -1,8 +1,5 @@
 use Rattle.std.proofs.Common.{◌/◌, ◌%◌, ◌<◌, ℕ, List, length, take, drop, sym, ap, ◌∙◌, arith}
-use Rattle.std.proofs.lemmas.Result.{on_ok_weaker}
-use Rattle.file_journal.specs.Layout.{blocks_on}
-use Rattle.block_entries.specs.Reading.{blocks_of}
-use Rattle.block_entries.specs.Seen.{whole_block}
+use Rattle.block_entries.proofs.Names.{on_ok_weaker, blocks_on, blocks_of, whole_block}
 use Rattle.block_entries.proofs.BlockRunLemmas.{part_of_block}
 use Rattle.block_entries.proofs.WholeBlockLemmas.{length-whole}
 use Rattle.block_entries.proofs.file_blocks.read_part.Goals as goal

@@ -1,20 +1,17 @@
 use Rattle.std.proofs.Common.{◌≡◌, ◌≤◌, ℕ, List, length, Some, sym, ap, ◌∙◌, subst}
-use Rattle.std.specs.List.{flat_map}
-use Rattle.file_entries.specs.Headers.{header_octets}
-use Rattle.file_journal.specs.Layout.{blocks_on}
-use Rattle.pfh_items.specs.Faults.{fault_code}
-use Rattle.pfh_items.specs.Stamp.{StampValue}
-use Rattle.block_entries.specs.Checking.{HasChecked, IsSealable, IsFaultCode, stamp_of}
-use Rattle.block_entries.specs.KeptLaws.{header_within}
-use Rattle.block_entries.specs.Reading.{blocks_of}
-use Rattle.block_entries.specs.Seen.{whole_block}
-use Rattle.block_entries.specs.declared.file_check.FileCheck.{FileCheck}
+use Rattle.block_entries.proofs.Names.{flat_map, header_octets, blocks_on, fault_code, StampValue, HasChecked, IsSealable, IsFaultCode, stamp_of, header_within, blocks_of, whole_block, FileCheck}
 use Rattle.block_entries.proofs.BlankedLemmas.{code_found}
 use Rattle.block_entries.proofs.ReadLemmas.{took_whole}
 use Rattle.block_entries.proofs.file_reading.check_file.Goals as goal
 
 abbrev took : StampValue → FileCheck → List ℕ → Type 0
 took stamp check fed = HasChecked stamp check fed
+
+pub end-requires : goal.end-requires
+end-requires g c =
+    let front = c.in_ok-pass_octets.ensures.took in
+    let stamp = stamp_of c.args.stamp in
+    (stamp, front.fed, front.took_all stamp c.new-check.ensures.checked)
 
 pub returns-in-Ok-clause-header : goal.returns-in-Ok-clause-header
 returns-in-Ok-clause-header g c = λ told.

@@ -1,9 +1,5 @@
 use Rattle.std.proofs.Common.{◌≤◌, List, ℕ, length, take, ap, ◌∙◌, arith}
-use Rattle.std.proofs.lemmas.Result.{on_ok_weaker}
-use Rattle.file_entries.specs.Headers.{header_octets}
-use Rattle.file_journal.proofs.Offered.{told_weaker}
-use Rattle.block_entries.specs.Checking.{stamp_of}
-use Rattle.block_entries.specs.Reading.{octets_on}
+use Rattle.block_entries.proofs.Names.{on_ok_weaker, header_octets, told_weaker, stamp_of, octets_on}
 use Rattle.block_entries.proofs.StampedPartLemmas.{body_stays, file_octets}
 use Rattle.block_entries.proofs.file_reading.read_behind_header.Goals as goal
 

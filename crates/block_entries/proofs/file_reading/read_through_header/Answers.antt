@@ -1,10 +1,5 @@
 use Rattle.std.proofs.Common.{◌+◌, ◌≤◌, List, ℕ, [], length, refl, take, drop, sym, ap, ◌∙◌, arith}
-use Rattle.file_entries.specs.Headers.{header_items}
-use Rattle.file_journal.proofs.Offered.{told_weaker}
-use Rattle.pfh_items.specs.Stamp.{StampValue, stamped}
-use Rattle.pfh_writer.specs.Given.{stamped_sum}
-use Rattle.block_entries.specs.Checking.{StampSetting, stamp_of}
-use Rattle.block_entries.specs.Reading.{octets_on}
+use Rattle.block_entries.proofs.Names.{header_items, told_weaker, StampValue, stamped, stamped_sum, StampSetting, stamp_of, octets_on}
 use Rattle.block_entries.proofs.ReadLemmas.{part_told}
 use Rattle.block_entries.proofs.StampedPartLemmas.{file_octets, length-file, stamped_part}
 use Rattle.block_entries.proofs.file_reading.read_through_header.Goals as goal

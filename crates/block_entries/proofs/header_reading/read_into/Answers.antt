@@ -1,9 +1,5 @@
 use Rattle.std.proofs.Common.{List, ℕ, take, drop, ap, ◌∙◌}
-use Rattle.std.proofs.lemmas.Result.{on_ok_weaker}
-use Rattle.file_journal.proofs.Offered.{told_weaker}
-use Rattle.block_entries.specs.Checking.{stamp_of}
-use Rattle.block_entries.specs.Reading.{octets_on}
-use Rattle.block_entries.specs.Sealed.{sealed_octets}
+use Rattle.block_entries.proofs.Names.{on_ok_weaker, told_weaker, stamp_of, octets_on, sealed_octets}
 use Rattle.block_entries.proofs.StampedHeaderLemmas.{stamped_header}
 use Rattle.block_entries.proofs.StampedPartLemmas.{file_octets}
 use Rattle.block_entries.proofs.header_reading.read_into.Goals as goal

@@ -1,4 +1,4 @@
-use Rattle.block_entries.specs.PlacedLaws.{placed_seen}
+use Rattle.block_entries.proofs.Names.{placed_seen}
 use Rattle.block_entries.proofs.laws.journal_law.Goals as goal
 
 pub returns : goal.returns

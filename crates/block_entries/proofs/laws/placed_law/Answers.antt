@@ -1,5 +1,4 @@
-use Rattle.block_entries.specs.KeptLaws.{after_placed, none_is_placed}
-use Rattle.block_entries.specs.SealLaws.{after_seals}
+use Rattle.block_entries.proofs.Names.{after_placed, none_is_placed, after_seals}
 use Rattle.block_entries.proofs.laws.placed_law.Goals as goal
 
 pub returns : goal.returns

@@ -1,4 +1,4 @@
-use Rattle.block_entries.specs.RecordLaws.{placed_records, recorded_record, says_recorded, written_record}
+use Rattle.block_entries.proofs.Names.{placed_records, recorded_record, says_recorded, written_record}
 use Rattle.block_entries.proofs.laws.records_law.Goals as goal
 
 pub returns : goal.returns

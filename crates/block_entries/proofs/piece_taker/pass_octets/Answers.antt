@@ -1,7 +1,5 @@
 use Rattle.std.proofs.Common.{◌≡◌, length, sym, ◌∙◌, arith}
-use Rattle.std.proofs.lemmas.Grind.{common_steps}
-use Rattle.std.proofs.lemmas.List.{places}
-use Rattle.block_entries.specs.Reading.{octets_on}
+use Rattle.block_entries.proofs.Names.{common_steps, places, octets_on}
 use Rattle.block_entries.proofs.ReadLemmas.{part_told, reads_more, took_more}
 use Rattle.block_entries.proofs.piece_taker.pass_octets.Goals as goal
 

@@ -1,7 +1,5 @@
 use Rattle.std.proofs.Common.{◌-◌, ◌≤◌}
-use Rattle.block_entries.specs.Reading.{octets_on}
-use Rattle.block_entries.specs.Taking.{TookFront}
-use Rattle.file_journal.specs.Calls.{Reads}
+use Rattle.block_entries.proofs.Names.{octets_on, TookFront, Reads}
 use Rattle.block_entries.proofs.piece_taker.pass_octets.Given as goal
 
 -- so many octets were handed on

@@ -1,7 +1,5 @@
 use Rattle.std.proofs.Common.{ℕ, ◌==◌, cond, arith}
-use Rattle.std.proofs.lemmas.Bool.Decides.{eqb_tells}
-use Rattle.std.proofs.lemmas.Grind.{common_steps, elements}
-use Rattle.std.proofs.lemmas.List.Sums.{sum_by_more}
+use Rattle.block_table.proofs.Names.{eqb_tells, common_steps, elements, sum_by_more}
 use Rattle.block_table.proofs.marks.free_blocks.Goals as goal
 
 pub loop-block-preserved : goal.loop-block-preserved

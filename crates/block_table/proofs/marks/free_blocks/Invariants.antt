@@ -1,6 +1,5 @@
 use Rattle.std.proofs.Common.{◌≤◌, take}
-use Rattle.std.specs.List.{All}
-use Rattle.block_table.specs.Kept.{AreFreed}
+use Rattle.block_table.proofs.Names.{All, AreFreed}
 use Rattle.block_table.proofs.marks.free_blocks.Given as goal
 
 abbrev pub invariant-loop-block : goal.invariant-loop-block

@@ -1,5 +1,5 @@
 use Rattle.std.proofs.Common.{◌≡◌, ◌++◌, map, take, drop}
-use Rattle.block_table.specs.Kept.{earlier}
+use Rattle.block_table.proofs.Names.{earlier}
 use Rattle.block_table.proofs.marks.move_up.Given as goal
 
 abbrev pub invariant-loop-mark : goal.invariant-loop-mark

@@ -1,5 +1,5 @@
 use Rattle.std.proofs.Common.{◌∙◌, arith}
-use Rattle.block_entries.specs.RecordLaws.{of_kind_1, of_kind_2, of_kind_3, of_kind_4, of_other_kind}
+use Rattle.block_entries.proofs.Names.{of_kind_1, of_kind_2, of_kind_3, of_kind_4, of_other_kind}
 use Rattle.block_entries.proofs.command.PlacedCommand.read.Goals as goal
 
 pub returns-in-1-clause-command : goal.returns-in-1-clause-command

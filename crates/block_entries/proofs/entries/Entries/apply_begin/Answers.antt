@@ -1,17 +1,7 @@
-use Rattle.std.proofs.Common.{◌≡◌, ◌==◌, true, false, [], rules, refl, sym, ap, ◌∙◌, subst}
-use Rattle.std.specs.Prelude.{is_some}
-use Rattle.px_base.specs.CallSign.{IsCall}
-use Rattle.block_entries.specs.IsPlaced.{IsPlaced}
-use Rattle.block_entries.specs.Placed.{new_placed, with_next}
-use Rattle.block_entries.specs.PlacedCommand.{begin}
-use Rattle.block_entries.specs.PlacedFiles.{PlacedFiles, read_of, store_of}
-use Rattle.block_entries.specs.ReadLaws.{may_number, next_placed}
-use Rattle.block_entries.specs.ReadStore.{may_have, with_later}
-use Rattle.block_entries.specs.Seen.{seen}
+use Rattle.std.proofs.Common.{◌≡◌, ◌==◌, true, false, [], rules, refl, sym, ◌∙◌}
+use Rattle.block_entries.proofs.Names.{is_some, IsCall, with_next, begin, read_of, store_of, may_number, next_placed, may_have, seen, Blocks, blocks_on}
 use Rattle.block_entries.proofs.AppliedLemmas.{barred, begun_is, first_false, not_barred, refused_is, second_false}
 use Rattle.block_entries.proofs.entries.Entries.apply_begin.Goals as goal
-use Rattle.file_entries.specs.Command.{MayBegin}
-use Rattle.file_journal.specs.Layout.{Blocks, blocks_on}
 
 pub returns-then-not-may_have-clause-applied : goal.returns-then-not-may_have-clause-applied
 returns-then-not-may_have-clause-applied c = λ content.
@@ -31,17 +21,13 @@ returns-then-is_some-clause-applied c = λ content.
 pub begin_as-requires-clause-rules : goal.begin_as-requires-clause-rules
 begin_as-requires-clause-rules c =
     let have : may_have (read_of c.args.self.now) c.args.number ≡ true = let e = c.may_have.ensures in let f = c.if-not-may_have.false in cc in
-    subst (λ (n : PlacedFiles). IsPlaced (with_next c.args.number (store_of n))) (sym c.reserve.ensures.files)
-    (next_placed c.args.self.now.least c.args.number (store_of c.args.self.now.files) (may_number (read_of c.args.self.now) c.args.number have).0 c.requires.rules.rules)
+    next_placed c.args.self.now.least c.args.number (store_of c.args.self.now.files) (may_number (read_of c.args.self.now) c.args.number have).0 c.requires.rules.rules
 
 pub begin_as-requires-clause-may : goal.begin_as-requires-clause-may
 begin_as-requires-clause-may c =
     let held : Blocks = λ b. [] in
-    let none : is_some c.begin_bar_as.result ≡ false = let e = c.is_some.ensures in let f = c.if-is_some.false in cc in (
-      held,
-      subst (λ (n : PlacedFiles). MayBegin (seen held (with_next c.args.number (store_of n))) c.args.length) (sym c.reserve.ensures.files)
-          (not_barred c.begin_bar_as.result (c.begin_bar_as.ensures.none held) none),
-    )
+    let none : is_some c.begin_bar_as.result ≡ false = let e = c.is_some.ensures in let f = c.if-is_some.false in cc in
+    (held, not_barred c.begin_bar_as.result (c.begin_bar_as.ensures.none held) none)
 
 pub returns-clause-applied : goal.returns-clause-applied
 returns-clause-applied c =
@@ -50,5 +36,4 @@ returns-clause-applied c =
     let none : is_some c.begin_bar_as.result ≡ false = let e = c.is_some.ensures in let f = c.if-is_some.false in cc in
     begun_is c.args.self.now c.begin_as.new.self c.requires.rules c.args.number c.args.length c.args.moment c.args.caller call have
     (λ held. not_barred c.begin_bar_as.result (c.begin_bar_as.ensures.none held) none)
-    (c.begin_as.ensures.becomes.store_is ∙ ap (λ (n : PlacedFiles). with_later (store_of n) (new_placed c.args.number c.args.caller c.args.length c.args.moment)) c.reserve.ensures.files)
-    c.begin_as.ensures.least (c.begin_as.ensures.first ∙ c.reserve.ensures.reading.first)
+    c.begin_as.ensures.becomes.store_is c.begin_as.ensures.least c.begin_as.ensures.first

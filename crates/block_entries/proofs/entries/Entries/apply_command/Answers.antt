@@ -1,13 +1,12 @@
 use Rattle.std.proofs.Common.{sym, subst}
-use Rattle.block_entries.specs.Applied.{Applied}
-use Rattle.block_entries.specs.PlacedCommands.{placed_value}
 use Rattle.block_entries.specs.declared.command.PlacedCommand.{PlacedCommand}
+use Rattle.block_entries.proofs.Names.{Applied, placed_value}
 use Rattle.block_entries.proofs.entries.Entries.apply_command.Goals as goal
 
-pub returns-in_ok-apply_begin-in-Begin-clause-applied : goal.returns-in_ok-apply_begin-in-Begin-clause-applied
-returns-in_ok-apply_begin-in-Begin-clause-applied g c =
-    subst (λ (k : PlacedCommand). Applied (g.D.Disk.content c.args.disk.now) c.in_ok-apply_begin-in-Begin.field-0 c.args.self.now c.apply_begin.new.self (placed_value k))
-    (sym c.in-Begin.is) (c.in_ok-apply_begin-in-Begin.ensures.applied (g.D.Disk.content c.args.disk.now))
+pub returns-in-Begin-clause-applied : goal.returns-in-Begin-clause-applied
+returns-in-Begin-clause-applied g c =
+    subst (λ (k : PlacedCommand). Applied (g.D.Disk.content c.args.disk.now) c.apply_begin.result c.args.self.now c.apply_begin.new.self (placed_value k))
+    (sym c.in-Begin.is) (c.apply_begin.ensures.applied (g.D.Disk.content c.args.disk.now))
 
 pub returns-in-Grow-clause-applied : goal.returns-in-Grow-clause-applied
 returns-in-Grow-clause-applied g c =

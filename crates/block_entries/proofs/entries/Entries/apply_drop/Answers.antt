@@ -1,7 +1,5 @@
 use Rattle.std.proofs.Common.{◌≡◌, true}
-use Rattle.block_entries.specs.PlacedCommand.{is_partial, passes_at}
-use Rattle.block_entries.specs.PlacedFiles.{store_of}
-use Rattle.block_entries.specs.TestLaws.{passed}
+use Rattle.block_entries.proofs.Names.{is_partial, passes_at, store_of, passed}
 use Rattle.block_entries.proofs.AppliedLemmas.{dropped_is_read}
 use Rattle.block_entries.proofs.entries.Entries.apply_drop.Goals as goal
 

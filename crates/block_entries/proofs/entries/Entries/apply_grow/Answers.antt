@@ -1,11 +1,7 @@
 use Rattle.std.proofs.Common.{◌≡◌, true, false, sym, ◌∙◌, []}
-use Rattle.std.specs.Prelude.{IsTrue}
-use Rattle.block_entries.specs.PlacedCommand.{grow, is_allowed}
-use Rattle.block_entries.specs.PlacedFiles.{store_of}
-use Rattle.block_entries.specs.TestLaws.{may_take}
+use Rattle.block_entries.proofs.Names.{IsTrue, grow, is_allowed, store_of, may_take, Blocks, blocks_on}
 use Rattle.block_entries.proofs.AppliedLemmas.{grown_is_read, refused_is}
 use Rattle.block_entries.proofs.entries.Entries.apply_grow.Goals as goal
-use Rattle.file_journal.specs.Layout.{Blocks, blocks_on}
 use Rattle.std.proofs.Common.{refl}
 
 pub grow-requires-clause-allowed : goal.grow-requires-clause-allowed

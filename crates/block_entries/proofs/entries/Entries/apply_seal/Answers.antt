@@ -1,8 +1,5 @@
 use Rattle.std.proofs.Common.{ℕ, Option, sym, subst}
-use Rattle.std.specs.Prelude.{IfSome}
-use Rattle.block_entries.specs.PlacedFiles.{store_of}
-use Rattle.block_entries.specs.TestLaws.{TakesSeal}
-use Rattle.block_entries.specs.Applied.{TellsSeal}
+use Rattle.block_entries.proofs.Names.{IfSome, store_of, TakesSeal, TellsSeal}
 use Rattle.block_entries.proofs.AppliedLemmas.{sealed_is_read}
 use Rattle.block_entries.proofs.entries.Entries.apply_seal.Goals as goal
 

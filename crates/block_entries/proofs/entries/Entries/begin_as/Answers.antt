@@ -1,25 +1,35 @@
-use Rattle.std.proofs.Common.{rules, ℕ, ◌≡◌, ◌∷◌, [], ◌++◌, List, None, ap, sym, subst}
-use Rattle.px_base.specs.CallSign.{IsCall}
-use Rattle.block_entries.specs.Placed.{new_placed}
-use Rattle.block_entries.specs.ReadStore.{with_later}
-use Rattle.block_entries.specs.PlacedFiles.{AreKept, Becomes, EntriesState, PlacedFile, files_from, in_runs, store_of}
-use Rattle.block_entries.proofs.BeginLemmas.{begin_becomes, begin_kept}
+use Rattle.std.proofs.Common.{rules, ℕ, ◌∷◌, ◌<◌, ◌≤◌, [], ◌++◌, List, None, ap, sym, ◌∙◌, subst, length, arith}
+use Rattle.block_entries.proofs.Names.{IsCall, new_placed, with_later, AreKept, Becomes, EntriesState, PlacedFile, files_from, in_runs, store_of, Table, most_entries}
+use Rattle.block_entries.proofs.BeginLemmas.{begin_becomes, begin_kept, few_runs}
 use Rattle.block_entries.proofs.entries.Entries.begin_as.Goals as goal
-use Rattle.block_entries.proofs.entries.Entries.begin_as.Goals.{After-unwrap}
+use Rattle.block_entries.proofs.entries.Entries.begin_as.Goals.{After-self}
 
--- the files, with the new one at the end
-items : (c : After-unwrap) → c.push.new.self.items ≡ c.self.inside.files.items ++ c.new-file.result ∷ []
-items c = rw c.unwrap.ensures at c.push.ensures.items
+-- there are fewer files than a store may have
+few : (c : After-self) → length c.self.inside.table.runs < most_entries
+few c =
+    let view = ap (λ (s : EntriesState). s.files) c.self.view_is in
+    let call : IsCall c.args.caller = search rules in
+    few_runs c.self.inside.table.runs c.self.inside.files.items c.self.inside.next c.self.inside.table.limit c.self.invariant.0 _ view c.args.number c.requires.rules c.args.caller c.args.length c.args.moment call c.requires.may
+
+pub begin-requires-clause-few : goal.begin-requires-clause-few
+begin-requires-clause-few c = omega (arith, few (goal.at.begin-requires-clause-few c).After-self, c.self.invariant.2)
+
+pub push_reserved-requires : goal.push_reserved-requires
+push_reserved-requires c =
+    omega (arith, few (goal.at.push_reserved-requires c).After-self, c.self.invariant.0.count, c.self.invariant.1, c.self.inside.files.ok.0)
 
 pub invariant_of-self : goal.invariant_of-self
 invariant_of-self c =
     let view = ap (λ (s : EntriesState). s.files) c.self.view_is in
     let call : IsCall c.args.caller = search rules in
-    let table = c.begin.new.self in
-    subst (λ (fs : List PlacedFile). AreKept table.runs fs c.max-self-inside.result table.limit) (sym (items (goal.at.invariant_of-self c).After-unwrap))
-    (subst (λ (n : ℕ). AreKept table.runs (c.self.inside.files.items ++ c.new-file.result ∷ []) n table.limit) (sym c.max-self-inside.ensures)
-    (begin_kept c.self.inside.table.runs c.self.inside.files.items c.self.inside.next c.self.inside.table.limit c.self.invariant _ view c.args.number c.requires.rules c.args.caller c.args.length c.args.moment call c.requires.may
-    table.runs _ table.limit c.new-file.result c.begin.ensures.runs c.blocks_of_length.ensures c.begin.ensures.limit c.new-file.ensures))
+    let table = c.begin.new.self in (
+      subst (λ (fs : List PlacedFile). AreKept table.runs fs c.max-self-inside.result table.limit) (sym c.push_reserved.ensures.items)
+          (subst (λ (n : ℕ). AreKept table.runs (c.self.inside.files.items ++ c.new-file.result ∷ []) n table.limit) (sym c.max-self-inside.ensures)
+          (begin_kept c.self.inside.table.runs c.self.inside.files.items c.self.inside.next c.self.inside.table.limit c.self.invariant.0 _ view c.args.number c.requires.rules c.args.caller c.args.length c.args.moment call c.requires.may
+          table.runs _ table.limit c.new-file.result (ap (λ (t : Table). t.runs) c.begin.ensures) c.blocks_of_length.ensures (ap (λ (t : Table). t.limit) c.begin.ensures) c.new-file.ensures)),
+      subst (λ (n : ℕ). most_entries ≤ n) (sym c.push_reserved.ensures.capacity) c.self.invariant.1,
+      ap (λ (t : Table). t.most) c.begin.ensures ∙ c.self.invariant.2,
+    )
 
 pub returns-clause-becomes : goal.returns-clause-becomes
 returns-clause-becomes c =
@@ -28,7 +38,7 @@ returns-clause-becomes c =
     let table = c.begin.new.self in
     let number = c.args.number in
     subst (λ (fs : List PlacedFile). Becomes c.args.self.now.files (files_from (in_runs table.runs fs) c.max-self-inside.result table.limit) (with_later (store_of c.args.self.now.files) (new_placed number c.args.caller c.args.length c.args.moment)) number None)
-    (sym (items (goal.at.returns-clause-becomes c).After-unwrap))
+    (sym c.push_reserved.ensures.items)
     (subst (λ (n : ℕ). Becomes c.args.self.now.files (files_from (in_runs table.runs (c.self.inside.files.items ++ c.new-file.result ∷ [])) n table.limit) (with_later (store_of c.args.self.now.files) (new_placed number c.args.caller c.args.length c.args.moment)) number None) (sym c.max-self-inside.ensures)
-    (begin_becomes c.self.inside.table.runs c.self.inside.files.items c.self.inside.next c.self.inside.table.limit c.self.invariant _ view c.args.number c.requires.rules c.args.caller c.args.length c.args.moment call c.requires.may
-    table.runs _ table.limit c.new-file.result c.begin.ensures.runs c.blocks_of_length.ensures c.begin.ensures.limit c.new-file.ensures))
+    (begin_becomes c.self.inside.table.runs c.self.inside.files.items c.self.inside.next c.self.inside.table.limit c.self.invariant.0 _ view c.args.number c.requires.rules c.args.caller c.args.length c.args.moment call c.requires.may
+    table.runs _ table.limit c.new-file.result (ap (λ (t : Table). t.runs) c.begin.ensures) c.blocks_of_length.ensures (ap (λ (t : Table). t.limit) c.begin.ensures) c.new-file.ensures))

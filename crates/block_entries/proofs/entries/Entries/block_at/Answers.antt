@@ -1,15 +1,12 @@
 use Rattle.std.proofs.Common.{◌≡◌, ◌<◌, Some, get_or, ap, sym, ◌∙◌, length, subst}
-use Rattle.std.specs.Prelude.{slice_get}
-use Rattle.std.proofs.lemmas.Option.{slice_get-get_or}
-use Rattle.block_entries.specs.PlacedFiles.{EntriesState, store_of}
+use Rattle.block_entries.proofs.Names.{slice_get, slice_get-get_or, EntriesState, store_of, Run}
 use Rattle.block_entries.proofs.AnewLemmas.{at_says, entry_there, in_runs_range, run_at_is, says_at}
 use Rattle.block_entries.proofs.entries.Entries.block_at.Goals as goal
-use Rattle.block_table.specs.Table.{Run}
 
 pub block-requires-clause-there : goal.block-requires-clause-there
 block-requires-clause-there c =
     let view = ap (λ (s : EntriesState). s.files) c.self.view_is in
-    in_runs_range c.self.inside.table.runs c.self.inside.files.items c.self.inside.next c.self.inside.table.limit c.self.invariant _ view c.args.at c.requires.there
+    in_runs_range c.self.inside.table.runs c.self.inside.files.items c.self.inside.next c.self.inside.table.limit c.self.invariant.0 _ view c.args.at c.requires.there
 
 pub block-requires-clause-place : goal.block-requires-clause-place
 block-requires-clause-place c =
@@ -17,7 +14,7 @@ block-requires-clause-place c =
     let store = store_of c.args.self.now.files in
     let here = entry_there store.entries c.args.at c.requires.there in
     let within = at_says store c.args.at (λ f. c.args.place < length f.blocks) here.0 here.1 c.requires.within in
-    subst (λ (r : Run). c.args.place < length r.blocks) (sym (run_at_is c.self.inside.table.runs c.self.inside.files.items c.self.inside.next c.self.inside.table.limit c.self.invariant _ view c.args.at here.0 here.1)) within
+    subst (λ (r : Run). c.args.place < length r.blocks) (sym (run_at_is c.self.inside.table.runs c.self.inside.files.items c.self.inside.next c.self.inside.table.limit c.self.invariant.0 _ view c.args.at here.0 here.1)) within
 
 pub returns : goal.returns
 returns c =
@@ -27,4 +24,4 @@ returns c =
     (λ f is.
     let within = at_says store c.args.at (λ g. c.args.place < length g.blocks) f is c.requires.within in
     slice_get-get_or f.blocks c.args.place 0 within
-    ∙ ap Some (sym (c.block.ensures ∙ ap (λ (r : Run). get_or r.blocks c.args.place 0) (run_at_is c.self.inside.table.runs c.self.inside.files.items c.self.inside.next c.self.inside.table.limit c.self.invariant _ view c.args.at f is))))
+    ∙ ap Some (sym (c.block.ensures ∙ ap (λ (r : Run). get_or r.blocks c.args.place 0) (run_at_is c.self.inside.table.runs c.self.inside.files.items c.self.inside.next c.self.inside.table.limit c.self.invariant.0 _ view c.args.at f is))))

@@ -1,13 +1,7 @@
 use Rattle.std.proofs.Common.{◌≡◌, suc, ◌-◌, ◌*◌, min, length, Some, ap, sym, ◌∙◌, arith}
-use Rattle.std.specs.Prelude.{slice_get}
-use Rattle.std.specs.Option.{option_map}
-use Rattle.block_entries.specs.Anew.{command_in}
-use Rattle.block_entries.specs.Placed.{Seal}
-use Rattle.block_entries.specs.PlacedCommand.{grow, seal}
-use Rattle.block_entries.specs.PlacedFiles.{seal_of, store_of}
+use Rattle.block_entries.proofs.Names.{slice_get, option_map, command_in, Seal, grow, seal, seal_of, store_of, Info}
 use Rattle.block_entries.proofs.AnewLemmas.{at_range, at_says, at_small, grow_command, info_there, part_small, past_command, seal_command}
 use Rattle.block_entries.proofs.entries.Entries.command_at.Goals as goal
-use Rattle.file_entries.specs.declared.info.Info.{Info}
 
 pub returns-then-place-count-clause-command : goal.returns-then-place-count-clause-command
 returns-then-place-count-clause-command c =

@@ -1,11 +1,8 @@
-use Rattle.std.proofs.Common.{◌≡◌, ◌≤◌, List, ℕ, length, drop, ap, sym, ◌∙◌, subst, arith}
-use Rattle.std.specs.Option.{option_map}
-use Rattle.block_entries.specs.PlacedFiles.{EntriesState, rest_of}
+use Rattle.std.proofs.Common.{◌≡◌, [], List, ℕ, Option, Some, length, ap, sym, ◌∙◌, subst, arith}
+use Rattle.block_entries.proofs.Names.{IsSome, EntriesState, rest_of, Table, octets_or_none}
 use Rattle.block_entries.proofs.ChangeLemmas.{block_free, has_place, held_fits, hold_becomes, hold_kept, in_range, never_some, no_rest, rest_now, run_room, waits_some}
 use Rattle.block_entries.proofs.entries.Entries.hold.Goals as goal
 use Rattle.block_entries.proofs.entries.Entries.hold.Goals.{After-index_mut}
-use Rattle.block_table.specs.Table.{Table}
-use Rattle.block_entries.specs.PlacedFiles.{octets_or_none}
 
 pub unwrap-place-requires : goal.unwrap-place-requires
 unwrap-place-requires c =
@@ -15,55 +12,56 @@ unwrap-place-requires c =
 pub index_mut-requires : goal.index_mut-requires
 index_mut-requires c =
     let view = ap (λ (s : EntriesState). s.files) c.self.view_is in
-    let inside = in_range c.self.inside.table.runs c.self.inside.files.items c.self.inside.next c.self.inside.table.limit c.self.invariant _ view c.args.number _ c.place_of.result c.unwrap-place.ensures c.place_of.ensures.some in
+    let inside = in_range c.self.inside.table.runs c.self.inside.files.items c.self.inside.next c.self.inside.table.limit c.self.invariant.0 _ view c.args.number _ c.place_of.result c.unwrap-place.ensures c.place_of.ensures.some in
     omega (arith, inside, c.self.inside.files.ok.0)
 
 -- what waits of the upload
 rest : (c : After-index_mut) → rest_of c.args.self.now.files c.args.number ≡ c.index_mut.result.now.rest
 rest c =
     let view = ap (λ (s : EntriesState). s.files) c.self.view_is in
-    rest_now c.self.inside.table.runs c.self.inside.files.items c.self.inside.next c.self.inside.table.limit c.self.invariant _ view c.args.number _ c.place_of.result c.unwrap-place.ensures c.place_of.ensures.some c.index_mut.result.now c.index_mut.ensures.value
+    rest_now c.self.inside.table.runs c.self.inside.files.items c.self.inside.next c.self.inside.table.limit c.self.invariant.0 _ view c.args.number _ c.place_of.result c.unwrap-place.ensures c.place_of.ensures.some c.index_mut.result.now c.index_mut.ensures.value
 
-pub hold-requires-clause-there : goal.hold-requires-clause-there
-hold-requires-clause-there c =
-    let same : octets_or_none c.index_mut.result.now.rest ≡ c.requires.waits.0 = ap octets_or_none (sym (rest c) ∙ c.requires.waits.1) in
-    subst (λ (os : List ℕ). c.args.count ≤ length os) (sym same) c.requires.waits.2
+pub hold-requires-clause-out : goal.hold-requires-clause-out
+hold-requires-clause-out c =
+    subst (λ (o : Option (List ℕ)). IsSome o) (rest c) (waits_some c.args.self.now.files c.args.number c.args.count c.requires.waits)
+
+pub hold-requires-clause-all : goal.hold-requires-clause-all
+hold-requires-clause-all c =
+    ap (λ (o : Option (List ℕ)). length (octets_or_none o)) (sym (rest c) ∙ c.requires.waits.1) ∙ c.requires.waits.2
 
 pub hold-requires-clause-fits : goal.hold-requires-clause-fits
 hold-requires-clause-fits c =
     let view = ap (λ (s : EntriesState). s.files) c.self.view_is in
-    held_fits c.self.inside.table.runs c.self.inside.files.items c.self.inside.next c.self.inside.table.limit c.self.invariant _ view c.args.number _ c.place_of.result c.unwrap-place.ensures c.place_of.ensures.some c.index_mut.result.now c.index_mut.ensures.value
+    held_fits c.self.inside.table.runs c.self.inside.files.items c.self.inside.next c.self.inside.table.limit c.self.invariant.0 _ view c.args.number _ c.place_of.result c.unwrap-place.ensures c.place_of.ensures.some c.index_mut.result.now c.index_mut.ensures.value
     c.args.block c.args.count c.requires.allowed
 
 pub take-requires-clause-room : goal.take-requires-clause-room
 take-requires-clause-room c =
     let view = ap (λ (s : EntriesState). s.files) c.self.view_is in
-    let room = run_room c.self.inside.table.runs c.self.inside.files.items c.self.inside.next c.self.inside.table.limit c.self.invariant _ view c.args.number _ c.place_of.result c.unwrap-place.ensures c.place_of.ensures.some c.index_mut.result.now c.index_mut.ensures.value
+    let room = run_room c.self.inside.table.runs c.self.inside.files.items c.self.inside.next c.self.inside.table.limit c.self.invariant.0 _ view c.args.number _ c.place_of.result c.unwrap-place.ensures c.place_of.ensures.some c.index_mut.result.now c.index_mut.ensures.value
     c.args.block c.args.count c.requires.allowed in
     record { there = room.0; room = room.1 }
 
 pub take-requires-clause-free : goal.take-requires-clause-free
 take-requires-clause-free c =
     let view = ap (λ (s : EntriesState). s.files) c.self.view_is in
-    let free = block_free c.self.inside.table.runs c.self.inside.files.items c.self.inside.next c.self.inside.table.limit c.self.invariant _ view c.args.number _ c.place_of.result c.unwrap-place.ensures c.place_of.ensures.some c.index_mut.result.now c.index_mut.ensures.value
+    let free = block_free c.self.inside.table.runs c.self.inside.files.items c.self.inside.next c.self.inside.table.limit c.self.invariant.0 _ view c.args.number _ c.place_of.result c.unwrap-place.ensures c.place_of.ensures.some c.index_mut.result.now c.index_mut.ensures.value
     c.args.block c.args.count c.requires.allowed in
     record { below = free.0; free = free.1 }
 
 pub invariant_of-self : goal.invariant_of-self
 invariant_of-self c =
-    let view = ap (λ (s : EntriesState). s.files) c.self.view_is in
-    hold_kept c.self.inside.table.runs c.self.inside.files.items c.self.inside.next c.self.inside.table.limit c.self.invariant _ view c.args.number _ c.place_of.result c.unwrap-place.ensures c.place_of.ensures.some c.index_mut.result.now c.index_mut.ensures.value
-    c.args.block c.args.count c.requires.allowed c.take.new.self.runs c.take.new.self.limit c.hold.new.self (option_map (drop c.args.count) c.index_mut.result.now.rest)
-    (ap (λ (t : Table). t.runs) c.take.ensures) (ap (λ (t : Table). t.limit) c.take.ensures) c.hold.ensures
+    let view = ap (λ (s : EntriesState). s.files) c.self.view_is in (
+      hold_kept c.self.inside.table.runs c.self.inside.files.items c.self.inside.next c.self.inside.table.limit c.self.invariant.0 _ view c.args.number _ c.place_of.result c.unwrap-place.ensures c.place_of.ensures.some c.index_mut.result.now c.index_mut.ensures.value
+          c.args.block c.args.count c.requires.allowed c.take.new.self.runs c.take.new.self.limit c.hold.new.self (Some [])
+          (ap (λ (t : Table). t.runs) c.take.ensures) (ap (λ (t : Table). t.limit) c.take.ensures) c.hold.ensures,
+      c.self.invariant.1,
+      ap (λ (t : Table). t.most) c.take.ensures ∙ c.self.invariant.2,
+    )
 
-pub returns-clause-becomes : goal.returns-clause-becomes
-returns-clause-becomes c =
+pub returns : goal.returns
+returns c =
     let view = ap (λ (s : EntriesState). s.files) c.self.view_is in
-    let becomes = hold_becomes c.self.inside.table.runs c.self.inside.files.items c.self.inside.next c.self.inside.table.limit c.self.invariant _ view c.args.number _ c.place_of.result c.unwrap-place.ensures c.place_of.ensures.some c.index_mut.result.now c.index_mut.ensures.value
-    c.args.block c.args.count c.requires.allowed c.take.new.self.runs c.take.new.self.limit c.hold.new.self (option_map (drop c.args.count) c.index_mut.result.now.rest)
-    (ap (λ (t : Table). t.runs) c.take.ensures) (ap (λ (t : Table). t.limit) c.take.ensures) c.hold.ensures in
-    record {
-      store_is = becomes.store_is;
-      here = becomes.here ∙ ap (option_map (drop c.args.count)) (sym (rest (goal.at.returns-clause-becomes c).After-index_mut));
-      others = becomes.others;
-    }
+    hold_becomes c.self.inside.table.runs c.self.inside.files.items c.self.inside.next c.self.inside.table.limit c.self.invariant.0 _ view c.args.number _ c.place_of.result c.unwrap-place.ensures c.place_of.ensures.some c.index_mut.result.now c.index_mut.ensures.value
+    c.args.block c.args.count c.requires.allowed c.take.new.self.runs c.take.new.self.limit c.hold.new.self (Some [])
+    (ap (λ (t : Table). t.runs) c.take.ensures) (ap (λ (t : Table). t.limit) c.take.ensures) c.hold.ensures

@@ -1,6 +1,5 @@
 use Rattle.std.proofs.Common.{Some, ap, sym, ◌∙◌}
-use Rattle.std.specs.Option.{option_map}
-use Rattle.block_entries.specs.PlacedFiles.{EntriesState, placed_info}
+use Rattle.block_entries.proofs.Names.{option_map, EntriesState, placed_info}
 use Rattle.block_entries.proofs.ChangeLemmas.{entry_now, no_entry, no_place}
 use Rattle.block_entries.proofs.entries.Entries.info.Goals as goal
 
@@ -9,7 +8,7 @@ returns-in-Some-clause-info c =
     let view = ap (λ (s : EntriesState). s.files) c.self.view_is in
     ap Some c.info.ensures
     ∙ ap (option_map placed_info)
-    (sym (entry_now c.self.inside.table.runs c.self.inside.files.items c.self.inside.next c.self.inside.table.limit c.self.invariant _ view c.args.number c.in-Some.place c.place_of.result c.in-Some.is c.place_of.ensures.some c.index.result.now c.index.ensures))
+    (sym (entry_now c.self.inside.table.runs c.self.inside.files.items c.self.inside.next c.self.inside.table.limit c.self.invariant.0 _ view c.args.number c.in-Some.place c.place_of.result c.in-Some.is c.place_of.ensures.some c.index.result.now c.index.ensures))
 
 pub returns-in-None-clause-info : goal.returns-in-None-clause-info
 returns-in-None-clause-info c =

@@ -1,6 +1,5 @@
 use Rattle.std.proofs.Common.{◌≡◌, ap, sym, ◌∙◌, arith}
-use Rattle.block_entries.specs.PlacedFiles.{EntriesState, seal_of, store_of}
-use Rattle.block_entries.specs.Placed.{Placed}
+use Rattle.block_entries.proofs.Names.{EntriesState, seal_of, store_of, Placed}
 use Rattle.block_entries.proofs.AnewLemmas.{count_entries, file_at, says_at, some_same}
 use Rattle.block_entries.proofs.entries.Entries.mark_at.Goals as goal
 
@@ -9,5 +8,5 @@ returns c =
     let view = ap (λ (s : EntriesState). s.files) c.self.view_is in
     says_at (store_of c.args.self.now.files) c.args.at (λ f. seal_of c.mark.result ≡ f.seal)
     (λ f is.
-    let here = file_at c.self.inside.table.runs c.self.inside.files.items c.self.inside.next c.self.inside.table.limit c.self.invariant _ view c.args.at c.index.result.now c.index.ensures (omega (arith, c.requires, count_entries c.self.inside.table.runs c.self.inside.files.items c.self.inside.next c.self.inside.table.limit c.self.invariant _ view)) in
+    let here = file_at c.self.inside.table.runs c.self.inside.files.items c.self.inside.next c.self.inside.table.limit c.self.invariant.0 _ view c.args.at c.index.result.now c.index.ensures (omega (arith, c.requires, count_entries c.self.inside.table.runs c.self.inside.files.items c.self.inside.next c.self.inside.table.limit c.self.invariant.0 _ view)) in
     c.mark.ensures ∙ sym (ap (λ (g : Placed). g.seal) (some_same (sym is ∙ here))))

@@ -1,12 +1,8 @@
 use Rattle.std.proofs.Common.{◌≡◌, true, sym}
-use Rattle.std.specs.Prelude.{IsErrOf}
-use Rattle.block_entries.specs.PlacedCommand.{is_whole, passes_at}
-use Rattle.block_entries.specs.PlacedFiles.{store_of}
-use Rattle.block_entries.specs.TestLaws.{passed}
 use Rattle.block_entries.specs.declared.check_fault.CheckFault.TheVariants.{Header}
+use Rattle.block_entries.proofs.Names.{IsErrOf, is_whole, passes_at, store_of, passed, blocks_on}
 use Rattle.block_entries.proofs.AppliedLemmas.{fault_refuses, header_takes}
 use Rattle.block_entries.proofs.entries.Entries.may_seal.Goals as goal
-use Rattle.file_journal.specs.Layout.{blocks_on}
 
 pub returns-in-Err-Header-clause-may : goal.returns-in-Err-Header-clause-may
 returns-in-Err-Header-clause-may g c = λ told.

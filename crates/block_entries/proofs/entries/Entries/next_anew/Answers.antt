@@ -1,11 +1,7 @@
 use Rattle.std.proofs.Common.{◌+◌, ◌≤◌, ◌∷◌, ap, sym, ◌∙◌, arith}
-use Rattle.std.specs.Option.{option_map}
-use Rattle.block_entries.specs.Anew.{left_from}
-use Rattle.block_entries.specs.PlacedCommands.{placed_value}
-use Rattle.block_entries.specs.PlacedFiles.{store_of}
+use Rattle.block_entries.proofs.Names.{option_map, left_from, placed_value, store_of, Record}
 use Rattle.block_entries.proofs.AnewLemmas.{anew_next, anew_none, anew_some}
 use Rattle.block_entries.proofs.entries.Entries.next_anew.Goals as goal
-use Rattle.file_journal.specs.Records.{Record}
 
 pub returns-in-Some-clause-some : goal.returns-in-Some-clause-some
 returns-in-Some-clause-some c =

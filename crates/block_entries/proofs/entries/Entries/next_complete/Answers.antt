@@ -1,11 +1,6 @@
 use Rattle.std.proofs.Common.{◌≡◌, ◌≤◌, ◌-◌, ℕ, List, Option, true, false, length, take, drop, rules, ap, sym, ◌∙◌, subst, length-drop}
-use Rattle.std.specs.Prelude.{find, nat_le}
-use Rattle.std.specs.List.Sorted.{IsPartitionPoint, IsPartitionedBy}
-use Rattle.std.specs.Option.{option_map}
-use Rattle.std.proofs.Math.Seq.{take-length}
 use Rattle.std.proofs.lemmas.Fn.{always_returns_same}
-use Rattle.block_entries.specs.Placed.{placed_from}
-use Rattle.block_entries.specs.PlacedFiles.{EntriesState, IsNextSealed, PlacedFile, entries_of, in_runs, is_sealed_file, store_of}
+use Rattle.block_entries.proofs.Names.{find, nat_le, IsPartitionPoint, IsPartitionedBy, option_map, take-length, placed_from, EntriesState, IsNextSealed, PlacedFile, entries_of, in_runs, is_sealed_file, store_of}
 use Rattle.block_entries.proofs.NextLemmas.{next_at, numbers_parted}
 use Rattle.block_entries.proofs.RunsLemmas.{rise_in_runs}
 use Rattle.block_entries.proofs.entries.Entries.next_complete.Goals as goal
@@ -21,7 +16,7 @@ returns c =
     let runs = c.self.inside.table.runs in
     let place = c.partition_point-place.result in
     let above = c.args.above in
-    let kept = c.self.invariant in
+    let kept = c.self.invariant.0 in
     let are = rise_in_runs 1 c.self.inside.next runs files kept.count kept.rules.numbers in
     let at-slice = facts.partitioned (λ (f : PlacedFile). nat_le f.entry.number c.args.above) (always_returns_same _ _ _ (λ a r g called. (search rules, search rules))) in
     let at-files = subst (λ (fs : List PlacedFile). IsPartitionedBy (λ (f : PlacedFile). nat_le f.entry.number above) fs

@@ -1,10 +1,6 @@
 use Rattle.std.proofs.Common.{◌≡◌, ℕ, List, Option, None, length, rules, sym, subst}
-use Rattle.std.specs.Prelude.{IfNone, IfSome}
-use Rattle.std.specs.List.Sorted.{IsBinarySearchResult, IsSearchInRange}
-use Rattle.std.specs.Ordering.{nat_cmp}
-use Rattle.std.specs.Result.{result_ok}
 use Rattle.std.proofs.lemmas.List.Sorted.{answers_always}
-use Rattle.block_entries.specs.PlacedFiles.{EntriesState, IsPlace, PlacedFile, file_of}
+use Rattle.block_entries.proofs.Names.{IfNone, IfSome, IsBinarySearchResult, IsSearchInRange, nat_cmp, result_ok, EntriesState, IsPlace, PlacedFile, file_of}
 use Rattle.block_entries.proofs.HalvingLemmas.{searched}
 use Rattle.block_entries.proofs.RunsLemmas.{found_in_runs, rise_in_runs}
 use Rattle.block_entries.proofs.entries.Entries.place_of.Goals as goal
@@ -12,7 +8,7 @@ use Rattle.block_entries.proofs.entries.Entries.place_of.Goals as goal
 found : (c : goal.After-ok) → IfSome c.ok.result (IsPlace c.args.self.now.files.files c.args.number) × IfNone c.ok.result (file_of c.args.self.now.files.files c.args.number ≡ None)
 found c =
     let facts = c.binary_search_by_key.ensures in
-    let kept = c.self.invariant in
+    let kept = c.self.invariant.0 in
     let items = c.self.inside.files.items in
     let by_number = facts.position (λ (f : PlacedFile). f.entry.number) (answers_always _ _ _ (λ f a r g called. search rules)) in
     let at = searched 1 c.self.inside.next items (rise_in_runs 1 c.self.inside.next c.self.inside.table.runs items kept.count kept.rules.numbers) c.args.number c.binary_search_by_key.result

@@ -1,6 +1,5 @@
 use Rattle.std.proofs.Common.{ap, sym, ◌∙◌, arith}
-use Rattle.block_entries.specs.PlacedCommand.{seal_with}
-use Rattle.block_entries.specs.PlacedFiles.{EntriesState}
+use Rattle.block_entries.proofs.Names.{seal_with, EntriesState}
 use Rattle.block_entries.proofs.ChangeLemmas.{has_place, in_range, never_found, rest_now, seal_becomes, seal_kept}
 use Rattle.block_entries.proofs.entries.Entries.seal.Goals as goal
 
@@ -12,19 +11,22 @@ unwrap-place-requires c =
 pub index_mut-requires : goal.index_mut-requires
 index_mut-requires c =
     let view = ap (λ (s : EntriesState). s.files) c.self.view_is in
-    let inside = in_range c.self.inside.table.runs c.self.inside.files.items c.self.inside.next c.self.inside.table.limit c.self.invariant _ view c.args.number _ c.place_of.result c.unwrap-place.ensures c.place_of.ensures.some in
+    let inside = in_range c.self.inside.table.runs c.self.inside.files.items c.self.inside.next c.self.inside.table.limit c.self.invariant.0 _ view c.args.number _ c.place_of.result c.unwrap-place.ensures c.place_of.ensures.some in
     omega (arith, inside, c.self.inside.files.ok.0)
 
 pub invariant_of-self : goal.invariant_of-self
 invariant_of-self c =
-    let view = ap (λ (s : EntriesState). s.files) c.self.view_is in
-    seal_kept c.self.inside.table.runs c.self.inside.files.items c.self.inside.next c.self.inside.table.limit c.self.invariant _ view c.args.number _ c.place_of.result c.unwrap-place.ensures c.place_of.ensures.some c.index_mut.result.now c.index_mut.ensures.value
-    (seal_with c.args.moment c.args.sum c.args.header_len) c.requires.takes c.seal.new.self c.index_mut.result.now.rest c.seal.ensures
+    let view = ap (λ (s : EntriesState). s.files) c.self.view_is in (
+      seal_kept c.self.inside.table.runs c.self.inside.files.items c.self.inside.next c.self.inside.table.limit c.self.invariant.0 _ view c.args.number _ c.place_of.result c.unwrap-place.ensures c.place_of.ensures.some c.index_mut.result.now c.index_mut.ensures.value
+          (seal_with c.args.moment c.args.sum c.args.header_len) c.requires.takes c.seal.new.self c.index_mut.result.now.rest c.seal.ensures,
+      c.self.invariant.1,
+      c.self.invariant.2,
+    )
 
 pub returns-clause-becomes : goal.returns-clause-becomes
 returns-clause-becomes c =
     let view = ap (λ (s : EntriesState). s.files) c.self.view_is in
-    let rest = rest_now c.self.inside.table.runs c.self.inside.files.items c.self.inside.next c.self.inside.table.limit c.self.invariant _ view c.args.number _ c.place_of.result c.unwrap-place.ensures c.place_of.ensures.some c.index_mut.result.now c.index_mut.ensures.value in
-    let becomes = seal_becomes c.self.inside.table.runs c.self.inside.files.items c.self.inside.next c.self.inside.table.limit c.self.invariant _ view c.args.number _ c.place_of.result c.unwrap-place.ensures c.place_of.ensures.some c.index_mut.result.now c.index_mut.ensures.value
+    let rest = rest_now c.self.inside.table.runs c.self.inside.files.items c.self.inside.next c.self.inside.table.limit c.self.invariant.0 _ view c.args.number _ c.place_of.result c.unwrap-place.ensures c.place_of.ensures.some c.index_mut.result.now c.index_mut.ensures.value in
+    let becomes = seal_becomes c.self.inside.table.runs c.self.inside.files.items c.self.inside.next c.self.inside.table.limit c.self.invariant.0 _ view c.args.number _ c.place_of.result c.unwrap-place.ensures c.place_of.ensures.some c.index_mut.result.now c.index_mut.ensures.value
     (seal_with c.args.moment c.args.sum c.args.header_len) c.requires.takes c.seal.new.self c.index_mut.result.now.rest c.seal.ensures in
     record { store_is = becomes.store_is; here = becomes.here ∙ sym rest ∙ c.requires.in_; others = becomes.others }

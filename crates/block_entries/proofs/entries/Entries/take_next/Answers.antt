@@ -1,5 +1,5 @@
 use Rattle.std.proofs.Common.{ap, arith}
-use Rattle.block_entries.specs.PlacedFiles.{EntriesState}
+use Rattle.block_entries.proofs.Names.{EntriesState}
 use Rattle.block_entries.proofs.AnewLemmas.{kept_next}
 use Rattle.block_entries.proofs.entries.Entries.take_next.Goals as goal
 
@@ -7,4 +7,4 @@ pub invariant_of-self : goal.invariant_of-self
 invariant_of-self c =
     let view = ap (λ (s : EntriesState). s.files) c.self.view_is in
     let least = ap (λ (s : EntriesState). s.least) c.self.view_is in
-    kept_next c.self.inside.table.runs c.self.inside.files.items c.self.inside.next c.self.inside.table.limit c.self.invariant _ view c.args.number c.args.self.now.least c.requires.rules.rules (omega (arith, least, c.if-number-self.false))
+    (kept_next c.self.inside.table.runs c.self.inside.files.items c.self.inside.next c.self.inside.table.limit c.self.invariant.0 _ view c.args.number c.args.self.now.least c.requires.rules.rules (omega (arith, least, c.if-number-self.false)), c.self.invariant.1, c.self.invariant.2)

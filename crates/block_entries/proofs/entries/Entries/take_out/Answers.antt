@@ -1,5 +1,5 @@
 use Rattle.std.proofs.Common.{ap, ◌∙◌, arith}
-use Rattle.block_entries.specs.PlacedFiles.{EntriesState, PlacedFile}
+use Rattle.block_entries.proofs.Names.{EntriesState, PlacedFile}
 use Rattle.block_entries.proofs.ChangeLemmas.{has_place, in_range, never_some, no_entry, rest_becomes, rest_kept}
 use Rattle.block_entries.proofs.entries.Entries.take_out.Goals as goal
 
@@ -11,18 +11,21 @@ unwrap-place-requires c =
 pub index_mut-requires : goal.index_mut-requires
 index_mut-requires c =
     let view = ap (λ (s : EntriesState). s.files) c.self.view_is in
-    let inside = in_range c.self.inside.table.runs c.self.inside.files.items c.self.inside.next c.self.inside.table.limit c.self.invariant _ view c.args.number _ c.place_of.result c.unwrap-place.ensures c.place_of.ensures.some in
+    let inside = in_range c.self.inside.table.runs c.self.inside.files.items c.self.inside.next c.self.inside.table.limit c.self.invariant.0 _ view c.args.number _ c.place_of.result c.unwrap-place.ensures c.place_of.ensures.some in
     omega (arith, inside, c.self.inside.files.ok.0)
 
 pub invariant_of-self : goal.invariant_of-self
 invariant_of-self c =
-    let view = ap (λ (s : EntriesState). s.files) c.self.view_is in
-    rest_kept c.self.inside.table.runs c.self.inside.files.items c.self.inside.next c.self.inside.table.limit c.self.invariant _ view c.args.number _ c.place_of.result c.unwrap-place.ensures c.place_of.ensures.some c.index_mut.result.now c.index_mut.ensures.value
-    c.take_out.new.self (ap (λ (f : PlacedFile). f.entry) c.take_out.ensures)
+    let view = ap (λ (s : EntriesState). s.files) c.self.view_is in (
+      rest_kept c.self.inside.table.runs c.self.inside.files.items c.self.inside.next c.self.inside.table.limit c.self.invariant.0 _ view c.args.number _ c.place_of.result c.unwrap-place.ensures c.place_of.ensures.some c.index_mut.result.now c.index_mut.ensures.value
+          c.take_out.new.self (ap (λ (f : PlacedFile). f.entry) c.take_out.ensures),
+      c.self.invariant.1,
+      c.self.invariant.2,
+    )
 
 pub returns : goal.returns
 returns c =
     let view = ap (λ (s : EntriesState). s.files) c.self.view_is in
-    let becomes = rest_becomes c.self.inside.table.runs c.self.inside.files.items c.self.inside.next c.self.inside.table.limit c.self.invariant _ view c.args.number _ c.place_of.result c.unwrap-place.ensures c.place_of.ensures.some c.index_mut.result.now c.index_mut.ensures.value
+    let becomes = rest_becomes c.self.inside.table.runs c.self.inside.files.items c.self.inside.next c.self.inside.table.limit c.self.invariant.0 _ view c.args.number _ c.place_of.result c.unwrap-place.ensures c.place_of.ensures.some c.index_mut.result.now c.index_mut.ensures.value
     c.take_out.new.self (ap (λ (f : PlacedFile). f.entry) c.take_out.ensures) in
     record { store_is = becomes.store_is; here = becomes.here ∙ ap (λ (f : PlacedFile). f.rest) c.take_out.ensures; others = becomes.others }

@@ -1,5 +1,9 @@
-use Rattle.block_entries.proofs.BlankedLemmas.{seal_sum, sealed_len}
+use Rattle.std.proofs.Common.{arith}
+use Rattle.block_entries.proofs.BlankedLemmas.{seal_sum, sealed_len, sealed_short}
 use Rattle.block_entries.proofs.file_check.FileCheck.end.Goals as goal
+
+pub overflow_cast-result : goal.overflow_cast-result
+overflow_cast-result c = omega (arith, sealed_short c.requires.1 c.in-Ok.sums (c.in-Ok.ensures.ok c.requires.1 c.requires.2.checked))
 
 pub returns-in-Ok : goal.returns-in-Ok
 returns-in-Ok c = λ stamp fed has. record {

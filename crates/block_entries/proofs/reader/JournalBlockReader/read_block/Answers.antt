@@ -1,5 +1,5 @@
 use Rattle.std.proofs.Common.{length}
-use Rattle.std.proofs.lemmas.Result.{on_ok_weaker}
+use Rattle.block_entries.proofs.Names.{on_ok_weaker}
 use Rattle.block_entries.proofs.WholeBlockLemmas.{fills_whole}
 use Rattle.block_entries.proofs.reader.JournalBlockReader.read_block.Goals as goal
 

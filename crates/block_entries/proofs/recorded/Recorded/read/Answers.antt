@@ -1,8 +1,5 @@
 use Rattle.std.proofs.Common.{ap, sym, ◌∙◌}
-use Rattle.std.specs.Option.{option_map}
-use Rattle.block_entries.specs.PlacedCommands.{placed_value}
-use Rattle.block_entries.specs.ReadStore.{change}
-use Rattle.block_entries.specs.RecordLaws.{of_command_kind, of_next_kind}
+use Rattle.block_entries.proofs.Names.{option_map, placed_value, change, of_command_kind, of_next_kind}
 use Rattle.block_entries.proofs.recorded.Recorded.read.Goals as goal
 
 pub returns-then-kind-eq-NEXT-clause-recorded : goal.returns-then-kind-eq-NEXT-clause-recorded

@@ -1,5 +1,5 @@
 use Rattle.std.proofs.Common.{◌≤◌, subst, sym, arith}
-use Rattle.block_table.specs.Table.{Table, left_in}
+use Rattle.block_table.proofs.Names.{Table, left_in}
 use Rattle.block_table.proofs.KeptLemmas.{kept-beginning, kept-rooms}
 use Rattle.block_table.proofs.table.BlockTable.begin.Goals as goal
 
@@ -11,4 +11,4 @@ overflow_add-self c =
 pub invariant_of-self : goal.invariant_of-self
 invariant_of-self c =
     let fits = subst (λ (t : Table). c.args.room ≤ left_in t) (sym c.self.view_is) c.requires.room in
-    rw (rw c.unwrap.ensures at c.push.ensures.items) (kept-beginning c.self.invariant c.args.room fits)
+    rw c.push_reserved.ensures.items (kept-beginning c.self.invariant c.args.room fits)

@@ -1,5 +1,5 @@
 use Rattle.std.proofs.Common.{◌≡◌, ◌∙◌, ◌<◌, length, ap, subst, sym}
-use Rattle.block_table.specs.Table.{Run, Table, run_at}
+use Rattle.block_table.proofs.Names.{Run, Table, run_at}
 use Rattle.block_table.proofs.KeptLemmas.{mark-at}
 use Rattle.block_table.proofs.table.BlockTable.count.Goals as goal
 

@@ -1,5 +1,5 @@
 use Rattle.std.proofs.Common.{◌≡◌, ◌-◌, ℕ, ap, subst, sym}
-use Rattle.block_table.specs.Table.{Table, left_in}
+use Rattle.block_table.proofs.Names.{Table, left_in}
 use Rattle.block_table.proofs.KeptLemmas.{kept-rooms}
 use Rattle.block_table.proofs.table.BlockTable.left.Goals as goal
 

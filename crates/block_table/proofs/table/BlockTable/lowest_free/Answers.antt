@@ -1,5 +1,5 @@
 use Rattle.std.proofs.Common.{subst, sym}
-use Rattle.block_table.specs.Table.{HasRoom, IsLowestFree, Table}
+use Rattle.block_table.proofs.Names.{HasRoom, IsLowestFree, Table}
 use Rattle.block_table.proofs.FreeLemmas.{finds-lowest, finds-some}
 use Rattle.block_table.proofs.table.BlockTable.lowest_free.Goals as goal
 

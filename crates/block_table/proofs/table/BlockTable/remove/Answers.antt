@@ -1,11 +1,7 @@
 use Rattle.std.proofs.Common.{◌≡◌, ◌∙◌, ◌+◌, ◌-◌, ◌<◌, ◌≤◌, ◌++◌, List, ℕ, take, drop, length, map, ap, refl}
 use Rattle.std.proofs.Common.{rules, subst, sym, arith}
-use Rattle.std.specs.List.{All}
 use Rattle.std.specs.Vec.{with_items}
-use Rattle.std.proofs.lemmas.List.{with_items_is}
-use Rattle.block_table.specs.Kept.{earlier, run_in, runs_in}
-use Rattle.block_table.specs.Table.{Table, without}
-use Rattle.block_table.specs.declared.marks.RunMark.{RunMark}
+use Rattle.block_table.proofs.Names.{All, with_items_is, earlier, run_in, runs_in, Table, without, RunMark}
 use Rattle.block_table.proofs.KeptLemmas.{IsMark, kept-behind, kept-without, line-without, mark-at, marks_without}
 use Rattle.block_table.proofs.KeptLemmas.{same-table}
 use Rattle.block_table.proofs.table.BlockTable.remove.Goals as goal
@@ -89,5 +85,5 @@ returns c =
     let now = c.copy_within.new.self.items in
     same-table _ _ (ap (runs_in now) (marks (goal.at.returns c).After-move_up)
     ∙ (line-without here now c.copy_within.ensures.items).1) refl
-    (omega (arith, c.remove-gone.ensures.capacity, c.remove-gone.ensures.len, c.self.inside.runs.ok))
+    c.remove-gone.ensures.capacity
     ∙ ap (λ (t : Table). without t c.args.run) c.self.view_is

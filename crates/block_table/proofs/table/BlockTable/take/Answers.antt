@@ -1,5 +1,5 @@
 use Rattle.std.proofs.Common.{◌∙◌, ◌<◌, ap, refl, subst, sym, arith}
-use Rattle.block_table.specs.Table.{HasRoom, IsFree, Table, after_taking}
+use Rattle.block_table.proofs.Names.{HasRoom, IsFree, Table, after_taking}
 use Rattle.block_table.proofs.KeptLemmas.{IsMark, kept-taking, line-taking, room-at, same-table}
 use Rattle.block_table.proofs.table.BlockTable.take.Goals as goal
 use Rattle.block_table.proofs.table.BlockTable.take.Goals.{After-index_mut-mark}
