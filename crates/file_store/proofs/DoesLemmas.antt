@@ -1,5 +1,5 @@
 -- What a store's commands do to its disk: what file_journal proves of a state that is kept, at the store's form.
-use Rattle.std.proofs.Common.{◌≡◌, ℕ, ◌+◌, ◌≤◌, Bool, true, false, List, [], ◌++◌, length, Option, inr, refl, sym, ap, subst, arith}
+use Rattle.std.proofs.Common.{◌≡◌, ℕ, ◌+◌, ◌≤◌, Bool, true, false, List, [], ◌++◌, length, Option, refl, sym, ap, subst, arith}
 use Rattle.std.proofs.Math.Nat.{add-zero}
 use Rattle.disk_model.specs.AtDisk.{AtDisk}
 use Rattle.disk_model.specs.declared.disk.Disk.{Ghosts}
@@ -8,7 +8,7 @@ use Rattle.file_journal.specs.Calls.{Reads}
 use Rattle.file_journal.specs.Kept as kept
 use Rattle.file_journal.specs.Kept.{IsKept, KeptOn, kept_on}
 use Rattle.file_journal.specs.Layout.{blocks_on}
-use Rattle.file_journal.proofs.Offered.{alike_same, among_does, among_same, among_then, changes_none, does_longer, does_none, does_same, does_then, first_all, first_then, held_kept, makes_first, makes_within, puts_among_then, reads_only, same_on}
+use Rattle.file_journal.proofs.Offered.{among_does, among_same, among_then, does_longer, does_none, does_same, does_then, first_all, first_then, held_kept, makes_first, makes_within, puts_among_then, reads_only, same_on}
 use Rattle.file_entries.specs.Command.{AreAllowed, Command, after_all}
 use Rattle.block_entries.specs.PlacedFiles.{store_of}
 use Rattle.block_entries.specs.PlacedLaws.{placed_seen}
@@ -35,16 +35,6 @@ pub makes-within : (low high least most : ℕ) (store : Store) (commands : List 
 makes-within = makes_within store_form
 
 module _ {D : Type 0} (g : Ghosts D) where
-  -- reads alone, and no write that failed
-  pub puts-among-reads : (P Q : Type 0) (old new : D) → ¬ Q → Reads g P old new → PutsAmongReads g Q old new
-  puts-among-reads P Q old new fine run = record {
-    told = alike_same _ _ run.only.same_content;
-    reads = run.faults.no_less;
-    faults = record { no_less = omega (arith, run.only.same_write_faults); rose = λ failed. absurd (fine failed); same = λ still. run.only.same_write_faults };
-    stops = record { last = new; lasts = run.lasts; writes = run.only.same_write_faults; since = inr (changes_none g new) };
-    lasts = run.lasts;
-  }
-
   -- what a store stands for on its disk, where it stands there
   pub kept-on : (self : StoreState) (disk : D) → StandsOn g self disk → IsKept g store_form (kept_at g self disk)
   kept-on self disk stands = held_kept g placed_steps seen store_form placed_seen self.journal (placed_in self) disk stands

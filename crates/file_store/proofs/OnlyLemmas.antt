@@ -1,5 +1,5 @@
 -- What is the same of a store where the file of one number alone changed.
-use Rattle.std.proofs.Common.{◌≡◌, ◌≢◌, ℕ, List, [], ◌∷◌, take, Option, None, Some, inl, inr, refl, sym, ◌∙◌, ap, subst}
+use Rattle.std.proofs.Common.{◌≡◌, ℕ, List, [], ◌∷◌, take, Option, None, Some, inl, inr, refl, sym, ◌∙◌, ap, subst}
 use Rattle.std.specs.Prelude.{IsTrue, option_map}
 use Rattle.std.proofs.lemmas.Bool.Decides.{eqb_tells}
 use Rattle.file_entries.specs.Command.{Command, after, after_all, grown, with_holding}
@@ -32,11 +32,7 @@ only-then number before mid now first second = record {
       (was.0, was.1, last.2 ∙ ap (λ (e : Entry). record e { holding = entry.holding }) was.2);
 }
 
--- each other entry stands as it was
-pub only-entries : (number : ℕ) (before now : Store) → OnlyChanges before now number → (other : ℕ) (entry : Entry) → other ≢ number → entry_of before other ≡ Some entry → entry_of now other ≡ Some entry
-only-entries number before now only other entry ne found = only.others other ne ∙ found
-
--- and each entry stood before
+-- each entry stood before
 pub only-changes : (number : ℕ) (before now : Store) → OnlyChanges before now number → ChangesEntry before now number
 only-changes number before now only other entry found =
     elim (eqb_tells other number) [

@@ -22,7 +22,7 @@ use Rattle.file_entries.specs.declared.begin_bar.BeginBar.TheVariants.{TooLong, 
 use Rattle.file_entries.proofs.Offered.{both-true}
 use Rattle.file_journal.specs.Layout.{Blocks}
 use Rattle.file_store.specs.Answers.{RefusesBegin}
-use Rattle.file_store.specs.Changes.{MakesOf, MayMake, waiting_front}
+use Rattle.file_store.specs.Changes.{MakesOf, MayMake, waiting_in}
 use Rattle.file_store.specs.OnDisk.{Does, DoesTo, after_first, outlined_all}
 use Rattle.file_store.specs.Refusals.{refusal_of_bar}
 use Rattle.file_store.specs.State.{StandsOn, StoreState, placed_in, rest_in, store_in}
@@ -30,7 +30,7 @@ use Rattle.file_store.specs.Upload.{FillsBlock}
 use Rattle.file_store.specs.declared.change.EntriesChange.TheVariants as change
 use Rattle.file_store.specs.declared.refusals.BeginRefusal.{BeginRefusal}
 use Rattle.file_store.proofs.TokenLemmas.{IsFileUnder, file-under}
-use Rattle.file_store.proofs.TurnLemmas.{front-length}
+use Rattle.file_store.proofs.TurnLemmas.{waits-length}
 
 -- ---- whether a file can be begun, as far as memory tells
 
@@ -100,7 +100,7 @@ module _ (self : StoreState) (number count : ℕ) (fills : FillsBlock self numbe
   pub fills-lacks : Passes (placed_in self) number lacks_octets
   fills-lacks =
       let some = fills.some in
-      let there = fills.there in
+      let all = fills.all in
       let fits = fills.waits.fits in
       let below : under.file.held < under.file.length = omega (arith, long, under.many) in
       record { file = under.file; found = under.found; test_is = grind (arith, nat_tests) }
@@ -108,7 +108,7 @@ module _ (self : StoreState) (number count : ℕ) (fills : FillsBlock self numbe
   can-fill : IsTrue (can_grow under.file count)
   can-fill =
       let f : Placed = under.file in
-      let there = fills.there in
+      let all = fills.all in
       let fits = fills.waits.fits in
       let room : IsTrue (nat_le (f.held + count) f.length) = let sum : f.held + count ≤ f.length = omega (arith, long, under.many) in grind (arith, nat_tests) in
       let partial : IsTrue (is_partial f) = ap (λ (s : Option Seal). not (is_some s)) under.seal in
@@ -125,24 +125,24 @@ module _ (self : StoreState) (number count : ℕ) (fills : FillsBlock self numbe
         passes = record { file = under.file; found = under.found; test_is = can-fill };
       }
 
-  pub fills-may : (block spare least : ℕ) (first : Bool) → IsPlaced (placed_in self) → IsLowest (placed_in self) block
-      → MayMake (change.Hold number block count) (record { files = self.files; spare = spare; least = least; first = first })
-  fills-may block spare least first is lowest = record {
+  pub fills-may : (block least : ℕ) (first : Bool) → IsPlaced (placed_in self) → IsLowest (placed_in self) block
+      → MayMake (change.Hold number block count) (record { files = self.files; least = least; first = first })
+  fills-may block least first is lowest = record {
     rules = is;
-    has = ((fills.waits.rest, fills.waits.out, fills.there), fills-grows block lowest, lowest);
+    has = ((fills.waits.rest, fills.waits.out, fills.all), fills-grows block lowest, lowest);
   }
 
   -- what memory tells then
   pub hold-whole : (new : StoreState) (block : ℕ) → IsPlaced (placed_in self) → IsLowest (placed_in self) block → MakesOf (change.Hold number block count) self.files new.files
-      → store_in new ≡ after_all (store_in self) (outlined_all (grow number (waiting_front self.files number count) ∷ []))
+      → store_in new ≡ after_all (store_in self) (outlined_all (grow number (waiting_in self.files number) ∷ []))
   hold-whole new block is lowest makes =
       ap outlined makes.store_is
       ∙ outlined_grown (placed_in self) number block count is (fills-grows block lowest)
-      ∙ ap (λ (n : ℕ). after (store_in self) (grow number (replicate n 0))) (sym (front-length self.files number count fills.waits.rest fills.waits.out fills.there))
+      ∙ ap (λ (n : ℕ). after (store_in self) (grow number (replicate n 0))) (sym (waits-length self.files number count fills.waits.rest fills.waits.out fills.all))
 
   pub hold-part : {T E : Type 0} (result : Result T E) (new : StoreState) (block : ℕ) → IsPlaced (placed_in self) → IsLowest (placed_in self) block
       → OnOk result (MakesOf (change.Hold number block count) self.files new.files) → OnErr result (new.files ≡ self.files)
-      → (done : ℕ) × (store_in new ≡ after_first done (store_in self) (outlined_all (grow number (waiting_front self.files number count) ∷ [])))
+      → (done : ℕ) × (store_in new ≡ after_first done (store_in self) (outlined_all (grow number (waiting_in self.files number) ∷ [])))
   hold-part (Ok v) new block is lowest makes same = (1, hold-whole new block is lowest makes)
   hold-part (Err e) new block is lowest makes same = (0, ap (λ (f : PlacedFiles). outlined (store_of f)) same)
 
@@ -162,9 +162,9 @@ err-files (Ok v) old new same = tt
 err-files (Err e) old new same = ap (λ (s : EntriesState). s.files) same
 
 module _ {D T E : Type 0} (g : Ghosts D) (result : Result T E) (self new : StoreState) (disk disk_now : D) (number count block : ℕ) (fills : FillsBlock self number count) where
-  pub hold-does : IsPlaced (placed_in self) → IsLowest (placed_in self) block → Does g (IsErr result) self new disk disk_now (grow number (waiting_front self.files number count) ∷ [])
+  pub hold-does : IsPlaced (placed_in self) → IsLowest (placed_in self) block → Does g (IsErr result) self new disk disk_now (grow number (waiting_in self.files number) ∷ [])
       → StandsOn g new disk_now → OnOk result (MakesOf (change.Hold number block count) self.files new.files) → OnErr result (new.files ≡ self.files)
-      → DoesTo g (IsErr result) self new disk disk_now (grow number (waiting_front self.files number count) ∷ []) number
+      → DoesTo g (IsErr result) self new disk disk_now (grow number (waiting_in self.files number) ∷ []) number
   hold-does is lowest does stands makes same = record {
     does = does;
     stands_on = stands;

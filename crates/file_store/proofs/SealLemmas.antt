@@ -1,8 +1,8 @@
 -- How the parts of the end of a file come together.
-use Rattle.std.proofs.Common.{◌≡◌, ◌≢◌, inl, inr, ℕ, ◌+◌, ◌≤◌, Bool, true, false, List, [], ◌∷◌, ◌++◌, length, Option, None, Some, Result, Ok, Err, IsErr, OnOk, OnErr, refl, sym, ◌∙◌, ap, subst, arith, take, zero-add}
+use Rattle.std.proofs.Common.{◌≡◌, ◌≢◌, inl, inr, ℕ, ◌+◌, ◌≤◌, Bool, true, false, List, [], ◌∷◌, ◌++◌, length, Option, None, Some, Result, Ok, Err, IsErr, OnOk, OnErr, refl, sym, ◌∙◌, ap, subst, arith, zero-add}
 use Rattle.std.specs.Prelude.{IfSome, IsSome, IsTrue, is_some, replicate}
 use Rattle.std.specs.Option.{option_map}
-use Rattle.std.proofs.lemmas.List.{append-nil, take_all}
+use Rattle.std.proofs.lemmas.List.{append-nil}
 use Rattle.block_entries.specs.Checking.{ChecksFile, HasFault, IsFaultCode, IsSealable}
 use Rattle.block_entries.specs.IsPlaced.{IsPlaced}
 use Rattle.block_entries.specs.Outlined.{outlined, outlined_entry}
@@ -33,9 +33,10 @@ use Rattle.file_store.specs.Upload.{Holds, IsWholeWaiting, Upload, come_of, endi
 use Rattle.file_store.specs.Working.{DoesAmongReads}
 use Rattle.file_store.specs.declared.end.End.{End}
 use Rattle.file_store.specs.declared.end.End.TheVariants as end
-use Rattle.file_store.proofs.DoesLemmas.{among-at, among-same, among-then, does-among, Does-longer, Does-none, Does-same, reads-only}
+use Rattle.file_store.proofs.DoesLemmas.{among-at, among-same, among-then, does-among, Does-longer, Does-same, reads-only}
 use Rattle.file_store.proofs.EndLemmas.{mid-come, mid-is, mid-partial, mid-under, mid-whole, sealing-allowed}
 use Rattle.file_store.proofs.GrowsLemmas.{AreGrows}
+use Rattle.file_store.proofs.HoldLemmas.{DoesTo-none}
 use Rattle.file_store.proofs.OnLemmas.{in_parked, known_on, known_told}
 use Rattle.file_store.proofs.OnlyLemmas.{only-first, only-same, only-then}
 use Rattle.file_store.proofs.UploadLemmas.{only-keeps}
@@ -359,20 +360,14 @@ module _ {D : Type 0} (g : Ghosts D) (old : StoreState) (disk : D) (number momen
             }
 
 -- the only Grow of octets that wait
-pub rest-grow : (number count : ℕ) (waits : List ℕ) → count ≡ length waits → ¬ (count ≡ 0) → grow number (take count waits) ∷ [] ≡ last_grow number waits
-rest-grow number count [] all some = absurd (some all)
-rest-grow number count (x ∷ xs) all some = ap (λ (octets : List ℕ). grow number octets ∷ []) (take_all count (x ∷ xs) (omega (arith, all)))
+pub rest-grow : (number : ℕ) (waits : List ℕ) → ¬ (length waits ≡ 0) → grow number waits ∷ [] ≡ last_grow number waits
+rest-grow number [] some = absurd (some refl)
+rest-grow number (x ∷ xs) some = refl
 
 -- nothing waits, and so nothing is done
 pub rest-none : {D : Type 0} (g : Ghosts D) (P : Type 0) (self : StoreState) (disk : D) (number : ℕ) (waits : List ℕ) → length waits ≡ 0 → ¬ P → IsReady g self disk → g.lasts disk disk
     → DoesTo g P self self disk disk (last_grow number waits) number
-rest-none g P self disk number [] none fine ready lasts = record {
-  does = Does-none g P self disk fine ready lasts;
-  stands_on = ready.stands_on;
-  part = (0, refl);
-  whole = λ held. refl;
-  rests = λ other ne. refl;
-}
+rest-none g P self disk number [] none fine ready lasts = DoesTo-none g P self disk number fine ready lasts
 rest-none g P self disk number (x ∷ xs) none fine ready lasts = absurd (omega (arith, none))
 
 -- what was answered is that the disk failed

@@ -1,9 +1,8 @@
 -- A change of the entries as a turn of the kept state: its record, and what that makes.
-use Rattle.std.proofs.Common.{◌≡◌, ◌+◌, ℕ, ◌≤◌, ◌==◌, Bool, true, false, List, [], length, take, nat_le, nat_lt, Option, None, Some, refl, sym, ◌∙◌, ap, subst, arith}
+use Rattle.std.proofs.Common.{◌≡◌, ◌+◌, ℕ, ◌≤◌, ◌==◌, Bool, true, false, List, [], length, nat_le, nat_lt, Option, None, Some, refl, sym, ◌∙◌, ap, subst, arith}
 use Rattle.std.specs.Prelude.{IfSome, IsTrue, ◌&&◌, if◌then◌else◌}
 use Rattle.std.proofs.lemmas.Bool.{eq-eqb}
 use Rattle.std.proofs.lemmas.Bool.Decides.{nat_tests}
-use Rattle.std.proofs.lemmas.List.{length-take-le}
 use Rattle.block_entries.specs.Checking.{IsSealable}
 use Rattle.block_entries.specs.IsPlaced.{IsPlaced}
 use Rattle.block_entries.specs.KeptLaws.{after_placed, blocks_seen, drop_placed, grow_placed, seal_placed}
@@ -24,7 +23,7 @@ use Rattle.file_entries.proofs.Offered.{both-true}
 use Rattle.file_journal.specs.Layout.{Blocks}
 use Rattle.file_journal.specs.Records.{Record}
 use Rattle.file_journal.specs.Steps.{HasPut, WritesTurn}
-use Rattle.file_store.specs.Changes.{LetsBy, MayMake, placed_by, turn_by, waiting_front}
+use Rattle.file_store.specs.Changes.{LetsBy, MayMake, placed_by, turn_by, waiting_in}
 use Rattle.file_store.specs.declared.change.EntriesChange.{EntriesChange}
 use Rattle.file_store.specs.declared.change.EntriesChange.TheVariants as change
 use Rattle.px_base.specs.CallSign.{CallSign}
@@ -65,9 +64,9 @@ is-allowed-made false made now is = absurd (cc is)
 found-some : {A : Type 0} (o : Option A) (a : A) (P : A → Type 0) → o ≡ Some a → IfSome o P → P a
 found-some o a P is holds = subst (λ (p : Option _). IfSome p P) is holds
 
-module _ (files : PlacedFiles) (number block count : ℕ) (front : length (waiting_front files number count) ≡ count) (grows : Grows (store_of files) number block count) where
+module _ (files : PlacedFiles) (number block count : ℕ) (front : length (waiting_in files number) ≡ count) (grows : Grows (store_of files) number block count) where
   abbrev octets : List ℕ
-  octets = waiting_front files number count
+  octets = waiting_in files number
 
   pub grows-front : Grows (store_of files) number block (length octets)
   grows-front = subst (λ (n : ℕ). Grows (store_of files) number block n) (sym front) grows
@@ -77,17 +76,16 @@ module _ (files : PlacedFiles) (number block count : ℕ) (front : length (waiti
   hold-sees held is put =
       ap (λ (n : ℕ). seen held (with_grown (store_of files) number block n)) (sym front) ∙ seen_put held (store_of files) number block octets grows-front is put
 
--- as many octets stand in front as are asked for
-pub front-length : (files : PlacedFiles) (number count : ℕ) (rest : List ℕ) → rest_of files number ≡ Some rest → count ≤ length rest → length (waiting_front files number count) ≡ count
-front-length files number count rest out there =
-    ap (λ (o : Option (List ℕ)). length (take count (octets_or_none o))) out ∙ length-take-le count rest there
+-- so many octets wait
+pub waits-length : (files : PlacedFiles) (number count : ℕ) (rest : List ℕ) → rest_of files number ≡ Some rest → length rest ≡ count → length (waiting_in files number) ≡ count
+waits-length files number count rest out all = ap (λ (o : Option (List ℕ)). length (octets_or_none o)) out ∙ all
 
 pub turn-written : (it : EntriesChange) (entries : EntriesState) (entry : Record) → MayMake it entries → IsWritable (placed_by it entries.files) → entry ≡ record_of_placed (placed_by it entries.files)
     → WritesTurn placed_form placed_steps seen (store_of entries.files) (turn_by it entries.files) entry
 turn-written (change.Begin caller file_length moment) entries entry may writable is =
     let store = store_of entries.files in
     let command = placed.begin store.next caller file_length moment in
-    let ok : (held : Blocks) → IsTrue (placed.is_allowed held store command) = λ held. begin-allowed held store caller file_length moment may.rules (may.has.0 held) in
+    let ok : (held : Blocks) → IsTrue (placed.is_allowed held store command) = λ held. begin-allowed held store caller file_length moment may.rules (may.has held) in
     record {
       allowed = λ held lets. seen_allowed held store command may.rules (ok held);
       step = λ held lets put. kept_step held store (after held store command) command entry writable is (allowed-after held store command (ok held));
@@ -102,9 +100,9 @@ turn-written (change.Hold number block count) entries entry may writable is =
     let command = placed.grow number block count in
     let waits = may.has.0 in
     let grows = may.has.1 in
-    let front = front-length entries.files number count waits.0 waits.1 waits.2 in
+    let front = waits-length entries.files number count waits.0 waits.1 waits.2 in
     record {
-      allowed = λ held lets. seen_may_grow held store number block (waiting_front entries.files number count) (grows-front entries.files number block count front grows) may.rules;
+      allowed = λ held lets. seen_may_grow held store number block (waiting_in entries.files number) (grows-front entries.files number block count front grows) may.rules;
       step = λ held lets put.
           kept_step held store (after held store command) command entry writable is (allowed-after held store command (grows_allowed held store number block count grows));
       sees = λ held lets put. hold-sees entries.files number block count front grows held may.rules put;

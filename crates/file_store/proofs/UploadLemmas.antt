@@ -15,7 +15,7 @@ use Rattle.file_entries.proofs.Offered.{find-append_found, find-map-changed, fin
 use Rattle.file_store.specs.Kept.{ChangesEntry, KeepsOtherFiles, KeepsOthers, KeepsUploads, OnlyChanges}
 use Rattle.file_store.specs.OnDisk.{after_first, outlined_all}
 use Rattle.file_store.specs.State.{StandsOn, StoreState, rest_in, store_in}
-use Rattle.file_store.specs.Upload.{FillsBlock, FitsWaiting, Holds, IsWholeWaiting, Upload, appended, appending, came, entry_for, new_upload, waiting, with_bytes}
+use Rattle.file_store.specs.Upload.{FillsBlock, FitsBytes, FitsWaiting, Holds, IsWholeWaiting, Upload, appended, appending, came, entry_for, new_upload, waiting, waiting_with, with_bytes}
 use Rattle.file_store.proofs.GrowsLemmas.{AreGrows, grows-are, outlined-grows}
 use Rattle.file_store.proofs.OnLemmas.{in_parked, stands_parked}
 use Rattle.file_store.proofs.OnlyLemmas.{only-changes, only-complete, only-first, only-same}
@@ -70,45 +70,36 @@ keeps-parked g old new disk number same journal stands rests =
       only = only;
     }
 
--- what the blocks of an upload that became held make of what memory tells, of the store before its octets came
-module _ (self brought held new : StoreState) (these those : List Command) (first : store_in brought ≡ store_in self) (last : store_in new ≡ store_in held) (same : these ≡ those) where
-  pub append-part : (count : ℕ) × (store_in held ≡ after_first count (store_in brought) (outlined_all these)) → (count : ℕ) × (store_in new ≡ after_first count (store_in self) (outlined_all those))
-  append-part part = (
-    part.0,
-    last ∙ part.1 ∙ ap (λ (s : Store). after_first part.0 s (outlined_all these)) first ∙ ap (λ (cs : List Command). after_first part.0 (store_in self) (outlined_all cs)) same,
-  )
-
-  pub append-whole : store_in held ≡ after_all (store_in brought) (outlined_all these) → store_in new ≡ after_all (store_in self) (outlined_all those)
-  append-whole whole =
-      last ∙ whole ∙ ap (λ (s : Store). after_all s (outlined_all these)) first ∙ ap (λ (cs : List Command). after_all (store_in self) (outlined_all cs)) same
-
 -- ---- octets that come
 
 pub waiting-is : (self : StoreState) (up : Upload) (h : Holds self up) → waiting self up ≡ h.rest
 waiting-is self up h = ap octets_or_none h.out
 
--- the entry has room for those that came too
-pub brought-fits : (self mid : StoreState) (up : Upload) (bytes : List ℕ) (number : ℕ) → number ≡ up.number → Holds self up → came self up + length bytes ≤ up.length
-    → store_in mid ≡ store_in self → rest_in mid number ≡ option_map (λ rest. rest ++ bytes) (rest_in self number) → FitsWaiting mid number
-brought-fits self mid up bytes number same h room store rest =
-    let long : length (waiting self up) ≡ length h.rest = ap length (waiting-is self up h) in
+-- the upload's entry, and what waits of it
+abbrev pub holds-fits : (self : StoreState) (up : Upload) (number : ℕ) → number ≡ up.number → Holds self up → FitsWaiting self number
+holds-fits self up number same h =
     let count = h.count in
-    let sum : length (h.rest ++ bytes) ≡ length h.rest + length bytes = length-append h.rest bytes in
+    let came = h.came in
     record {
       entry = entry_for up h.begun (partial h.held);
-      is_entry = ap (λ (s : Store). entry_of s number) store ∙ ap (λ (n : ℕ). entry_of (store_in self) n) same ∙ h.entry;
+      is_entry = ap (λ (n : ℕ). entry_of (store_in self) n) same ∙ h.entry;
       held = h.held;
       partial_is = refl;
-      rest = h.rest ++ bytes;
-      out = rest ∙ ap (option_map (λ (r : List ℕ). r ++ bytes)) (ap (λ (n : ℕ). rest_in self n) same ∙ h.out);
+      rest = h.rest;
+      out = ap (λ (n : ℕ). rest_in self n) same ∙ h.out;
       fits = omega arith;
     }
 
--- and what waits then
-pub brought-waits : (self mid : StoreState) (up : Upload) (bytes : List ℕ) (number : ℕ) → number ≡ up.number → Holds self up
-    → rest_in mid number ≡ option_map (λ rest. rest ++ bytes) (rest_in self number) → octets_or_none (rest_in mid number) ≡ with_bytes self up bytes
-brought-waits self mid up bytes number same h rest =
-    ap octets_or_none (rest ∙ ap (option_map (λ (r : List ℕ). r ++ bytes)) (ap (λ (n : ℕ). rest_in self n) same ∙ h.out)) ∙ ap (λ (r : List ℕ). r ++ bytes) (sym (waiting-is self up h))
+-- it has room for those that come too
+pub bytes-fit : (self : StoreState) (up : Upload) (bytes : List ℕ) (number : ℕ) → number ≡ up.number → Holds self up → came self up + length bytes ≤ up.length → FitsBytes self number bytes
+bytes-fit self up bytes number same h room =
+    let sum = length-append h.rest bytes in
+    record { waits = holds-fits self up number same h; few = h.few; fits = omega (arith, room, h.count, ap length (waiting-is self up h), sum) }
+
+-- how many blocks they fill
+pub blocks-come : (self : StoreState) (number : ℕ) (waits bytes : List ℕ) → waits ≡ octets_or_none (rest_in self number) → (length waits + length bytes) / 512 ≡ length (waiting_with self number bytes) / 512
+blocks-come self number waits bytes same =
+    ap (λ (n : ℕ). n / 512) (sym (length-append waits bytes)) ∙ ap (λ (w : List ℕ). length (w ++ bytes) / 512) same
 
 -- the upload with the blocks that became held
 pub appended-holds : (self new : StoreState) (up : Upload) (bytes : List ℕ) → Holds self up → came self up + length bytes ≤ up.length
@@ -142,21 +133,7 @@ appended-holds self new up bytes h room made rest =
 -- all octets came
 abbrev pub whole-waiting : (self : StoreState) (up : Upload) (number : ℕ) → number ≡ up.number → Holds self up → came self up ≡ up.length → IsWholeWaiting self number
 whole-waiting self up number same h all =
-    let long : length (waiting self up) ≡ length h.rest = ap length (waiting-is self up h) in
-    let count = h.count in
-    record {
-      waits = record {
-        entry = entry_for up h.begun (partial h.held);
-        is_entry = ap (λ (n : ℕ). entry_of (store_in self) n) same ∙ h.entry;
-        held = h.held;
-        partial_is = refl;
-        rest = h.rest;
-        out = ap (λ (n : ℕ). rest_in self n) same ∙ h.out;
-        fits = omega arith;
-      };
-      few = h.few;
-      all = omega arith;
-    }
+    record { waits = holds-fits self up number same h; few = h.few; all = omega (arith, all, h.count, ap length (waiting-is self up h)) }
 
 -- those that wait are all that the file lacks
 pub whole-fills : (self : StoreState) (number count : ℕ) → IsWholeWaiting self number → 1 ≤ count → count ≡ length (octets_or_none (rest_in self number)) → FillsBlock self number count
@@ -164,7 +141,7 @@ whole-fills self number count whole some all =
     let long : length (octets_or_none (rest_in self number)) ≡ length whole.waits.rest = ap (λ (o : Option (List ℕ)). length (octets_or_none o)) whole.waits.out in
     let few = whole.few in
     let full = whole.all in
-    record { waits = whole.waits; some = some; most = omega arith; there = omega arith; fills = inr (omega arith) }
+    record { waits = whole.waits; some = some; most = omega arith; all = omega arith; fills = inr (omega arith) }
 
 -- ---- a file that was just begun
 

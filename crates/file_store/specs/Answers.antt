@@ -24,8 +24,8 @@ use Rattle.file_store.specs.declared.refusals.AppendRefusal.TheVariants as appen
 use Rattle.file_store.specs.declared.refusals.SealRefusal.{SealRefusal}
 use Rattle.file_store.specs.declared.refusals.SealRefusal.TheVariants as seal_refusal
 
--- Where a refusal to begin a file of this length comes, in the order in which the causes are looked for. Want of memory
--- and a fault of the disk come only where nothing else does.
+-- Where a refusal to begin a file of this length comes, in the order in which the causes are looked for. A fault of the
+-- disk comes only where nothing else does.
 abbrev pub RefusesBegin : StoreState → ℕ → BeginRefusal → Type 0
 RefusesBegin self file_length begin_refusal.TooLong = Bars bar.TooLong (store_in self) file_length
 RefusesBegin self file_length begin_refusal.TooMany = Bars bar.TooMany (store_in self) file_length
@@ -34,7 +34,6 @@ RefusesBegin self file_length (begin_refusal.NoRoom blocks free) =
     Bars (bar.NoRoom blocks free) (store_in self) file_length
 RefusesBegin self file_length begin_refusal.Failed = MayBegin (store_in self) file_length × HasFailed self
 RefusesBegin self file_length begin_refusal.Disk = MayBegin (store_in self) file_length × ¬ HasFailed self
-RefusesBegin self file_length begin_refusal.OutOfMemory = MayBegin (store_in self) file_length × ¬ HasFailed self
 
 -- the entry of this number is this one
 abbrev pub IsEntry : StoreState → ℕ → Entry → Type 0
@@ -74,8 +73,6 @@ abbrev pub RefusesAppend : StoreState → Upload → List ℕ → AppendRefusal 
 RefusesAppend self up bytes (append_refusal.TooMuch back) = IsTooMuch self up bytes × (back ≡ up)
 RefusesAppend self up bytes append_refusal.Failed = ¬ IsTooMuch self up bytes × HasFailed self
 RefusesAppend self up bytes append_refusal.Disk = ¬ IsTooMuch self up bytes × ¬ HasFailed self
-RefusesAppend self up bytes (append_refusal.OutOfMemory back) =
-    ¬ IsTooMuch self up bytes × ¬ HasFailed self × (back ≡ up)
 
 -- fewer octets came than the file has
 abbrev pub IsShort : StoreState → Upload → Type 0
@@ -109,14 +106,12 @@ begin_reaches (Err begin_refusal.TooMany) = false
 begin_reaches (Err begin_refusal.NumbersGone) = false
 begin_reaches (Err (begin_refusal.NoRoom blocks free)) = false
 begin_reaches (Err begin_refusal.Failed) = false
-begin_reaches (Err begin_refusal.OutOfMemory) = false
 
 abbrev pub append_reaches : {T : Type 0} → Result T AppendRefusal → Bool
 append_reaches (Ok up) = true
 append_reaches (Err append_refusal.Disk) = true
 append_reaches (Err (append_refusal.TooMuch back)) = false
 append_reaches (Err append_refusal.Failed) = false
-append_reaches (Err (append_refusal.OutOfMemory back)) = false
 
 abbrev pub seal_reaches : {T : Type 0} → Result T SealRefusal → Bool
 seal_reaches (Ok receipt) = true
@@ -131,7 +126,6 @@ abbrev pub back_of_append : AppendRefusal → Option Upload
 back_of_append (append_refusal.TooMuch back) = Some back
 back_of_append append_refusal.Failed = None
 back_of_append append_refusal.Disk = None
-back_of_append (append_refusal.OutOfMemory back) = Some back
 
 abbrev pub back_of_seal : SealRefusal → Option Upload
 back_of_seal (seal_refusal.Short back) = Some back

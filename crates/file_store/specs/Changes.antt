@@ -1,30 +1,29 @@
 -- The code's changes of the entries as commands of the store.
-use Rattle.std.specs.Prelude.{◌≡◌, ℕ, ◌≤◌, List, take, Option, None, Some, IfSome, ⊤}
+use Rattle.std.specs.Prelude.{◌≡◌, ℕ, List, [], Option, None, Some, IfSome, ⊤}
 use Rattle.block_entries.specs.Checking.{IsSealable}
 use Rattle.block_entries.specs.IsPlaced.{IsPlaced}
 use Rattle.block_entries.specs.Placed.{PlacedStore, new_placed, placed_of}
 use Rattle.block_entries.specs.PlacedCommand as placed
 use Rattle.block_entries.specs.PlacedCommand.{PlacedCommand, is_partial, seal_with, with_grown, with_new, with_sealed}
 use Rattle.block_entries.specs.PlacedCommand.{without_file}
-use Rattle.block_entries.specs.PlacedFiles.{Becomes, EntriesState, IsLowest, PlacedFiles, Waits, rest_of, rest_without}
-use Rattle.block_entries.specs.PlacedFiles.{store_of}
+use Rattle.block_entries.specs.PlacedFiles.{Becomes, EntriesState, IsLowest, PlacedFiles, Waits, octets_or_none}
+use Rattle.block_entries.specs.PlacedFiles.{rest_of, store_of}
 use Rattle.block_entries.specs.Seen.{octets_in, seen, stamp_at}
 use Rattle.block_entries.specs.TestLaws.{Grows, Passes, TakesSeal}
 use Rattle.file_entries.specs.Command.{Command, MayBegin, begin, drop_entry, grow, seal}
-use Rattle.block_entries.specs.PlacedFiles.{octets_or_none}
 use Rattle.file_journal.specs.Layout.{Blocks}
 use Rattle.file_journal.specs.Steps.{PutBlock, Turn}
 use Rattle.file_store.specs.declared.change.EntriesChange.{EntriesChange}
 use Rattle.file_store.specs.declared.change.EntriesChange.TheVariants as change
 
--- so many of the octets of this number that wait, from the first on
-abbrev pub waiting_front : PlacedFiles → ℕ → ℕ → List ℕ
-waiting_front files number count = take count (octets_or_none (rest_of files number))
+-- the octets of this number that wait
+abbrev pub waiting_in : PlacedFiles → ℕ → List ℕ
+waiting_in files number = octets_or_none (rest_of files number)
 
 -- the command that it is of these files
 abbrev pub command_by : EntriesChange → PlacedFiles → Command
 command_by (change.Begin caller file_length moment) files = begin files.next caller file_length moment
-command_by (change.Hold number block count) files = grow number (waiting_front files number count)
+command_by (change.Hold number block count) files = grow number (waiting_in files number)
 command_by (change.Seal number moment header) files = seal number moment
 command_by (change.Drop number) files = drop_entry number
 
@@ -48,7 +47,7 @@ next_by (change.Drop number) files = without_file (store_of files) number
 abbrev pub puts_by : EntriesChange → PlacedFiles → Option PutBlock
 puts_by (change.Begin caller file_length moment) files = None
 puts_by (change.Hold number block count) files =
-    Some (record { number = block; octets = waiting_front files number count })
+    Some (record { number = block; octets = waiting_in files number })
 puts_by (change.Seal number moment header) files = None
 puts_by (change.Drop number) files = None
 
@@ -82,7 +81,7 @@ number_by (change.Drop number) files = number
 -- what waits of that file then, where an upload of it is out
 abbrev pub rest_by : EntriesChange → PlacedFiles → Option (List ℕ)
 rest_by (change.Begin caller file_length moment) files = None
-rest_by (change.Hold number block count) files = rest_without files number count
+rest_by (change.Hold number block count) files = Some []
 rest_by (change.Seal number moment header) files = None
 rest_by (change.Drop number) files = None
 
@@ -94,7 +93,7 @@ MakesOf change files files_now =
 -- its condition, but for what the blocks hold, and what else it needs is there
 abbrev pub HasFor : EntriesChange → EntriesState → Type 0
 HasFor (change.Begin caller file_length moment) entries =
-    ((held : Blocks) → MayBegin (seen held (store_of entries.files)) file_length) × (1 ≤ entries.spare)
+    (held : Blocks) → MayBegin (seen held (store_of entries.files)) file_length
 HasFor (change.Hold number block count) entries =
     Waits entries.files number count × Grows (store_of entries.files) number block count
     × IsLowest (store_of entries.files) block

@@ -72,9 +72,13 @@ come_of store self number = octets_at (entry_of store number) ++ octets_or_none 
 abbrev pub octets_come : Store → StoreState → Upload → List ℕ
 octets_come store self up = come_of store self up.number
 
--- those that wait and these
+-- the octets that wait of this number and these
+abbrev pub waiting_with : StoreState → ℕ → List ℕ → List ℕ
+waiting_with self number bytes = octets_or_none (rest_in self number) ++ bytes
+
+-- the same of the upload's
 abbrev pub with_bytes : StoreState → Upload → List ℕ → List ℕ
-with_bytes self up bytes = waiting self up ++ bytes
+with_bytes self up bytes = waiting_with self up.number bytes
 
 -- the commands by which these octets are appended: a Grow for each whole 512 of those that wait then
 abbrev pub appending : StoreState → Upload → List ℕ → List Command
@@ -132,12 +136,18 @@ pub record FitsWaiting (self : StoreState) (number : ℕ) : Type 0 where
   pub out : rest_in self number ≡ Some rest
   pub fits : length held + length rest ≤ entry.length
 
+-- The same, where fewer than 512 octets wait, and those that come fit the entry too.
+pub record FitsBytes (self : StoreState) (number : ℕ) (bytes : List ℕ) : Type 0 where
+  pub waits : FitsWaiting self number
+  pub few : length waits.rest < 512
+  pub fits : length waits.held + length (waits.rest ++ bytes) ≤ waits.entry.length
+
 -- So many octets wait of a file that fits them; they fill a block, or are all that it lacks.
 pub record FillsBlock (self : StoreState) (number count : ℕ) : Type 0 where
   pub waits : FitsWaiting self number
   pub some : 1 ≤ count
   pub most : count ≤ 512
-  pub there : count ≤ length waits.rest
+  pub all : length waits.rest ≡ count
   pub fills : (count ≡ 512) ⊎ (length waits.held + count ≡ waits.entry.length)
 
 -- All octets of the file came: fewer than 512 wait, and with those held they are as many as the file has.

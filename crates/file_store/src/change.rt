@@ -22,13 +22,13 @@ use px_base::Call;
 /// A change of the entries, which is one command.
 #[derive(Clone, Copy)]
 pub(crate) enum EntriesChange {
-    /// A file is begun, with the next number. There is room for it in memory.
+    /// A file is begun, with the next number.
     Begin {
         caller: Call,
         length: u32,
         moment: u32,
     },
-    /// So many of the octets that wait of the upload of this number become held, 1 to 512, in the lowest block that no
+    /// The octets that wait of the upload of this number, so many, 1 to 512, become held, in the lowest block that no
     /// file has.
     Hold {
         number: u32,
@@ -116,10 +116,10 @@ impl Change<Entries> for EntriesChange {
             EntriesChange::Hold {
                 number,
                 block,
-                count,
+                count: _,
             } => Some(BlockPut {
                 block,
-                octets: &entries.waiting(number)[..count],
+                octets: entries.waiting(number),
             }),
             EntriesChange::Begin { .. } | EntriesChange::Seal { .. } | EntriesChange::Drop { .. } =>
                 { None }

@@ -1,6 +1,6 @@
 //! The store of files.
 
-ghost use Rattle.std.specs.Prelude.{◌≡◌, ◌↔◌, ℕ, ◌+◌, ◌≤◌, ◌<◌, ◌/◌, ◌*◌, ◌⊎◌, List, [], ◌∷◌, drop, length, true};
+ghost use Rattle.std.specs.Prelude.{◌≡◌, ◌↔◌, ℕ, ◌+◌, ◌≤◌, ◌/◌, ◌⊎◌, List, [], ◌∷◌, drop, length, true};
 ghost use Rattle.std.specs.Prelude.{false, take, IsTrue, IsErr, IsErrOf, IfOk, IfErr, IfSome, OnOk, OnErr, None, Some};
 ghost use Rattle.std.specs.Borrow.{sem};
 ghost use Rattle.std.specs.Io.BufRead.{Rests};
@@ -9,8 +9,8 @@ ghost use Rattle.disk_model.specs.Disk.{FillsRoom};
 ghost use Rattle.file_journal.specs.Bounds.{RecoversInHalves};
 ghost use Rattle.file_journal.specs.Calls.{Leaves, Reads, Runs, TakesStep};
 ghost use Rattle.file_journal.specs.Journal.{IsAfterRecovery};
-ghost use Rattle.file_entries.specs.Command.{after, after_all, begin, drop_entry, grow, grows, last_grow, seal};
-ghost use Rattle.file_entries.specs.Command.{unfilled_block};
+ghost use Rattle.file_entries.specs.Command.{after, after_all, begin, drop_entry, grow, last_grow, seal};
+ghost use Rattle.file_entries.specs.Command.{unfilled_block, whole_grows};
 ghost use Rattle.file_entries.specs.Faults.{fault_code};
 ghost use Rattle.block_entries.specs.PlacedFiles.{ChangesRest, IsOut, KeepsRests, octets_or_none};
 ghost use Rattle.file_entries.specs.Headers.{IsHeaderOf, IsWholeHeader};
@@ -34,9 +34,9 @@ ghost use Rattle.file_store.specs.Recovery.{IsRecovered, LeavesAlikeSinceSync, R
 ghost use Rattle.file_store.specs.Sealing.{SealsFile};
 ghost use Rattle.file_store.specs.State.{IsKnown, IsRead, IsReady, StandsOn, placed_in, rest_in, store_in};
 ghost use Rattle.file_store.specs.State.{store_layout, store_magic, store_on};
-ghost use Rattle.file_store.specs.Upload.{FillsBlock, FitsWaiting, HasEntry, Holds, IsWholeWaiting, MayResume};
+ghost use Rattle.file_store.specs.Upload.{FillsBlock, FitsBytes, HasEntry, Holds, IsWholeWaiting, MayResume};
 ghost use Rattle.file_store.specs.Upload.{Upload, WaitFew, appended, appending, came, kept_file, new_upload};
-ghost use Rattle.file_store.specs.Upload.{octets_come, upload_of, with_bytes};
+ghost use Rattle.file_store.specs.Upload.{octets_come, upload_of, waiting_with, with_bytes};
 ghost use Rattle.file_store.specs.Working.{CountsSome, DoesAmongReads, PutsAmongReads};
 
 use crate::change::EntriesChange;
@@ -51,7 +51,7 @@ use crate::{
 use block_entries::{CheckFault, CheckedHeader, Entries};
 use disk_model::{Disk, DiskFault};
 use file_journal::Kept;
-use px_base::{Call, OutOfMemory};
+use px_base::Call;
 use std::alloc::Global;
 use std::marker::Model;
 
@@ -127,7 +127,7 @@ impl FileStore {
     /// Begins a file of `length` octets: an entry of the next number, of which no octet is held. Its upload is out
     /// then.
     ///
-    /// The refusals are looked for in the order of `BeginRefusal`. Takes memory, before it touches the disk.
+    /// The refusals are looked for in the order of `BeginRefusal`. Takes no memory.
     pub fn begin<D: Disk>(
         &mut self,
         disk: &mut D,
@@ -139,7 +139,7 @@ impl FileStore {
 
         // Each refusal comes exactly where its cause holds; a fault of the disk only where it counts one.
         ensures refused { IfErr result (RefusesBegin self.old length) }
-        ensures can { IfOk result (λ _. RefusesBegin self.old length BeginRefusal.OutOfMemory) }
+        ensures can { IfOk result (λ _. RefusesBegin self.old length BeginRefusal.Disk) }
         ensures untouched { IsTrue (begin_reaches result) ⊎ ((self.new ≡ self.old) × (disk.new ≡ disk.old)) }
 
         // The command is on the disk before the answer, and a crash at any moment leaves the store before it or after
@@ -167,7 +167,6 @@ impl FileStore {
         if self.kept.failed() {
             return Err(BeginRefusal::Failed);
         }
-        self.kept.ledger.reserve()?;
         let number = self.kept.ledger.next();
         let begin = EntriesChange::Begin {
             caller,
@@ -220,10 +219,10 @@ impl FileStore {
     /// Adds octets to an upload. Each whole 512 of those that wait then become held; the others, fewer than 512, wait
     /// on.
     ///
-    /// `TooMuch`, where more octets would come than the file has, is looked at first, then `Failed`. Takes memory,
-    /// before it touches the disk. The work is that of finding the entry and of the octets that come, however many are
-    /// held; the disk takes three writes and three syncs for each 512. Where its records fill their half, they are
-    /// written anew into the other one first.
+    /// `TooMuch`, where more octets would come than the file has, is looked at first, then `Failed`. Takes no memory.
+    /// The work is that of finding the entry and of the octets that come, however many are held; the disk takes three
+    /// writes and three syncs for each 512. Where its records fill their half, they are written anew into the other one
+    /// first.
     pub fn append<D: Disk>(
         &mut self,
         disk: &mut D,
@@ -263,11 +262,8 @@ impl FileStore {
             return Err(AppendRefusal::Failed);
         }
         let number = up.number();
-        if let Err(OutOfMemory) = self.kept.ledger.bring(number, bytes) {
-            return Err(AppendRefusal::OutOfMemory(up));
-        }
-        let blocks = self.kept.ledger.waiting(number).len() / BLOCK;
-        match self.hold_blocks(disk, number, blocks) {
+        let blocks = (self.kept.ledger.waiting(number).len() + bytes.len()) / BLOCK;
+        match self.hold_blocks(disk, number, bytes, blocks) {
             Ok(()) => Ok(up.moved_on(BLOCK * blocks)),
             Err(DiskFault) => {
                 self.kept.ledger.park(up.end());
@@ -496,34 +492,62 @@ impl FileStore {
         (up.length() - up.held()) as usize - waiting
     }
 
-    /// So many whole 512 octets of those that wait of the upload of this number become held, one Grow each.
+    /// Octets come of the upload of this number. With those that wait they have so many whole 512, which become held,
+    /// one Grow each; the others wait on.
     fn hold_blocks<D: Disk>(
         &mut self,
         disk: &mut D,
         number: u32,
+        bytes: &[u8],
         blocks: usize,
     ) -> Result<(), DiskFault>
         requires ready { IsReady D.Disk self.old disk.old }
-        requires fits { FitsWaiting self.old number }
-        requires there { 512 * blocks ≤ length (octets_or_none (rest_in self.old number)) }
+        requires fits { FitsBytes self.old number bytes.now }
+        requires whole { blocks ≡ length (waiting_with self.old number bytes.now) / 512 }
         ensures does { DoesTo D.Disk (IsErr result) self.old self.new disk.old disk.new
-            (grows number blocks (octets_or_none (rest_in self.old number))) number }
+            (whole_grows number (waiting_with self.old number bytes.now)) number }
         ensures rest { OnOk result
-            (rest_in self.new number ≡ option_map (drop (512 * blocks)) (rest_in self.old number)) }
+            (rest_in self.new number ≡ Some (unfilled_block (waiting_with self.old number bytes.now))) }
     {
+        let mut later = bytes;
         for block in 0..blocks {
-            self.hold(disk, number, BLOCK)?;
+            later = self.hold_block(disk, number, later)?;
         }
+        self.kept.ledger.bring(number, later);
         Ok(())
     }
 
-    /// The first octets that wait of the upload of this number become held, by one Grow.
+    /// Octets come of the upload of this number. With those that wait they fill a block, which becomes held, by one
+    /// Grow; those behind it are given back.
+    fn hold_block<'a, D: Disk>(
+        &mut self,
+        disk: &mut D,
+        number: u32,
+        bytes: &'a [u8],
+    ) -> Result<&'a [u8], DiskFault>
+        requires ready { IsReady D.Disk self.old disk.old }
+        requires fits { FitsBytes self.old number bytes.now }
+        requires there { 512 ≤ length (waiting_with self.old number bytes.now) }
+        ensures does { DoesTo D.Disk (IsErr result) self.old self.new disk.old disk.new
+            (grow number (take 512 (waiting_with self.old number bytes.now)) ∷ []) number }
+        ensures rest { OnOk result (rest_in self.new number ≡ Some []) }
+        ensures later { IfOk result (λ later. later.now ≡ drop 512 (waiting_with self.old number bytes.now)) }
+        ensures fits { IfOk result (λ later. FitsBytes self.new number later.now) }
+    {
+        let waiting = self.kept.ledger.waiting(number).len();
+        let (lacking, later) = bytes.split_at(BLOCK - waiting);
+        self.kept.ledger.bring(number, lacking);
+        self.hold(disk, number, BLOCK)?;
+        Ok(later)
+    }
+
+    /// The octets that wait of the upload of this number, so many, become held, by one Grow.
     fn hold<D: Disk>(&mut self, disk: &mut D, number: u32, count: usize) -> Result<(), DiskFault>
         requires ready { IsReady D.Disk self.old disk.old }
         requires fills { FillsBlock self.old number count }
         ensures does { DoesTo D.Disk (IsErr result) self.old self.new disk.old disk.new
-            (grow number (take count (octets_or_none (rest_in self.old number))) ∷ []) number }
-        ensures rest { OnOk result (rest_in self.new number ≡ option_map (drop count) (rest_in self.old number)) }
+            (grow number (octets_or_none (rest_in self.old number)) ∷ []) number }
+        ensures rest { OnOk result (rest_in self.new number ≡ Some []) }
     {
         let block = self.kept.ledger.lowest_free();
         let hold = EntriesChange::Hold {

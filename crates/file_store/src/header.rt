@@ -11,7 +11,7 @@ use px_base::OutOfMemory;
 use std::alloc::Global;
 
 /// The most octets that a header has: its end item lies within two octets' numbers (PFH 1990, body_offset).
-pub(crate) const LONGEST_HEADER: usize = 65535;
+const LONGEST_HEADER: usize = 65535;
 
 /// A buffer with room for the longest header. Takes memory.
 pub(crate) fn header_buffer(alloc: Global) -> Result<Vec<u8>, OutOfMemory>

@@ -13,8 +13,8 @@ ghost use Rattle.file_store.specs.Reads.{MayRead};
 ghost use Rattle.file_store.specs.State.{IsKnown, IsReady, state_from, store_in, store_on};
 
 use crate::HeaderFault;
-use crate::header::{LONGEST_HEADER, is_header};
-use block_entries::{CheckFault, CheckedHeader, Entries, ReadHeaderFault};
+use crate::header::is_header;
+use block_entries::{CheckFault, CheckedHeader, Entries};
 use disk_model::{Disk, DiskFault};
 use file_journal::Kept;
 
@@ -84,19 +84,17 @@ pub(crate) fn read_header<D: Disk>(
 {
     match kept.ledger.read_header(kept, disk, number, header) {
         Ok(()) if fits_file(kept, number, header.len()) && is_header(header) => Ok(()),
-        Err(ReadHeaderFault::Disk) => Err(HeaderFault::Disk),
         Ok(()) => Err(HeaderFault::NoHeader),
-        Err(ReadHeaderFault::OutOfMemory) => Err(HeaderFault::NoHeader),
+        Err(DiskFault) => Err(HeaderFault::Disk),
     }
 }
 
-/// Whether a header of this length is no longer than the file of this number, and than a header may be.
+/// Whether a header of this length is no longer than the file of this number.
 fn fits_file(kept: &Kept<Entries>, number: u32, len: usize) -> bool
-    ensures { IsTrue result ↔ ((len ≤ 65535)
-        × IsSomeAnd (placed_of (store_of kept.now.ledger.files) number) (λ f. len ≤ f.held)) }
+    ensures { IsTrue result ↔ IsSomeAnd (placed_of (store_of kept.now.ledger.files) number) (λ f. len ≤ f.held) }
 {
     match kept.ledger.info(number) {
-        Some(info) => len <= LONGEST_HEADER && len <= info.held as usize,
+        Some(info) => len <= info.held as usize,
         None => false,
     }
 }

@@ -3,12 +3,10 @@
 ghost use Rattle.std.specs.Prelude.{◌≡◌};
 ghost use Rattle.file_store.specs.Refusals.{refusal_of_bar};
 ghost use Rattle.file_store.specs.declared.refusals.BeginRefusal.TheVariants.{Disk as begin_disk};
-ghost use Rattle.file_store.specs.declared.refusals.BeginRefusal.TheVariants.{OutOfMemory as begin_memory};
 
 use crate::OpenUpload;
 use disk_model::DiskFault;
 use file_entries::BeginBar;
-use px_base::OutOfMemory;
 use thiserror::Error;
 
 /// Why a file was not begun. But for `Disk` neither the store nor its disk was touched.
@@ -37,9 +35,6 @@ pub enum BeginRefusal {
     /// A write or a sync of the disk failed, and its count of write faults rose. The file may be begun or not.
     #[error("the disk failed")]
     Disk,
-    /// No memory was left for the entry.
-    #[error("out of memory")]
-    OutOfMemory,
 }
 
 impl From<BeginBar> for BeginRefusal {
@@ -52,14 +47,6 @@ impl From<BeginBar> for BeginRefusal {
             BeginBar::NumbersGone => BeginRefusal::NumbersGone,
             BeginBar::NoRoom { blocks, free } => BeginRefusal::NoRoom { blocks, free },
         }
-    }
-}
-
-impl From<OutOfMemory> for BeginRefusal {
-    ghost from_gives = { λ _ refusal. refusal ≡ begin_memory };
-
-    fn from(_refused: OutOfMemory) -> BeginRefusal {
-        BeginRefusal::OutOfMemory
     }
 }
 
@@ -97,8 +84,6 @@ pub enum AppendRefusal {
     /// A write or a sync of the disk failed, and its count of write faults rose. Some of the octets may be held. The
     /// upload is spent.
     Disk,
-    /// No memory was left for the octets. Neither the store nor its disk was touched.
-    OutOfMemory(OpenUpload),
 }
 
 /// Why a file was not sealed.

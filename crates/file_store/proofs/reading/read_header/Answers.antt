@@ -1,8 +1,8 @@
-use Rattle.std.proofs.Common.{◌≡◌, ◌≤◌, List, ℕ, length, Option, Err, sym, ap, subst, arith, rules, length-append}
+use Rattle.std.proofs.Common.{◌≡◌, ◌≤◌, List, ℕ, length, Option, sym, ap, subst, arith, rules, length-append}
 use Rattle.std.specs.Prelude.{IsSomeAnd}
 use Rattle.block_entries.specs.Placed.{Placed, placed_of}
 use Rattle.block_entries.specs.Sealed.{octets_given}
-use Rattle.block_entries.proofs.Offered.{given_length, kept_short}
+use Rattle.block_entries.proofs.Offered.{given_length}
 use Rattle.file_entries.specs.Headers.{IsHeaderOf, IsWholeHeader, body_octets}
 use Rattle.file_journal.specs.Layout.{blocks_on}
 use Rattle.file_store.specs.State.{StoreState, placed_in, state_from}
@@ -52,18 +52,8 @@ returns-in-Ok-2-2-clause-there g c none known =
     let seals = on-seals g.D.Disk store c.args.disk.now c.requires.may.ready known in
     let long : length items ≤ sealed.file.held =
     omega (arith, ap (λ (os : List ℕ). length os) is.header.front, length-append items (body_octets (octets_given blocks sealed)), given_length blocks (placed_in store) c.args.number c.requires.may.ready.stands_on.holds.reached seals sealed) in
-    let fits : length items ≤ 65535 = is.header.short in
     let there : IsSomeAnd (placed_of (placed_in store) c.args.number) (λ f. length items ≤ f.held) = subst (λ (o : Option Placed). IsSomeAnd o (λ f. length items ≤ f.held)) (sym sealed.found) long in
     let same : c.len.result ≡ length items = search rules in
-    let yes = c.fits_file.ensures.1 (subst (λ (n : ℕ). (n ≤ 65535) × IsSomeAnd (placed_of (placed_in store) c.args.number) (λ f. n ≤ f.held)) (sym same) (fits, there)) in
+    let yes = c.fits_file.ensures.1 (subst (λ (n : ℕ). IsSomeAnd (placed_of (placed_in store) c.args.number) (λ f. n ≤ f.held)) (sym same) there) in
     let no = c.if-fits_file.false in
     cc
-
-pub returns-in-Err-OutOfMemory-clause-there : goal.returns-in-Err-OutOfMemory-clause-there
-returns-in-Err-OutOfMemory-clause-there g c none known =
-    let store : StoreState = state_from c.args.kept.now.ledger.files c.args.kept.now.journal in
-    let sealed = sealed-there store c.args.number c.requires.may.complete in
-    let more = c.in-Err-OutOfMemory.ensures.memory (ap Err c.in-Err-OutOfMemory.field-0-is) sealed in
-    let ready = c.requires.may.ready in
-    let short = kept_short g.D.Disk store.journal (placed_in store) c.args.disk.now ready.stands_on ready.healthy (known_told g.D.Disk c.args.disk.now known) c.args.number sealed in
-    omega (arith, more, c.requires.room, short)

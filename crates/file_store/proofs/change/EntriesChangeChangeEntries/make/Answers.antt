@@ -4,8 +4,8 @@ use Rattle.file_store.specs.Changes.{HasFor}
 use Rattle.file_store.specs.declared.change.EntriesChange.{EntriesChange}
 use Rattle.file_store.proofs.change.EntriesChangeChangeEntries.make.Goals as goal
 
-pub begin-requires-clause-may : goal.begin-requires-clause-may
-begin-requires-clause-may c =
+pub begin-requires : goal.begin-requires
+begin-requires c =
     let held : Blocks = λ b. [] in
     let has = subst (λ (it : EntriesChange). HasFor it c.args.entries.now) c.in-Begin.is c.requires.has in
-    (held, has.0 held)
+    (held, has held)

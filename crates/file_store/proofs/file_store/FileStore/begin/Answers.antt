@@ -3,15 +3,13 @@ use Rattle.block_entries.specs.Outlined.{outlined}
 use Rattle.block_entries.specs.Placed.{PlacedStore, new_placed, placed_of}
 use Rattle.block_entries.specs.PlacedCommand.{with_new}
 use Rattle.block_entries.specs.PlacedFiles.{KeepsRests, PlacedFiles, rest_of, store_of}
-use Rattle.block_entries.specs.Seen.{seen}
 use Rattle.block_entries.proofs.Offered.{new_is_found, none_past, outlined_new, outlined_rules}
 use Rattle.px_base.specs.CallSign.{CallSign}
-use Rattle.file_entries.specs.Command.{Command, MayBegin, after, begin}
+use Rattle.file_entries.specs.Command.{Command, after, begin}
 use Rattle.file_entries.specs.IsStore.{IsStore}
 use Rattle.file_entries.specs.Kept.{KeepsComplete}
 use Rattle.file_entries.specs.Store.{Store}
 use Rattle.file_entries.proofs.Offered.{begin-KeepsComplete}
-use Rattle.file_journal.specs.Layout.{Blocks}
 use Rattle.file_store.specs.Answers.{RefusesBegin}
 use Rattle.file_store.specs.OnDisk.{Does}
 use Rattle.file_store.specs.State.{StoreState, placed_in, rest_in, state_from, store_in}
@@ -37,24 +35,10 @@ returns-then-failed-clause-refused g c =
     let none : c.begin_bar.result ≡ None = search rules in
     (begin-may inside c.args.self.now c.begin_bar.result c.args.length c.self.view_is none c.begin_bar.ensures.none, search rules)
 
-pub returns-in_err-reserve-clause-refused : goal.returns-in_err-reserve-clause-refused
-returns-in_err-reserve-clause-refused g c =
-    let self = c.args.self.now in
-    let inside : StoreState = state_from c.self.inside.kept.ledger.files c.self.inside.kept.journal in
-    let none : c.begin_bar.result ≡ None = search rules in
-    let healthy : self.journal.failed ≡ false = search rules in
-    refused-as self c.args.length c.from_residual.result refusal.OutOfMemory (search rules)
-    (begin-may inside self c.begin_bar.result c.args.length c.self.view_is none c.begin_bar.ensures.none, λ failed. cc (sym failed ∙ healthy))
-
 pub put_change-requires-clause-may : goal.put_change-requires-clause-may
 put_change-requires-clause-may g c =
     let none : c.begin_bar.result ≡ None = search rules in
-    let may : (held : Blocks) → MayBegin (seen held (store_of c.self.inside.kept.ledger.files)) c.args.length = λ held.
-    none-may c.begin_bar.result _ none (c.begin_bar.ensures.none held) in
-    record {
-      rules = c.next-number.ensures.rules;
-      has = (λ held. subst (λ (f : PlacedFiles). MayBegin (seen held (store_of f)) c.args.length) (sym c.reserve.ensures.files) (may held), search rules);
-    }
+    record { rules = c.next-number.ensures.rules; has = λ held. none-may c.begin_bar.result _ none (c.begin_bar.ensures.none held) }
 
 pub returns-in_err-put_change-clause-refused : goal.returns-in_err-put_change-clause-refused
 returns-in_err-put_change-clause-refused g c =
@@ -62,24 +46,22 @@ returns-in_err-put_change-clause-refused g c =
     let inside : StoreState = state_from c.self.inside.kept.ledger.files c.self.inside.kept.journal in
     let none : c.begin_bar.result ≡ None = search rules in
     let healthy : self.journal.failed ≡ false = search rules in
-    refused-as self c.args.length c.from_residual-in_err-put_change.result refusal.Disk (search rules)
+    refused-as self c.args.length c.from_residual.result refusal.Disk (search rules)
     (begin-may inside self c.begin_bar.result c.args.length c.self.view_is none c.begin_bar.ensures.none, λ failed. cc (sym failed ∙ healthy))
 
 pub returns-in_err-put_change-clause-does : goal.returns-in_err-put_change-clause-does
 returns-in_err-put_change-clause-does g c reaches =
     let D = g.D.Disk in
-    let P = IsErr c.from_residual-in_err-put_change.result in
-    let journal = c.self.inside.kept.journal in
+    let P = IsErr c.from_residual.result in
+    let inside : StoreState = state_from c.self.inside.kept.ledger.files c.self.inside.kept.journal in
     let new : StoreState = state_from c.put_change.new.kept.ledger.files c.put_change.new.kept.journal in
     let command : ℕ → Command = λ n. begin n c.args.caller c.args.length c.args.moment in
-    let reserved : StoreState = state_from c.reserve.new.self.files journal in
     subst (λ (s : StoreState). Does D P s new c.args.disk.now c.put_change.new.disk (command s.files.next ∷ [])) c.self.view_is
-    (subst (λ (f : PlacedFiles). Does D P (state_from f journal) new c.args.disk.now c.put_change.new.disk (command f.next ∷ [])) c.reserve.ensures.files
-    (Does-same D (true ≡ true) P reserved new c.args.disk.now c.put_change.new.disk (command reserved.files.next ∷ []) (λ is. search rules) (λ is. refl) c.in_err-put_change.ensures.does))
+    (Does-same D (true ≡ true) P inside new c.args.disk.now c.put_change.new.disk (command inside.files.next ∷ []) (λ is. search rules) (λ is. refl) c.in_err-put_change.ensures.does)
 
 pub take_out-requires-clause-there : goal.take_out-requires-clause-there
 take_out-requires-clause-there g c =
-    let store : PlacedStore = store_of c.reserve.new.self.files in
+    let store : PlacedStore = store_of c.self.inside.kept.ledger.files in
     let caller : CallSign = c.args.caller in
     ap is_some
     (ap (λ (s : PlacedStore). placed_of s c.next-number.result) c.in_ok-put_change.ensures.makes.store_is
@@ -89,14 +71,12 @@ take_out-requires-clause-there g c =
 pub returns-clause-does : goal.returns-clause-does
 returns-clause-does g c reaches =
     let D = g.D.Disk in
-    let journal = c.self.inside.kept.journal in
+    let inside : StoreState = state_from c.self.inside.kept.ledger.files c.self.inside.kept.journal in
     let put : StoreState = state_from c.put_change.new.kept.ledger.files c.put_change.new.kept.journal in
     let new : StoreState = state_from c.take_out.new.self.files c.put_change.new.kept.journal in
     let command : ℕ → Command = λ n. begin n c.args.caller c.args.length c.args.moment in
-    let reserved : StoreState = state_from c.reserve.new.self.files journal in
     subst (λ (s : StoreState). Does D (false ≡ true) s new c.args.disk.now c.put_change.new.disk (command s.files.next ∷ [])) c.self.view_is
-    (subst (λ (f : PlacedFiles). Does D (false ≡ true) (state_from f journal) new c.args.disk.now c.put_change.new.disk (command f.next ∷ [])) c.reserve.ensures.files
-    (Does-moved D (false ≡ true) reserved put reserved new c.args.disk.now c.put_change.new.disk (command reserved.files.next ∷ []) refl refl c.take_out.ensures.store_is refl c.in_ok-put_change.ensures.does))
+    (Does-moved D (false ≡ true) inside put inside new c.args.disk.now c.put_change.new.disk (command inside.files.next ∷ []) refl refl c.take_out.ensures.store_is refl c.in_ok-put_change.ensures.does)
 
 pub returns-clause-stands_on : goal.returns-clause-stands_on
 returns-clause-stands_on g c =
@@ -106,25 +86,21 @@ returns-clause-stands_on g c =
 
 pub returns-clause-made : goal.returns-clause-made
 returns-clause-made g c =
-    let journal = c.self.inside.kept.journal in
-    let reserved : StoreState = state_from c.reserve.new.self.files journal in
+    let inside : StoreState = state_from c.self.inside.kept.ledger.files c.self.inside.kept.journal in
     let put : StoreState = state_from c.put_change.new.kept.ledger.files c.put_change.new.kept.journal in
     let new : StoreState = state_from c.take_out.new.self.files c.put_change.new.kept.journal in
-    let same : reserved ≡ c.args.self.now = ap (λ (f : PlacedFiles). state_from f journal) c.reserve.ensures.files ∙ c.self.view_is in
-    subst (λ (s : StoreState). store_in new ≡ after (store_in s) (begin (store_in s).next c.args.caller c.args.length c.args.moment)) same
+    subst (λ (s : StoreState). store_in new ≡ after (store_in s) (begin (store_in s).next c.args.caller c.args.length c.args.moment)) c.self.view_is
     (in_parked put new c.take_out.ensures.store_is ∙ ap outlined c.in_ok-put_change.ensures.makes.store_is
-    ∙ outlined_new (placed_in reserved) reserved.files.next c.args.caller c.args.length c.args.moment)
+    ∙ outlined_new (placed_in inside) inside.files.next c.args.caller c.args.length c.args.moment)
 
 pub returns-clause-holds : goal.returns-clause-holds
 returns-clause-holds g c =
     let self = c.args.self.now in
-    let journal = c.self.inside.kept.journal in
+    let inside : StoreState = state_from c.self.inside.kept.ledger.files c.self.inside.kept.journal in
     let new : StoreState = state_from c.take_out.new.self.files c.put_change.new.kept.journal in
-    let reserved : StoreState = state_from c.reserve.new.self.files journal in
-    let same : reserved ≡ self = ap (λ (f : PlacedFiles). state_from f journal) c.reserve.ensures.files ∙ c.self.view_is in
     let kept : IsStore (store_in self) =
-    subst (λ (s : StoreState). IsStore (store_in s)) same (outlined_rules (placed_in reserved) c.next-number.ensures.rules c.next-number.ensures.some c.next-number.ensures.most) in
-    let number : c.next-number.result ≡ (store_in self).next = c.next-number.ensures.next ∙ ap (λ (s : StoreState). s.files.next) same in
+    subst (λ (s : StoreState). IsStore (store_in s)) c.self.view_is (outlined_rules (placed_in inside) c.next-number.ensures.rules c.next-number.ensures.some c.next-number.ensures.most) in
+    let number : c.next-number.result ≡ (store_in self).next = c.next-number.ensures.next ∙ ap (λ (s : StoreState). s.files.next) c.self.view_is in
     let rest : rest_in new (store_in self).next ≡ Some [] = ap (λ (n : ℕ). rest_in new n) (sym number) ∙ c.take_out.ensures.here in
     let up : c.new.result ≡ new_upload (store_in self).next c.args.caller c.args.length = c.new.ensures ∙ ap (λ (n : ℕ). new_upload n c.args.caller c.args.length) number in
     subst (λ (u : Upload). Holds new u × (rest_in new u.number ≡ Some [])) (sym up)
@@ -139,21 +115,18 @@ returns-clause-every_image g c =
 
 pub returns-clause-fresh : goal.returns-clause-fresh
 returns-clause-fresh g c =
-    let store : PlacedStore = store_of c.reserve.new.self.files in
-    let none = none_past store c.next-number.ensures.rules store.next (omega arith) in
-    let files : c.args.self.now.files ≡ c.reserve.new.self.files = sym (c.reserve.ensures.files ∙ ap (λ (s : StoreState). s.files) c.self.view_is) in
-    let number : c.new.result.number ≡ store.next = ap (λ (u : Upload). u.number) c.new.ensures ∙ c.next-number.ensures.next in
-    ap (λ (n : ℕ). rest_in c.args.self.now n) number ∙ ap (λ (f : PlacedFiles). rest_of f store.next) files ∙ rest-none c.reserve.new.self.files store.next none
+    let files : PlacedFiles = c.self.inside.kept.ledger.files in
+    let none = none_past (store_of files) c.next-number.ensures.rules files.next (omega arith) in
+    let number : c.new.result.number ≡ files.next = ap (λ (u : Upload). u.number) c.new.ensures ∙ c.next-number.ensures.next in
+    ap (λ (s : StoreState). rest_in s c.new.result.number) (sym c.self.view_is) ∙ ap (rest_of files) number ∙ rest-none files files.next none
 
 pub returns-clause-uploads : goal.returns-clause-uploads
 returns-clause-uploads g c =
     let self = c.args.self.now in
-    let journal = c.self.inside.kept.journal in
-    let reserved : StoreState = state_from c.reserve.new.self.files journal in
+    let inside : StoreState = state_from c.self.inside.kept.ledger.files c.self.inside.kept.journal in
     let new : StoreState = state_from c.take_out.new.self.files c.put_change.new.kept.journal in
-    let same : reserved ≡ self = ap (λ (f : PlacedFiles). state_from f journal) c.reserve.ensures.files ∙ c.self.view_is in
     let kept : IsStore (store_in self) =
-    subst (λ (s : StoreState). IsStore (store_in s)) same (outlined_rules (placed_in reserved) c.next-number.ensures.rules c.next-number.ensures.some c.next-number.ensures.most) in
+    subst (λ (s : StoreState). IsStore (store_in s)) c.self.view_is (outlined_rules (placed_in inside) c.next-number.ensures.rules c.next-number.ensures.some c.next-number.ensures.most) in
     let rests : KeepsRests self.files new.files (store_in self).next = search rules in
     begun-uploads self new c.args.caller c.args.length c.args.moment kept (returns-clause-made g c) rests
 

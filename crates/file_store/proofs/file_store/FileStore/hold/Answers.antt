@@ -1,4 +1,4 @@
-use Rattle.std.proofs.Common.{◌≡◌, [], ◌∷◌, take, IsErr, sym, ◌∙◌, ap, subst}
+use Rattle.std.proofs.Common.{◌≡◌, [], ◌∷◌, IsErr, sym, ◌∙◌, ap, subst}
 use Rattle.block_entries.specs.PlacedFiles.{EntriesState, IsLowest, octets_or_none, store_of}
 use Rattle.file_entries.specs.Command.{grow}
 use Rattle.file_store.specs.Changes.{MayMake}
@@ -23,7 +23,7 @@ put_change-requires-clause-may g c =
     let ready = subst (λ (s : StoreState). IsReady D s c.args.disk.now) (sym c.self.view_is) c.requires.ready in
     let ledger : EntriesState = c.self.inside.kept.ledger in
     subst (λ (l : EntriesState). MayMake (change.Hold c.args.number c.lowest_free-block.result c.args.count) l) (sym c.lowest_free-block.ensures.same)
-    (fills-may inside c.args.number c.args.count fills c.lowest_free-block.result ledger.spare ledger.least ledger.first ready.stands_on.holds.reached c.lowest_free-block.ensures.lowest)
+    (fills-may inside c.args.number c.args.count fills c.lowest_free-block.result ledger.least ledger.first ready.stands_on.holds.reached c.lowest_free-block.ensures.lowest)
 
 pub returns-clause-does : goal.returns-clause-does
 returns-clause-does g c =
@@ -37,6 +37,6 @@ returns-clause-does g c =
     let ready = subst (λ (s : StoreState). IsReady D s c.args.disk.now) (sym same) c.requires.ready in
     let fills = subst (λ (s : StoreState). FillsBlock s number count) (sym same) c.requires.fills in
     let lowest = subst (λ (l : EntriesState). IsLowest (store_of l.files) c.lowest_free-block.result) (sym c.lowest_free-block.ensures.same) c.lowest_free-block.ensures.lowest in
-    subst (λ (s : StoreState). DoesTo D (IsErr c.put_change.result) s new c.args.disk.now c.put_change.new.disk (grow number (take count (octets_or_none (rest_in s number))) ∷ []) number) same
+    subst (λ (s : StoreState). DoesTo D (IsErr c.put_change.result) s new c.args.disk.now c.put_change.new.disk (grow number (octets_or_none (rest_in s number)) ∷ []) number) same
     (hold-does D c.put_change.result mid new c.args.disk.now c.put_change.new.disk number count c.lowest_free-block.result fills ready.stands_on.holds.reached lowest
     c.put_change.ensures.does c.put_change.ensures.stands_on c.put_change.ensures.makes (err-files c.put_change.result c.lowest_free-block.new.self c.put_change.new.kept.ledger c.put_change.ensures.err))
